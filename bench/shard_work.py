@@ -7,7 +7,7 @@ from collections import Counter
 
 def digest(repo, resources):
     """For each resource its file, the counts of its classes, how many references of some persons lead to books of other files, the sum of all
-    pages, and what tells its document."""
+    pages, and what identifies its document."""
     found = []
     for resource in resources:
         text = resource.save()

@@ -50,7 +50,7 @@ def alone(size):
 
 
 def far_below(size):
-    """A chain of 500 folders, with a deep adapter at the top that counts what it hears; the size of the lowest is set again and again."""
+    """A chain of 500 folders, with a deep adapter at the top that only counts; the size of the lowest is set again and again."""
     for folder in range(LEVELS):
         yield 'new Folder', f'#{folder}'
     for folder in range(1, LEVELS):
@@ -149,7 +149,7 @@ def kept(size):
 
 
 def paired(size):
-    """A person in one resource who follows so many others in another, each of whom is told so at the opposite end: saved, taken away,
+    """A person in one resource who follows so many others in another, each of whom has that person at the opposite end: saved, taken away,
     loaded, and resolved in the order of the list."""
     yield 'resource "http://m.example/a"', 'r0'
     yield 'resource "http://m.example/b"', 'r1'
@@ -223,7 +223,7 @@ def wide_added(size):
 
 
 def wide_set(size):
-    """The same, each folder told its parent."""
+    """The same, by `set` of the parent."""
     yield 'new Folder', '#0'
     for i in range(1, size + 1):
         yield 'new Folder', f'#{i}'
@@ -241,7 +241,7 @@ def tree(size):
 
 
 def tree_up(size):
-    """The same tree, each new folder told its parent and asked for its container."""
+    """The same tree, by `set` of the parent; each new folder is asked for its container."""
     yield 'new Folder', '#0'
     for i in range(1, size + 1):
         yield 'new Folder', f'#{i}'
@@ -250,7 +250,7 @@ def tree_up(size):
 
 
 def books(size):
-    """A library for each 100 books: each new book has a name, is added to the library, and is told the book before it."""
+    """A library for each 100 books: each new book has a name, is added to the library, and is linked to the book before it."""
     library = 0
     for i in range(size):
         first = i % 100 == 0
@@ -273,7 +273,7 @@ def deep_added(size):
 
 
 def deep_set(size):
-    """The same, each new folder told its parent."""
+    """The same, by `set` of the parent."""
     yield 'new Folder', '#0'
     for i in range(1, size + 1):
         yield 'new Folder', f'#{i}'
@@ -538,6 +538,6 @@ METAMODELS = {name: TOP / 'bench/authors.json' for name in ('linked', 'unlinked'
 # The classes, for a size, of the metamodels that grow with it.
 CLASSES = {'inherited': chain}
 
-# What no script asks for is a program of its own, which takes the size: a view takes a snapshot of so many books, hears that each is named,
-# and replays what it heard.
+# What no script asks for is a program of its own, which takes the size: a view takes a snapshot of so many books, is notified that each is
+# named, and replays its notifications.
 PROGRAMS = {'followed': TOP / 'crates/command_list/out/command_list'}

@@ -50,7 +50,7 @@ def ends(running, status, said, printed=b''):
 
 
 def each_line_is_answered(program):
-    """An answer is there before the next line is sent, notices and released adapters included."""
+    """An answer is there before the next line is sent, notifications and released adapters included."""
     running = started(program)
     told = b'ok\ntold A9 SET #0.pages 100 5 -1\n\n'
     released = b'ok\ntold A9 REMOVING_ADAPTER #0 A9 null 0\nreleased A9 told 2 kept 0\n\n'

@@ -92,7 +92,7 @@ class Calls(unittest.TestCase):
         self.stop_at_each('error=EIO', is_stopped)
 
     def test_each_call_finds_the_disk_full(self):
-        """So does a disk without room."""
+        """So does a disk that is full."""
         def is_stopped(call, status, said):
             return (status, said) == (3, f'run stopped: {"WRITE" if call == "write" else "JOURNAL"}\n')
         self.stop_at_each('error=ENOSPC', is_stopped)

@@ -134,7 +134,7 @@ class Outcomes(unittest.TestCase):
         return done.stdout, done.returncode, done.stderr.decode()
 
     def test_a_full_disk(self):
-        """A commit that has no room is answered by nothing, and the lines from before are there."""
+        """A commit for which the disk is too full has no answer, and the lines from before are there."""
         run([b'new Book'], self.file)
         begun = self.file.read_bytes()
         said = 'run stopped: JOURNAL\n'

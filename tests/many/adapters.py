@@ -1,4 +1,4 @@
-"""The adapters of a pool, and who hears what, by the rules of docs/ADAPTERS.md and docs/SCRIPT.md."""
+"""The adapters of a pool, and which are notified of what, by the rules of docs/ADAPTERS.md and docs/SCRIPT.md."""
 
 from collections import Counter, defaultdict
 
@@ -6,29 +6,29 @@ from model import Refused
 
 MOST_TOLD = 2**64 - 1
 MOST_TARGETS = 100_000
-ROOMS = {5: 2, 6: 100, **dict.fromkeys((1, 2, 3, 4), float('inf'))}  # how many notices an adapter keeps; all others none
+ROOMS = {5: 2, 6: 100, **dict.fromkeys((1, 2, 3, 4), float('inf'))}  # how many notifications an adapter keeps; all others none
 
 
 class Adapter:
     """An adapter of the pool, attached where it has targets: each node, and whether it is deep, in the order in which it got them."""
 
     def __init__(self, no):
-        """One that has heard nothing; A8 can count two notices."""
+        """One that was notified of nothing; A8 can count two notifications."""
         self.no, self.targets, self.order = no, {}, 0
         self.told = MOST_TOLD - 2 if no == 8 else 0
 
     @property
     def heard(self):
-        """How many notices it was told, and how many it keeps."""
+        """How many times it was notified, and how many notifications it keeps."""
         return f'{self.told} kept {min(self.told, ROOMS.get(self.no, 0))}'
 
     def reserve(self, places):
-        """Refuses more notices than it can count."""
+        """Refuses more notifications than it can count."""
         if self.told + places > MOST_TOLD:
             raise Refused('27 ADAPTER_FULL')
 
     def hear(self, notice):
-        """The line that tells it."""
+        """The line of its notification."""
         self.told += 1
         return f'told A{self.no} {notice}'
 
@@ -76,7 +76,7 @@ class Adapters:
         self.count += 1
 
     def drop(self, adapter, node):
-        """Takes a target from an adapter, and answers the line of its last notice from there."""
+        """Takes a target from an adapter, and gives the line of its last notification from there."""
         index = sorted(it.order for it in self.at[node]).index(adapter.order)
         del adapter.targets[node]
         self.at[node].remove(adapter)
@@ -84,12 +84,12 @@ class Adapters:
         return adapter.hear(f'REMOVING_ADAPTER {node} A{adapter.no} null {index}')
 
     def audience(self, node, above):
-        """Who hears what a node notifies, in attach order."""
+        """The adapters that are notified of changes at a node, in attach order."""
         deep = {adapter for up in above for adapter in self.at[up] if adapter.targets[up]}
         return sorted(self.at[node] | deep, key=lambda adapter: adapter.order)
 
     def reserve(self, hearing):
-        """Refuses a change of which some adapter hears more than it can count, since one place stays for each target."""
+        """Refuses a change that notifies some adapter more often than it can count, since one count is kept for each target."""
         for adapter, notices in Counter(adapter for some in hearing for adapter in some).items():
             adapter.reserve(notices + len(adapter.targets))
 

@@ -25,7 +25,7 @@ class Commands:
         """An empty script."""
         self.session, self.model, self.adapters, self.views = session, session.model, session.adapters, views
         self.random, self.lines, self.answers = random.Random(seed), [], []
-        self.last = None  # the node that a line edited last; many lines are about it or its adapters, since who hears it may be remembered
+        self.last = None  # the node that a line edited last; many lines are about it or its adapters, since the adapters that it notifies may be remembered
 
     def run(self, line):
         """The script gets a line."""
@@ -211,7 +211,7 @@ class Commands:
                 self.run(f'watch A{no} {self.target()} {self.depth()}')
 
     def change(self, count, verbs):
-        """So many commands, by the weights of their verbs. Behind one that is about targets mostly comes one that is told."""
+        """So many commands, by the weights of their verbs. After one that is about targets mostly comes one that notifies."""
         for _ in range(count):
             verb = self.one(verbs)
             self.run(f'{verb} {getattr(self, verb)()}')
@@ -227,7 +227,7 @@ class Commands:
         return places
 
     def detach_all(self):
-        """Each adapter is asked what it heard, and detached."""
+        """Each adapter is asked how often it was notified, and detached."""
         for no in list(self.adapters.attached):
             self.run(f'seen A{no}')
             self.run(f'detach A{no}')

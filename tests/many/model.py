@@ -1,4 +1,4 @@
-"""A model of a repository, by the rules of docs/SCRIPT.md and docs/ADAPTERS.md: what each end has, and what a change tells.
+"""A model of a repository, by the rules of docs/SCRIPT.md and docs/ADAPTERS.md: what each end has, and the notifications of a change.
 
 Nodes and values are kept as a script prints them. An end of one value has a list of one, which is null where it has none.
 """
@@ -17,8 +17,8 @@ class Refused(Exception):
 
 
 class Telling(NamedTuple):
-    """What one end is told of: of SET and UNSET the value is the new one, of MOVE it is the place before, and of ADD and REMOVE the place
-    may be left open: the end of the list, or the index of the value."""
+    """A notification at one end. The value of SET and UNSET is the new one, of MOVE the old index. For ADD and REMOVE the index may be left
+    open: then it is the end of the list, or the index of the value."""
 
     node: str
     feature: MFeature
@@ -104,10 +104,10 @@ class Model:
             found += [part for values in parts for part in values if part != 'null']
         return found
 
-    # What a change tells, in order.
+    # The notifications of a change, in order.
 
     def far(self, feature, node, values, telling):
-        """What the opposite ends of some values are told."""
+        """The notifications at the opposite ends of some values."""
         has_far = feature.is_reference and feature.opposite
         return [telling(value, feature.opposite, node) for value in values if has_far and value != 'null']
 
@@ -120,7 +120,7 @@ class Model:
         return [link for link in links if link[2] != 'null']
 
     def link(self, node, feature, value):
-        """What is told of a new link before the end that is named gains it."""
+        """The notifications of a new link that come before that of the named end."""
         told = {}
         for at, by, other in self.in_the_way(node, feature, value):
             sides = [(at, by, other)] + ([(other, by.opposite, at)] if by.opposite else [])
@@ -198,7 +198,7 @@ class Model:
     # What a change does.
 
     def tell(self, it):
-        """Makes the change of one end, and answers its notice as a script prints it."""
+        """Makes the change of one end, and gives its notification as a script prints it."""
         values, end = self.ends[it.node][it.feature.name], f'{it.node}.{it.feature.name}'
         if it.kind in ('SET', 'UNSET'):
             old, values[:] = values[0], [it.value]

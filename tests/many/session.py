@@ -20,7 +20,7 @@ class Session:
             return [f'refused {refused}']
 
     def change(self, answer, tellings):
-        """An answer, and who is told of a change. Who hears goes by the state before it."""
+        """An answer, and the adapters that are notified of a change: those of the state before it."""
         hearing = [self.adapters.audience(it.node, self.model.above(it.node)) for it in tellings]
         self.adapters.reserve(hearing)
         notices = [self.model.tell(it) for it in tellings]

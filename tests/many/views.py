@@ -1,17 +1,17 @@
-"""Views that take a snapshot of a deep target and then only replay what its adapter hears, by docs/ADAPTERS.md."""
+"""Views that take a snapshot of a deep target and then only replay the notifications of its adapter, by docs/ADAPTERS.md."""
 
 from collections import defaultdict
 
 
 class View:
-    """A deep target: what each node below it has by the notices, and the nodes that were below it all along."""
+    """A deep target: what each node below it has by the notifications, and the nodes that were below it all along."""
 
     def __init__(self, no, target, values):
         """A snapshot, as the features of each node."""
         self.no, self.target, self.values, self.stayed = no, target, values, set(values)
 
     def replay(self, kind, end, old, new, place):
-        """What a notice makes of one end; it is passed over where the view has no such end or place."""
+        """What a notification makes of one end; it is passed over if the view has no such end or index."""
         node, _, name = end.partition('.')
         values, place = self.values.get(node, {}).get(name), int(place)
         if values is None or place > len(values):
@@ -54,7 +54,7 @@ class Views:
             view.stayed.difference_update(gone)
 
     def replayed(self, blocks):
-        """The views that are left after some answers, each after what its adapter was told."""
+        """The views that are left after some answers, each after the notifications of its adapter."""
         views = defaultdict(dict)
         for place, block in enumerate(blocks):
             self.hear(views, [line.split() for line in block if line.startswith('told ')])
@@ -64,7 +64,7 @@ class Views:
 
     @staticmethod
     def hear(views, told):
-        """The views of each adapter hear what it was told; the one of a target goes with the last notice from there."""
+        """The views of each adapter replay its notifications; the one of a target goes with the last notification from there."""
         for _, no, kind, *words in told:
             if kind == 'REMOVING_ADAPTER':
                 views[no].pop(words[0], None)

@@ -219,7 +219,7 @@ class BrowserTest(EditorTest):
         self.settle()
 
     def check_console(self):
-        """No script has failed. A call that is refused, and a server that is gone, are told there too."""
+        """No script has failed. A call that is refused, and a server that is gone, are reported there too."""
         self.assertEqual([it for it in self.browser.log() if 'Failed to load resource' not in it], [])
 
     def js(self, code, *words):

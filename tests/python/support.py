@@ -10,7 +10,7 @@ from pathlib import Path
 
 TOP = Path(__file__).resolve().parent.parent.parent
 ENGINE = os.environ.get('TEST_ENGINE', 'program')
-ROOM = os.environ.get('TEST_ROOM', '')  # a folder with the package as it is installed, where there is the library
+ROOM = os.environ.get('TEST_ROOM', '')  # a folder with the package as it is installed, if there is the library
 CLIENT = TOP / 'clients/python' if ENGINE == 'program' else Path(ROOM)
 PROGRAM = Path(os.environ.get('MMREPO') or TOP / 'crates/mmrepo/out/mmrepo').resolve()
 LIBRARY = TOP / 'examples/library.json'

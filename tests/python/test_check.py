@@ -299,7 +299,7 @@ class Statuses(CheckTest):
         self.assertEqual((status, said.partition(':')[0]), (2, 'error'))
 
     def test_program_dies(self):
-        """A program that ends in the middle: the check was not finished, which is told."""
+        """A program that ends in the middle: the check was not finished, and says so."""
         self.write('good.json', book(['']))
         fake = self.fake('for line in lines():\n    if line.startswith("load"): sys.exit(3)\n    say("r0\\n\\n" if line.strip() else "\\n")')
         self.environment['MMREPO'] = str(fake)

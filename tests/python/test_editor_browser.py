@@ -1,4 +1,4 @@
-"""The editor in headless Chromium: windows that hear of one model, hostile texts, files, and layouts."""
+"""The editor in headless Chromium: windows on one model, hostile texts, files, and layouts."""
 
 import json
 import time
@@ -16,7 +16,7 @@ PAIRS = [
 
 @with_browser
 class Views(TownTest):
-    """Windows that hear of one model."""
+    """Windows on one model."""
 
     def test_two_windows(self):
         """What one does the other shows, without asking for what it has."""
@@ -37,7 +37,7 @@ class Views(TownTest):
         self.assertEqual({count for _, count in asked}, {1})
 
     def test_verify(self):
-        """Verify says that all is equal; and where not, if a notice is dropped."""
+        """Verify says that all is equal; and where not, if a notification is dropped."""
         self.select(EMMA)
         self.browser.click('#verify')
         self.assertEqual(self.until("document.querySelector('dialog h2')?.textContent"), 'Equal')

@@ -1,5 +1,5 @@
 """The editor with 100,000 objects: only what is seen is in the page, and it stays quick. Measured in the browser; EDITOR_MEASURES=1 prints
-the times, which docs/EDITOR.md tells. A machine that does other work too may take SLOWER times as long."""
+the times, which docs/EDITOR.md has. A machine that does other work too may take SLOWER times as long."""
 
 import json
 import os

@@ -213,7 +213,7 @@ class Hostile(ServerTest):
         self.assert_well()
 
     def test_too_many(self):
-        """Connections that are too many are told so, and so are windows."""
+        """Connections that are too many get an answer that says so, and so do windows."""
         hanging = [self.connected() for _ in range(200)]
         time.sleep(0.3)
         self.assertEqual(self.sent(self.request(f'GET /{self.token}/'))[0], 503)
@@ -231,7 +231,7 @@ class Hostile(ServerTest):
             self.assertEqual(self.sent(self.request(f'GET /{self.token}/events?after={after}'))[0], 400)
 
     def test_headers(self):
-        """What the browser is told: nothing of the page may come from elsewhere."""
+        """What the headers say to the browser: nothing of the page may come from elsewhere."""
         with urllib.request.urlopen(self.address) as answer:
             self.assertIn("default-src 'none'; script-src 'self'", answer.headers['Content-Security-Policy'])
             names = ('X-Content-Type-Options', 'Referrer-Policy', 'Cache-Control')
@@ -264,7 +264,7 @@ class Streams(ServerTest):
         return found
 
     def test_events(self):
-        """One for each edit, with its notices; also after a number."""
+        """One for each edit, with its notifications; also after a number."""
         self.call('set', object=1, feature='pages', value='7')
         self.call('new', class_='Person', node=0, feature='members')
         self.call('delete', object=1)
@@ -283,7 +283,7 @@ class Streams(ServerTest):
             self.assertIn(b'event: lost', stream.read())
 
     def test_refused_edits(self):
-        """What is refused changes nothing, and no window hears of it."""
+        """What is refused changes nothing, and no window gets an event."""
         self.assertEqual(self.call('new', class_='Person', node=0, feature='books'), 'TYPE: books takes objects of class Book')
         self.assertEqual(self.call('new', class_='Named', node=0, feature='books'), 'ABSTRACT: the class is abstract')
         self.assertRegex(self.call('set', object=1, feature='library', value=None), '^HELD: library is changed in the tree, so that no object is lost')
@@ -326,7 +326,7 @@ class Streams(ServerTest):
 
 
 class RandomCalls(EditorTest):
-    """Calls at random: what the server knows by notices is what the program has."""
+    """Calls at random: what the server knows by notifications is what the program has."""
 
     def calls(self, random, numbers):
         """A call with its arguments. Most of them are refused for some reason."""

@@ -11,7 +11,7 @@ from support import CLIENT, ENGINE, LIBRARY, PROGRAM, ClientTest, LibraryTest
 from mmrepo import MetamodelRefused, NotStarted, Refused, Repository
 
 VALUES = 10_000
-SECONDS = 5  # for all places of a long list: a bound for a machine that does other work
+SECONDS = 5  # for all indexes of a long list: a bound for a machine that does other work
 
 
 class Choice(ClientTest):

@@ -27,7 +27,7 @@ from mmrepo import (
 # What the first answer to a line may be, which is none of any command.
 NONSENSE = ['', 'nonsense', '#', '#01', '#x', 'r0', 'A9', 'null', '[#0]', 'refused', 'refused x', '#0 #1', ' #0', '#0 ', '"', '#0\\ntold']
 
-# What may stand behind an answer, where no view is attached.
+# What may come after an answer if no view is attached.
 BEHIND = [
     'nonsense',
     'told A9 SET #0.pages 100 1 -1',
@@ -37,7 +37,7 @@ BEHIND = [
     '#1',
 ]
 
-# What is no notice of a view that is attached as A9.
+# What is no notification of a view that is attached as A9.
 NOTICES = [
     'told A10 SET #0.pages 100 1 -1',
     'told A9 SOMETHING #0.pages 100 1 -1',

@@ -1,4 +1,4 @@
-"""Random calls: a list does what a list of Python does, and a view that replays its notices has what the repository has."""
+"""Random calls: a list does what a list of Python does, and a view that replays its notifications has what the repository has."""
 
 import random
 
@@ -55,7 +55,7 @@ class Lists(ClientTest):
 
 
 class Replays(LibraryTest):
-    """A view that takes a snapshot and then only hears, as docs/ADAPTERS.md has it."""
+    """A view that takes a snapshot and then only replays, as docs/ADAPTERS.md has it."""
 
     def setUp(self):
         super().setUp()
@@ -76,7 +76,7 @@ class Replays(LibraryTest):
         return found
 
     def replay(self, notice):
-        """Changes the one end that a notice names."""
+        """Changes the one end that a notification names."""
         values = self.view[notice.notifier, notice.feature]
         if notice.kind in (Kind.SET, Kind.UNSET):
             self.assertEqual(values, [notice.old])

@@ -8,7 +8,7 @@ from mmrepo import Proxy, Refused
 
 URI = 'http://m.example/a'
 
-# The document and what it says stand in docs/DOCUMENTS.md.
+# The document and what it says are in docs/DOCUMENTS.md.
 TOWN = """{
   "format": 2,
   "roots": [

@@ -135,7 +135,7 @@ class Interrupts(LibraryTest):
         self.assertGreaterEqual(self.came, MOMENTS)
 
     def test_sets_that_are_heard(self):
-        """Each change that was made is heard, once and in order, so what is heard leads from the first value to the last."""
+        """The view is notified of each change, once and in order, so its notifications lead from the first value to the last."""
         library, book = self.made('Library', 'Book')
         library.books.append(book)
         heard = []

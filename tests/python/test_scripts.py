@@ -20,7 +20,7 @@ DOCUMENTS = ['{"format":2,"roots":[{"class":"Book","features":{"name":"a","next"
 
 
 class Scripts:
-    """Makes scripts at random. The adapters from A9 on are used, which the program and the library have alike."""
+    """Makes scripts at random. The adapters from A9 on are used, which both the program and the library have."""
 
     def __init__(self, seed):
         self.random = random.Random(seed)

@@ -1,4 +1,4 @@
-"""Views: callables that are handed notices."""
+"""Views: callables that are handed notifications."""
 
 from support import LIBRARY, ClientTest, LibraryTest
 
@@ -16,7 +16,7 @@ class Heard(LibraryTest):
         self.heard = []
 
     def view(self, node, deep=True):
-        """A view that keeps what it hears."""
+        """A view that keeps its notifications."""
         return self.repo.attach(self.heard.append, node, deep)
 
     def test_set(self):

@@ -1,4 +1,4 @@
-"""Faults that are planted in a metamodel, each mended by what the program says of it and by nothing else."""
+"""Faults that are planted in a metamodel, each fixed by what the program says of it and by nothing else."""
 
 import json
 import re
@@ -21,7 +21,7 @@ def feature_of(document, class_name, name):
 
 
 def edited(change):
-    """A mend of the document as JSON."""
+    """A fix of the document as JSON."""
 
     def mend(text, match):
         document = json.loads(text)
@@ -32,7 +32,7 @@ def edited(change):
 
 
 def quoted(old, new):
-    """A mend of one place of the text, both told by the groups of the line."""
+    """A fix of one place of the text: the groups of the line say where, and what to write."""
 
     def mend(text, match):
         return replaced(text, match.expand(old), match.expand(new))
@@ -69,7 +69,7 @@ def set_key(key, group, cast=str):
 
 PLACE = r'(?:classes\[\d+\]\.features\[\d+\] \()?class (\w+), feature (\w+)\)?: '
 MEANT = '"(.+)" is no .*; is "(.+)" meant\\?'
-# What is planted: an edit of the text; the line that the program has to say; and the mend.
+# What is planted: an edit of the text; the line that the program has to say; and the fix.
 FAULTS = {
     'byte_order_mark': (('{"enums"', '\ufeff{"enums"'), 'line 1, column 1: the bytes begin with a byte order mark; take it out', lambda text, match: text[1:]),
     'comma': (
@@ -164,7 +164,7 @@ FAULTS = {
     'default_of_a_list': (
         ('"EString", "upper": -1', '"EString", "default": "", "upper": -1'), PLACE + 'it is many-valued, and begins empty; leave its (default) out', edited(without_key)),
 }
-# A reference that stands in a supertype: what is planted is that it was moved there.
+# A reference that is in a supertype: what is planted is that it was moved there.
 LIFTED = (
     METAMODEL.replace('"features": [\n    {"name": "workplace", "kind": "reference", "type": "Shop", "opposite": "clerks"}\n  ]', '"features": []')
     .replace('"type": "EInt"}\n', '"type": "EInt"},\n    {"name": "workplace", "kind": "reference", "type": "Shop", "opposite": "clerks"}\n')
@@ -172,14 +172,14 @@ LIFTED = (
 
 
 class Metamodels(unittest.TestCase):
-    """Each fault is refused, explained and mended."""
+    """Each fault is refused, explained and fixed."""
 
     def test_the_metamodel_has_no_fault(self):
         """The metamodel is accepted."""
         self.assertEqual(run(METAMODEL), ('', '', 0))
 
     def mended(self, text, pattern, mend):
-        """A metamodel that is refused, mended by what is said of it."""
+        """A metamodel that is refused, fixed by what is said of it."""
         _, said, status = run(text, (), '--explain')
         self.assertEqual(status, 1, said)
         fault, *lines = said.splitlines()

@@ -83,7 +83,7 @@ class ToolTest(unittest.TestCase):
         return [line[len(tool) + 2:] for line in ended.err.splitlines()]
 
     def assert_fault(self, line, tool, *words):
-        """Checks that a tool ends with status 1, prints nothing, and tells one line; `ROOM` stands for the folder of the files."""
+        """Checks that a tool ends with status 1 and writes one line, on standard error; `ROOM` stands for the folder of the files."""
         ended = run_tool(tool, *words)
         told = ended.err.replace(str(self.room.name), 'ROOM')
         self.assertEqual((ended.status, ended.out, told), (1, '', f'{tool}: {line}\n'))

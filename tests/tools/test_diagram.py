@@ -83,7 +83,7 @@ SMALL = {'enums': [{'name': 'E', 'literals': ['A']}], 'classes': [
     {'name': 'B', 'supers': ['A'], 'features': [{'name': 'parts', 'kind': 'reference', 'type': 'A', 'upper': -1, 'containment': True}]},
 ]}
 
-# A metamodel document, and the line that is told of it.
+# A metamodel document, and the line that is printed of it.
 FAULTS = [
     ('[]', 'ROOM/m.json: the document is no object'),
     ('{}', 'ROOM/m.json: the document: classes is absent or of another kind'),

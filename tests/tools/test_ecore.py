@@ -1,4 +1,4 @@
-"""ecore2mm: in the folder ecore, NAME.json is the document of NAME.ecore or of the files of NAME.args, NAME.notes what is told."""
+"""ecore2mm: in the folder ecore, NAME.json is the document of NAME.ecore or of the files of NAME.args, NAME.notes has the notes."""
 
 import json
 import re

@@ -11,7 +11,7 @@ ECORE = f'{HEAD} xmlns:ecore="http://www.eclipse.org/emf/2002/Ecore" name="p"'
 STRING = 'http://www.eclipse.org/emf/2002/Ecore#//EString'
 ENTITY = '<!DOCTYPE a [<!ENTITY b "c">]>'
 
-# What a file has, and the line that ecore2mm tells of it.
+# What a file has, and the line that ecore2mm prints of it.
 ECORE_FAULTS = [
     ('', 'ROOM/a.ecore:1: not XML: no element found'),
     ('no XML', 'ROOM/a.ecore:1: not XML: syntax error'),
@@ -43,7 +43,7 @@ ECORE_FAULTS = [
     (b'\xef\xbb\xbf<a/>', 'ROOM/a.ecore:1: not Ecore: the root is a, and no EPackage of http://www.eclipse.org/emf/2002/Ecore'),
 ]
 
-# What a root of class A has inside, and the line that xmi2doc tells of it.
+# What a root of class A has inside, and the line that xmi2doc prints of it.
 XMI_FAULTS = [
     ('nope="1"/>', 'ROOM/a.xmi:1: class A has no feature nope'),
     ('><nope/></k:A>', 'ROOM/a.xmi:1: class A has no feature nope'),
@@ -74,7 +74,7 @@ XMI_FAULTS = [
      'ROOM/a.xmi:1: A.left has 3 values, and its upper bound is 2'),
 ]
 
-# A document, and the line that doc2xmi tells of it.
+# A document, and the line that doc2xmi prints of it.
 DOCUMENT_FAULTS = [
     ('{', 'ROOM/a.json: not JSON: Expecting property name enclosed in double quotes: line 1 column 2 (char 1)'),
     (b'\xff', 'ROOM/a.json: not UTF-8: byte 0'),
@@ -90,7 +90,7 @@ DOCUMENT_FAULTS = [
     ('[' * 100000, 'ROOM/a.json: nests too deep'),
 ]
 
-# What a root of class A has as features, and the line that doc2xmi tells of it.
+# What a root of class A has as features, and the line that doc2xmi prints of it.
 FEATURE_FAULTS = [
     ({'nope': 1}, 'ROOM/a.json: root 0: class A has no feature nope to write'),
     ({'number': '1'}, 'ROOM/a.json: root 0: number has what is no EInt'),

@@ -1,4 +1,4 @@
-"""What the tools tell of what they bend and leave out: losses first and counted, the rest by kind."""
+"""The notes of what the tools bend and leave out: losses first and counted, the rest by kind."""
 
 import json
 

@@ -36,7 +36,7 @@ def load(name):
 
 
 def run(tool, made, *words):
-    """Runs a tool that writes to a file; the notes that it tells."""
+    """Runs a tool that writes to a file; the notes that it writes."""
     old, told = sys.argv, io.StringIO()
     sys.argv = [tool, '-o', str(made), *map(str, words)]
     try:

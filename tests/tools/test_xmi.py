@@ -1,4 +1,4 @@
-"""xmi2doc and doc2xmi: in the folder xmi, NAME.json is the document of NAME.xmi, NAME.args has the arguments, NAME.notes what is told."""
+"""xmi2doc and doc2xmi: in the folder xmi, NAME.json is the document of NAME.xmi, NAME.args has the arguments, NAME.notes has the notes."""
 
 import json
 import os

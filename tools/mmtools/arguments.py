@@ -16,7 +16,7 @@ class Several(argparse.Action):
 
 
 def add_note_options(parser: argparse.ArgumentParser) -> None:
-    """The options of a tool that tells what it bends and leaves out."""
+    """The options of a tool that notes what it bends and leaves out."""
     parser.add_argument('--report', action='store_true', help='tell all that is bent and left out as a Markdown table')
     parser.add_argument('--strict', action='store_true', help='end with status 3 if content is left out; the output is the same')
 

@@ -1,4 +1,4 @@
-"""Makes a metamodel of the packages of Ecore: what has a place is taken over, the rest is bent or left out, and told."""
+"""Makes a metamodel of the packages of Ecore: what has a place is taken over, the rest is bent or left out, and noted."""
 
 from __future__ import annotations
 
@@ -24,7 +24,7 @@ class Bent:
     """A metamodel, and what each part of Ecore became."""
 
     def __init__(self, notes: Notes) -> None:
-        """The notes are told while the parts are made."""
+        """The notes are made while the parts are made."""
         self.notes = notes
         self.meta = Metamodel()
         self.classes: Dict[EClass, MClass] = {}
@@ -156,7 +156,7 @@ def is_object_class(source: Optional[EClass]) -> bool:
 
 
 def tell_data_types(classifiers: List[EClassifier], notes: Notes) -> None:
-    """Tells the data types of users."""
+    """Notes the data types of users."""
     for it in classifiers:
         if isinstance(it, EDataType) and it.package.uri != ECORE:
             notes.tell('data type', it.qualified, 'becomes EString')

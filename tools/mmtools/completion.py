@@ -41,14 +41,14 @@ class Completion:
         return self.plans[target.of].by_name[slot.opposite.name]
 
     def complete_end(self, obj: Obj, slot: Slot) -> None:
-        """Completes the links of one end; a link whose other end has no room is left out."""
+        """Completes the links of one end; a link whose other end is full is left out."""
         values = held(obj, slot)
         kept = [it for it in values if isinstance(it, str) or self.has_back(it, slot, obj)]
         if len(kept) < len(values):
             self.cut(obj, slot, kept)
 
     def cut(self, obj: Obj, slot: Slot, kept: List[object]) -> None:
-        """Leaves an end with fewer links, and tells it."""
+        """Leaves an end with fewer links, and notes it."""
         assert slot.opposite is not None
         self.notes.tell('link', slot.feature.qualified, f'left out: {slot.opposite.qualified} names another one', obj.line, True)
         self.sets.pop((obj, slot.name), None)
@@ -76,7 +76,7 @@ class Completion:
         return self.sets[key]
 
     def add(self, obj: Obj, slot: Slot, value: Obj) -> bool:
-        """Adds a value if there is room for it."""
+        """Adds a value unless the end is full."""
         if not slot.is_many:
             return obj.values.setdefault(slot.name, value) is value
         values = obj.values.setdefault(slot.name, [])

@@ -69,7 +69,7 @@ class DocumentReader:
         return self.graph
 
     def tell_strays(self, notes: Notes) -> None:
-        """Tells references by whole URIs that could lead to this document, if nothing says what its own URI is."""
+        """Notes references by whole URIs that could lead to this document, if nothing says what its own URI is."""
         for uri, count in self.strays.items():
             verb = 'leads' if count == 1 else 'lead'
             text = f'{counted(count, "reference")} {verb} to it as to another resource; if it is that of the document, give it with --uri'

@@ -97,7 +97,7 @@ def ids_of(root: Element) -> Dict[str, Element]:
 
 
 def join(files: List[EFile], notes: Notes) -> None:
-    """Joins all references; a supertype that is not among the files is told and left out."""
+    """Joins all references; a supertype that is not among the files is noted and left out."""
     links = Links(files)
     for file in files:
         for package in file.all_packages():

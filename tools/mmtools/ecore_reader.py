@@ -111,7 +111,7 @@ class Reader:
         return made
 
     def annotations(self, element: Element, owner: str) -> None:
-        """Tells the annotations of an element."""
+        """Notes the annotations of an element."""
         for child in children(element, 'eAnnotations'):
             self.notes.tell('annotation', owner, f'left out: {child.plain("source") or "without source"}')
 

@@ -63,7 +63,7 @@ JAVA: Dict[str, Check] = {
 
 
 def check_of(feature: MFeature) -> Optional[Check]:
-    """What tells whether EMF reads a text as a value of an attribute; None if it reads each text that the attribute takes here."""
+    """The test whether EMF reads a text as a value of an attribute; None if it reads each text that the attribute takes here."""
     source = feature.source
     if source is None or source.is_reference:
         return None

@@ -27,7 +27,7 @@ def one_line(text: str) -> str:
 
 
 def run(name: str, main: Callable[[], int]) -> NoReturn:
-    """Runs a tool, and ends the process: the status that the tool gives, or 1 for a fault, which is told in one line."""
+    """Runs a tool, and ends the process: the status that the tool gives, or 1 for a fault, which is printed in one line."""
     gc.disable()  # what is read stays until the end, and a search for cycles would look through all of it again and again
     try:
         status = main()

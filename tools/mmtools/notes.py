@@ -1,4 +1,4 @@
-"""What a tool bends or leaves out, told by kind and name; what loses content is told first, and counted at the end."""
+"""Notes of what a tool bends or leaves out, by kind and name; what loses content comes first, and is counted at the end."""
 
 from __future__ import annotations
 
@@ -9,14 +9,14 @@ from typing import Dict, List, Optional, Tuple
 
 from .faults import one_line
 
-MOST = 10  # notes of one kind and name that are told one by one
+MOST = 10  # notes of one kind and name that are printed one by one
 LONGEST = 100  # characters of a name
 UNTOLD = ('package', 'annotation', 'operation', 'instance class')  # kinds that lose nothing, and are counted
 LOST = 3  # the status of a tool that left out content, if it is asked for
 
 
 def shortened(text: str, most: int = LONGEST) -> str:
-    """A text that is not longer than a line has room for."""
+    """A text that is cut to what fits on a line."""
     return text if len(text) <= most else text[:most - 1] + '…'
 
 

@@ -113,7 +113,7 @@ class Lists(Dict[str, List[Obj]]):
         return parts[index] if index < len(parts) else BEYOND
 
     def remember(self, fragment: str, parts: List[Obj]) -> None:
-        """Keeps the list of a fragment, if its path is plain."""
+        """Keeps the list of a fragment, if its path is one of positions."""
         path = fragment.rpartition('.')[0]
         if any(mark in path for mark in MARKS):
             return

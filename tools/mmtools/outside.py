@@ -104,7 +104,7 @@ class Outside:
 
 
 def read_beside(files: List[str], bent: Bent, plans: Plans) -> List[XmiReader]:
-    """The readers of other files, which have their objects. What is left out there is not told."""
+    """The readers of other files, which have their objects. What is left out there is not noted."""
     made = [XmiReader(file, bent, plans, Notes()) for file in files]
     for reader in made:
         reader.read()

@@ -89,7 +89,7 @@ class LinkJoiner:
             it.owner.values[it.slot.name] = value
 
     def leave(self, it: Pending, why: str) -> None:
-        """Tells a reference that is left out, and keeps no place for it."""
+        """Notes a reference that is left out, and keeps no entry for it."""
         self.notes.tell('reference', it.slot.feature.qualified, f'left out: {why}: {shortened(it.text)}', it.line, True)
         if it.slot.kind == CONTAINER:
             return

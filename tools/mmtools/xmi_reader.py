@@ -92,7 +92,7 @@ class XmiReader(Parser):
             self.texts.append(text)
 
     def text_before(self) -> None:
-        """Tells text of an object, which has no place."""
+        """Notes text of an object, which has no place."""
         top = self.open[-1] if self.open else None
         if type(top) is Obj and id(top) not in self.texted:
             self.texted.add(id(top))
@@ -185,7 +185,7 @@ class XmiReader(Parser):
         return made
 
     def note_shape(self, of: MClass, slot: Slot, attributes: List[str]) -> None:
-        """Notes that objects of a slot with these attributes are plain, if they are: without a type, a link, and names of other spaces."""
+        """Records that objects of a slot with these attributes are simple, if they are: without type, link, and names of other spaces."""
         names = attributes[::2]
         slots = [self.plans[of].by_key.get(name) for name in names]
         if None not in slots and 'href' not in names and of is slot.type:
@@ -206,7 +206,7 @@ class XmiReader(Parser):
             self.fault(f'class {owner.of.name} has no feature {shortened(local)} of {space}')
 
     def left(self, owner: Obj, name: str, attributes: List[str]) -> Skipped:
-        """Tells a feature that has no place, or refuses one that is unknown."""
+        """Notes a feature that has no place, or refuses one that is unknown."""
         found = self.plans[owner.of].left.get(name)
         if found is None:
             self.fault(f'class {owner.of.name} has no feature {shortened(name)}')
@@ -252,7 +252,7 @@ class XmiReader(Parser):
             self.pending += waiting
 
     def tell_type_name(self, slot: Slot, name: str, line: int) -> None:
-        """Tells a reference that is read as the type of the next one, and no next one is there."""
+        """Notes a reference that is read as the type of the next one, if there is no next one."""
         if name:
             why = f'left out: a text with a colon and without # is the name of a type: {shortened(name)}'
             self.notes.tell('reference', slot.feature.qualified, why, line, True)

@@ -26,12 +26,12 @@ class Proof(NamedTuple):
 
 
 def digest_of(file: Path) -> str:
-    """What tells the content of a file."""
+    """What identifies the content of a file."""
     return hashlib.sha256(file.read_bytes()).hexdigest()
 
 
 def sources() -> str:
-    """What tells the content of all crates."""
+    """What identifies the content of all crates."""
     found = [TOP / 'crates.txt', TOP / 'HANDLES']
     found += [it for crate in (TOP / 'crates').iterdir() for name in SOURCES for it in (crate / name).rglob('*') if it.is_file()]
     total = hashlib.sha256()

@@ -31,7 +31,7 @@ class Batch:
     def __init__(self, session: Session) -> None:
         self._session = session
         self._objects: List[EObject] = []
-        # An edit is a verb, a node, and the words behind it: a text, or a name with an object that has no number yet.
+        # An edit is a verb, a node, and the words after it: a text, or a name with an object that has no number yet.
         self._verbs: List[str] = []
         self._nodes: List[Node] = []
         self._tails: List[Union[str, Tuple[str, EObject]]] = []

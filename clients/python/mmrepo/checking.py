@@ -44,7 +44,7 @@ class Checked(NamedTuple):
 
 
 def check_group(models: Models, scope: Scope, names: Group) -> Report:
-    """Checks some files. The files that they refer to are loaded beside them. If there is no room for all of them, the group is
+    """Checks some files. The files that they refer to are loaded beside them. If the repository can't hold all of them, the group is
     loaded again for the others."""
     findings: List[Finding] = []
     placed: List[Placed] = []
@@ -93,8 +93,8 @@ def _short(part: Part, file: Checked) -> Iterator[Placed]:
 
 
 def _load_some(part: Part, later: List[str]) -> Set[str]:
-    """Loads files that are waited for, and takes them out of the list, until there is no more room. One for which there is no room
-    in any case is taken out too."""
+    """Loads files that are waited for, and takes them out of the list, until the repository is full. One that it can't hold in any case
+    is taken out too."""
     tried: Set[str] = set()
     while later:
         part.loader.load(later[0])

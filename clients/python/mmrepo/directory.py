@@ -17,7 +17,7 @@ LINK = 'it is a symbolic link, which is not followed'
 
 
 def digest_of(content: bytes) -> bytes:
-    """What tells two contents apart."""
+    """What distinguishes two contents."""
     return blake2b(content, digest_size=16).digest()
 
 
@@ -35,7 +35,7 @@ def reason(error: OSError) -> str:
 
 
 class State(NamedTuple):
-    """A file at one moment: what tells its content, and what a change of the file would change."""
+    """A file at one moment: what identifies its content, and what a change of the file would change."""
 
     digest: bytes
     mode: int

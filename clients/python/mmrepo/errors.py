@@ -47,7 +47,7 @@ class Refused(MmrepoError):
 
 
 class IndexRefused(Refused, IndexError):
-    """The refusal 10 INDEX: a place is past the end of a list."""
+    """The refusal 10 INDEX: an index is past the end of a list."""
 
 
 class BadLine(MmrepoError):
@@ -62,8 +62,8 @@ class BadLine(MmrepoError):
 
 
 class MetamodelRefused(MmrepoError):
-    """The metamodel has a fault. `fault` is what the program tells of it, as `7 CYCLE class 0`; docs/METAMODEL.md lists the faults.
-    `explained` has a line for each thing that is to be mended, in the words of `--explain`."""
+    """The metamodel has a fault. `fault` is what the program says of it, as `7 CYCLE class 0`; docs/METAMODEL.md lists the faults.
+    `explained` has a line for each thing that is to be fixed, in the words of `--explain`."""
 
     def __init__(self, file: str, fault: str, explained: Sequence[str] = ()) -> None:
         super().__init__(file, fault, explained)
@@ -76,7 +76,7 @@ class MetamodelRefused(MmrepoError):
 
 
 class JournalRefused(MmrepoError):
-    """The program does not take a journal, and leaves it as it is. `fault` is what the program tells of it, as `IN_USE`;
+    """The program does not take a journal, and leaves it as it is. `fault` is what the program says of it, as `IN_USE`;
     docs/JOURNAL.md lists the faults. `explained` has the words of `--explain`."""
 
     def __init__(self, file: str, fault: str, explained: Sequence[str] = ()) -> None:
@@ -125,10 +125,10 @@ class ReplyNotUnderstood(ProgramError):
 
 
 class CallableFailed(MmrepoError):
-    """A callable that was attached raised an error, which is the `__cause__`. The command was done, all others were handed their notices,
-    and the repository goes on.
+    """A callable that was attached raised an error, which is the `__cause__`. The command was done, all others were handed their
+    notifications, and the repository goes on.
 
-    `callable` is what was called, and `notice` what it was handed.
+    `callable` is what was called, and `notice` the notification that it was handed.
     """
 
     def __init__(self, callable: Callable[..., Any], notice: Any) -> None:

@@ -42,11 +42,11 @@ class Exchange:
         raise NotImplementedError
 
     def explained(self, line: str) -> List[str]:
-        """What is to be mended in the line that was given last."""
+        """What is to be fixed in the line that was given last."""
         raise NotImplementedError
 
     def ask(self, line: str, read: Callable[[str], T]) -> T:
-        """What `read` makes of the answer to a line. The views hear what was told before it is given.
+        """What `read` makes of the answer to a line. The views are notified before it is given.
 
         A Refused comes if the command is refused, and a BadLine if the engine does not know it. If `read` raises a
         ValueError the engine is ended, and a ReplyNotUnderstood comes.
@@ -168,7 +168,7 @@ class Exchange:
         return self._heard(line, text, end, read)
 
     def _heard(self, line: str, text: str, end: int, read: Callable[[str], T]) -> T:
-        """What `read` makes of an answer that notices follow. They wait for their views."""
+        """What `read` makes of an answer that notifications follow. They wait for their views."""
         try:
             found = read(text[:end])
         except ValueError:
@@ -177,14 +177,14 @@ class Exchange:
         return found
 
     def _hear(self, line: str, text: str, end: int) -> None:
-        """Has the notices wait that begin after a place of an answer."""
+        """Has the notifications wait that begin after an offset of an answer."""
         try:
             self.views.hear(text[end + 1:-1].split('\n'), self.named)
         except ValueError:
             raise self.not_understood(line, text) from None
 
     def _taken(self, line: str, text: str, read: Callable[[str, str], T]) -> T:
-        """What `read` makes of the first line of an answer. The notices after it wait for their views."""
+        """What `read` makes of the first line of an answer. The notifications after it wait for their views."""
         end = text.find('\n')
         if end + 1 == len(text):
             try:
@@ -230,9 +230,9 @@ class Exchange:
         return kind(line, int(number), name, (int(cause), cause_name) if cause else None, explained)
 
     def _hand_out(self) -> None:
-        """Hands the notices that wait to their callables, and then handles a Ctrl-C that waits.
+        """Hands the notifications that wait to their callables, and then handles a Ctrl-C that waits.
 
-        What a callable causes by a command of its own waits behind them. An error of a callable is raised when all were handed out, and
+        What a callable causes by a command of its own waits after them. An error of a callable is raised when all were handed out, and
         the first of several.
         """
         if self._is_handing:
@@ -257,7 +257,7 @@ class Exchange:
             raise CallableFailed(view.hearer, notice) from cause
 
     def is_busy_in(self, frame: Optional[FrameType]) -> bool:
-        """Whether a Ctrl-C has to wait that comes in a frame: a command is under way, or a notice was not handed out yet."""
+        """Whether a Ctrl-C has to wait that comes in a frame: a command is under way, or a notification was not handed out yet."""
         return self.busy or self._is_handing and frame is not None and frame.f_code is _HANDING
 
     def _read_value(self, answer: str) -> Any:

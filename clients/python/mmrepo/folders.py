@@ -119,7 +119,7 @@ class Folder:
         return [it.resource for it in self._kept.values() if self._document_of(it)[0] != it.saved]
 
     def _document_of(self, kept: Kept) -> Tuple[Optional[bytes], str]:
-        """What tells the document of a resource, and the document; None and the refusal if it can't be saved."""
+        """What identifies the document of a resource, and the document; None and the refusal if it can't be saved."""
         try:
             document = kept.resource.save()
         except Refused as refused:

@@ -156,7 +156,7 @@ class InProcess(Engine):
             self.list_length, self.list_value, self.load = self._session.list_length, self._session.list_value, self._session.load
 
     def _refusal(self, metamodel: str, status: int) -> Exception:
-        """The error of a metamodel that is refused. Its place and what is to be mended are said by the program, if there is one."""
+        """The error of a metamodel that is refused. Its place and what is to be fixed are said by the program, if there is one."""
         if status == MEMORY:
             return MemoryError()
         if status == TOO_LONG:

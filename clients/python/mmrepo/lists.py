@@ -6,7 +6,7 @@ import operator
 from typing import TYPE_CHECKING, Any, Iterable, Iterator, List, Optional, Sequence, TypeVar, Union, overload
 
 from .metamodel import EAttribute, EStructuralFeature
-from .values import LONGEST_NUMBER, place_word
+from .values import LONGEST_NUMBER, index_word
 
 if TYPE_CHECKING:
     from .objects import EObject, Node
@@ -18,8 +18,8 @@ T = TypeVar('T')
 class FeatureList(Sequence[T]):
     """The list of a feature of a node. It keeps no values: each use asks the repository for some or all of them, or changes some.
 
-    A place is counted from 0, or from the end where it is below 0. A refused command raises a Refused, and has changed
-    nothing: BOUND if the list is full, TYPE if the feature can't have a value. There is no assignment to a place, since the
+    An index is counted from 0, or from the end if it is below 0. A refused command raises a Refused, and has changed
+    nothing: BOUND if the list is full, TYPE if the feature can't have a value. There is no assignment to an index, since the
     repository has no command for it.
     """
 
@@ -67,25 +67,25 @@ class FeatureList(Sequence[T]):
         return getattr(value, '_session', None) is node._session and word in text[1:-1].split(' ')
 
     @overload
-    def __getitem__(self, place: int) -> T: ...
+    def __getitem__(self, index: int) -> T: ...
 
     @overload
-    def __getitem__(self, place: slice) -> List[T]: ...
+    def __getitem__(self, index: slice) -> List[T]: ...
 
-    def __getitem__(self, place: Union[int, slice]) -> Any:
-        """The value at a place, or a list of the values of a slice; an IndexError if there is no such place."""
+    def __getitem__(self, index: Union[int, slice]) -> Any:
+        """The value at an index, or a list of the values of a slice; an IndexError if there is no such index."""
         session = self._node._session
-        if isinstance(place, slice) or session.engine.list_value is None:
-            return self._values()[place]
-        place = operator.index(place)
-        if place < 0:
-            place += len(self)
-        if not 0 <= place <= LONGEST_NUMBER:
-            raise IndexError(f'there is no place {place}')
-        return session.list_value(self._node._word, self._name, place)
+        if isinstance(index, slice) or session.engine.list_value is None:
+            return self._values()[index]
+        index = operator.index(index)
+        if index < 0:
+            index += len(self)
+        if not 0 <= index <= LONGEST_NUMBER:
+            raise IndexError(f'there is no index {index}')
+        return session.list_value(self._node._word, self._name, index)
 
     def index(self, value: Any, *bounds: int) -> int:
-        """The first place of a value; a ValueError if the list does not have it."""
+        """The first index of a value; a ValueError if the list does not have it."""
         return self._values().index(value, *bounds)
 
     def count(self, value: Any) -> int:
@@ -111,10 +111,10 @@ class FeatureList(Sequence[T]):
         """The word of a value."""
         return self._node._session.value_word(value, self._feature)
 
-    def _place(self, place: int) -> str:
-        """The word of a place; an IndexError if it is before the first."""
-        place = operator.index(place)
-        return place_word(place if place >= 0 else place + len(self))
+    def _index(self, index: int) -> str:
+        """The word of an index; an IndexError if it is before the first."""
+        index = operator.index(index)
+        return index_word(index if index >= 0 else index + len(self))
 
     def append(self, value: T) -> bool:
         """Puts a value at the end. False: the list has it already and repeats none, so nothing has changed."""
@@ -133,42 +133,42 @@ class FeatureList(Sequence[T]):
         self.extend(values)
         return self
 
-    def insert(self, place: int, value: T) -> None:
-        """Puts a value before the one at a place, or at the end if it is the place after the last.
+    def insert(self, index: int, value: T) -> None:
+        """Puts a value before the one at an index, or at the end if it is the index after the last.
 
-        An IndexError comes for a place beyond it; DUPLICATE is refused if the list has the value and repeats none.
+        An IndexError comes for an index beyond it; DUPLICATE is refused if the list has the value and repeats none.
         """
-        self._node._session.flag(self._give('add', f'{self._word(value)} {self._place(place)}'))
+        self._node._session.flag(self._give('add', f'{self._word(value)} {self._index(index)}'))
 
     def remove(self, value: T) -> None:
-        """Takes a value out, where it comes first; a ValueError if the list does not have it."""
+        """Takes the first occurrence of a value out; a ValueError if the list does not have it."""
         if not self._node._session.flag(self._give('removevalue', self._word(value))):
             raise ValueError(f'{value!r} is not in the list')
 
-    def pop(self, place: int = -1) -> T:
-        """Takes the value at a place out, and gives it; an IndexError if there is none."""
-        return self._node._session.value(self._give('remove', self._place(place)))
+    def pop(self, index: int = -1) -> T:
+        """Takes the value at an index out, and gives it; an IndexError if there is none."""
+        return self._node._session.value(self._give('remove', self._index(index)))
 
-    def __delitem__(self, place: Union[int, slice]) -> None:
-        """Takes out the value at a place; or those of a slice, the last one first, by a command each."""
-        if isinstance(place, slice):
-            for at in sorted(range(*place.indices(len(self))), reverse=True):
+    def __delitem__(self, index: Union[int, slice]) -> None:
+        """Takes out the value at an index; or those of a slice, the last one first, by a command each."""
+        if isinstance(index, slice):
+            for at in sorted(range(*index.indices(len(self))), reverse=True):
                 self.pop(at)
         else:
-            self.pop(place)
+            self.pop(index)
 
-    def __setitem__(self, place: Any, value: Any) -> None:
+    def __setitem__(self, index: Any, value: Any) -> None:
         """A TypeError: no command replaces a value, and two commands would leave the list changed if the second is refused."""
-        raise TypeError('no value is assigned to a place: remove the one, and insert the other')
+        raise TypeError('no value is assigned to an index: remove the one, and insert the other')
 
     def clear(self) -> None:
         """Takes all values out, by one command, the last one first."""
         self._node._session.done(f'unset {self._node._word} {self._name}')
 
-    def move(self, to: int, place: int) -> T:
-        """Takes the value at a place out, and puts it in at the place `to` of what remains; gives the value."""
-        return self._node._session.value(self._give('move', f'{self._place(to)} {self._place(place)}'))
+    def move(self, to: int, index: int) -> T:
+        """Takes the value at an index out, and puts it in at the index `to` of what remains; gives the value."""
+        return self._node._session.value(self._give('move', f'{self._index(to)} {self._index(index)}'))
 
-    def resolve(self, place: int) -> EObject:
-        """Puts the object that the proxy at a place finds there, and gives it. The refusals are those of `resolve` of an object."""
-        return self._node._session.object(self._give('resolve', self._place(place)))
+    def resolve(self, index: int) -> EObject:
+        """Replaces the proxy at an index by the object that it finds, and gives that. The refusals are those of `resolve` of an object."""
+        return self._node._session.object(self._give('resolve', self._index(index)))

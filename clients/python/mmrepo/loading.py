@@ -26,7 +26,7 @@ TOO_LONG = f'it has %s bytes; a document that is loaded has at most {LONGEST_LIN
 
 
 class Loaded(NamedTuple):
-    """A file that is loaded: its resource, how many objects were made, its document, and what tells its content."""
+    """A file that is loaded: its resource, how many objects were made, its document, and what identifies its content."""
 
     name: str
     resource: Resource

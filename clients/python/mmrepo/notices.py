@@ -1,4 +1,4 @@
-"""Notices: what is told of a change, and the views that hear it."""
+"""Notifications of changes, and the views that are notified. A `Notice` is a notification."""
 
 from __future__ import annotations
 
@@ -15,7 +15,7 @@ if TYPE_CHECKING:
     from .resources import Resource
     from .session import Session
 
-FIRST_ADAPTER = 9  # A9 and those behind it keep no notices
+FIRST_ADAPTER = 9  # A9 and those after it keep no notifications
 
 _HEAD = re.compile(r'told (A[0-9]+) ([A-Z_]+) ([#r][0-9]+)(?:\.([A-Za-z_][A-Za-z0-9_]*))? ')
 _PLACE = re.compile(r' (-1|[0-9]+)')
@@ -23,7 +23,7 @@ _RELEASED = re.compile(r'released (A[0-9]+) told [0-9]+ kept [0-9]+')
 
 
 class Kind(enum.IntEnum):
-    """The kinds of notices, with the names and numbers of EMF."""
+    """The kinds of notifications, with the names and numbers of EMF."""
 
     SET = 1
     UNSET = 2
@@ -35,10 +35,10 @@ class Kind(enum.IntEnum):
 
 
 class Notice(NamedTuple):
-    """A change of one feature of one node. docs/ADAPTERS.md says what is told when.
+    """A notification: a change of one feature of one node. docs/ADAPTERS.md says which changes notify whom, and when.
 
     `notifier` is the object or the resource, and `feature` the name of its feature. `old` and `new` are the value before and
-    the value after; `position` is the place in a list, or -1. A MOVE has the old place as `old`. REMOVING_ADAPTER has no
+    the value after; `position` is the index in a list, or -1. A MOVE has the old index as `old`. REMOVING_ADAPTER has no
     feature, and the view as `old`.
     """
 
@@ -52,14 +52,14 @@ class Notice(NamedTuple):
 
 _KINDS = dict(Kind.__members__)
 _notice = tuple.__new__
-_known: Set[str] = set()  # features that were told of before, whose names are names
+_known: Set[str] = set()  # features of earlier notifications, whose names are names
 MANY = 10_000  # so many of them are kept
 
 Hearer = Callable[[Notice], Any]
 
 
 def told_of(line: str, named: Named) -> Tuple[str, Notice]:
-    """The adapter and the notice of a `told` line; a ValueError if it is none."""
+    """The adapter and the notification of a `told` line; a ValueError if it is none."""
     words = line.split(' ')
     if len(words) == 7 and '"' not in line:
         _, adapter, name, where, before, after, place = words
@@ -76,7 +76,7 @@ def _told_of(line: str, named: Named) -> Tuple[str, Notice]:
     """That of any line: a text in it may have spaces."""
     head = _HEAD.match(line)
     if head is None:
-        raise ValueError('no notice')
+        raise ValueError('no notification')
     adapter, kind, notifier, feature = head.groups()
     if kind not in Kind.__members__:
         raise ValueError(f'{kind} is no kind')
@@ -114,14 +114,14 @@ class View:
         return self._session.flag(f'unwatch {self._word} {node._word}')
 
     def detach(self) -> bool:
-        """Detaches it from all its nodes. It hears REMOVING_ADAPTER, and nothing after. False: it was detached before."""
+        """Detaches it from all its nodes. It is notified of REMOVING_ADAPTER, and of nothing after. False: it was detached before."""
         if not self.is_attached:
             return False
         self._session.done(f'detach {self._word}')
         return True
 
     def _check(self) -> None:
-        """A ValueError if it is attached no more: its number may be another's by now."""
+        """A ValueError if it is attached no more: its number may be that of another view by now."""
         if not self.is_attached:
             raise ValueError('the view is attached no more')
 
@@ -131,7 +131,7 @@ class View:
 
 
 class Views:
-    """The views that are attached, the numbers that are free, and the notices that no callable was handed yet."""
+    """The views that are attached, the numbers that are free, and the notifications that no callable was handed yet."""
 
     def __init__(self) -> None:
         self._attached: Dict[str, View] = {}
@@ -166,7 +166,7 @@ class Views:
         return view
 
     def hear(self, lines: List[str], named: Named) -> None:
-        """Takes lines that follow an answer; a ValueError if one is no notice and releases no view."""
+        """Takes lines that follow an answer; a ValueError if one is no notification and releases no view."""
         for line in lines:
             if line[:5] == 'told ':
                 word, notice = told_of(line, named)
@@ -174,10 +174,10 @@ class Views:
                 continue
             released = _RELEASED.fullmatch(line)
             if released is None:
-                raise ValueError('no notice')
+                raise ValueError('no notification')
             self.release(self.named(released.group(1))._word)
 
 
 def depth(deep: bool) -> str:
-    """The word that says how deep a view hears."""
+    """The word that says whether a view is notified of changes below its node."""
     return 'deep' if deep else 'flat'

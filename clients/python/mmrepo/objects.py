@@ -6,7 +6,7 @@ from typing import TYPE_CHECKING, Any, Dict, Iterable, Iterator, List, Optional,
 
 from .lists import FeatureList
 from .metamodel import EClass, EReference, EStructuralFeature
-from .values import GREATEST_INTEGER, LEAST_INTEGER, Value, data_word, name_word, place_word
+from .values import GREATEST_INTEGER, LEAST_INTEGER, Value, data_word, index_word, name_word
 
 if TYPE_CHECKING:
     from .resources import Resource
@@ -144,7 +144,7 @@ class EObject(Node):
         features = [] if self._class is None else [it.name for it in self._class.eAllStructuralFeatures()]
         return [*super().__dir__(), *features]
 
-    # Where it stands
+    # Its class and its container
 
     @property
     def eClass(self) -> EClass:
@@ -200,12 +200,12 @@ class EObject(Node):
         """The names of the features that have fewer values than they should."""
         return self._session.names(f'validate {self._word}')
 
-    def resolve(self, feature: FeatureName, place: int = 0) -> EObject:
-        """Puts the object that a proxy finds in its place, and gives it: at a place of a list, at 0 of a single reference.
+    def resolve(self, feature: FeatureName, index: int = 0) -> EObject:
+        """Replaces a proxy by the object that it finds, and gives that: the proxy at an index of a list, or at 0 of a single reference.
 
         The refusals are those of `resolve` in docs/SCRIPT.md, as UNLOADED and UNRESOLVED.
         """
-        return self._session.object(f'resolve {self._word} {name_word(name_of(feature))} {place_word(place)}')
+        return self._session.object(f'resolve {self._word} {name_word(name_of(feature))} {index_word(index)}')
 
     def delete(self) -> int:
         """Destroys it and all that is below it, and takes them out of every end that holds them. Gives how many went."""

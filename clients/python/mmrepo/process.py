@@ -145,7 +145,7 @@ class Program(Engine):
             raise self.not_understood(line, repr(bytes(found))) from None
 
     def _end(self) -> Optional[int]:
-        """The place at which the empty line after the next answer begins in what was read; None if it was not read."""
+        """The offset at which the empty line after the next answer begins in what was read; None if it was not read."""
         if self._data[self._at:self._at + 1] == b'\n':
             return self._at
         end = self._data.find(b'\n\n', self._known)
@@ -162,7 +162,7 @@ class Program(Engine):
         return [said[len(start):] for said in self._news().split('\n') if said.startswith(start)]
 
     def _news(self) -> str:
-        """What it wrote on standard error since this was asked before. The place of the file is also the program's, and stays."""
+        """What it wrote on standard error since this was asked before. The offset of the file is also the program's, and stays."""
         size = os.fstat(self._said.fileno()).st_size
         data = os.pread(self._said.fileno(), size - self._said_before, self._said_before)
         self._said_before += len(data)

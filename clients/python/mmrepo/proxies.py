@@ -15,7 +15,7 @@ if TYPE_CHECKING:
     from .session import Session
 
 _REFUSED = re.compile(r'refused [0-9]+ ([A-Z_]+)')
-LIMIT = 'LIMIT'  # the kind of a finding on a file for which a repository has no room
+LIMIT = 'LIMIT'  # the kind of a finding on a file that a repository can't hold
 UNREAD = 'UNREAD'  # the kind of a finding on a proxy that leads to a file which has findings itself
 RESOLVED = 'NOT_PROXY'  # the refusal of `resolve` if the proxy was resolved before
 

@@ -136,7 +136,7 @@ class Repository:
         return copied(self._session, node)
 
     def snapshot(self, node: Union[EObject, Resource]) -> Snapshot:
-        """What a node and each node below it have: a dict of the features by their names. `replay` of it brings it up to date by a notice."""
+        """What a node and each node below it have: a dict of the features by their names. Its `replay` brings it up to date by a notification."""
         self._session.check_node(node)
         return snapshot_of(self._session, node)
 
@@ -186,11 +186,11 @@ class Repository:
         return Resolved(*self._session.counts('resolveall', 'resolved', 'left'))
 
     def attach(self, hearer: Hearer, node: Union[EObject, Resource], deep: bool = True) -> View:
-        """Attaches a callable to a node. From the next command on it is handed each notice there, and if it is `deep` each
-        one of the nodes below it, after the command that told them.
+        """Attaches a callable to a node. From the next command on it is handed each notification there, and if it is `deep`
+        each one at a node below it, when the command is done.
 
-        A callable may give commands; the notices of a command that it gives are handed out after those that wait. An error
-        in it raises a CallableFailed, when all notices are handed out.
+        A callable may give commands; the notifications of a command that it gives are handed out after those that wait. An
+        error in it raises a CallableFailed, when all notifications are handed out.
         """
         if not callable(hearer):
             raise TypeError(f'{hearer!r} is not callable')
@@ -198,7 +198,7 @@ class Repository:
         return self._session.attach(node, hearer, depth(deep))
 
     def close(self) -> None:
-        """Ends its engine. Nothing is told; further calls raise a RepositoryClosed, but a further `close` does nothing.
+        """Ends its engine. No view is notified; further calls raise a RepositoryClosed, but a further `close` does nothing.
 
         A ProgramEnded comes if the program ends with another status than 0.
         """

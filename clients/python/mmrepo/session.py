@@ -41,7 +41,7 @@ class Session(Exchange):
     # Several lines, and calls
 
     def answers(self, lines: Sequence[str]) -> List[str]:
-        """The first lines of the answers to several lines, which are sent at once. What was told is heard when all are answered."""
+        """The first lines of the answers to several lines, which are sent at once. The views are notified when all are answered."""
         return self._asked_all(lines, lambda line, answer: answer)
 
     def outcomes(self, lines: Sequence[str]) -> List[Any]:
@@ -50,7 +50,7 @@ class Session(Exchange):
         return self._asked_all(lines, self._outcome)
 
     def raw(self, line: str) -> List[str]:
-        """The lines that a line prints, which no view hears."""
+        """The lines that a line prints, of which no view is notified."""
         return self.raw_all([line])[0]
 
     def raw_all(self, lines: Sequence[str]) -> List[List[str]]:
@@ -82,7 +82,7 @@ class Session(Exchange):
 
     def load(self, word: str, document: str) -> int:
         """Loads a document into the resource of a word, and gives how many objects were made."""
-        # On a line a newline may stand between tokens, and so may a tab; inside of a text of the document neither may.
+        # On a line a newline may be between tokens, and so may a tab; inside of a text of the document neither may.
         line = f'load {word} ' + document.replace('\n', '\t')
         call = self.engine.load
         if call is None:
@@ -111,7 +111,7 @@ class Session(Exchange):
         return self._called(f'get {word} {name}', lambda: call(is_resource, number, name, index), self._read_value)
 
     def explained(self, line: str) -> List[str]:
-        """What is to be mended in the line that was given last."""
+        """What is to be fixed in the line that was given last."""
         words = line.split(' ', 2)
         resource = self._resources.get(words[1]) if words[0] == 'load' and len(words) > 1 else None
         return self.engine.explained(line, None if resource is None else resource.uri)

@@ -1,4 +1,4 @@
-"""What a node and all nodes below it have, as a dict that notices keep up to date."""
+"""What a node and all nodes below it have, as a dict that notifications keep up to date."""
 
 from __future__ import annotations
 
@@ -23,7 +23,7 @@ class Snapshot(Dict[Node, Dict[str, Any]]):
     """
 
     def replay(self, notice: Notice) -> None:
-        """Does to the snapshot what a notice tells. A notice of a node that it does not know changes nothing."""
+        """Makes the change of a notification in the snapshot. One at a node that the snapshot does not know changes nothing."""
         features = self.get(notice.notifier)
         if features is None or notice.feature is None:
             return

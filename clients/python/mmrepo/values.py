@@ -11,7 +11,7 @@ from typing import TYPE_CHECKING, Any, Callable, Dict, List, Tuple, Union
 if TYPE_CHECKING:
     from .objects import EObject
 
-LONGEST_NUMBER = 4_294_967_295  # the greatest place that a word can name
+LONGEST_NUMBER = 4_294_967_295  # the greatest index that a word can name
 LEAST_INTEGER, GREATEST_INTEGER = -(2**63), 2**63 - 1
 
 _NAME = re.compile(r'[A-Za-z_][A-Za-z0-9_]*')
@@ -70,11 +70,11 @@ def name_word(name: Any) -> str:
     return name
 
 
-def place_word(place: int) -> str:
-    """The word of a place of a list, which is counted from 0; an IndexError if no list has it."""
-    if not 0 <= place <= LONGEST_NUMBER:
-        raise IndexError(f'there is no place {place}')
-    return str(place)
+def index_word(index: int) -> str:
+    """The word of an index of a list, which is counted from 0; an IndexError if no list has it."""
+    if not 0 <= index <= LONGEST_NUMBER:
+        raise IndexError(f'there is no index {index}')
+    return str(index)
 
 
 def text_word(text: Any) -> str:
@@ -106,7 +106,7 @@ def data_word(value: Any, is_enumeration: bool) -> str:
 
 
 def value_at(text: str, at: int, named: Named) -> Tuple[Any, int]:
-    """The value that begins at a place of an answer, and the place after it; a ValueError if there is none."""
+    """The value that begins at an offset of an answer, and the offset after it; a ValueError if there is none."""
     if text.startswith('"', at):
         return scanstring(text, at + 1)
     found = _WORD.match(text, at)

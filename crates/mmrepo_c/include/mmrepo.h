@@ -71,13 +71,13 @@ enum {
 };
 
 /* Opens a session: an empty repository over the metamodel of a document. If it was open, it is closed first. Its adapters are A1 to
-   A1000: they tell what they hear in the texts of lines, and keep none of it.
+   A1000: their notifications are in the texts of lines, and they keep none of them.
    Returns MMREPO_OK, the first fault of the metamodel, MMREPO_TOO_LONG or MMREPO_MEMORY. After MMREPO_OK the session is open and its text
    is empty. After any other value it is closed. */
 uint32_t mmrepo_open(mmrepo_session *session, const char *document, size_t size);
 
-/* Runs one line of a script, given without its newline. The text of the session becomes what the line prints: its answer, and the notices
-   that adapters were told. A newline within the line is no end of it: it makes the line bad, except in the document of a `load` line.
+/* Runs one line of a script, given without its newline. The text of the session becomes what the line prints: its answer, and the
+   notifications of adapters. A newline within the line is no end of it: it makes the line bad, except in the document of a `load` line.
    Returns MMREPO_OK, MMREPO_BLANK, MMREPO_BAD, MMREPO_REFUSED or MMREPO_LOST. MMREPO_CLOSED (the session is closed) and MMREPO_TOO_LONG
    leave the session and its text as they are. After MMREPO_MEMORY the session is closed. */
 uint32_t mmrepo_line(mmrepo_session *session, const char *line, size_t size);
@@ -99,7 +99,7 @@ uint32_t mmrepo_list_value(mmrepo_session *session, bool is_resource, uint32_t n
 uint32_t mmrepo_load(mmrepo_session *session, uint32_t resource, const char *document, size_t size);
 
 /* Copies the text of the session to `text`, at most `size` bytes of it. Each line of the text ends with a newline. The text is not
-   NUL-terminated. Returns how many bytes the text has, which may be more than `size`; then call again with more room: the text is still
+   NUL-terminated. Returns how many bytes the text has, which may be more than `size`; then call again with a larger buffer: the text is still
    there. Returns 0 if no line was run, or if the session is closed. */
 size_t mmrepo_text(mmrepo_session *session, char *text, size_t size);
 

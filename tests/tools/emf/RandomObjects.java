@@ -180,7 +180,7 @@ final class RandomObjects {
     }
   }
 
-  /** Whether the end of a link that EMF completes has room; EMF doesn't look. */
+  /** Whether the end of a link that EMF completes is not full; EMF doesn't look. */
   private static boolean hasRoom(EReference end, EObject at) {
     return end == null || end.getUpperBound() < 2 || ((List<?>) at.eGet(end)).size() < end.getUpperBound();
   }

@@ -22,7 +22,7 @@ final class Shown {
   private final PrintStream out;
   private final boolean sorts;
 
-  /** If it sorts, the order of transient ends is not told: it depends on how the file writes its references. */
+  /** If it sorts, the order of transient ends is not shown: it depends on how the file writes its references. */
   Shown(Resource resource, PrintStream out, boolean sorts) {
     this.sorts = sorts;
     this.resource = resource;

@@ -15,7 +15,7 @@ from .model import Model
 
 LONGEST_LIST = 5_000  # nodes that are asked for at once
 MOST_PROBLEMS = 500  # objects with problems that are listed
-GREATEST = 4_294_967_295  # number of an object, and place of a list
+GREATEST = 4_294_967_295  # number of an object, and index of a list
 _RESOURCE = re.compile(r'r(0|[1-9][0-9]{0,9})')
 
 
@@ -85,7 +85,7 @@ def answer(model: Model, body: Any) -> Any:
 
 
 def _edit(does: Callable[[Model, Dict[str, Any]], Any]) -> Callable[[Model, Dict[str, Any]], Any]:
-    """An edit: its answer has the number of the event that tells of it."""
+    """An edit: its answer has the number of its event."""
     def do(model: Model, it: Dict[str, Any]) -> Any:
         done = model.step(lambda: does(model, it))
         return {'done': done, 'number': model.events.number}

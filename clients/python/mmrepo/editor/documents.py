@@ -7,7 +7,7 @@ from typing import Any, Callable, Dict, Iterator, List, NamedTuple, Optional, Se
 from .forms import CONTENTS, Form, Id
 from .mirror import Entry, Mirror
 
-MOST = 20  # differences that are told
+MOST = 20  # differences that are listed
 
 
 class Place(NamedTuple):
@@ -18,7 +18,7 @@ class Place(NamedTuple):
 
 
 def places_of(mirror: Mirror) -> Dict[int, Place]:
-    """The place of each object."""
+    """Where each object is: its resource and its fragment."""
     found: Dict[int, Place] = {}
     for word in [it for it in mirror.nodes if isinstance(it, str)]:
         for number, fragment in fragments(mirror, mirror.nodes[word].values.get(CONTENTS, ())):
@@ -66,7 +66,7 @@ def _features(entry: Entry, refer: Callable[[int], str]) -> Dict[str, Any]:
 
 
 def _is_holder(entry: Entry, form: Form) -> bool:
-    """Whether a reference leads to the container, whose place says so already."""
+    """Whether a reference leads to the container, in which the object is written already."""
     feature = entry.shape and entry.shape.eclass.findEStructuralFeature(form.name)
     return bool(getattr(feature, 'container', False))
 

@@ -48,14 +48,14 @@ class Edits:
         self._try(Attempt(self._mirror, node, kind), lambda: owner.eUnset(feature))
 
     def add(self, node: int, feature: str, value: Any, at: Optional[int] = None) -> None:
-        """Puts a value into a list, at its end or at a place."""
+        """Puts a value into a list, at its end or at an index."""
         owner, kind = self._feature(node, feature)
         self._check_many(kind)
         place = len(self._mirror.nodes[node].get(self._mirror.shapes.of(owner.eClass.name).forms[feature])) if at is None else at
         self._try(Attempt(self._mirror, node, kind, value), lambda: owner.eGet(feature).insert(place, self._value(kind, value)))
 
     def remove(self, node: int, feature: str, at: int, was: Any = None) -> None:
-        """Takes the value at a place out of a list: the one that the window has seen there, if it says which."""
+        """Takes the value at an index out of a list: the one that the window has seen there, if it says which."""
         owner, kind = self._feature(node, feature)
         self._check_not_held(kind, node)
         self._check_many(kind)
@@ -63,7 +63,7 @@ class Edits:
         self._try(Attempt(self._mirror, node, kind), lambda: owner.eGet(feature).pop(at))
 
     def move(self, node: Id, feature: str, to: int, at: int, was: Any = None) -> None:
-        """Moves the value at a place of a list: the one that the window has seen there, if it says which."""
+        """Moves the value at an index of a list: the one that the window has seen there, if it says which."""
         self._check_is(node, feature, at, was)
         if isinstance(node, str):
             self._try(Attempt(self._mirror, node), lambda: self._resource(node).contents.move(to, at))
@@ -73,7 +73,7 @@ class Edits:
         self._try(Attempt(self._mirror, node, kind), lambda: owner.eGet(feature).move(to, at))
 
     def resolve(self, node: int, feature: str, at: int) -> None:
-        """Puts the object that a proxy finds in its place."""
+        """Replaces a proxy by the object that it finds."""
         owner, kind = self._feature(node, feature)
         value = self._mirror.nodes[node].values.get(feature)
         address = value[at] if isinstance(value, list) and at < len(value) else value
@@ -93,7 +93,7 @@ class Edits:
         return number
 
     def place(self, number: int, node: Id, feature: str, at: Optional[int] = None) -> None:
-        """Puts an object into a container or a resource, at the end or at a place; or moves it there in its list."""
+        """Puts an object into a container or a resource, at the end or at an index; or moves it there in its list."""
         thing = object_of(self._repo, number)
         entry = self._mirror.nodes.get(number)
         if entry is not None and (entry.holder, entry.under) == (node, feature):
@@ -113,7 +113,7 @@ class Edits:
                 self._try(Attempt(self._mirror, node, kind, number), lambda: owner.eSet(feature, thing))
 
     def _shift(self, number: int, node: Id, feature: str, at: Optional[int]) -> None:
-        """Moves an object in the list that it is in: before the one that is at the place now."""
+        """Moves an object in the list that it is in: before the one that is at the index now."""
         values = self._mirror.nodes[node].values[feature]
         if isinstance(values, list):
             now = values.index(number)
@@ -175,7 +175,7 @@ class Edits:
         return value
 
     def _check_is(self, node: Id, feature: str, at: int, was: Any) -> None:
-        """A NotDone if a list has a different value at a place than the window has seen: another one was faster."""
+        """A NotDone if a list has a different value at an index than the window has seen: another window was faster."""
         entry = self._mirror.nodes.get(node)
         values = entry.values.get(feature) if entry else None
         if was is not None and isinstance(values, list) and values[at:at + 1] != [was]:
@@ -187,7 +187,7 @@ class Edits:
             raise NotDone('NOT_MANY', f'NOT_MANY: {feature.name} is no list')
 
     def _check_not_held(self, feature: EStructuralFeature, node: int) -> None:
-        """A NotDone for what would leave an object in no resource: its place is changed in the tree."""
+        """A NotDone for what would leave an object in no resource: its container is changed in the tree."""
         if isinstance(feature, EReference) and (feature.containment or feature.container):
             raise NotDone('HELD', f'HELD: {feature.name} is changed in the tree, so that no object is lost: delete, drag, or make a new one')
 

@@ -1,4 +1,4 @@
-"""What the server knows of the model. It is read once, and then kept by notices alone, as docs/ADAPTERS.md replays them."""
+"""What the server knows of the model. It is read once, and then kept by notifications alone, as docs/ADAPTERS.md replays them."""
 
 from __future__ import annotations
 
@@ -71,7 +71,7 @@ class Mirror:
         self.nodes: Dict[Id, Entry] = {}
 
     def told(self, notice: Notice) -> Told:
-        """A notice as JSON has it."""
+        """A notification as JSON has it."""
         node = id_of(notice.notifier)
         feature = notice.feature or ''
         entry = self.nodes.get(node)
@@ -81,7 +81,7 @@ class Mirror:
         return notice.kind.name, node, feature, old, encoded(form, notice.new), notice.position, kind
 
     def replay(self, notices: Sequence[Told]) -> Changes:
-        """Takes the notices of a command in."""
+        """Takes the notifications of a command in."""
         come: Dict[int, Tuple[Id, str]] = {}
         lost: List[int] = []
         for told in notices:
@@ -155,7 +155,7 @@ class Mirror:
 
 
 def _apply(entry: Entry, form: Form, told: Told) -> None:
-    """Changes the one end that a notice names. What it can't be true of is passed over."""
+    """Changes the one end that a notification names. One that can't be true is passed over."""
     kind, _, name, old, new, at, _ = told
     if kind in ('SET', 'UNSET') or kind == 'RESOLVE' and at < 0:
         entry.put(form, new)

@@ -1,4 +1,4 @@
-"""The model that is edited: the repository, what is known of it by notices, and the events for the windows."""
+"""The model that is edited: the repository, what is known of it by notifications, and the events for the windows."""
 
 from __future__ import annotations
 
@@ -39,7 +39,7 @@ class Model:
     """What the windows share. One thread at a time has it: the one that has the `lock`."""
 
     def __init__(self, repo: Repository, files: Files) -> None:
-        """Reads all resources, and hears of each change from now on."""
+        """Reads all resources, and is notified of each change from now on."""
         self.lock = Turn(repo)
         self.repo, self.files = repo, files
         self.events = Events()
@@ -55,19 +55,19 @@ class Model:
         self.problems.look_at_all()
 
     def _follow(self, resource: Resource) -> None:
-        """Hears of each change in a resource."""
+        """Is notified of each change in a resource from now on."""
         if self._view is None:
             self._view = self.repo.attach(self._hear, resource)
         else:
             self._view.watch(resource)
 
     def _hear(self, notice: Notice) -> None:
-        """Keeps a notice until the step is done."""
+        """Keeps a notification until the step is done."""
         if notice.kind is not Kind.REMOVING_ADAPTER:
             self._told.append(self.mirror.told(notice))
 
     def step(self, do: Callable[[], Any]) -> Any:
-        """Does something to the model, and tells the windows of it, also if it is refused half way."""
+        """Does something to the model, and sends the windows its event, also if it is refused half way."""
         with self.lock:
             try:
                 return do()
@@ -75,7 +75,7 @@ class Model:
                 self._tell()
 
     def _tell(self, changes: Optional[Changes] = None) -> None:
-        """Takes the notices in, and tells the windows: nothing if there are none."""
+        """Takes the notifications in, and sends the windows an event: none if there are none."""
         told, self._told = self._told, []
         if not told:
             return

@@ -47,7 +47,7 @@ class Server(ThreadingHTTPServer):
     # Connections
 
     def process_request(self, request: Any, client_address: Any) -> None:
-        """Answers a connection in a thread of its own; one that is too many is told so."""
+        """Answers a connection in a thread of its own; one that is too many gets an answer that says so."""
         with self._lock:
             is_taken = self._open < CONNECTIONS
             self._open += is_taken

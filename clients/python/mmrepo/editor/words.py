@@ -93,7 +93,7 @@ SAID: Dict[str, Callable[[Attempt], str]] = {
     'NO_FEATURE': lambda it: f'there is no feature {it.name()}',
     'NOT_SINGLE': lambda it: f'{it.name()} is a list',
     'NOT_MANY': lambda it: f'{it.name()} is no list',
-    'INDEX': lambda it: f'{it.name()} has no such place any more',
+    'INDEX': lambda it: f'{it.name()} has no such index any more',
     'RECURSIVE': lambda it: 'an object can\'t be inside itself',
     'UNLOADED': lambda it: f'no resource is open that {shown(str(it.value))} leads to',
     'UNRESOLVED': lambda it: f'{shown(str(it.value))} leads to no object',

@@ -1,5 +1,5 @@
 // @ts-check
-/** Edits the tree: new objects, deleting, and moving to a different place. */
+/** Edits the tree: new objects, deleting, and moving. */
 
 import { counted, element } from './dom.mjs';
 import { drags } from './drag.mjs';
@@ -83,7 +83,7 @@ export class TreeEdits {
   }
 
   /**
-   * Waits until an event was heard.
+   * Waits until an event was received.
    * @param {number} number
    */
   async heard(number) {
@@ -151,7 +151,7 @@ export class TreeEdits {
   }
 
   /**
-   * Whether a feature has no room.
+   * Whether a feature is full.
    * @param {Id} id
    * @param {Feature} feature
    * @returns {boolean}
@@ -214,7 +214,7 @@ export class TreeEdits {
   }
 
   /**
-   * Shows where an object would go, and gives the place: before or after a row at its edges, else into it.
+   * Shows where an object would go, and gives that: before or after a row at its edges, else into it.
    * @param {number} what
    * @param {PointerEvent | null} event
    * @returns {Place | null}

@@ -59,7 +59,7 @@ class TextField {
     }
   }
 
-  /** Has room for each line. */
+  /** Is as high as its lines. */
   fit() {
     this.input.tagName === 'TEXTAREA' && (this.input.rows = Math.min(12, this.input.value.split('\n').length));
   }

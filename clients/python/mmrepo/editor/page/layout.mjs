@@ -167,7 +167,7 @@ function middle(some, spots) {
 }
 
 /**
- * Gives each spot its place: in its order, as near to its neighbours as there is room.
+ * Gives each spot its place: in its order, as near to its neighbours as it can be.
  * @param {number[][]} layers
  * @param {Spot[]} spots
  */

@@ -82,7 +82,7 @@ export class ListField {
   }
 
   /**
-   * Moves a value to a place.
+   * Moves a value to an index.
    * @param {number} at
    * @param {number} to
    */
@@ -138,7 +138,7 @@ export class ListField {
   }
 
   /**
-   * Shows where a value would go, and gives the place.
+   * Shows where a value would go, and gives the index.
    * @param {number} at
    * @param {PointerEvent | null} event
    * @returns {number | null}

@@ -1,5 +1,5 @@
 // @ts-check
-/** The page: joins its parts, and hears the events. */
+/** The page: joins its parts, and receives the events. */
 
 import { byId, element } from './dom.mjs';
 import { showLines } from './dialogs.mjs';

@@ -1,5 +1,5 @@
 // @ts-check
-/** What this window knows of the model: what it has asked for once, kept by notices alone. */
+/** What this window knows of the model: what it has asked for once, kept by notifications alone. */
 
 import { call } from './server.mjs';
 import { Metamodel } from './metamodel.mjs';
@@ -69,7 +69,7 @@ export class Model {
   // What is asked
 
   /**
-   * What a node has. If it is not known, it is asked for, and the hearers hear when it came.
+   * What a node has. If it is not known, it is asked for, and the listeners are called when it came.
    * @param {Id} id
    * @returns {State | undefined}
    */
@@ -92,7 +92,7 @@ export class Model {
     try {
       found = await call('nodes', { nodes: ids });
     } catch {
-      found = null; // the stream of events tells that the server is gone
+      found = null; // the stream of events ends if the server is gone
     }
     this.pending -= 1;
     ids.forEach((id) => this.wanted.delete(id));
@@ -146,7 +146,7 @@ export class Model {
     }
   }
 
-  // What is told
+  // Events
 
   /**
    * Takes an event in.
@@ -285,7 +285,7 @@ export class Model {
 }
 
 /**
- * Changes the one end that a notice names, as docs/ADAPTERS.md says. What it can't be true of is passed over.
+ * Changes the one end that a notification names, as docs/ADAPTERS.md says. One that can't be true is passed over.
  * @param {State} state
  * @param {Feature} feature
  * @param {Notice} notice

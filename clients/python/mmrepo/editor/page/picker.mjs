@@ -4,7 +4,7 @@
 import { badge, change, counted, element } from './dom.mjs';
 
 /**
- * Something to pick: its label, its class if it has one, and a text behind it.
+ * Something to pick: its label, its class if it has one, and a text after it.
  * @typedef {{label: string, class?: string | null, more?: string, value: any}} Choice
  */
 

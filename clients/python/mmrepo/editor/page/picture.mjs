@@ -24,7 +24,7 @@ const FEW = 40; // classes that are drawn at once; of more a part is drawn, arou
 /**
  * The SVG of a diagram.
  * @param {string} text
- * @param {(title: string) => void} [press] hears which box is pressed
+ * @param {(title: string) => void} [press] is called with the title of the box that is pressed
  * @returns {SVGElement}
  */
 export function drawPicture(text, press) {
@@ -64,7 +64,7 @@ function widthOf(text, isBold = false) {
 }
 
 /**
- * The size of a box: it has room for its texts, and for the lines at its upper and lower side.
+ * The size of a box: as large as its texts need, and the lines at its upper and lower side.
  * @param {Box} box
  * @param {Line[]} lines
  * @returns {{width: number, height: number}}
@@ -231,7 +231,7 @@ export class Pictures {
     }
   }
 
-  /** Has the picture be as large as the room, and not larger than it is. */
+  /** Has the picture be as large as the window, and not larger than it is. */
   fit() {
     const box = /** @type {any} */ (this.picture)?.viewBox.baseVal;
     box && this.scale(Math.min(1, (this.room.clientWidth - 8) / box.width, Math.max(0.35, (this.room.clientHeight - 8) / box.height)));

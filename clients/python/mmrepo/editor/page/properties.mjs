@@ -47,7 +47,7 @@ export class Properties {
   }
 
   /**
-   * Hears which nodes have changed.
+   * Is called with the nodes that have changed.
    * @param {Set<Id>} touched
    */
   hear(touched) {

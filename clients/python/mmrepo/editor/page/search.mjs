@@ -82,7 +82,7 @@ function hitElement(hit, reveal) {
   );
 }
 
-/** The problems of all objects. The counts are told by each event; the list is asked for when it is opened. */
+/** The problems of all objects. The counts are in each event; the list is asked for when it is opened. */
 export class Problems {
   /**
    * @param {Model} model

@@ -1,5 +1,5 @@
 // @ts-check
-/** The server: calls, and the events that it tells. */
+/** The server: calls, and the events that it sends. */
 
 /** A call that is refused: `name` says for which reason, and `message` says it in words. */
 export class Refused extends Error {
@@ -36,7 +36,7 @@ export async function call(name, words = {}) {
 }
 
 /**
- * Hears the events behind one.
+ * Receives the events after one.
  * @param {number} after
  * @param {(event: any) => void} hear
  * @param {(is: 'open' | 'waiting' | 'lost' | 'ended') => void} tell

@@ -29,7 +29,7 @@ export class Tree {
   /**
    * @param {HTMLElement} top the element of the tree
    * @param {Model} model
-   * @param {(id: Id | null) => void} choose hears what is selected
+   * @param {(id: Id | null) => void} choose is called with what is selected
    * @param {(id: Id, at: HTMLElement) => void} add makes a new child
    */
   constructor(top, model, choose, add) {
@@ -71,7 +71,7 @@ export class Tree {
   }
 
   /**
-   * Hears which nodes have changed. The rows are made again if a node that is open came, or has different parts.
+   * Is called with the nodes that have changed. The rows are made again if a node that is open came, or has different parts.
    * @param {Set<Id>} touched
    * @param {import('./model.mjs').Event | null} event
    */

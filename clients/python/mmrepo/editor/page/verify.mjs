@@ -1,5 +1,5 @@
 // @ts-check
-/** Asks for everything once, and compares it with what this window knows by notices. */
+/** Asks for everything once, and compares it with what this window knows by notifications. */
 
 import { call } from './server.mjs';
 import { counted, element } from './dom.mjs';
@@ -11,7 +11,7 @@ import { attempt, showLines } from './dialogs.mjs';
 
 const TOGETHER = 500; // nodes that are asked for at once
 const TRIES = 20; // at a part of the model that others edit at the same time
-const MOST = 20; // differences that are told
+const MOST = 20; // differences that are listed
 
 /**
  * What differs, and how much was compared.
@@ -37,7 +37,7 @@ export async function verify(model) {
 }
 
 /**
- * Compares some nodes, at a moment at which the window has heard all that the answer has.
+ * Compares some nodes, at a moment at which the window has received all events up to the answer.
  * @param {Model} model
  * @param {Id[]} ids
  * @param {Verified} done
