@@ -11,6 +11,7 @@ from pathlib import Path
 
 from journaled import LIBRARY, PROGRAM, SECONDS, command, run
 
+USAGE = b"Usage: mmrepo [OPTIONS] --meta <FILE>\n\nFor more information, try '--help'.\n"
 HEAD = b' mmrepo-journal 1 ' + hashlib.sha256(LIBRARY.read_bytes()).hexdigest().encode() + b'\n'
 BEGUN = HEAD + b' new Book\n set #0 name "Emma"\n\n'
 
@@ -144,6 +145,12 @@ class Outcomes(unittest.TestCase):
         self.assertEqual(run([b'get #0 name'], self.file), ([b'null\n'], 0, ''))
         self.assertEqual(self.file.read_bytes(), begun)
 
+    def test_explained_lines(self):
+        """Lines are numbered from the first that comes in, and what the journal's lines made is known."""
+        self.file.write_bytes(BEGUN)
+        said = 'line 2: there is no object #3: the last that was made is #0\n'
+        self.assertEqual(run([b'get #0 name', b'get #3 name'], self.file, '--explain'), ([b'"Emma"\n', b'refused 1 NO_OBJECT\n'], 0, said))
+
     def test_strict(self):
         """A refused line gives a status of its own, and one that is run again does not."""
         self.assertEqual(run([b'new Book'], self.file, '--strict')[1], 0)
@@ -152,7 +159,7 @@ class Outcomes(unittest.TestCase):
     def test_only_with_live(self):
         """Without --live there is no journal."""
         done = subprocess.run([PROGRAM, '--meta', LIBRARY, '--journal', self.file], input=b'', stderr=subprocess.PIPE)
-        self.assertEqual((done.returncode, done.stderr), (2, b"error: --journal can't be used without --live\n"))
+        self.assertEqual((done.returncode, done.stderr), (2, b"error: --journal can't be used without --live\n\n" + USAGE))
         self.assertFalse(self.file.exists())
 
     @unittest.skipUnless(shutil.which('strace'), 'no strace: the package strace is not installed')

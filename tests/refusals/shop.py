@@ -1,4 +1,4 @@
-"""A metamodel without a fault, and runs of the program over it."""
+"""A metamodel and a script without a fault, and runs of the program over them."""
 
 import os
 import subprocess
@@ -43,6 +43,43 @@ METAMODEL = '''\
   ]}
 ]}
 '''
+
+BOB = 'load r1 {"format":2,"roots":[{"class":"Customer","features":{"name":"Bob"}}]}'
+ORDER = 'load r2 {"format":2,"roots":[{"class":"Order","features":{"customer":"http://m.example/old#/"}}]}'
+SCRIPT = (
+    'resource "http://m.example/shop"',
+    'new Shop',
+    'set #0 name "Corner"',
+    'add r0 contents #0',
+    'new Customer',
+    'set #1 name "Ann"',
+    'add #0 customers #1',
+    'new Order',
+    'add #0 orders #2',
+    'set #2 number 12',
+    'set #2 state :PAID',
+    'add #2 notes "first"',
+    'add #2 notes "second" 1',
+    'set #2 customer #1',
+    'new Clerk',
+    'add #0 clerks #3',
+    'new Clerk',
+    'add #0 clerks #4',
+    'move #2 notes 0 1',
+    'remove #2 notes 1',
+    'new Box',
+    'new Box',
+    'add #5 boxes #6',
+    'attach A1 #0 deep',
+    'watch A1 #5 flat',
+    'save r0',
+    'resource "http://m.example/old"',
+    BOB,
+    'at "http://m.example/old#/"',
+    'resource "http://m.example/new"',
+    ORDER,
+    'resolve #8 customer 0',
+)
 
 
 def run(metamodel, lines=(), *options, stdin=None):

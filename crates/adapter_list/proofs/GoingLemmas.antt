@@ -1,4 +1,4 @@
--- What the adapters are once one has lost a target, by its place.
+-- What the adapters are once one has lost a target, by its index.
 use Rattle.std.proofs.Common.{◌≡◌, ◌<◌, ◌≤◌, ◌+◌, ℕ, zero, suc, Bool, true, false, cond, not, ◌&&◌, ◌||◌, nat_eq, List, [], ◌∷◌, ◌++◌, map, filter, length, set, get_or, slice_get, remove, drop, nat_lt, position, Option, Some, None, option_map, if◌then◌else◌, refl, sym, ap, subst, ◌∙◌, arith, eqb-true}
 use Rattle.std.specs.List.{AllByRecursion, IsDistinct, fold, list_any, position_or_len}
 use Rattle.std.proofs.lemmas.Bool.{false≢true, ltb-false}
@@ -53,7 +53,7 @@ told-none ts b t other = sym (append-nil ts) ∙ ap (λ c. ts ++ (if c then t �
 pub told-one : {T : Type 0} (ts : List T) (b : Bool) (t : T) → b ≡ true → ts ++ t ∷ [] ≡ ts ++ (if b then t ∷ [] else [])
 told-one ts b t same = ap (λ c. ts ++ (if c then t ∷ [] else [])) (sym same)
 
------------------------------------------------------------------ by place
+----------------------------------------------------------------- by index
 
 pub changed-set : (number : AdapterNo) (f : Listed → Listed) (rs : List Listed) (i : ℕ) (q : Listed) → HasDistinctNumbers rs → slice_get rs i ≡ Some q → has_no number q ≡ true → with_changed number f rs ≡ set rs i (f q)
 changed-set number f [] i q distinct at has = absurd (no-some q at)
@@ -116,7 +116,7 @@ targets_len-set rs i q p at fewer = total-set 0 rs i q p at fewer
 pub once-filter : (x : Node) (ts : List Target) → IsDistinct same_node (map (λ t. t.node) ts) → IsDistinct same_node (map (λ t. t.node) (filter (λ t. not (is_at x t)) ts))
 once-filter x ts once = distinct-filter same_node (λ t. t.node) (λ t. not (is_at x t)) ts once
 
--- the adapter of the place has the target, where the adapter of its number has
+-- the adapter at the index has the target, if the adapter of its number has
 pub target-at : (x : Node) (number : AdapterNo) (rs : List Listed) (i : ℕ) (q : Listed) → HasDistinctNumbers rs → slice_get rs i ≡ Some q → has_no number q ≡ true → is_target number x rs ≡ true → has_target x q ≡ true
 target-at x number [] i q distinct at has there = absurd (no-some q at)
 target-at x number (r ∷ rs) zero q distinct at has there =
@@ -163,13 +163,13 @@ none-gone x ts once found =
     let past : length ts ≤ k = none-position k (length ts) found in
     sym (ap (λ (us : List Target). us ++ drop (suc k) ts) (take_all k ts past) ∙ ap (λ (us : List Target). ts ++ us) (drop_all (suc k) ts (omega (arith, past))) ∙ append-nil ts) ∙ first-gone x ts once
 
--- the adapter at a place has no target twice
+-- the adapter at an index has no target twice
 pub once-of : {A : Type 0} (heard : A → View) (xs : List (Attached A)) (i : ℕ) (one : Attached A) → HasDistinctTargets (listed heard xs) → i < length xs → one ≡ get_or xs i one → IsDistinct same_node (map (λ t. t.node) one.targets.items)
 once-of heard [] i one all low is = absurd (omega (arith, low))
 once-of heard (x ∷ xs) zero one all low is = subst (λ (a : Attached _). IsDistinct same_node (map (λ t. t.node) a.targets.items)) (sym is) (All-head IsOnce (listed_one heard x) (listed heard xs) all)
 once-of heard (x ∷ xs) (suc i) one all low is = once-of heard xs i one (All-tail IsOnce (listed_one heard x) (listed heard xs) all) (omega (arith, low)) is
 
--- all that is known where a target goes: its place, its index, and the adapters after it
+-- all that is known when a target goes: the index of its adapter, its index among those that have it, and the adapters after it
 pub record Goes {A : Type 0} (heard : A → View) (xs : List (Attached A)) (x : Node) (number : AdapterNo) (ordinal index : ℕ) (one after : Attached A) : Type 0 where
   pub there : is_target number x (listed heard xs) ≡ true
   pub index_is : index ≡ index_at (number, x) (listed heard xs)
@@ -253,7 +253,7 @@ index-low x number rs there = let low = low-from x number 0 rs there in omega (a
 
 ----------------------------------------------------------------- by the words of the list
 
--- where a target is: the place of its adapter, and its index among those that have the target
+-- if a target is: the index of its adapter, and its index among those that have the target
 pub record Stands {A : Type 0} (heard : A → View) (xs : List (Attached A)) (x : Node) (number : AdapterNo) (ordinal index : ℕ) : Type 0 where
   pub within : ordinal < length xs
   pub at : Some ordinal ≡ position (has_no number) (listed heard xs)

@@ -17,7 +17,7 @@ none-at zero i = refl
 none-at (suc k) zero = refl
 none-at (suc k) (suc i) = none-at k i
 
--- more places, none of them marked
+-- more marks, none of them set
 pub marks-longer : (bs : List Bool) (n k : ℕ) → length bs ≤ n → (i : ℕ) → get_or (take n bs ++ replicate k false) i false ≡ get_or bs i false
 marks-longer [] zero k low i = none-at k i
 marks-longer [] (suc n) k low i = none-at k i
@@ -38,7 +38,7 @@ mark-set bs n b low i =
       | false ↦ λ other. get_or-set_other bs n i b false (λ (e : i ≡ n). eqb-false n i other (sym e))
     ] refl
 
--- if there is no place for a mark, it is taken away already
+-- if there is no entry for a mark, it is taken away already
 pub mark-absent : (bs : List Bool) (n : ℕ) (b : Bool) → (b ≡ true → n < length bs) → length bs ≤ n → (i : ℕ) → get_or bs i false ≡ (if nat_eq n i then b else get_or bs i false)
 mark-absent bs n true room past i = absurd (let low = room refl in omega (arith, low, past))
 mark-absent bs n false room past i =
@@ -47,7 +47,7 @@ mark-absent bs n false room past i =
       | false ↦ λ _. refl
     ] refl
 
--- who is marked has a place for the mark
+-- a node that is marked has an entry for the mark
 pub mark-room : (bs : List Bool) (x : Node) (es : List Entry) → ((o : ObjectNo) → x ≡ node.Object o → get_or bs o.0 false ≡ is_any es) → is_any es ≡ true → HasMarkRoom bs x
 mark-room bs (node.Object o) es marked some = within bs o.0 (marked o refl ∙ some)
   where

@@ -32,7 +32,7 @@ module _ {A : Type 0} (heard : A → View) (xs : List (Attached A)) where
   map-listed [] = refl
   map-listed (y ∷ ys) = ap (λ ns. y.no ∷ ns) (map-listed ys)
 
-  -- the numbers are in attach order, so the place of a number is its adapter's
+  -- the numbers are in attach order, so the index of a number is its adapter's
   pub position-numbers : (keys : List AdapterNo) (number : AdapterNo) → keys ≡ numbers_of xs → position (same_no number) keys ≡ position (has_no number) (listed heard xs)
   position-numbers keys number e = ap (position (same_no number)) e ∙ position-map (λ (a : Attached A). a.no) (same_no number) xs ∙ sym (position-map (listed_one heard) (has_no number) xs)
 
@@ -56,7 +56,7 @@ list_refusal-taken rs number few taken = rw (below (targets_len rs) few, ← tak
 pub list_refusal-none : (rs : List Listed) (number : AdapterNo) → targets_len rs < TARGETS → false ≡ list_any (has_no number) rs → None ≡ list_refusal rs number
 list_refusal-none rs number few taken = rw (below (targets_len rs) few, ← taken) refl
 
--- a number that the list takes: there is room for one more, and it is new
+-- a number that the list takes: there is capacity for one more, and it is new
 pub allowed_from_none : (rs : List Listed) (number : AdapterNo) → None ≡ list_refusal rs number → (targets_len rs < TARGETS) × (list_any (has_no number) rs ≡ false)
 allowed_from_none rs number none = by (nat_le TARGETS (targets_len rs)) refl (list_any (has_no number) rs) refl none
   where

@@ -1,4 +1,5 @@
--- The places that are found by where adapters are attached: those who hear the notices of a node, and those that have objects as targets.
+-- The indexes that are found by where adapters are attached: of those that get the notifications of a node, and of those that have objects
+-- as targets.
 use Rattle.std.proofs.Common.{◌≡◌, ℕ, ◌+◌, ◌≤◌, ◌<◌, zero, suc, Bool, true, false, not, cond, ◌&&◌, ◌||◌, nat_eq, List, [], ◌∷◌, map, length, drop, get_or, slice_get, Option, Some, None, Result, Ok, Err, option_map, option_and_then, position, refl, sym, ap, subst, ◌∙◌, arith, eqb-true, eq-eqb}
 use Rattle.std.specs.BTreeSet as tree
 use Rattle.std.specs.BTreeSet.{BTreeSet}
@@ -34,7 +35,7 @@ flipped j k other = ne_eqb k.0 j.0 (λ (e : k.0 ≡ j.0). eqb-false j.0 k.0 othe
 is_eq-nat : (x y : ℕ) → is_eq (nat_cmp x y) ≡ nat_eq x y
 is_eq-nat x y = grind (arith, nat_tests)
 
------------------------------------------------------------------ the place of a number
+----------------------------------------------------------------- the index of a number
 
 pub no-some : {X : Type 0} (x : X) → None ≡ Some x → ⊥
 no-some x e = cc
@@ -63,7 +64,7 @@ find-passes p (r ∷ rs) q h =
 pub passes-at : (p : Listed → Bool) (rs : List Listed) (i : ℕ) (q : Listed) → Some i ≡ position p rs → slice_get rs i ≡ Some q → p q ≡ true
 passes-at p rs i q at there = find-passes p rs q (find-position p rs ∙ ap (option_and_then (slice_get rs)) (sym at) ∙ there)
 
--- a number that no adapter has is at no place
+-- a number that no adapter has is at no index
 pub number-absent : (rs : List Listed) (number : AdapterNo) (k : ℕ) → None ≡ position (has_no number) rs → has_number_at rs number k ≡ false
 number-absent rs number k absent = find-none (has_no number) rs k (find-position (has_no number) rs ∙ ap (option_and_then (slice_get rs)) (sym absent))
 
@@ -73,7 +74,7 @@ module _ {X : Type 0} (f : X → AdapterNo) where
   number-at P (q ∷ xs) zero r h e = let first : q ≡ r = cc in subst (λ (x : X). P (f x)) first h.0
   number-at P (q ∷ xs) (suc k) r h e = number-at P xs k r h.1 e
 
-  -- where numbers are distinct, each is at one place
+  -- if numbers are distinct, each is at one index
   pub one-ordinal : (xs : List X) (i k : ℕ) (q r : X) → IsDistinct same_no (map f xs) → slice_get xs i ≡ Some q → slice_get xs k ≡ Some r → same_no (f q) (f r) ≡ true → k ≡ i
   one-ordinal [] i k q r distinct at there same = absurd (no-some q at)
   one-ordinal (x ∷ xs) zero zero q r distinct at there same = refl
@@ -94,7 +95,7 @@ module _ {X : Type 0} (f : X → AdapterNo) where
         | false ↦ λ _. refl
       ] refl
 
--- the adapter of a number is at one place
+-- the adapter of a number is at one index
 number-here : (rs : List Listed) (number : AdapterNo) (i : ℕ) (q : Listed) → HasDistinctNumbers rs → slice_get rs i ≡ Some q → has_no number q ≡ true → (k : ℕ) → has_number_at rs number k ≡ nat_eq k i
 number-here rs number i q distinct at has k = by (slice_get rs k) refl
   where
@@ -117,11 +118,11 @@ or-true : (b : Bool) → true ≡ (b || true)
 or-true true = refl
 or-true false = refl
 
--- a number that no adapter has adds no place
+-- a number that no adapter has adds no index
 pub none-added : (b h : Bool) → h ≡ false → b ≡ (b || h)
 none-added b h none = or-false b ∙ ap (λ c. b || c) (sym none)
 
--- the place of the adapter of a number is added
+-- the index of the adapter of a number is added
 pub is-added : (rs : List Listed) (number : AdapterNo) (i : ℕ) (q : Listed) → HasDistinctNumbers rs → slice_get rs i ≡ Some q → has_no number q ≡ true → (b new : Bool) (k : ℕ) → new ≡ cond (is_eq (nat_cmp i k)) true b → new ≡ (b || has_number_at rs number k)
 is-added rs number i q distinct at has b new k now =
     now ∙ ap (λ c. cond c true b) (is_eq-nat i k ∙ turned)
@@ -164,7 +165,7 @@ module _ (number : AdapterNo) (only_deep : Bool) where
   other-by k es b None apart later = later
   other-by k es b (Some t) apart later = ap (λ c. c || list_any named es) (no-name (not only_deep || t.deep) (same_no k number) apart) ∙ later
 
--- the entries of a node find the adapter at place k where it has the node as a target
+-- the entries of a node find the adapter at index k if it has the node as a target
 entries-name : (x : Node) (only_deep : Bool) (rs : List Listed) (k : ℕ) (r : Listed) → HasDistinctNumbers rs → slice_get rs k ≡ Some r → list_any (named r.no only_deep) (entries x rs) ≡ is_attached x only_deep r
 entries-name x only_deep [] k r distinct at = absurd (no-some r at)
 entries-name x only_deep (q ∷ rs) zero r distinct at =
@@ -190,7 +191,7 @@ entries-find x only_deep rs k distinct = by (slice_get rs k) refl
     by None e = list_any-none (entries x rs) (λ e. (not only_deep || e.deep) && false) (λ e. none (not only_deep || e.deep))
     by (Some r) e = entries-name x only_deep rs k r distinct e
 
--- where a node has no adapters none is found
+-- if a node has no adapters, none is found
 pub none-found : (x : Node) (only_deep : Bool) (rs : List Listed) (k : ℕ) → HasDistinctNumbers rs → entries x rs ≡ [] → (b : Bool) → b ≡ (b || is_attached_at rs x only_deep k)
 none-found x only_deep rs k distinct none b = none-added b (is_attached_at rs x only_deep k) (sym (entries-find x only_deep rs k distinct) ∙ ap (list_any (finds rs only_deep k)) none)
 
@@ -220,7 +221,7 @@ above-more p b new all y ys zs next made whole = ap (λ c. c || list_any p ys) m
 pub above-all : (p : Node → Bool) (b all : Bool) (zs : List Node) → zs ≡ [] → (b || list_any p zs) ≡ all → b ≡ all
 above-all p b all zs none whole = or-false b ∙ ap (λ (ws : List Node). b || list_any p ws) (sym none) ∙ whole
 
------------------------------------------------------------------ those who hear a node
+----------------------------------------------------------------- the adapters that are notified at a node
 
 pub none-any : (xs : List Node) → list_any (λ (_ : Node). false) xs ≡ false
 none-any [] = refl
@@ -277,7 +278,7 @@ deep-first t ts apart (a ∷ xs) =
     joined true false false m n = refl
     joined false s e m n = refl
 
--- the places of the adapters of which something is so
+-- the indexes of the adapters of which something is so
 module _ (p : Listed → Bool) where
   none-before : (k j : ℕ) (rs : List Listed) → k < j → list_any (λ y. is_eq (nat_cmp k y)) (ordinals_from p j rs) ≡ false
   none-before k j [] h = refl
@@ -322,7 +323,7 @@ module _ (p : Listed → Bool) where
         | false ↦ in-order (suc j) rs
       ]
 
-  -- a set with the places of which this is so, and with no others
+  -- a set with the indexes of which this is so, and with no others
   pub places-are : (rs : List Listed) (s : BTreeSet ℕ) → tree.IsOrdered nat_cmp s → ((k : ℕ) → tree.contains nat_cmp s k ≡ option_map_or p (slice_get rs k) false) → s.keys ≡ ordinals_from p 0 rs
   places-are rs s order has =
       let all : BTreeSet ℕ = record { keys = ordinals_from p 0 rs } in
@@ -332,7 +333,7 @@ module _ (p : Listed → Bool) where
       btree_set_from_contains nat_cmp_total s all order (in-order 0 rs) same exact_unsigned
 
 module _ (up : Above) (x : Node) where
-  -- where an adapter has no target twice, it hears the notices of a node where that is a target, or a deep one is above it
+  -- if an adapter has no target twice, it gets the notifications of a node exactly if that is a target, or a deep one is above it
   heard-at : (ts : List Target) → IsDistinct same_node (map (λ t. t.node) ts) → list_any (brings_in up x) ts ≡ (option_map_or (λ t. true) (find (is_at x) ts) false || list_any (deep-at ts) (up x))
   unfolding deep-at
   heard-at [] once = sym (none-any (up x))
@@ -352,7 +353,7 @@ module _ (up : Above) (x : Node) where
   heard-is None once = sym (none-any (up x))
   heard-is (Some r) once = heard-at r.targets once
 
-  -- a set with the places of those who are attached to the node, and of the deep ones above, has those who hear it
+  -- a set with the indexes of those that are attached to the node, and of the deep ones above, has those that are notified
   pub places-hearers : (rs : List Listed) (s : BTreeSet ℕ) → tree.IsOrdered nat_cmp s → ((k : ℕ) → IfSome (slice_get rs k) IsOnce) → ((k : ℕ) → tree.contains nat_cmp s k ≡ (is_attached_at rs x false k || list_any (λ a. is_attached_at rs a true k) (up x))) → s.keys ≡ hearers up x rs
   places-hearers rs s order once has = places-are (hears_node up x) rs s order (λ k. has k ∙ sym (heard-is (slice_get rs k) (once k)))
 
@@ -380,7 +381,7 @@ touched-some (Some r) [] = refl
 touched-some None (o ∷ os) = touched-some None os
 touched-some (Some r) (o ∷ os) = ap (λ b. b || list_any (λ p. is_attached (node.Object p) false r) os) (touched-one o (Some r)) ∙ ap (λ b. has_target (node.Object o) r || b) (touched-some (Some r) os)
 
--- a set with the places of those that are attached to one of some objects
+-- a set with the indexes of those that are attached to one of some objects
 pub places-touched : (os : List ObjectNo) (rs : List Listed) (s : BTreeSet ℕ) → tree.IsOrdered nat_cmp s → ((k : ℕ) → tree.contains nat_cmp s k ≡ list_any (λ o. is_attached_at rs (node.Object o) false k) os) → s.keys ≡ touched os rs
 places-touched os rs s order has = places-are (is_touched os) rs s order (λ k. has k ∙ touched-some (slice_get rs k) os)
 
@@ -395,7 +396,7 @@ touched-more p b new all os i d low made whole =
 pub touched-all : (p : ObjectNo → Bool) (b all : Bool) (os : List ObjectNo) (i : ℕ) → length os ≤ i → (b || list_any p (drop i os)) ≡ all → b ≡ all
 touched-all p b all os i past whole = or-false b ∙ ap (λ (ds : List ObjectNo). b || list_any p ds) (sym (drop_all i os past)) ∙ whole
 
--- an entry that is asked for adds the place of its adapter
+-- an entry that is asked for adds the index of its adapter
 pub asked-for : (rs : List Listed) (only_deep : Bool) (k : ℕ) (e : Entry) (b new : Bool) → (not only_deep || e.deep) ≡ true → new ≡ (b || has_number_at rs e.no k) → new ≡ (b || finds rs only_deep k e)
 asked-for rs only_deep k e b new asked now = now ∙ ap (λ d. b || (d && has_number_at rs e.no k)) (sym asked)
 

@@ -13,7 +13,7 @@ use Rattle.notice_chain.specs.View.{View, hear_all}
 use Rattle.adapter_list.specs.Attached.{listed, numbers_of, views_of}
 use Rattle.adapter_list.specs.declared.attached.Attached.{Attached}
 
--- a number is none of those before it
+-- a number is not among those before it
 none-of : (k : AdapterNo) (ks rest : List AdapterNo) → IsDistinct same_no (ks ++ k ∷ rest) → list_any (same_no k) ks ≡ false
 none-of k [] rest h = refl
 none-of k (j ∷ ks) rest h =

@@ -1,4 +1,4 @@
--- How many copies each place gets, and whether its adapter is ready for them.
+-- How many copies each index gets, and whether its adapter is ready for them.
 use Rattle.std.proofs.Common.{◌≡◌, ℕ, ◌+◌, ◌≤◌, ◌<◌, ◌^◌, zero, suc, Bool, true, false, cond, ◌&&◌, ◌||◌, nat_eq, nat_lt, nat_le, List, [], ◌∷◌, map, filter, length, drop, get_or, slice_get, slice_index, Some, None, Option, unwrap_or, refl, sym, ap, subst, inl, inr, ◌∙◌, arith, le-leb, leb-true, eqb-true, eq-eqb, if◌then◌else◌}
 use Rattle.std.specs.List.{AllByRecursion, list_any}
 use Rattle.std.specs.List.Sorted.{IsStrictlySortedBy}
@@ -24,7 +24,7 @@ use Rattle.adapter_list.proofs.RoundLemmas.{copies_for-round_copies}
 
 ----------------------------------------------------------------- counting
 
--- the first copy of some counts for its own place alone
+-- the first copy of some counts for its own index alone
 module _ (cs : List (ℕ × Notice)) (i : ℕ) (x : ℕ × Notice) (low : i < length cs) (is : x ≡ get_or cs i x) where
   first : drop i cs ≡ x ∷ drop (i + 1) cs
   first = drop_more cs i x low ∙ ap (λ (c : ℕ × Notice). c ∷ drop (i + 1) cs) (sym is)
@@ -70,7 +70,7 @@ module _ (cs : List (ℕ × Notice)) (i : ℕ) (x : ℕ × Notice) (low : i < le
 pub counted-all : (cs : List (ℕ × Notice)) (i k : ℕ) (o : Option ℕ) → length cs ≤ i → IsCounted o (copies_len (drop i cs) k) (copies_len cs k) → IsCounted o 0 (copies_len cs k)
 counted-all cs i k o past h = subst (λ (ds : List (ℕ × Notice)). IsCounted o (copies_len ds k) (copies_len cs k)) (drop_all i cs past) h
 
------------------------------------------------------------------ the places that get copies
+----------------------------------------------------------------- the indexes that get copies
 
 set-is : (ks : List ℕ) (k : ℕ) → list_any (nat_eq k) ks ≡ list_any (λ y. is_eq (nat_cmp k y)) ks
 set-is [] k = refl
@@ -137,7 +137,7 @@ is_place-within n (c ∷ cs) k h e =
       | false ↦ λ _ later. is_place-within n cs k h.1 later
     ] refl e
 
--- more places do no harm
+-- more capacity does no harm
 ready-more : (rs : List Listed) (ps qs : List ℕ) (k n : ℕ) → length qs ≡ length ps → slice_index ps k ≤ slice_index qs k → IsReadyFor rs ps k n → IsReadyFor rs qs k n
 ready-more rs ps qs k n same more h = record { places = λ low. let few = h.places (omega (arith, low, same)) in omega (arith, few, more); countable = h.countable }
 
@@ -184,7 +184,7 @@ none-less j x (y ∷ xs) h all =
     let above : x < y = less-than x y all.0 in
     ap (λ b. b || list_any (nat_eq j) xs) (ne_eqb j y (λ (e : j ≡ y). omega (arith, h, above, e))) ∙ none-less j x xs h all.1
 
--- no place before the next one in order is among those still to be asked
+-- no index before the next one in order is among those still to be asked
 none-before : (j : ℕ) (xs : List ℕ) (i : ℕ) → IsStrictlySortedBy nat_cmp xs → i < length xs → j < get_or xs i 0 → list_any (nat_eq j) (drop i xs) ≡ false
 unfolding IsStrictlySortedBy
 none-before j [] i sorted low h = absurd (omega (arith, low))
@@ -223,7 +223,7 @@ ascending-sorted before (k ∷ ks) h =
     let both = and_parts (is_after before k) (ascends (Some k) ks) h in
     (behind k (Some k) ks both.1 refl, ascending-sorted (Some k) ks both.1)
 
--- whether an ordinal is among those of the copies
+-- whether an index is among those of the copies
 pub ordinals-are : (cs : List (ℕ × Notice)) (k : ℕ) → list_any (nat_eq k) (ordinals cs) ≡ is_ordinal_of cs k
 ordinals-are [] k = refl
 ordinals-are (c ∷ cs) k = ap (λ b. b || list_any (nat_eq k) (ordinals cs)) (flip k c.0) ∙ ap (λ b. nat_eq c.0 k || b) (ordinals-are cs k)
@@ -259,7 +259,7 @@ one-each before (c ∷ cs) i h low = by i low (λ j within. one-each (Some c.0) 
         ap length (copies_for-other c.0 (get_or (ordinals cs) j 0) c.1 cs (eqb-false c.0 (get_or (ordinals cs) j 0) (none-same c.0 (ordinals cs) j later (omega (arith, low)))))
         ∙ rest j (omega (arith, low))
 
--- the ordinal of a copy, by its index
+-- the adapter's index of a copy, by the index of the copy
 pub ordinals-len : (cs : List (ℕ × Notice)) → length (ordinals cs) ≡ length cs
 ordinals-len [] = refl
 ordinals-len (c ∷ cs) = ap suc (ordinals-len cs)
@@ -317,7 +317,7 @@ module _ (up : Above) (ns : List Notice) (rs : List Listed) where
   copies_len-heard : (k : ℕ) (r : Listed) → slice_get rs k ≡ Some r → copies_len (round_copies up ns rs) k ≡ length (heard_of up ns r)
   copies_len-heard k r e = ap length (copies_for-round_copies up ns rs k ∙ ap (λ (o : Option Listed). option_map_or (λ q. heard_of up ns q) o []) e)
 
-  -- where each adapter is ready for its copies, none is full
+  -- if each adapter is ready for its copies, none is full
   pub chain-counted : (ps : List ℕ) → ((k : ℕ) → IsReadyFor rs ps k (copies_len (round_copies up ns rs) k)) → is_chain_full up ns rs ≡ false
   chain-counted ps ready =
       any-none (λ r. is_full (length (heard_of up ns r)) (length r.targets) r.view) rs (λ k r e.

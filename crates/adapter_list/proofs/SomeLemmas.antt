@@ -17,7 +17,7 @@ use Rattle.adapter_list.proofs.SplitLemmas.{fewer}
 abbrev Has : Listed → Type 0
 Has r = 0 < length r.targets
 
----------------------------------------------------------------- an adapter more, a target more, a notice more
+---------------------------------------------------------------- an adapter more, a target more, a notification more
 
 pub some-push : (rs : List Listed) (r : Listed) (t : Target) → r.targets ≡ t ∷ [] → HaveTargets rs → HaveTargets (rs ++ r ∷ [])
 some-push rs r t only h = let one = ap (λ (ts : List Target). length ts) only in All-push Has rs r h (omega (arith, one))

@@ -118,7 +118,7 @@ module _ {A : Type 0} (heard : A → View) where
   listed-staying [] = refl
   listed-staying (x ∷ xs) = elim (has heard x) as (λ b. listed heard (cond b (x ∷ filter (has heard) xs) (filter (has heard) xs)) ≡ cond b (listed_one heard x ∷ staying (listed heard xs)) (staying (listed heard xs))) [ true ↦ ap (λ rs. listed_one heard x ∷ rs) (listed-staying xs) | false ↦ listed-staying xs ]
 
--- all that is known of a sound list once those without targets are taken out of the adapters
+-- all that is known of a valid list once those without targets are taken out of the adapters
 pub record Stays {A : Type 0} (heard : A → View) (places : A → ℕ) (xs ys : List (Attached A)) (t : TargetLists) (count : ℕ) : Type 0 where
   pub fewer : length ys ≤ length xs
   pub now : listed heard ys ≡ staying (listed heard xs)

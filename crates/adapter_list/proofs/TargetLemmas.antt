@@ -1,4 +1,4 @@
--- What the adapters' targets are once one has heard a notice.
+-- What the adapters' targets are once one got a notification.
 use Rattle.std.proofs.Common.{◌≡◌, ℕ, ◌+◌, ◌<◌, zero, suc, List, [], ◌∷◌, map, length, get_or, refl, sym, ap, arith}
 use Rattle.std.specs.List.{AllByRecursion, IsDistinct, cons_option, fold}
 use Rattle.std.proofs.lemmas.List.Elements.{All-from_recursion, recursion_from_All}
@@ -12,7 +12,7 @@ use Rattle.adapter_list.specs.Rounds.{tell_at}
 use Rattle.adapter_list.specs.Targets.{entries, entry_of, targets_at}
 use Rattle.adapter_list.specs.declared.attached.Attached.{Attached}
 
--- a notice changes no target
+-- a notification changes no target
 pub entries-tell_at : (x : Node) (rs : List Listed) (i : ℕ) (n : Notice) → entries x (tell_at rs i n) ≡ entries x rs
 entries-tell_at x [] i n = refl
 entries-tell_at x (r ∷ rs) zero n = refl

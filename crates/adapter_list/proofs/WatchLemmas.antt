@@ -143,7 +143,7 @@ module _ (before : AdapterNo → Bool) (x : Node) where
       let yes : before r.no ≡ true = h 0 r refl ∙ lt-ltb 0 (suc n) (omega arith) in
       some-step r (entries x rs) (entries x (take n rs)) yes (count-before rs n (λ j q e. h (suc j) q e ∙ lt-suc j n)) (find (is_at x) r.targets)
 
--- the entries of a node whose adapters are before a place
+-- the entries of a node whose adapters are before an index
 pub entries-before : (x : Node) (rs : List Listed) (ordinal : ℕ) → HasDistinctNumbers rs → length (filter (λ e. option_map_or (λ k. nat_lt k ordinal) (position (has_no e.no) rs) false) (entries x rs)) ≡ length (entries x (take ordinal rs))
 entries-before x rs ordinal distinct =
     count-before (λ n. option_map_or (λ k. nat_lt k ordinal) (position (has_no n) rs) false) x rs ordinal (λ j r e. ap (λ (o : Option ℕ). option_map_or (λ k. nat_lt k ordinal) o false) (position-here rs j r distinct e))
@@ -170,7 +170,7 @@ target-apart x number (r ∷ rs) zero q at has none =
     ap (has_target x) first ∙ sym (ap (λ b. b && has_target x r) (ap (has_no number) (sym first) ∙ has)) ∙ parts.0
 target-apart x number (r ∷ rs) (suc i) q at has none = target-apart x number rs i q at has (or_parts (has_no number r && has_target x r) (is_target number x rs) none).1
 
--- the adapter of a place with the targets that it had
+-- the adapter at an index with the targets that it had
 pub listed-same : {A : Type 0} (heard : A → View) (xs : List (Attached A)) (i : ℕ) (x y : Attached A) → x ≡ get_or xs i x → y.no ≡ x.no → y.targets.items ≡ x.targets.items → y.adapter ≡ x.adapter → listed heard (set xs i y) ≡ listed heard xs
 listed-same heard xs i x y is number targets same =
     let now : listed_one heard y ≡ listed_one heard x = λ j. record { no = number j; targets = targets j; view = heard (same j) } in
@@ -180,7 +180,7 @@ module _ {A : Type 0} {heard : A → View} {places : A → ℕ} {xs : List (Atta
   as-many : length (set xs i y) ≡ length xs
   as-many = length-set xs i y
 
-  -- its adapter, with room for more targets, and its table and marks as they were
+  -- its adapter, with capacity for more targets, and its table and marks as they were
   sound-same : y.targets.items ≡ x.targets.items → ((z : Node) → entries_in u z ≡ entries_in t z) → AreSameMarks bs cs → IsSound heard places (set xs i y) keys u cs count used room
   sound-same targets kept marks =
       let after : listed heard (set xs i y) ≡ listed heard xs = listed-same heard xs i x y is same_number targets same_adapter in
@@ -233,7 +233,7 @@ module _ {A : Type 0} {heard : A → View} {places : A → ℕ} {xs : List (Atta
     some-watched : HaveTargets (listed heard xs) → HaveTargets (listed heard (set xs i y))
     some-watched each = subst HaveTargets (sym put-there) (some-set (listed heard xs) i (listed_one heard x) q each)
 
-    -- with a place in reserve, and its entry and its mark
+    -- with reserved capacity, and its entry and its mark
     sound-watched : length x.targets.items < places x.adapter → count < TARGETS → (index : ℕ) → index ≡ length (entries q.node (take i (listed heard xs)))
         → ((z : Node) → entries_in u z ≡ (if same_node q.node z then insert (entries_in t z) index (record { no = number; deep = q.deep }) else entries_in t z)) → AreSetAt bs q.node true cs
         → IsSound heard places (set xs i y) keys u cs (count + 1) used room
@@ -284,7 +284,7 @@ found-at rs number i at low =
     let found : adapter number rs ≡ Some one.0 = find-position (has_no number) rs ∙ ap (option_and_then (slice_get rs)) (sym at) ∙ one.1 in
     ap target_refusal found ∙ ap (λ (n : ℕ). if nat_le (2 ^ 64) n then Some refused.AdapterFull else None) (sym (let told = told-there rs i one.0 one.1 in let many = targets-there rs i one.0 one.1 in let sum : told_at_ordinal rs i + (targets_at rs i + 1) ≡ one.0.view.told + (length one.0.targets + 1) = omega (arith, told, many) in sum))
 
--- by what its adapter answers to a request for places
+-- by what its adapter returns from `reserve`
 pub target-refused : (rs : List Listed) (number : AdapterNo) (i n : ℕ) (reason : NoRoom) → Some i ≡ position (has_no number) rs → i < length rs → n ≡ targets_at rs i → (reason ≡ room.Full → 2 ^ 64 ≤ told_at_ordinal rs i + (n + 1)) → (2 ^ 64 ≤ told_at_ordinal rs i + (n + 1) → reason ≡ room.Full) → but_memory (refusal_of reason) ≡ target_refusal (adapter number rs)
 target-refused rs number i n reason at low many full only = by reason full only ∙ sym (found-at rs number i at low)
   where

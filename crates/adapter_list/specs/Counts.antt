@@ -6,7 +6,7 @@ use Rattle.notice_chain.specs.declared.notice.Notice.{Notice}
 use Rattle.adapter_list.specs.Rounds.{copies_for}
 use Rattle.adapter_list.specs.Targets.{targets_at}
 
--- how many copies the adapter at ordinal k gets
+-- how many copies the adapter at index k gets
 abbrev pub copies_len : List (ℕ × Notice) → ℕ → ℕ
 copies_len cs k = length (copies_for k cs)
 
@@ -15,11 +15,11 @@ abbrev pub IsCounted : Option ℕ → ℕ → ℕ → Type 0
 IsCounted None rest all = rest ≡ all
 IsCounted (Some n) rest all = (0 < n) × (n + rest ≡ all)
 
--- the notices that the adapter at ordinal k was told
+-- the notifications that the adapter at index k got
 abbrev pub told_at_ordinal : List Listed → ℕ → ℕ
 told_at_ordinal rs k = slice_index (map (λ r. r.view.told) rs) k
 
--- the adapter at ordinal k has places for n notices and one more for each of its targets, and can count them all
+-- the adapter at index k has capacity for n notifications and one more for each of its targets, and can count them all
 pub record IsReadyFor (rs : List Listed) (ps : List ℕ) (k n : ℕ) : Type 0 where
   pub places : k < length ps → n + targets_at rs k ≤ slice_index ps k
   pub countable : 0 < n → told_at_ordinal rs k + (n + targets_at rs k) < 2 ^ 64
@@ -35,20 +35,20 @@ pub record IsFirstFull (rs : List Listed) (ps : List ℕ) (cs : List (ℕ × Not
   pub full : IsFullFor rs cs k
   pub earlier : (j : ℕ) → j < k → IsReadyFor rs ps j (copies_len cs j)
 
--- the ordinals of the adapters that copies are for
+-- the indexes of the adapters that copies are for
 abbrev pub ordinals : List (ℕ × Notice) → List ℕ
 ordinals cs = map (λ c. c.0) cs
 
--- an ordinal comes after another, if there is one before it
+-- an index comes after another, if there is one before it
 abbrev pub is_after : Option ℕ → ℕ → Bool
 is_after None k = true
 is_after (Some j) k = nat_lt j k
 
--- each ordinal is greater than the one before it
+-- each index is greater than the one before it
 abbrev pub ascends : Option ℕ → List ℕ → Bool
 ascends before [] = true
 ascends before (k ∷ ks) = is_after before k && ascends (Some k) ks
 
--- some copy is for ordinal k
+-- some copy is for index k
 abbrev pub is_ordinal_of : List (ℕ × Notice) → ℕ → Bool
 is_ordinal_of cs k = list_any (λ c. nat_eq c.0 k) cs

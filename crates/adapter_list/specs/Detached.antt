@@ -1,11 +1,11 @@
--- What a call that takes one target from an adapter gives: its last notice from there, and the adapter if that was its last target.
+-- What a call that takes one target from an adapter gives: its last notification from there, and the adapter if that was its last target.
 use Rattle.std.specs.Prelude.{Bool, List, [], ◌∷◌, Option, None, Some}
 use Rattle.mm_types.specs.declared.numbers.AdapterNo.{AdapterNo}
 use Rattle.notice_chain.specs.View.{View}
 use Rattle.notice_chain.specs.declared.notice.Notice.{Notice}
 use Rattle.adapter_list.specs.declared.detached.Detached.{Detached}
 
--- who is notified of what, by the last notice; nobody, where the node is no target
+-- which adapter is notified of what, by the last notification; none, if the node is no target
 abbrev pub last_told : AdapterNo → Option (Notice × Bool) → List (AdapterNo × Notice)
 last_told number None = []
 last_told number (Some r) = (number, r.0) ∷ []
@@ -15,7 +15,7 @@ module _ {A : Type 0} where
   told_in number None = []
   told_in number (Some d) = (number, d.notice) ∷ []
 
-  -- an adapter that is handed out, if there is one, by what it has heard
+  -- an adapter that is handed out, if there is one, by what it was notified of
   abbrev pub view_of : (A → View) → Option A → List View
   view_of heard None = []
   view_of heard (Some a) = heard a ∷ []

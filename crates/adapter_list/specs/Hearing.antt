@@ -1,4 +1,4 @@
--- The adapters that hear the notices of a node, by their ordinals in attach order, and the copies that they get.
+-- The adapters that get the notifications of a node, by their indexes in attach order, and the copies that they get.
 use Rattle.std.specs.Prelude.{◌≡◌, ℕ, suc, Bool, false, List, [], ◌∷◌, map, IfSome, if◌then◌else◌}
 use Rattle.std.specs.List.{AllByRecursion, list_any}
 use Rattle.mm_types.specs.declared.numbers.Node.{Node}
@@ -8,24 +8,24 @@ use Rattle.notice_chain.specs.Listed.{Above, Listed, brings_in, has_target}
 use Rattle.notice_chain.specs.declared.notice.Notice.{Notice}
 use Rattle.adapter_list.specs.declared.hearers.Hearers.{Hearers}
 
--- this adapter hears the notices of a node
+-- this adapter gets the notifications of a node
 abbrev pub hears_node : Above → Node → Listed → Bool
 hears_node up x r = list_any (brings_in up x) r.targets
 
--- the ordinals of the adapters of which something is so, where the first adapter is at ordinal k
+-- the indexes of the adapters of which something is so; the first adapter is at index k
 abbrev pub ordinals_from : (Listed → Bool) → ℕ → List Listed → List ℕ
 ordinals_from p k [] = []
 ordinals_from p k (r ∷ rs) = if p r then k ∷ ordinals_from p (suc k) rs else ordinals_from p (suc k) rs
 
--- the ordinals of those who hear the notices of a node
+-- the indexes of the adapters that get the notifications of a node
 abbrev pub hearers : Above → Node → List Listed → List ℕ
 hearers up x rs = ordinals_from (hears_node up x) 0 rs
 
--- an adapter hears the notices of a node
+-- an adapter gets the notifications of a node
 abbrev pub is_heard : Above → Node → List Listed → Bool
 is_heard up x rs = list_any (hears_node up x) rs
 
--- nobody hears a chain
+-- a chain notifies no adapter
 abbrev pub IsUnheard : Above → List Notice → List Listed → Type 0
 IsUnheard up ns rs = AllByRecursion (λ n. is_heard up n.notifier rs ≡ false) ns
 
@@ -33,14 +33,14 @@ IsUnheard up ns rs = AllByRecursion (λ n. is_heard up n.notifier rs ≡ false) 
 abbrev pub is_touched : List ObjectNo → Listed → Bool
 is_touched os r = list_any (λ o. has_target (node.Object o) r) os
 
--- the ordinals of the adapters that have one of some objects as a target
+-- the indexes of the adapters that have one of some objects as a target
 abbrev pub touched : List ObjectNo → List Listed → List ℕ
 touched os rs = ordinals_from (is_touched os) 0 rs
 
--- what was found last is right: it is of no node, or has the hearers of its node
+-- what was found last is right: it is of no node, or has the adapters that get the notifications of its node
 abbrev pub AreKnown : Above → List Listed → Hearers → Type 0
 AreKnown up rs h = IfSome h.node (λ x. h.ordinals.items ≡ hearers up x rs)
 
--- the copies of a notice for the adapters at some ordinals
+-- the copies of a notification for the adapters at some indexes
 abbrev pub copies_at : List ℕ → Notice → List (ℕ × Notice)
 copies_at ks n = map (λ k. (k, n)) ks

@@ -68,30 +68,30 @@ AreSameMarks old new = (i : ℕ) → get_or new i false ≡ get_or old i false
 abbrev pub AreSetAt : List Bool → Node → Bool → List Bool → Type 0
 AreSetAt old x b new = (o : ObjectNo) → get_or new o.0 false ≡ (if same_node x (node.Object o) then b else get_or old o.0 false)
 
--- there is room for the mark of a node
+-- there is capacity for the mark of a node
 abbrev pub HasMarkRoom : List Bool → Node → Type 0
 HasMarkRoom bs (node.Object o) = o.0 < length bs
 HasMarkRoom bs (node.Resource k) = ⊤
 
----------------------------------------------------------------- ordinals
+---------------------------------------------------------------- indexes in attach order
 
--- the adapter at ordinal k has a number
+-- the adapter at index k has a number
 abbrev pub has_number_at : List Listed → AdapterNo → ℕ → Bool
 has_number_at rs number k = option_map_or (has_no number) (slice_get rs k) false
 
--- a target of an adapter is the node; and is deep, where only deep ones are asked for
+-- a target of an adapter is the node; and is deep, if only deep ones are asked for
 abbrev pub is_attached : Node → Bool → Listed → Bool
 is_attached x only_deep r = option_map_or (λ t. not only_deep || t.deep) (find (is_at x) r.targets) false
 
--- one of the adapter at ordinal k is
+-- whether a target of the adapter at index k is that node
 abbrev pub is_attached_at : List Listed → Node → Bool → ℕ → Bool
 is_attached_at rs x only_deep k = option_map_or (is_attached x only_deep) (slice_get rs k) false
 
--- how many targets the adapter at ordinal k has
+-- how many targets the adapter at index k has
 abbrev pub targets_at : List Listed → ℕ → ℕ
 targets_at rs k = slice_index (map (λ r. length r.targets) rs) k
 
--- an entry is of the adapter at ordinal k, and is asked for
+-- an entry is of the adapter at index k, and is asked for
 abbrev pub finds : List Listed → Bool → ℕ → Entry → Bool
 finds rs only_deep k e = (not only_deep || e.deep) && has_number_at rs e.no k
 

@@ -9,7 +9,7 @@ use std::collections::VecDeque;
 pub struct Attached<A = Box<dyn Adapter>> {
     /// The number under which it is attached.
     pub no: AdapterNo,
-    /// The nodes whose notices it hears, each once, in the order in which it got them. A ring, since a deletion takes
+    /// The nodes of whose changes it is notified, each once, in the order in which it got them. A ring, since a deletion takes
     /// many of them in that order.
     pub targets: VecDeque<Target>,
     /// The adapter itself.

@@ -48,7 +48,7 @@ impl<A: Adapter> Model for Going<A> {
 }
 
 impl<A: Adapter> Going<A> {
-    /// The parts of a list, and its room for handing out all of its adapters.
+    /// The parts of a list, and its capacity for handing out all of its adapters.
     pub(crate) fn of(list: AdapterList<A>) -> (Self, Vec<(AdapterNo, A)>)
         ensures now { result.0 ≡ list.0 }
         ensures some { HaveTargets list.0 }
@@ -82,7 +82,7 @@ impl<A: Adapter> Going<A> {
         }
     }
 
-    /// Releases one target: its adapter is notified of that, and no longer has it. Gives that notice, and whether it was the
+    /// Releases one target: its adapter is notified of that, and no longer has it. Gives that notification, and whether it was the
     /// adapter's last target; `None`, and nothing changes, if the node is no target of it.
     fn let_go(&mut self, no: AdapterNo, node: Node) -> Option<(Notice, bool)>
         ensures others { self.new ≡ without (no, node) self.old }
@@ -102,7 +102,7 @@ impl<A: Adapter> Going<A> {
         Some((last_notice(no, node, index), is_bare))
     }
 
-    /// The ordinal of an adapter in attach order.
+    /// The index of an adapter in attach order.
     fn ordinal_of(&self, no: AdapterNo) -> Option<usize>
         ensures ordinal { result ≡ position (has_no no) self.now }
         ensures within { IfSome result (λ i. i < length self.now) }
@@ -134,8 +134,8 @@ impl<A: Adapter> Going<A> {
         room.pop().map(|one| one.1)
     }
 
-    /// Takes one target from an adapter, which is handed out with its last one. That takes no memory: it goes through an empty list
-    /// that has room for all adapters.
+    /// Takes one target from an adapter, which is handed out with its last one. That takes no memory: it goes through an empty list that
+    /// has capacity for all adapters.
     pub(crate) fn detach(
         &mut self,
         no: AdapterNo,
@@ -233,7 +233,7 @@ fn split<A: Adapter>(
     waiting.into_vec()
 }
 
-/// The last notice of an adapter from a target, with its index among the adapters that have that target.
+/// The last notification of an adapter from a target, with its index among the adapters that have that target.
 pub(crate) fn last_notice(no: AdapterNo, target: Node, index: usize) -> Notice
     requires { index ≤ TARGETS }
     ensures { result ≡ removing no target index }
@@ -249,7 +249,7 @@ pub(crate) fn last_notice(no: AdapterNo, target: Node, index: usize) -> Notice
     }
 }
 
-/// Makes the numbers those of the adapters, in the same order. It takes no memory: there were no fewer numbers before.
+/// Sets the numbers to those of the adapters, in the same order. It takes no memory: there were no fewer numbers before.
 fn renumber<A>(numbers: &mut IndexSet<AdapterNo>, attached: &[Attached<A>])
     requires room { length attached.now ≤ index_set_len numbers.old }
     requires distinct { IsDistinct same_no (numbers_of attached.now) }

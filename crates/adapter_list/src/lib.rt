@@ -1,8 +1,8 @@
-//! The list of attached adapters: which of them hear a notice, what is reserved for a chain of notices, and its delivery.
+//! The list of attached adapters: which of them get a notification, what is reserved for a chain of notifications, and its delivery.
 //! Which ones are above a node, for the deep adapters, is asked of a store of links.
 //!
-//! A list owns its adapters, in attach order, with their targets. It is seen as the list of them by what they have heard,
-//! beside the places that they have in reserve; each always has one for its last notice.
+//! A list owns its adapters, in attach order, with their targets. It is seen as the list of them by what they were notified of,
+//! beside the capacity that they have reserved; each always has some for its last notification.
 #![tactic(auto)]
 
 mod attach_refused;

@@ -24,11 +24,11 @@ use std::alloc::Global;
 use std::collections::VecDeque;
 use std::marker::Model;
 
-/// The attached adapters, in attach order (EMF: the adapters of all notifiers). It is seen as two lists: the adapters with their
-/// targets, by what they have heard, and how many places each has, which only a delivery mentions.
+/// The attached adapters, in attach order (EMF: the adapters of all notifiers). It is seen as two lists: the adapters with their targets,
+/// by what they were notified of, and the capacity of each, which only a delivery mentions.
 ///
-/// Their numbers are distinct. They have at most 100,000 targets, each adapter at least one, and none has one twice. Each has
-/// places in reserve for its targets, one for each, for its last notice from it, and can count those notices.
+/// Their numbers are distinct. They have at most 100,000 targets, each adapter at least one, and none has one twice. Each has capacity
+/// reserved for its last notification from each of its targets, and can count those notifications.
 #[derive(Drop)]
 pub struct AdapterList<A: Adapter> {
     pub(crate) alloc: Global,
@@ -100,7 +100,7 @@ impl<A: Adapter> AdapterList<A> {
         }
     }
 
-    /// How many notices the adapter was told; None if it is not attached. Takes no memory.
+    /// How many notifications the adapter got; None if it is not attached. Takes no memory.
     pub fn told(&self, no: AdapterNo) -> Option<u64>
         ensures { result ≡ option_map (λ r. r.view.told) (adapter no self.now.0) }
     {
@@ -110,7 +110,7 @@ impl<A: Adapter> AdapterList<A> {
         }
     }
 
-    /// How many notices the adapter keeps; None if it is not attached. Takes no memory.
+    /// How many notifications the adapter keeps; None if it is not attached. Takes no memory.
     pub fn kept_len(&self, no: AdapterNo) -> Option<u64>
         ensures { result ≡ option_map (λ r. length r.view.kept) (adapter no self.now.0) }
     {
@@ -120,9 +120,9 @@ impl<A: Adapter> AdapterList<A> {
         }
     }
 
-    /// What holds of every list, for callers whose proofs need it: there are no more targets than there may be, the numbers of the
-    /// adapters are distinct, each has a target, none has one twice, and each has places in reserve for its targets, one for each, and can
-    /// count a notice for each.
+    /// What holds of every list, for callers whose proofs need it: there are no more targets than there may be, the numbers of the adapters
+    /// are distinct, each has a target, none has one twice, and each has capacity reserved for a last notification from each of its
+    /// targets, and can count those.
     pub fn lemma_keeps_rules(&self)
         ensures few { targets_len self.now.0 ≤ TARGETS }
         ensures distinct { HasDistinctNumbers self.now.0 }
@@ -145,7 +145,7 @@ impl<A: Adapter> AdapterList<A> {
         }
     }
 
-    /// The ordinal of an adapter in attach order.
+    /// The index of an adapter in attach order.
     fn ordinal_of(&self, no: AdapterNo) -> Option<usize>
         ensures ordinal { result ≡ position (has_no no) self.now.0 }
         ensures within { IfSome result (λ i. i < length self.now.0) }

@@ -26,7 +26,7 @@ fn is_marked_at(marks: &[bool], number: usize) -> bool
     false
 }
 
-/// Makes room for the mark of a node. Errs only if memory is refused; no mark changes.
+/// Reserves capacity for the mark of a node. Errs only if memory is refused; no mark changes.
 pub(crate) fn reserve_mark(marks: &mut Vec<bool>, node: Node) -> Result<(), AllocError>
     ensures same { AreSameMarks marks.old.items marks.new.items }
     ensures room { OnOk result (HasMarkRoom marks.new.items node) }

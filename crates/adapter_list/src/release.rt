@@ -1,4 +1,4 @@
-//! Targets that are to go, with room for what that takes.
+//! Targets that are to go, with capacity for what that takes.
 ghost use Rattle.std.specs.Prelude.{◌≡◌, IfOk, length, vec_len, vec_capacity};
 ghost use Rattle.adapter_list.specs.Attached.{IsRoomFor};
 
@@ -7,8 +7,8 @@ use notice_chain::Notice;
 use std::alloc::{AllocError, Global};
 use std::marker::Model;
 
-/// Some targets, each by its adapter's number and its node, in the order in which they are to go. It is made before anything
-/// changes and has room for their last notices and for the adapters that are handed out. So releasing them takes no memory.
+/// Some targets, each by its adapter's number and its node, in the order in which they are to go. It is made before anything changes and
+/// has capacity for their last notifications and for the adapters that are handed out. So releasing them takes no memory.
 #[derive(Drop)]
 pub struct Release<A> {
     spots: Vec<(AdapterNo, Node)>,
@@ -29,7 +29,7 @@ impl<A> Model for Release<A> {
 }
 
 impl<A> Release<A> {
-    /// Makes room for releasing some targets. Errs only if memory is refused.
+    /// Reserves capacity for releasing some targets. Errs only if memory is refused.
     pub fn new(alloc: Global, spots: Vec<(AdapterNo, Node)>) -> Result<Self, AllocError>
         ensures { IfOk result (λ r. r ≡ spots.items) }
     {
@@ -49,7 +49,7 @@ impl<A> Release<A> {
         self.spots.len()
     }
 
-    /// The targets, and the room for the notices and for the adapters.
+    /// The targets, and the capacity for the notifications and for the adapters.
     pub(crate) fn into_parts(
         self,
     ) -> (

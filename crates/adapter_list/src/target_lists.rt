@@ -24,8 +24,8 @@ pub(crate) struct Entry {
     pub deep: bool,
 }
 
-/// The adapters of each node to which some are attached. The list that owns the adapters keeps those of one node in attach
-/// order. An entry has the number of its adapter and not its ordinal, so that none changes if another adapter leaves.
+/// The adapters of each node to which some are attached. The list that owns the adapters keeps those of one node in attach order. An
+/// entry has the number of its adapter and not its index, so that none changes if another adapter leaves.
 #[derive(Drop)]
 pub(crate) struct TargetLists {
     alloc: Global,

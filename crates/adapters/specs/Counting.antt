@@ -1,9 +1,9 @@
--- The places of an adapter that takes no memory to hear, and what it answers if it is asked for places.
+-- The capacity of an adapter that needs no memory to be notified, and what its `reserve` returns.
 use Rattle.std.specs.Prelude.{◌≡◌, ◌↔◌, ℕ, ◌+◌, ◌-◌, ◌^◌, ◌<◌, ◌≤◌, Result, OnOk, IsErrOf, ⊤}
 use Rattle.adapters.specs.declared.adapter.NoRoom.{NoRoom}
 use Rattle.adapters.specs.declared.adapter.NoRoom.TheVariants.{Full, Memory}
 
--- as many as it can still count, where it was told this many
+-- as many as it can still count, if it got this many
 abbrev pub places_left : ℕ → ℕ
 places_left told = 2 ^ 64 - (told + 1)
 

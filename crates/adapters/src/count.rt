@@ -1,10 +1,10 @@
-//! The count of the notices that an adapter has heard.
+//! The count of the notifications that an adapter got.
 ghost use Rattle.std.specs.Prelude.{◌≡◌, ◌+◌, ◌^◌, ◌<◌};
 ghost use Rattle.adapters.specs.Counting.{IsCounted};
 
 use crate::adapter::NoRoom;
 
-/// The number of notices that an adapter has heard, if it takes no memory to hear one.
+/// How many notifications an adapter got that needs no memory to get one.
 #[derive(Drop)]
 pub(crate) struct Count {
     told: u64,

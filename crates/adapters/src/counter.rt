@@ -7,7 +7,7 @@ use crate::adapter::{Adapter, NoRoom};
 use crate::count::Count;
 use notice_chain::Notice;
 
-/// Counts the notices that it hears, and keeps none.
+/// Counts the notifications that it gets, and keeps none.
 #[derive(Drop)]
 pub struct Counter {
     count: Count,
@@ -23,7 +23,7 @@ impl Counter {
         }
     }
 
-    /// A counter that has counted `told` notices already. Takes no memory.
+    /// A counter that has counted `told` notifications already. Takes no memory.
     pub fn starting_at(told: u64) -> Counter
         ensures { ⟦<Counter as Adapter>⟧.heard result ≡ record { told = told; room = Some 0; kept = [] } }
     {
@@ -38,7 +38,7 @@ impl Adapter for Counter {
 
     ghost places = { λ c. places_left c.count.told };
 
-    /// It needs no memory for what it is to hear, so the only refusal is Full.
+    /// It needs no memory to be notified, so the only refusal is Full.
     fn reserve(&mut self, n: u64) -> Result<(), NoRoom>
         ensures { IsCounted (λ c. c.count.told) n self.old self.new result }
     {

@@ -1,7 +1,8 @@
-//! Adapters, which hear notices: their interface, and the stock kinds.
+//! Adapters, which are notified of changes: their interface, and the stock kinds.
 //!
-//! An adapter is seen as what it has heard (the view of `notice_chain`) and as its places: how many notices it can hear
-//! without a refusal. Places are reserved before anything changes (`reserve`); `notify_changed` uses one and can't fail.
+//! An adapter is seen as what it was notified of (the view of `notice_chain`) and as its capacity: how many notifications it can
+//! get before it has to reserve again. Capacity is reserved before anything changes (`reserve`); `notify_changed` uses one and
+//! can't fail.
 #![tactic(auto)]
 
 mod adapter;

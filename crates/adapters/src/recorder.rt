@@ -6,14 +6,14 @@ use crate::adapter::{Adapter, NoRoom};
 use notice_chain::Notice;
 use std::alloc::Global;
 
-/// Keeps every notice that it hears.
+/// Keeps every notification that it gets.
 #[derive(Drop)]
 pub struct Recorder {
     notices: Vec<Notice>,
 }
 
 impl Recorder {
-    /// A recorder that has heard nothing yet. Takes no memory.
+    /// A recorder that was notified of nothing yet. Takes no memory.
     pub fn new(alloc: Global) -> Recorder
         ensures { ⟦<Recorder as Adapter>⟧.heard result ≡ record { told = 0; room = None; kept = [] } }
     {

@@ -1,4 +1,4 @@
-//! An adapter that keeps the latest notices.
+//! An adapter that keeps the latest notifications.
 ghost use Rattle.std.specs.Prelude.{◌≡◌, ◌≤◌, [], Some, IfOk};
 ghost use Rattle.notice_chain.specs.View.{View};
 ghost use Rattle.mm_types.specs.declared.limits.TheConstants.{WINDOW_NOTICES};
@@ -10,7 +10,7 @@ use circular_buffer::HeapCircularBuffer;
 use notice_chain::Notice;
 use std::alloc::{AllocError, Global};
 
-/// Keeps the last notices that it hears, as many as it was made for.
+/// Keeps the last notifications that it gets, as many as it was made for.
 #[derive(Drop)]
 pub struct Window {
     latest: HeapCircularBuffer<Notice>,
@@ -18,8 +18,8 @@ pub struct Window {
 }
 
 impl Window {
-    /// A window that keeps the last `n` notices, from 1 to `limits::WINDOW_NOTICES` of them, and has heard nothing yet. Errs only if memory
-    /// is refused.
+    /// A window that keeps the last `n` notifications, from 1 to `limits::WINDOW_NOTICES` of them, and was notified of nothing yet. Errs
+    /// only if memory is refused.
     pub fn new(alloc: Global, n: u64) -> Result<Window, AllocError>
         requires some { 1 ≤ n }
         requires within { n ≤ WINDOW_NOTICES }
@@ -38,7 +38,7 @@ impl Adapter for Window {
 
     ghost places = { λ w. places_left w.count.told };
 
-    /// It needs no memory for what it is to hear, so the only refusal is Full.
+    /// It needs no memory to be notified, so the only refusal is Full.
     fn reserve(&mut self, n: u64) -> Result<(), NoRoom>
         ensures { IsCounted (λ w. w.count.told) n self.old self.new result }
     {

@@ -1,5 +1,5 @@
 -- A value, level by level, and lists that grow at their end.
-use Rattle.std.proofs.Common.{◌≡◌, ◌∙◌, ◌++◌, ℕ, List, [], ◌∷◌, Bool, Bor, Global, Option, Some, None, Vec, ap, map, refl, rules, true, false, cond, bytes_eq, true≢false, sym}
+use Rattle.std.proofs.Common.{◌≡◌, ◌∙◌, ◌++◌, ℕ, List, [], ◌∷◌, Bool, Bor, Option, Some, None, ap, map, refl, rules, true, false, cond, bytes_eq, true≢false, sym}
 use Rattle.std.proofs.lemmas.List.{map-append}
 use Rattle.std.proofs.lemmas.List.Sums.{fold-append}
 use Rattle.std.proofs.lemmas.Slice.Eq.{bytes_eq-Decides}
@@ -9,15 +9,19 @@ use Rattle.serde_json.specs.Data.{Data, Items, Members, array, object, item, no_
 use Rattle.serde_json.specs.Find.{get_member}
 use Rattle.serde_json.proofs.Views.{get_member-put, get_member-put_other}
 use Rattle.borrowed_json.specs.View.{items_view, members_of, members_view, view}
-use Rattle.borrowed_json.specs.declared.value.Json.{Json, Array, Object, the_lemmas}
+use Rattle.borrowed_json.specs.declared.value.Json.{Json, Array, Null, Object, the_lemmas}
 
 abbrev pub Entry : Type 0
 Entry = Bor (List ℕ) × Json
 
-pub view-Array : (v : Vec Json Global) → view (Array v) ≡ array (items_view v.items)
+-- what members have past their end
+abbrev pub no_entry : Entry
+no_entry = (record { ref_ptr = (0, 0); now = [] }, Null)
+
+pub view-Array : (v : Bor (List Json)) → view (Array v) ≡ array (items_view v.now)
 view-Array v = search (rules, the_lemmas)
 
-pub view-Object : (v : Vec Entry Global) → view (Object v) ≡ object (members_view v.items)
+pub view-Object : (v : Bor (List Entry)) → view (Object v) ≡ object (members_view v.now)
 view-Object v = search (rules, the_lemmas)
 
 abbrev pub items_before : List Json → Items → Items

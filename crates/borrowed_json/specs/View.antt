@@ -23,8 +23,8 @@ view_step Json-F.Null = null
 view_step (Json-F.Bool b) = boolean b
 view_step (Json-F.Number n) = number (number_view n)
 view_step (Json-F.String s) = string s.now
-view_step (Json-F.Array v) = array (items_of v.items)
-view_step (Json-F.Object v) = object (members_of v.items)
+view_step (Json-F.Array v) = array (items_of v.now)
+view_step (Json-F.Object v) = object (members_of v.now)
 
 abbrev pub view : Json → Data
 view = fold-Json Data view_step

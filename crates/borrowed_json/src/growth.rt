@@ -9,17 +9,17 @@ ghost use Rattle.borrowed_json.specs.declared.fault.JsonFault.TheVariants as fau
 use crate::fault::JsonFault;
 use crate::value::{Json, Members};
 
-/// How many items there is room for, once there is one: most lists are short.
+/// The capacity for items, once there is one: most lists are short.
 pub(crate) const FIRST_ITEMS: usize = 1;
 
-/// How many members there is room for, once there is one: each object of a document has two.
+/// The capacity for members, once there is one: each object of a document has two.
 const FIRST_MEMBERS: usize = 2;
 
 /// Among how many of the last members a key is looked for before it is added. An object of no more keys has each key once, however
 /// often it is written.
 const SEARCHED: usize = 256;
 
-/// Adds an item, with room for so many if it is the first.
+/// Adds an item, with capacity for so many if it is the first.
 #[inline(always)]
 pub(crate) fn push<T: Drop>(items: &mut Vec<T>, item: T, room: usize) -> Result<(), JsonFault>
     ensures items { OnOk result (items.new.items ≡ items.old.items ++ item ∷ []) }
@@ -33,8 +33,8 @@ pub(crate) fn push<T: Drop>(items: &mut Vec<T>, item: T, room: usize) -> Result<
 }
 
 /// The last index of a key among the last members.
-fn last_of(members: &Members, key: &str) -> Option<usize>
-    ensures { IfSome result (λ i. (i < length members.now.items) × (list_all (λ m. not (bytes_eq m.0.now key.now)) (drop (i + 1) members.now.items) ≡ true)) }
+fn last_of(members: Members, key: &str) -> Option<usize>
+    ensures { IfSome result (λ i. (i < length members.now) × (list_all (λ m. not (bytes_eq m.0.now key.now)) (drop (i + 1) members.now) ≡ true)) }
 {
     let mut left = members.len();
     let end = left.saturating_sub(SEARCHED);
@@ -50,14 +50,14 @@ fn last_of(members: &Members, key: &str) -> Option<usize>
 /// Puts a value at a key. If the key is among the last members, it takes the place of the value there.
 #[inline(always)]
 pub(crate) fn put<'t>(
-    members: &mut Members<'t>,
+    members: &mut Vec<(&'t str, Json<'t>)>,
     key: &'t str,
     value: Json<'t>,
 ) -> Result<(), JsonFault>
     ensures members { OnOk result (members_view members.new.items ≡ with_member key.entry.now (view value.entry) (members_view members.old.items)) }
     ensures refused { result ≢ Err fault.Syntax }
 {
-    match last_of(members, key) {
+    match last_of(members.as_slice(), key) {
         Some(index) if members[index].0 == key => members[index] = (key, value),
         _ => push(members, (key, value), FIRST_MEMBERS)?,
     }

@@ -14,22 +14,22 @@ fn is_one_of(key: &str, names: &[&str]) -> bool
     names.iter().any(|name| *name == key)
 }
 
-fn all_keys_among(members: &Members, names: &[&str]) -> bool
-    ensures { result ≡ list_all (λ m. list_any (λ n. bytes_eq n.now m.0.now) names.now) members.now.items }
+fn all_keys_among(members: Members, names: &[&str]) -> bool
+    ensures { result ≡ list_all (λ m. list_any (λ n. bytes_eq n.now m.0.now) names.now) members.now }
 {
     members.iter().all(|member| is_one_of(member.0, names))
 }
 
 /// Whether the keys of an object are all among some names. Takes no memory.
-pub fn has_only_keys(members: &Members, names: &[&str]) -> bool
-    ensures { result ≡ only_keys (map (λ n. n.now) names.now) (members_view members.now.items) }
+pub fn has_only_keys(members: Members, names: &[&str]) -> bool
+    ensures { result ≡ only_keys (map (λ n. n.now) names.now) (members_view members.now) }
 {
     all_keys_among(members, names)
 }
 
 /// The last value of a key, or nothing if the key is absent. Takes no memory, and looks through the members from the end.
-pub fn find<'v, 't>(members: &'v Members<'t>, key: &str) -> Option<&'v Json<'t>>
-    ensures { option_map (λ v. view v.now) result ≡ get_member key.now (members_view members.now.items) }
+pub fn find<'t>(members: Members<'t>, key: &str) -> Option<&'t Json<'t>>
+    ensures { option_map (λ v. view v.now) result ≡ get_member key.now (members_view members.now) }
 {
     let mut left = members.len();
     while left > 0 {

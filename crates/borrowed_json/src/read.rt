@@ -10,15 +10,18 @@ use crate::fault::JsonFault;
 use crate::growth::{FIRST_ITEMS, push, put};
 use crate::number::Number;
 use crate::value::{Json, Members};
+use bumpalo::Bump;
 use json::{Reader, Scratch, Token};
 use std::alloc::Global;
 
 /// How deep arrays and objects nest at most.
 const NESTING: usize = 127;
 
-/// The JSON value that a text is. Texts with escapes are kept in `scratch`, all others in the text.
+/// The JSON value that a text is. Its items and members are kept in `arena`, texts with escapes in `scratch`, and all other texts in the
+/// text.
 pub fn read_json<'t>(
     alloc: Global,
+    arena: &'t Bump,
     text: &'t str,
     scratch: &'t mut Scratch,
 ) -> Result<Json<'t>, JsonFault>
@@ -27,7 +30,7 @@ pub fn read_json<'t>(
     ensures syntax { result ≡ Err fault.Syntax → read_text text.now ≡ None }
 {
     let mut reader = Reader::new(text, scratch)?;
-    let value = read(alloc, &mut reader, NESTING)?;
+    let value = read(alloc, arena, &mut reader, NESTING)?;
     if reader.next().is_some() {
         return Err(JsonFault::Syntax);
     }
@@ -36,7 +39,12 @@ pub fn read_json<'t>(
 
 #[cycle(read)]
 #[inline(always)]
-fn read<'t>(alloc: Global, reader: &mut Reader<'t>, depth: usize) -> Result<Json<'t>, JsonFault>
+fn read<'t>(
+    alloc: Global,
+    arena: &'t Bump,
+    reader: &mut Reader<'t>,
+    depth: usize,
+) -> Result<Json<'t>, JsonFault>
     ensures value { IfOk result (λ v. converted of_json (value depth reader.old) ≡ Some (view v, reader.new)) }
     ensures shorter { OnOk result (length reader.new < length reader.old) }
     ensures syntax { result ≡ Err fault.Syntax → converted of_json (value depth reader.old) ≡ None }
@@ -55,13 +63,13 @@ fn read<'t>(alloc: Global, reader: &mut Reader<'t>, depth: usize) -> Result<Json
             if depth == 0 {
                 return Err(JsonFault::Syntax);
             }
-            Ok(Json::Array(read_items(alloc, reader, depth - 1)?))
+            Ok(Json::Array(read_items(alloc, arena, reader, depth - 1)?))
         }
         Token::BeginObject => {
             if depth == 0 {
                 return Err(JsonFault::Syntax);
             }
-            Ok(Json::Object(read_members(alloc, reader, depth - 1)?))
+            Ok(Json::Object(read_members(alloc, arena, reader, depth - 1)?))
         }
     }
 }
@@ -70,36 +78,38 @@ fn read<'t>(alloc: Global, reader: &mut Reader<'t>, depth: usize) -> Result<Json
 #[inline(never)]
 fn read_items<'t>(
     alloc: Global,
+    arena: &'t Bump,
     reader: &mut Reader<'t>,
     depth: usize,
-) -> Result<Vec<Json<'t>>, JsonFault>
-    ensures value { IfOk result (λ v. converted of_items (items (value depth) (length reader.old) reader.old) ≡ Some (items_view v.items, reader.new)) }
+) -> Result<&'t [Json<'t>], JsonFault>
+    ensures value { IfOk result (λ v. converted of_items (items (value depth) (length reader.old) reader.old) ≡ Some (items_view v.now, reader.new)) }
     ensures shorter { OnOk result (length reader.new < length reader.old) }
     ensures syntax { result ≡ Err fault.Syntax → converted of_items (items (value depth) (length reader.old) reader.old) ≡ None }
 {
     let mut found = Vec::new(alloc);
     'items: while !reader.take_end_array() {
-        let item = read(alloc, reader, depth)?;
+        let item = read(alloc, arena, reader, depth)?;
         push(&mut found, item, FIRST_ITEMS)?;
     }
-    Ok(found)
+    Ok(arena.try_alloc_slice_copy(found.as_slice())?)
 }
 
 #[cycle(read)]
 #[inline(never)]
 fn read_members<'t>(
     alloc: Global,
+    arena: &'t Bump,
     reader: &mut Reader<'t>,
     depth: usize,
 ) -> Result<Members<'t>, JsonFault>
-    ensures value { IfOk result (λ m. converted (λ ms. of_members ms no_members) (members (value depth) (length reader.old) reader.old) ≡ Some (members_view m.items, reader.new)) }
+    ensures value { IfOk result (λ m. converted (λ ms. of_members ms no_members) (members (value depth) (length reader.old) reader.old) ≡ Some (members_view m.now, reader.new)) }
     ensures shorter { OnOk result (length reader.new < length reader.old) }
     ensures syntax { result ≡ Err fault.Syntax → converted (λ ms. of_members ms no_members) (members (value depth) (length reader.old) reader.old) ≡ None }
 {
     let mut found = Vec::new(alloc);
     'members: while let Some(name) = reader.next_key()? {
-        let member = read(alloc, reader, depth)?;
+        let member = read(alloc, arena, reader, depth)?;
         put(&mut found, name, member)?;
     }
-    Ok(found)
+    Ok(arena.try_alloc_slice_copy(found.as_slice())?)
 }

@@ -5,19 +5,19 @@ ghost use Rattle.borrowed_json.specs.View.{items_view, members_view, view};
 
 use crate::number::Number;
 
-/// A JSON value. A text is borrowed.
-#[derive(Drop)]
+/// A JSON value. Its texts, items and members are borrowed.
+#[derive(Clone, Copy, Drop)]
 pub enum Json<'t> {
     Null,
     Bool(bool),
     Number(Number),
     String(&'t str),
-    Array(Vec<Json<'t>>),
+    Array(&'t [Json<'t>]),
     Object(Members<'t>),
 }
 
 /// The members of an object as they are written; of a key that comes twice the last value counts.
-pub type Members<'t> = Vec<(&'t str, Json<'t>)>;
+pub type Members<'t> = &'t [(&'t str, Json<'t>)];
 
 impl<'t> Json<'t> {
     /// Whether it is null. Takes no memory.
@@ -79,21 +79,21 @@ impl<'t> Json<'t> {
     }
 
     /// The items, if it is an array. Takes no memory.
-    pub fn as_array(&self) -> Option<&Vec<Json<'t>>>
-        ensures { option_map (λ v. items_view v.now.items) result ≡ as_array (view self.now) }
+    pub fn as_array(&self) -> Option<&'t [Json<'t>]>
+        ensures { option_map (λ v. items_view v.now) result ≡ as_array (view self.now) }
     {
         match self {
-            Json::Array(items) => Some(items),
+            Json::Array(items) => Some(*items),
             _ => None,
         }
     }
 
     /// The members, if it is an object. Takes no memory.
-    pub fn as_object(&self) -> Option<&Members<'t>>
-        ensures { option_map (λ m. members_view m.now.items) result ≡ as_object (view self.now) }
+    pub fn as_object(&self) -> Option<Members<'t>>
+        ensures { option_map (λ m. members_view m.now) result ≡ as_object (view self.now) }
     {
         match self {
-            Json::Object(members) => Some(members),
+            Json::Object(members) => Some(*members),
             _ => None,
         }
     }

@@ -5,7 +5,7 @@ use std::{fmt, io};
 /// Why a case can't be run.
 #[derive(Debug, Drop)]
 pub enum CaseFault {
-    /// A mark is not written as marks are.
+    /// A mark is badly written.
     Mark,
     /// The metamodel's file can't be read.
     Unreadable,

@@ -15,10 +15,10 @@ fn loaded(alloc: Global, metamodel: &[u8]) -> Result<Box<Meta>, MetaFault> {
     Box::new(alloc, meta).map_err(|_| MetaFault::Memory)
 }
 
-/// How many of the boxes keep every notice.
+/// How many of the adapters keep every notification.
 const RECORDERS: u64 = 4;
 
-/// How many notices the last box can still count, its last one included.
+/// How many notifications the last adapter can still count, its last one included.
 const LEFT: u64 = 2;
 
 /// What a script prints, and the fault that stopped it.
@@ -42,7 +42,7 @@ fn recorder(alloc: Global) -> Result<Box<Recorder>, AllocError> {
     Ok(Box::new(alloc, Recorder::new(alloc))?)
 }
 
-/// What a script prints with the boxes of the program, and the fault that stopped it.
+/// What a script prints with the adapters of the program, and the fault that stopped it.
 fn printed<L: LinkStore>(
     alloc: Global,
     meta: Box<Meta>,

@@ -31,7 +31,7 @@ pub(crate) fn book<L: LinkStore, A: Adapter>(
     }
 }
 
-/// The notice that the first book is named.
+/// The notification that the first book is named.
 fn named(alloc: Global) -> Result<Notice, AllocError> {
     Ok(Notice {
         notifier: FIRST,
@@ -44,7 +44,7 @@ fn named(alloc: Global) -> Result<Notice, AllocError> {
     })
 }
 
-/// What that notice makes of the snapshot of the first book.
+/// What that notification makes of the snapshot of the first book.
 pub(crate) fn replayed<L: LinkStore, A: Adapter>(
     alloc: Global,
     repository: &Repository<L, A>,

@@ -1,7 +1,7 @@
 //! Does a list of commands by one call of a repository, and prints what each of them gives; or, if there is no memory for what they give,
 //! the commands that come back. Then it prints what the repository has.
 //!
-//! `command_list N` follows N books instead: it takes a snapshot, names each book, and replays the notices. `bench/measure` runs it.
+//! `command_list N` follows N books instead: it takes a snapshot, names each book, and replays the notifications. `bench/measure` runs it.
 //!
 //! `tests/run_refused_memory` runs it once for each of its allocations, which is refused. No script makes this call, and no test function
 //! can refuse memory.
@@ -59,7 +59,7 @@ fn empty<L: LinkStore, A: Adapter>(
 }
 
 /// Makes a book at which an adapter is, does the list of commands, which attaches another, and prints what that gives. At last it prints
-/// what a notice made of the book's snapshot from before the list.
+/// what a notification made of the book's snapshot from before the list.
 fn session<L: LinkStore, A: Adapter, W: Write>(
     alloc: Global,
     writer: &mut W,

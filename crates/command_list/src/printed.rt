@@ -7,7 +7,8 @@ use repository::{Act, Command, EndRead, Failure, NodeRead, Read, Reply, Reposito
 use std::io;
 use std::io::Write;
 
-/// Prints what a command gives: its answer and how many notices were told, or its refusal and what the adapter was told that comes back.
+/// Prints what a command gives: its answer and how many notifications there were, or its refusal and what the adapter that comes back was
+/// notified of.
 fn print_outcome<A: Adapter, W: Write>(
     writer: &mut W,
     outcome: &Result<Reply<A>, Failure<A>>,
@@ -39,7 +40,7 @@ pub(crate) fn print_outcomes<A: Adapter, W: Write>(
     Ok(())
 }
 
-/// Prints a command that comes back, and what its adapter was told.
+/// Prints a command that comes back, and what its adapter was notified of.
 fn print_command<A: Adapter, W: Write>(
     writer: &mut W,
     command: &Command<A>,
@@ -73,7 +74,7 @@ pub(crate) fn print_commands<A: Adapter, W: Write>(
     Ok(())
 }
 
-/// Prints whether the first book has a name, the class of the second, and how many notices the two adapters were told.
+/// Prints whether the first book has a name, the class of the second, and how many notifications the two adapters got.
 pub(crate) fn print_state<L: LinkStore, A: Adapter, W: Write>(
     writer: &mut W,
     repository: &Repository<L, A>,

@@ -34,7 +34,7 @@ fn fill<L: LinkStore, A: Adapter>(
     Ok(())
 }
 
-/// Adds the notices of a reply.
+/// Adds the notifications of a reply.
 fn keep<A: Adapter>(reply: Reply<A>, notices: &mut Vec<Notice>) -> Result<(), AllocError> {
     for (_no, notice) in reply.told.into_vec() {
         notices.push(notice)?;
@@ -42,7 +42,7 @@ fn keep<A: Adapter>(reply: Reply<A>, notices: &mut Vec<Notice>) -> Result<(), Al
     Ok(())
 }
 
-/// Names all books, and returns the notices of that.
+/// Names all books, and returns the notifications of that.
 fn name_all<L: LinkStore, A: Adapter>(
     alloc: Global,
     repository: &mut Repository<L, A>,
@@ -65,7 +65,7 @@ fn taken<L: LinkStore, A: Adapter>(
     Ok(Box::new(alloc, snapshot)?)
 }
 
-/// Follows so many books, each of which is named, by their notices. Returns how many nodes the view has, if it is the same as a new
+/// Follows so many books, each of which is named, by their notifications. Returns how many nodes the view has, if it is the same as a new
 /// snapshot.
 pub(crate) fn followed<L: LinkStore, A: Adapter>(
     alloc: Global,

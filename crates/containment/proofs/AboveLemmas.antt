@@ -51,7 +51,7 @@ found-next s x y found more legal free h made =
 pub found-root : (s : Links) (x : Node) (found : List Node) → IsLegalSet s → HasNoCycle s → None ≡ parent s x → found ≡ found ++ above s x
 found-root s x found legal free h = sym (ap (λ (ns : List Node). found ++ ns) (above-root s x legal free h) ∙ append-nil found)
 
--- the next one up is above x, and any other node where it is above that
+-- the next one up is above x, and any other node if it is above that
 pub is_above-here : (s : Links) (x y z : Node) → IsLegalSet s → HasNoCycle s → Some y ≡ parent s x → same_node z y ≡ true → list_any (same_node z) (above s x) ≡ true
 is_above-here s x y z legal free h same = ap (list_any (same_node z)) (above-parent s x y legal free h) ∙ ap (λ (b : Bool). b || list_any (same_node z) (above s y)) same
 

@@ -151,7 +151,7 @@ features-distinct s legal (node.Object o) = by ((reading s).class o)
 
 ---------------------------------------------------------------- contents
 
--- where each value occurs once, so does each object
+-- if each value occurs once, so does each object
 pub objects-distinct : (vs : List Value) → sets.IsDistinct vs → IsDistinct same_object (objects_of vs)
 unfolding IsDistinct
 objects-distinct [] d = tt

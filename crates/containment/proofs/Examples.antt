@@ -1,4 +1,4 @@
--- What is told of a few nodes.
+-- What is known of a few nodes.
 use Rattle.std.proofs.Common.{◌≡◌, ℕ, suc, List, [], ◌∷◌, drop, Some, None, refl}
 use Rattle.std.specs.List.{position_or_len}
 use Rattle.mm_types.specs.Same.{same_node}

@@ -41,7 +41,7 @@ objects-first : (v : Value) (vs : List Value) → objects_of (v ∷ vs) ≡ opti
 objects-first (value.Object o) vs = refl
 objects-first _ vs = refl
 
--- one place further
+-- one index further
 pub objects-step : (vs : List Value) (k : ℕ) (out new all : List ObjectNo) → k < length vs → new ≡ out ++ option_to_list (option_and_then links.object_of (slice_get vs k))
     → out ++ objects_of (drop k vs) ≡ all → new ++ objects_of (drop (k + 1) vs) ≡ all
 objects-step vs k out new all low made whole =

@@ -51,7 +51,7 @@ module _ (s : Model) (legal : IsLegal s) where
   pub subtree-levels : (o : ObjectNo) → tree (reading s) (suc (suc (length s.values.objects))) o ≡ subtree (reading s) o
   subtree-levels o = more-levels (suc (length s.values.objects)) o (omega arith) (omega arith)
 
-  -- where objects were made, as many levels are enough
+  -- if objects were made, as many levels are enough
   pub enough-levels : (o : ObjectNo) → 0 < length s.values.objects → tree (reading s) (length s.values.objects) o ≡ subtree (reading s) o
   enough-levels o some = sym (more-levels (length s.values.objects) o some (omega arith))
 
@@ -99,11 +99,11 @@ walk-starts s found waiting none = ap (λ os. os ++ waiting-trees s waiting) non
 pub walk-ends : (s : Model) (found waiting all : List ObjectNo) → waiting ≡ [] → found ++ waiting-trees s waiting ≡ all → found ≡ all
 walk-ends s found waiting all none whole = sym (append-nil found) ∙ ap (λ os. found ++ waiting-trees s os) (sym none) ∙ whole
 
--- where one object waits, what is found is its subtree
+-- if one object waits, what is found is its subtree
 pub one-waits : (s : Model) (waiting : List ObjectNo) (o : ObjectNo) → waiting ≡ o ∷ [] → waiting-trees s waiting ≡ subtree (reading s) o
 one-waits s waiting o one = ap (waiting-trees s) one ∙ append-nil (subtree (reading s) o)
 
--- where the roots of a resource wait, it is all objects in it
+-- if the roots of a resource wait, it is all objects in it
 pub roots-wait : (s : Model) (n : Node) (k : ResourceNo) (waiting roots : List ObjectNo) → n ≡ node.Resource k → waiting ≡ reverse roots → roots ≡ contents (reading s) n → waiting-trees s waiting ≡ node_subtree (reading s) n
 roots-wait s n k waiting roots is turned here =
     let trees = flat_map (subtree (reading s)) in

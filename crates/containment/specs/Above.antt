@@ -1,4 +1,4 @@
--- What the nodes above a node tell of it: the topmost, and the resource that it is in.
+-- What the nodes above a node show of it: the topmost, and the resource that it is in.
 use Rattle.std.specs.Prelude.{List, Option, Some, None, unwrap_or}
 use Rattle.std.specs.List.{last_or}
 use Rattle.mm_types.specs.declared.numbers.ObjectNo.{ObjectNo}

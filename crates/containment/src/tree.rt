@@ -45,7 +45,7 @@ pub fn node_subtree<L: LinkStore>(
     }
 }
 
-/// Objects and all that is below them, the last one's first. Errs only if memory is refused.
+/// Objects and all that is below them; the last object comes first. Errs only if memory is refused.
 fn all_below<L: LinkStore>(
     alloc: Global,
     model: &ModelRef<L>,

@@ -1,4 +1,4 @@
--- Proxies that are put at their places among the objects of an end, in the order of the places, make the end whole.
+-- Proxies that are put at their indexes among the objects of an end, in the order of the indexes, make the end complete.
 use Rattle.std.proofs.Common.{◌≡◌, ◌≢◌, ◌∙◌, ◌+◌, ◌<◌, ◌≤◌, ◌++◌, ℕ, zero, suc, Bool, true, false, List, [], ◌∷◌, Some, None, if◌then◌else◌, length, append_assoc, refl, sym, ap, subst, arith}
 use Rattle.std.specs.Prelude.{◌&&◌, cond, filter, flat_map, nat_le}
 use Rattle.std.specs.List.{AllByRecursion, insert, slice_get}
@@ -34,7 +34,7 @@ is_no_proxy _ = true
 abbrev pub others : List Value → List Value
 others vs = filter is_no_proxy vs
 
--- the proxies of a list, whose first value is at place i, each with its place
+-- the proxies of a list, whose first value is at index i, each with its index
 abbrev pub proxies_from : ℕ → List Value → List (ℕ × List ℕ)
 proxies_from i [] = []
 proxies_from i (value.Proxy t ∷ vs) = (i, t) ∷ proxies_from (i + 1) vs

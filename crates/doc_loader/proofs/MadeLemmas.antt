@@ -92,7 +92,7 @@ shown-joined kinds ok t x y i j pair ox oy near far =
           })
     ] refl
 
--- the first place at which a test holds
+-- the first index at which a test holds
 first-at : {X : Type 0} (p : X → Bool) (xs : List X) (k : ℕ) (x : X) → slice_get xs k ≡ Some x → p x ≡ true → (i : ℕ) × (y : X) × (position p xs ≡ Some i) × (slice_get xs i ≡ Some y) × (p y ≡ true)
 first-at p [] k x at h = absurd (none-some x at)
 first-at {X = X} p (z ∷ zs) zero x at h =

@@ -117,7 +117,7 @@ module _ {X Y : Type 0} where
       apart-append S (f x) (flat_map f xs) (each x) (apart-flat_map R S f xs each across a.1)
       (pairs-flat_map S f (f x) xs (all-more (R x) (λ z. AllPairs S (f x) (f z)) xs (λ z r. across x z r) a.0))
 
--- what is at a place of a list is there with its number
+-- what is at an index of a list is there with its number
 pub numbered-at : {X : Type 0} (xs : List X) (i k : ℕ) (y : ℕ × X) → slice_get (enumerate_from i xs) k ≡ Some y → (y.0 ≡ i + k) × (slice_get xs k ≡ Some y.1)
 numbered-at [] i k y h = absurd (none-some y h)
 numbered-at {X = X} (x ∷ xs) i zero y h =

@@ -1,4 +1,4 @@
--- The place that is noted for an object under the lower feature of a pair is the one at which it is there.
+-- The index that is noted for an object under the lower feature of a pair is the one at which it is there.
 use Rattle.std.proofs.Common.{◌≡◌, ◌∙◌, ◌<◌, ℕ, zero, suc, Bool, true, false, cond, List, [], ◌∷◌, Option, Some, None, if◌then◌else◌, refl, sym, ap, subst, inl, inr, arith}
 use Rattle.std.specs.Prelude.{◌⊎◌, ◌&&◌, flat_map, is_some, nat_eq, not, slice_get, unwrap_or}
 use Rattle.std.specs.List.{AllByRecursion, enumerate_from}
@@ -23,7 +23,7 @@ use Rattle.doc_loader.proofs.PairLemmas.{numbered-all, all-flat_map}
 use Rattle.doc_loader.proofs.SideLemmas.{feature-same}
 use Rattle.doc_loader.proofs.SoundLemmas.{AreSoundContents, IsSound, IsSoundContent, at-flat_map, at-numbered, has-content}
 
----------------------------------------------------------------- the last place
+---------------------------------------------------------------- the last index
 
 abbrev IsPlaced : ReferenceKey → ℕ → ReferenceKey × ℕ → Type 0
 IsPlaced k i x = same_reference_key x.0 k ≡ true → x.1 ≡ i
@@ -41,7 +41,7 @@ last-here : (o : Option ℕ) (t : Bool) (i j : ℕ) → (o ≡ None) ⊎ (o ≡ 
 last-here o t i j (inr some) is same = ap (λ (x : Option ℕ). option_or x (cond t (Some j) None)) some
 last-here o t i j (inl none) is same = (λ l. option_or (none l) (cond (is l) (Some j) None)) ∙ ap Some same
 
--- where all places of a naming are one, and there is one, it is the last
+-- if all indexes of a naming are one, and there is one, it is the last
 last-is : (k : ReferenceKey) (i : ℕ) (xs : List (ReferenceKey × ℕ)) (j : ℕ) (x : ReferenceKey × ℕ) → AllByRecursion (IsPlaced k i) xs → slice_get xs j ≡ Some x → same_reference_key x.0 k ≡ true → last_index xs k ≡ Some i
 last-is k i [] j x all at same = absurd (none-some x at)
 last-is k i (y ∷ ys) zero x all at same =
@@ -53,7 +53,7 @@ chosen-at : {X : Type 0} (t : Bool) (xs : List X) (k : ℕ) (x : X) → t ≡ tr
 chosen-at true xs k x is at = at
 chosen-at false xs k x is at = absurd (true≢false (sym is))
 
----------------------------------------------------------------- the places of a document
+---------------------------------------------------------------- the indexes of a document
 
 module _ (m : Metamodel) (doc : Doc) (sound : IsSound m doc) (a : ObjectNo) (f : FeatureNo) (b : ObjectNo) (i : ℕ) (distinct : IsDistinct (values_in doc a f)) (at : slice_get (values_in doc a f) i ≡ Some (value.Object b)) where
   value-placed : (o : ObjectNo) (c : Content) → IsSoundContent m doc o c → (j : ℕ) (v : Value) → slice_get c.values j ≡ Some v → AllByRecursion (IsPlaced (reference_key a f b) i) (placed o c.feature (j, v))

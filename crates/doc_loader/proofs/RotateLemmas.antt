@@ -1,4 +1,4 @@
--- A link of a pair that is taken out and put again at its place is last at the other end.
+-- A link of a pair that is taken out and put again at its index is last at the other end.
 use Rattle.std.proofs.Common.{◌≡◌, ◌≢◌, ◌∙◌, ◌<◌, ◌++◌, ℕ, zero, suc, Bool, true, false, List, [], ◌∷◌, Option, Some, None, if◌then◌else◌, length, append_assoc, append-nil, refl, sym, ap, subst, inl, inr, arith}
 use Rattle.std.specs.Prelude.{◌&&◌, ◌||◌, filter, flat_map, not}
 use Rattle.std.specs.List.{AllByRecursion, insert, list_any, remove, slice_get}
@@ -231,7 +231,7 @@ again_kinds m (x ∷ xs) = (tt, ((refl, refl), again_kinds m xs))
 abbrev pub again_at : End → Again → List Value
 again_at d x = if same_end (far_end x.object x.far) d then node_value x.near.node ∷ [] else []
 
--- a link of a pair of which neither contains, at its place in N, an end of those that do not change
+-- a link of a pair of which neither contains, at its index in N, an end of those that do not change
 pub record IsGoodAgain (m : Kinds) (Near : End → Type 0) (N : End → List Value) (x : Again) : Type 0 where
   pub pair : m.opposite x.near.feature ≡ Some x.far
   pub plain : m.container x.near.feature ≡ None

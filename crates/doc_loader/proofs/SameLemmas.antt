@@ -57,7 +57,7 @@ module _ (m : Metamodel) (n : ℕ) (k : ResourceNo) (doc : Doc) (sound : IsSound
   unfolding with_links
   in-new j l h = inserted-new (loaded_links m n k doc) s j l h
 
-  -- a link of the set is the one of the document that is at its place
+  -- a link of the set is the one of the document that is at its index
   same-in : (l x : Link) → In l t → In x w → (v : Value) → indexed x l.end ≡ Some (l.index, v) → In l w
   same-in l x h g v at =
       let one = (t-legal m n k doc sound s legal kinds free room fit).placed.once l x l.end l.index (far_value l.far) v h (made-in m n k doc sound s legal kinds free room fit x g) (indexed_near l) at in

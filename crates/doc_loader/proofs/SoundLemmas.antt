@@ -146,7 +146,7 @@ module _ {X Y : Type 0} where
       let r = at-filter_map h xs i x y a b in
       elim (h z) as (λ o. (k : ℕ) × (slice_get (cons_option o (filter_map h xs)) k ≡ Some y)) [ None ↦ r | Some w ↦ (suc r.0, r.1) ]
 
--- what is at a place is there with its number
+-- what is at an index is there with its number
 pub at-numbered : {X : Type 0} (xs : List X) (i k : ℕ) (x : X) → slice_get xs k ≡ Some x → (n : ℕ) × (n ≡ i + k) × (slice_get (enumerate_from i xs) k ≡ Some (n, x))
 at-numbered [] i k x h = absurd (none-some x h)
 at-numbered {X = X} (z ∷ xs) i zero x h = (i, omega arith, ap (λ (y : X). Some (i, y)) (same_Some z x h))

@@ -300,7 +300,7 @@ module _ (m : Metamodel) (names : NamesAreApart m) (d : Data) where
       let low = w.4 in
       omega (arith, same, low)
 
-  -- and is at one place
+  -- and is at one index
   pub part-once : (a c b : ℕ) (p q : Part) (s t : Step) → slice_get (parts m d) a ≡ Some p → slice_get (parts m d) c ≡ Some q
       → number_of (parts m d) (with_step p.path s) ≡ Some b → number_of (parts m d) (with_step q.path t) ≡ Some b → (a ≡ c) × (s ≡ t)
   part-once a c b p q s t at there x y =

@@ -1,4 +1,4 @@
--- A place has the number of the first part of its path, and keeps it while more parts are found.
+-- A key has the number of the first part of its path, and keeps it while more parts are found.
 use Rattle.std.proofs.Common.{◌≡◌, ◌∙◌, ◌++◌, Bool, true, false, List, [], ◌∷◌, Option, Some, None, ℕ, ap, cond, refl, sym}
 use Rattle.std.specs.Prelude.{◌&&◌, nat_eq}
 use Rattle.std.specs.Map.{lookup}

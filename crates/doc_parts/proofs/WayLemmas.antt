@@ -115,12 +115,12 @@ number_tells q r (p ∷ ps) n h g =
     tells_at (same_path q p.path) (same_path r p.path) (number_of ps q) (number_of ps r) n (q ≡ r)
     (λ a b. same_path_tells q p.path a ∙ sym (same_path_tells r p.path b)) (number_tells q r ps) (sym (position_cons (is_of q) p ps) ∙ h) (sym (position_cons (is_of r) p ps) ∙ g)
 
----------------------------------------------------------------- one more place
+---------------------------------------------------------------- one more part
 
 abbrev same_way : ℕ → List Step → ℕ → List Step → Bool
 same_way i rs j ss = nat_eq i j && same_steps rs ss
 
--- the key of a place: that of a root, or of a step under what a way leads to
+-- the key of a part: that of a root, or of a step under what a way leads to
 abbrev pub IsKeyOf : (Key → Option ℕ) → Key → ℕ → List Step → Type 0
 IsKeyOf at k j [] = k ≡ RootKey j
 IsKeyOf at k j (s ∷ ss) = (c : ℕ) × (way at j ss ≡ Some c) × (k ≡ UnderKey c s.name s.index)
@@ -215,7 +215,7 @@ beyond at new n k test i j s rs ss false same a is goes other =
     ap (option_and_then (λ m. new (UnderKey m s.name s.index))) (goes.1 (λ (roots, steps). true≢false (sym (both_true (nat_eq i j) _ ((Decides-eqb i j).1 roots) (let e = same_steps_self ss in rw (steps, e) refl)) ∙ same)))
     ∙ further at new n k test i j s rs ss (way at i rs) refl a is other
 
--- a new place is led to by its path, and other ways stay
+-- a new part is led to by its path, and other ways stay
 pub goes : (at new : Key → Option ℕ) (n : ℕ) (k : Key) (test : Key → Bool) (i j : ℕ) (rs ss : List Step) → Adds at new n k test → IsKeyOf at k j ss → Goes at new n i rs j ss
 goes at new n k test i j [] ss a is = (
   (λ (roots, steps). let own : k ≡ RootKey j = subst (IsKeyOf at k j) (sym steps) is in ap new (ap RootKey roots ∙ sym own) ∙ new_own at new n k test a),

@@ -44,7 +44,7 @@ part_seen r =
     record {
       level = r.level;
       json = view r.json.now;
-      known = option_map (λ k. (k.0, members_view k.1.now.items)) r.known;
+      known = option_map (λ k. (k.0, members_view k.1.now)) r.known;
       number = Some r.number;
     }
 

@@ -65,7 +65,7 @@ fn is_shaped(is_single: bool, content: &Json) -> bool
 
 /// Whether what is written under a feature is an array if the feature is many-valued, and each of its values is one of
 /// the feature. Takes no memory.
-pub(crate) fn is_content(meta: &Meta, feature: FeatureNo, content: &Json) -> bool
+pub(crate) fn is_content<'t>(meta: &Meta, feature: FeatureNo, content: &'t Json<'t>) -> bool
     ensures { result ≡ is_meant meta.now (new_entry feature (view content.now)) }
 {
     let single = meta.is_single(feature);

@@ -19,8 +19,8 @@ pub fn class_of(meta: &Meta, json: &Json) -> Option<ClassNo>
 }
 
 /// The class and the members of an object whose class is there. Takes no memory.
-pub fn known<'v, 't>(meta: &Meta, json: &'v Json<'t>) -> Option<(ClassNo, &'v Members<'t>)>
-    ensures { option_map (λ k. (k.0, members_view k.1.now.items)) result ≡ known_meant meta.now (view json.now) }
+pub fn known<'t>(meta: &Meta, json: &Json<'t>) -> Option<(ClassNo, Members<'t>)>
+    ensures { option_map (λ k. (k.0, members_view k.1.now)) result ≡ known_meant meta.now (view json.now) }
 {
     let object = written(json)?;
     let class = meta.class_by_name(object.class)?;
@@ -28,12 +28,8 @@ pub fn known<'v, 't>(meta: &Meta, json: &'v Json<'t>) -> Option<(ClassNo, &'v Me
 }
 
 /// What is written under a feature, which may be no container reference. Takes no memory.
-pub fn content_at<'v, 't>(
-    meta: &Meta,
-    members: &'v Members<'t>,
-    feature: FeatureNo,
-) -> Option<&'v Json<'t>>
-    ensures { option_map (λ v. view v.now) result ≡ content_meant meta.now (members_view members.now.items) feature }
+pub fn content_at<'t>(meta: &Meta, members: Members<'t>, feature: FeatureNo) -> Option<&'t Json<'t>>
+    ensures { option_map (λ v. view v.now) result ≡ content_meant meta.now (members_view members.now) feature }
 {
     match find(members, meta.feature_name(feature)) {
         Some(content) if !meta.is_container(feature) => Some(content),
@@ -41,7 +37,7 @@ pub fn content_at<'v, 't>(
     }
 }
 
-fn no_values<'v, 't>() -> &'v [Json<'t>]
+fn no_values<'t>() -> &'t [Json<'t>]
     ensures { result.now ≡ [] }
 {
     &[]
@@ -49,14 +45,14 @@ fn no_values<'v, 't>() -> &'v [Json<'t>]
 
 /// The values of what is written under a feature: the items of an array if the feature is many-valued. Takes no
 /// memory.
-pub fn values_of<'v, 't>(meta: &Meta, feature: FeatureNo, content: &'v Json<'t>) -> &'v [Json<'t>]
+pub fn values_of<'t>(meta: &Meta, feature: FeatureNo, content: &'t Json<'t>) -> &'t [Json<'t>]
     ensures { map view result.now ≡ values_meant meta.now (new_entry feature (view content.now)) }
 {
     if meta.is_single(feature) {
         return slice::from_ref(content);
     }
-    match content.as_array() {
-        Some(values) => values.as_slice(),
-        None => no_values(),
-    }
+    let Some(values) = content.as_array() else {
+        return no_values();
+    };
+    values
 }

@@ -11,11 +11,11 @@ use web_uris::{Path, Step};
 /// The key of a part: at the position of a root, or under the first part of a path by a step.
 #[derive(Clone, Copy, PartialEq, Eq, Hash)]
 pub enum PartKey<'m> {
-    Root(u32),
+    Root(usize),
     Under {
         part: u32,
         name: &'m str,
-        index: Option<u32>,
+        index: Option<usize>,
     },
 }
 
@@ -28,18 +28,28 @@ pub struct Numbers<'m> {
 /// A part: its level, what is there, its class and its members if its class is there, and the number of the first part of
 /// its path.
 #[derive(Clone, Copy)]
-pub struct FoundPart<'v, 't> {
+pub struct FoundPart<'t> {
     pub level: usize,
-    pub json: &'v Json<'t>,
-    pub known: Option<(ClassNo, &'v Members<'t>)>,
+    pub json: &'t Json<'t>,
+    pub known: Option<(ClassNo, Members<'t>)>,
     pub number: u32,
 }
 
 /// The parts that were found, in loading order.
 #[derive(Drop)]
-pub struct FoundParts<'v, 't, 'm> {
-    pub parts: Vec<FoundPart<'v, 't>>,
+pub struct FoundParts<'t, 'm> {
+    pub parts: Vec<FoundPart<'t>>,
     pub numbers: Numbers<'m>,
+}
+
+/// The position that the index of a step names.
+fn position_of(index: Option<u32>) -> Option<usize>
+    ensures { result ≡ index }
+{
+    match index {
+        Some(index) => Some(index as usize),
+        None => None,
+    }
 }
 
 impl<'m> Numbers<'m> {
@@ -72,7 +82,7 @@ impl<'m> Numbers<'m> {
             let key = PartKey::Under {
                 part,
                 name: step.name.as_str(),
-                index: step.index,
+                index: position_of(step.index),
             };
             match self.at(key) {
                 Some(next) => part = next,
@@ -86,7 +96,7 @@ impl<'m> Numbers<'m> {
     pub fn of_path(&self, path: &Path) -> Option<u32>
         ensures { result ≡ way_of (number_at self.now) path.now }
     {
-        match self.at(PartKey::Root(path.root)) {
+        match self.at(PartKey::Root(path.root as usize)) {
             Some(root) => self.descend(root, path.steps.as_slice()),
             None => None,
         }
@@ -116,7 +126,7 @@ impl<'m> Numbers<'m> {
     }
 }
 
-impl<'v, 't, 'm> FoundParts<'v, 't, 'm> {
+impl<'t, 'm> FoundParts<'t, 'm> {
     ghost use Rattle.mm_types.specs.Resolved.{Metamodel};
     ghost use Rattle.borrowed_json.specs.View.{members_view, view};
     ghost use Rattle.doc_parts.specs.FoundParts.{IsPlaced, Knows};
@@ -139,11 +149,11 @@ impl<'v, 't, 'm> FoundParts<'v, 't, 'm> {
         &mut self,
         key: PartKey<'m>,
         level: usize,
-        json: &'v Json<'t>,
-        known: Option<(ClassNo, &'v Members<'t>)>,
+        json: &'t Json<'t>,
+        known: Option<(ClassNo, Members<'t>)>,
     ) -> Result<u32, AllocError>
         ensures { IfOk result (λ n. (m : Metamodel) (ps : List Part) (p : Part) → Knows m self.old ps → IsPlaced ps (key_of key.entry) p.path → level ≡ level_of p → view json.entry.now ≡ p.json
-            → option_map (λ k. (k.0, members_view k.1.now.items)) known.entry ≡ known_meant m p.json → Knows m self.new (ps ++ p ∷ []) × (number_of (ps ++ p ∷ []) p.path ≡ Some n)) }
+            → option_map (λ k. (k.0, members_view k.1.now)) known.entry ≡ known_meant m p.json → Knows m self.new (ps ++ p ∷ []) × (number_of (ps ++ p ∷ []) p.path ≡ Some n)) }
     {
         let count = self.parts.as_slice().len();
         if count > u32::MAX as usize {

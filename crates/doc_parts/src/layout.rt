@@ -7,22 +7,22 @@ use borrowed_json::{Json, Members, find, has_only_keys};
 
 /// What the top of a document says.
 #[derive(Clone, Copy)]
-pub struct TopMembers<'v, 't> {
+pub struct TopMembers<'t> {
     pub format: i64,
-    pub roots: &'v Vec<Json<'t>>,
+    pub roots: &'t [Json<'t>],
 }
 
 /// What an object of a document says: the name of its class, and what its features hold, by their names.
 #[derive(Clone, Copy)]
-pub(crate) struct ObjectMembers<'v, 't> {
+pub(crate) struct ObjectMembers<'t> {
     pub class: &'t str,
-    pub features: &'v Members<'t>,
+    pub features: Members<'t>,
 }
 
 /// The top of a document, or nothing if the value is no such object. Takes no memory.
 #[tactic(auto, unfolding(crate::specs::Layout::top))]
-pub fn top<'v, 't>(json: &'v Json<'t>) -> Option<TopMembers<'v, 't>>
-    ensures { option_map (λ t. new_top t.format (items_view t.roots.now.items)) result ≡ top_meant (view json.now) }
+pub fn top<'t>(json: &Json<'t>) -> Option<TopMembers<'t>>
+    ensures { option_map (λ t. new_top t.format (items_view t.roots.now)) result ≡ top_meant (view json.now) }
 {
     let members = json.as_object()?;
     if !has_only_keys(members, &["format", "roots"]) {
@@ -35,8 +35,8 @@ pub fn top<'v, 't>(json: &'v Json<'t>) -> Option<TopMembers<'v, 't>>
 
 /// What an object says, or nothing if the value is none. Takes no memory.
 #[tactic(auto, unfolding(crate::specs::Layout::written))]
-pub(crate) fn written<'v, 't>(json: &'v Json<'t>) -> Option<ObjectMembers<'v, 't>>
-    ensures { option_map (λ w. new_written w.class.now (members_view w.features.now.items)) result ≡ written_meant (view json.now) }
+pub(crate) fn written<'t>(json: &Json<'t>) -> Option<ObjectMembers<'t>>
+    ensures { option_map (λ w. new_written w.class.now (members_view w.features.now)) result ≡ written_meant (view json.now) }
 {
     let members = json.as_object()?;
     if !has_only_keys(members, &["class", "features"]) {

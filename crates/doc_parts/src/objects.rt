@@ -39,16 +39,16 @@ fn is_readable(meta: &Meta, class: ClassNo, name: &str) -> bool
     }
 }
 
-fn are_readable(meta: &Meta, class: ClassNo, members: &Members) -> bool
-    ensures { result ≡ list_all (λ m. readable meta.now class m.0.now) members.now.items }
+fn are_readable(meta: &Meta, class: ClassNo, members: Members) -> bool
+    ensures { result ≡ list_all (λ m. readable meta.now class m.0.now) members.now }
 {
     members
         .iter()
         .all(|member| is_readable(meta, class, member.0))
 }
 
-fn has_only_features(meta: &Meta, class: ClassNo, members: &Members) -> bool
-    ensures { result ≡ list_all (readable meta.now class) (keys_of (members_view members.now.items)) }
+fn has_only_features(meta: &Meta, class: ClassNo, members: Members) -> bool
+    ensures { result ≡ list_all (readable meta.now class) (keys_of (members_view members.now)) }
 {
     are_readable(meta, class, members)
 }
@@ -65,12 +65,12 @@ pub(crate) fn has_other_key(meta: &Meta, part: &FoundPart) -> bool
 
 /// What an object holds, by the names of its features.
 #[derive(Clone, Copy)]
-struct Held<'v, 't> {
-    members: &'v Members<'t>,
+struct Held<'t> {
+    members: Members<'t>,
 }
 
 fn is_other_content(meta: &Meta, held: &Held, feature: FeatureNo) -> bool
-    ensures { result ≡ option_map_or (λ d. not (content_meant meta.now (new_entry feature d))) (content_at_meant meta.now (members_view held.now.members.now.items) feature) false }
+    ensures { result ≡ option_map_or (λ d. not (content_meant meta.now (new_entry feature d))) (content_at_meant meta.now (members_view held.now.members.now) feature) false }
 {
     match content_at(meta, held.members, feature) {
         Some(content) => !is_content(meta, feature, content),
@@ -91,7 +91,7 @@ fn is_bounded(meta: &Meta, feature: FeatureNo, count: usize) -> bool
 }
 
 fn is_long_content(meta: &Meta, held: &Held, feature: FeatureNo) -> bool
-    ensures { result ≡ option_map_or (λ d. long meta.now (new_entry feature d)) (content_at_meant meta.now (members_view held.now.members.now.items) feature) false }
+    ensures { result ≡ option_map_or (λ d. long meta.now (new_entry feature d)) (content_at_meant meta.now (members_view held.now.members.now) feature) false }
 {
     // One value is never too many.
     if meta.is_single(feature) {
@@ -104,7 +104,7 @@ fn is_long_content(meta: &Meta, held: &Held, feature: FeatureNo) -> bool
 }
 
 fn is_any_other(meta: &Meta, held: &Held, features: &[FeatureNo]) -> bool
-    ensures { result ≡ list_any (λ f. option_map_or (λ d. not (content_meant meta.now (new_entry f d))) (content_at_meant meta.now (members_view held.now.members.now.items) f) false) features.now }
+    ensures { result ≡ list_any (λ f. option_map_or (λ d. not (content_meant meta.now (new_entry f d))) (content_at_meant meta.now (members_view held.now.members.now) f) false) features.now }
 {
     features
         .iter()
@@ -125,7 +125,7 @@ pub(crate) fn has_other_content(meta: &Meta, part: &FoundPart) -> bool
 }
 
 fn is_any_long(meta: &Meta, held: &Held, features: &[FeatureNo]) -> bool
-    ensures { result ≡ list_any (λ f. option_map_or (λ d. long meta.now (new_entry f d)) (content_at_meant meta.now (members_view held.now.members.now.items) f) false) features.now }
+    ensures { result ≡ list_any (λ f. option_map_or (λ d. long meta.now (new_entry f d)) (content_at_meant meta.now (members_view held.now.members.now) f) false) features.now }
 {
     features
         .iter()

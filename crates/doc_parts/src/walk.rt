@@ -21,13 +21,13 @@ struct Below {
 
 /// Finds a part that is at a key, and what is below it, for so many levels.
 #[cycle(walk)]
-pub(crate) fn walk<'v, 't, 'm>(
-    found: &mut FoundParts<'v, 't, 'm>,
+pub(crate) fn walk<'t, 'm>(
+    found: &mut FoundParts<'t, 'm>,
     meta: &'m Meta,
     levels: usize,
     key: PartKey<'m>,
     level: usize,
-    json: &'v Json<'t>,
+    json: &'t Json<'t>,
 ) -> Result<(), AllocError>
     ensures { OnOk result (Walks meta.entry.now levels found.old found.new (key_of key.entry) level (view json.entry.now)) }
 {
@@ -50,15 +50,15 @@ pub(crate) fn walk<'v, 't, 'm>(
 }
 
 #[cycle(walk)]
-fn walk_features<'v, 't, 'm>(
-    found: &mut FoundParts<'v, 't, 'm>,
+fn walk_features<'t, 'm>(
+    found: &mut FoundParts<'t, 'm>,
     meta: &'m Meta,
     levels: usize,
     below: Below,
-    members: &'v Members<'t>,
+    members: Members<'t>,
     features: &[FeatureNo],
 ) -> Result<(), AllocError>
-    ensures { OnOk result (FindsBelow meta.entry.now found.old found.new below.part below.level (λ path. flat_map (parts_from meta.entry.now levels) (flat_map (parts_at meta.entry.now path (members_view members.entry.now.items)) features.now))) }
+    ensures { OnOk result (FindsBelow meta.entry.now found.old found.new below.part below.level (λ path. flat_map (parts_from meta.entry.now levels) (flat_map (parts_at meta.entry.now path (members_view members.entry.now)) features.now))) }
 {
     'features: for feature in features {
         walk_feature(found, meta, levels, below, members, *feature)?;
@@ -67,15 +67,15 @@ fn walk_features<'v, 't, 'm>(
 }
 
 #[cycle(walk)]
-fn walk_feature<'v, 't, 'm>(
-    found: &mut FoundParts<'v, 't, 'm>,
+fn walk_feature<'t, 'm>(
+    found: &mut FoundParts<'t, 'm>,
     meta: &'m Meta,
     levels: usize,
     below: Below,
-    members: &'v Members<'t>,
+    members: Members<'t>,
     feature: FeatureNo,
 ) -> Result<(), AllocError>
-    ensures { OnOk result (FindsBelow meta.entry.now found.old found.new below.part below.level (λ path. flat_map (parts_from meta.entry.now levels) (parts_at meta.entry.now path (members_view members.entry.now.items) feature))) }
+    ensures { OnOk result (FindsBelow meta.entry.now found.old found.new below.part below.level (λ path. flat_map (parts_from meta.entry.now levels) (parts_at meta.entry.now path (members_view members.entry.now) feature))) }
 {
     if !meta.is_containment(feature) {
         return Ok(());
@@ -97,29 +97,26 @@ fn walk_feature<'v, 't, 'm>(
     }
 }
 
-fn index_at(is_single: bool, position: u32) -> Option<u32>
+fn index_at(is_single: bool, position: usize) -> Option<usize>
     ensures { result ≡ (if is_single then None else Some position) }
 {
     if is_single { None } else { Some(position) }
 }
 
 #[cycle(walk)]
-fn walk_values<'v, 't, 'm>(
-    found: &mut FoundParts<'v, 't, 'm>,
+fn walk_values<'t, 'm>(
+    found: &mut FoundParts<'t, 'm>,
     meta: &'m Meta,
     levels: usize,
     below: Below,
     name: &'m str,
     is_single: bool,
-    values: &'v [Json<'t>],
+    values: &'t [Json<'t>],
 ) -> Result<(), AllocError>
     ensures { OnOk result (FindsBelow meta.entry.now found.old found.new below.part below.level (λ path. flat_map (parts_from meta.entry.now levels) (parts_under path name.entry.now is_single (map view values.entry.now)))) }
 {
     'values: for (i, value) in values.iter().enumerate() {
-        if i > u32::MAX as usize {
-            return Err(AllocError);
-        }
-        let index = index_at(is_single, i as u32);
+        let index = index_at(is_single, i);
         walk(
             found,
             meta,
@@ -136,30 +133,27 @@ fn walk_values<'v, 't, 'm>(
     Ok(())
 }
 
-fn walk_roots<'v, 't, 'm>(
-    found: &mut FoundParts<'v, 't, 'm>,
+fn walk_roots<'t, 'm>(
+    found: &mut FoundParts<'t, 'm>,
     meta: &'m Meta,
     levels: usize,
-    roots: &'v [Json<'t>],
+    roots: &'t [Json<'t>],
 ) -> Result<(), AllocError>
     ensures { OnOk result ((ps : List Part) → Knows meta.entry.now found.old ps → Knows meta.entry.now found.new (ps ++ flat_map (parts_from meta.entry.now levels) (roots_from (map view roots.entry.now)))) }
 {
     'roots: for (i, root) in roots.iter().enumerate() {
-        if i > u32::MAX as usize {
-            return Err(AllocError);
-        }
-        walk(found, meta, levels, PartKey::Root(i as u32), 1, root)?;
+        walk(found, meta, levels, PartKey::Root(i), 1, root)?;
     }
     Ok(())
 }
 
 /// Finds the parts of the roots of a document, for so many levels, in loading order.
-pub fn find_parts<'v, 't, 'm>(
+pub fn find_parts<'t, 'm>(
     alloc: Global,
     meta: &'m Meta,
     levels: usize,
-    roots: &'v [Json<'t>],
-) -> Result<FoundParts<'v, 't, 'm>, AllocError>
+    roots: &'t [Json<'t>],
+) -> Result<FoundParts<'t, 'm>, AllocError>
     ensures { IfOk result (λ found. Knows meta.entry.now found (flat_map (parts_from meta.entry.now levels) (roots_from (map view roots.entry.now)))) }
 {
     let mut found = FoundParts::new(alloc);

@@ -18,7 +18,7 @@ any-first : (p : ObjectNo → Bool) (v : Value) (vs : List Value) → list_any p
 any-first p (value.Object o) vs = refl
 any-first p _ vs = refl
 
--- the object at a place, and those after it
+-- the object at an index, and those after it
 any-at : (p : ObjectNo → Bool) (vs : List Value) (k : ℕ) → k < length vs
     → list_any p (objects_of (drop k vs)) ≡ (option_map_or p (option_and_then object_of (slice_get vs k)) false || list_any p (objects_of (drop (k + 1) vs)))
 any-at p vs k low =

@@ -23,7 +23,7 @@ use Rattle.mm_types.specs.declared.numbers.ResourceNo.{ResourceNo}
 use Rattle.fragment_paths.specs.Finding.{roots}
 use Rattle.containment.proofs.PartLemmas.{taken-live, values-linked}
 
--- an object that is pushed is the one at its place
+-- an object that is pushed is the one at its index
 pub pushed-at : (vs : List Value) (k : ℕ) (x : Option ObjectNo) (out new : List ObjectNo) → x ≡ option_and_then links.object_of (slice_get vs k) → new ≡ out ++ option_to_list x → new ≡ out ++ option_to_list (option_and_then links.object_of (slice_get vs k))
 pushed-at vs k x out new at made = made ∙ ap (λ (y : Option ObjectNo). out ++ option_to_list y) at
 

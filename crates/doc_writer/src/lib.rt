@@ -13,7 +13,6 @@ mod objects;
 mod order;
 mod refusals;
 mod source;
-mod targets;
 mod values;
 mod ways;
 mod writing;

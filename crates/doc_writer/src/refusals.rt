@@ -1,26 +1,32 @@
 //! Why a resource can't be saved.
-ghost use Rattle.std.specs.Prelude.{◌≡◌};
+ghost use Rattle.std.specs.Prelude.{◌≡◌, IfOk};
 ghost use Rattle.mm_types.specs.declared.numbers.ResourceNo.{ResourceNo};
 ghost use Rattle.models.specs.Model.{reading};
 ghost use Rattle.doc_writer.specs.Saved as saved;
 ghost use Rattle.doc_writer.specs.Written.{objects_in};
 
 use crate::levels::any_too_deep;
-use crate::targets::any_dangling;
+use crate::ways::note_ways;
+use fragment_paths::Positions;
 use links::LinkStore;
 use mm_types::{ObjectNo, Refused};
-use models::ModelRef;
+use std::alloc::AllocError;
 
 /// The first reason for which a resource can't be saved, of which these are the objects: one that is referred to is in no
-/// resource, or an object is too deep. Takes no memory.
-pub(crate) fn refusal<L: LinkStore>(model: &ModelRef<L>, objects: &[ObjectNo]) -> Option<Refused>
-    ensures { (k : ResourceNo) → objects.now ≡ objects_in (reading model.now) k → result ≡ saved.save_refusal (reading model.now) k }
+/// resource, or an object is too deep. If there is none, the ways to all that are referred to are noted. Errs only if memory is
+/// refused.
+pub(crate) fn refusal<L: LinkStore>(
+    positions: &mut Positions<L>,
+    objects: &[ObjectNo],
+) -> Result<Option<Refused>, AllocError>
+    ensures same { positions.new ≡ positions.old }
+    ensures refused { IfOk result (λ o. (k : ResourceNo) → objects.now ≡ objects_in (reading positions.old) k → o ≡ saved.save_refusal (reading positions.old) k) }
 {
-    if any_dangling(model, objects) {
-        return Some(Refused::Dangling);
+    if note_ways(positions, objects)? {
+        return Ok(Some(Refused::Dangling));
     }
-    if any_too_deep(model, objects) {
-        return Some(Refused::TooDeep);
+    if any_too_deep(positions.model(), objects) {
+        return Ok(Some(Refused::TooDeep));
     }
-    None
+    Ok(None)
 }

@@ -4,54 +4,35 @@ ghost use Rattle.std.specs.List.{list_all};
 ghost use Rattle.fragment_paths.specs.Finding.{roots as roots_of};
 ghost use Rattle.models.specs.Model.{reading};
 ghost use Rattle.models.specs.Reading.{is_live};
-ghost use Rattle.doc_writer.specs.Document.{saved as saved_text};
 ghost use Rattle.doc_writer.specs.Saved as saved;
 ghost use Rattle.doc_writer.specs.Written.{objects_in};
 
 use crate::document::document_text;
 use crate::objects::{objects_below, roots};
 use crate::refusals::refusal;
-use crate::ways::note_ways;
 use fragment_paths::Positions;
 use links::LinkStore;
 use mm_types::{ObjectNo, Refused, ResourceNo};
 use models::ModelRef;
-use std::alloc::{AllocError, Global};
+use std::alloc::Global;
 
-/// The document of a resource that has these roots and objects, as text.
+/// The text of a resource that has these roots and objects, or why it can't be saved.
 fn text_by<L: LinkStore>(
     alloc: Global,
     positions: &mut Positions<L>,
     resource: ResourceNo,
     roots: &[ObjectNo],
     objects: &[ObjectNo],
-) -> Result<String, AllocError>
+) -> Result<String, Refused>
     requires roots { roots.now ≡ roots_of (reading positions.old) resource }
-    ensures text { IfOk result (λ t. string_bytes t ≡ saved_text (reading positions.old) resource) }
+    requires objects { objects.now ≡ objects_in (reading positions.old) resource }
+    ensures writes { saved.Writes result (reading positions.old) resource }
     ensures reads { IfOk result (λ t. saved.IsReadAs (reading positions.old) resource (string_bytes t)) }
 {
-    note_ways(positions, objects)?;
-    document_text(alloc, positions, resource, roots)
-}
-
-/// The text of a resource that has these roots and objects, or why it can't be saved.
-fn written<L: LinkStore>(
-    alloc: Global,
-    model: &ModelRef<L>,
-    resource: ResourceNo,
-    roots: &[ObjectNo],
-    objects: &[ObjectNo],
-) -> Result<String, Refused>
-    requires roots { roots.now ≡ roots_of (reading model.now) resource }
-    requires objects { objects.now ≡ objects_in (reading model.now) resource }
-    ensures writes { saved.Writes result (reading model.now) resource }
-    ensures reads { IfOk result (λ t. saved.IsReadAs (reading model.now) resource (string_bytes t)) }
-{
-    if let Some(refused) = refusal(model, objects) {
+    if let Some(refused) = refusal(positions, objects)? {
         return Err(refused);
     }
-    let mut positions = Positions::new(alloc, model);
-    let text = text_by(alloc, &mut positions, resource, roots, objects)?;
+    let text = document_text(alloc, positions, resource, roots)?;
     Ok(text)
 }
 
@@ -68,7 +49,8 @@ fn written_below<L: LinkStore>(
     ensures reads { IfOk result (λ t. saved.IsReadAs (reading model.now) resource (string_bytes t)) }
 {
     let objects = objects_below(alloc, model, roots)?;
-    written(alloc, model, resource, roots, objects.as_slice())
+    let mut positions = Positions::new(alloc, model);
+    text_by(alloc, &mut positions, resource, roots, objects.as_slice())
 }
 
 /// The text of a resource (EMF: XMLResource.save): `serde_json`'s compact text of its document. Written are the features that are

@@ -1,4 +1,4 @@
-//! Texts that are fragments, and texts that are none.
+//! Texts that are fragments, and texts that are not.
 use std::alloc::Global;
 use web_uris::parse;
 

@@ -1,8 +1,8 @@
 //! A metamodel and two documents of it that are cut after each of their bytes, or have a different byte instead of one: each is read
 //! or refused, and the answers are counted.
 //!
-//! What is expected follows from JSON alone. None of the texts has a backslash. What is cut before its last brace is none; neither is what
-//! has a byte 0, which is nowhere in JSON, or a byte 255, which is not UTF-8, or an odd number of quotes.
+//! What is expected follows from JSON alone. None of the texts has a backslash. What is cut before its last brace is not one; neither is
+//! what has a byte 0, which is nowhere in JSON, or a byte 255, which is not UTF-8, or an odd number of quotes.
 use crate::library::{LIBRARY, library};
 use crate::resource::refusal;
 use mm_check::check;

@@ -19,7 +19,7 @@ const JOINED: [(&str, &str, &str); 8] = [
     ("http://m.example/a", "//n.example", "http://n.example/"),
 ];
 
-/// Bases and references that give no URI: a base that is none, schemes other than those of the web, and fragments.
+/// Bases and references that give no URI: a base that is no URI, schemes other than those of the web, and fragments.
 const BAD: [(&str, &str); 6] = [
     ("nonsense", "b"),
     ("http://m.example/a", "ftp://m.example/"),

@@ -1,7 +1,7 @@
 //! Tests of the crates that read documents, by calls that a document alone does not make: metamodels and their look-ups,
 //! documents of resources, and the texts that address objects.
 //!
-//! What is told of a metamodel in printed text, accepted or its first fault, is among the cases.
+//! What is printed of a metamodel, accepted or with its first fault, is among the cases.
 #![tactic(auto)]
 
 #[cfg(test)]

@@ -23,7 +23,7 @@ fn bad_literal(raw: &RawMeta, i: usize) -> Option<&str> {
     None
 }
 
-/// The name at a place, or a literal there, that is none.
+/// The name at a place, or a literal there, that is badly written.
 fn bad_name(at: Named<'_>) -> &str {
     let name = name_at(at.raw, at.place);
     match at.place {
@@ -32,7 +32,7 @@ fn bad_name(at: Named<'_>) -> &str {
     }
 }
 
-/// A name that is none.
+/// A name that is badly written.
 fn explain_name(out: &mut String, at: Named<'_>) -> Result<(), AllocError> {
     let name = bad_name(at);
     writeln!(

@@ -54,7 +54,7 @@ fn clash_in(
     Ok(None)
 }
 
-/// Two features that have one name; those that one class declares are told by their positions.
+/// Two features that have one name; those that one class declares are named by their positions.
 fn explain_pair(
     out: &mut String,
     at: Named<'_>,

@@ -71,7 +71,7 @@ fn add_features(places: &mut Vec<Place>, class: usize, count: usize) -> Result<(
     Ok(())
 }
 
-/// Classes on a way, the last one first, as a reader is told of them.
+/// Classes on a way, the last one first, in words for a reader.
 #[derive(Drop)]
 struct Way<'m> {
     raw: &'m RawMeta,

@@ -1,5 +1,4 @@
-//! What to mend in a metamodel that is refused, in words: lines for a reader, after the fault that `mm_load` or `mm_check`
-//! returns.
+//! What to fix in a metamodel that is refused, in words: lines for a reader, after the fault that `mm_load` or `mm_check` returns.
 //!
 //! No contract says what a text is. The functions are proved safe and ending; cases of the program show their texts.
 #![tactic(auto)]
@@ -23,4 +22,5 @@ pub use fields::{Field, Sort};
 pub use layout::explain_object;
 pub use metamodel::explain_meta;
 pub use near::nearest;
-pub use shown::{Shown, front_of};
+pub use shown::{Listed, Shown, front_of};
+pub use syntax::offset_of;

@@ -1,4 +1,4 @@
-//! What to mend in a metamodel that is refused.
+//! What to fix in a metamodel that is refused.
 use crate::conditions::explain_condition;
 use crate::layout::explain_layout;
 use crate::named::Named;
@@ -40,7 +40,7 @@ fn explain_place(
     }
 }
 
-/// What to mend in a document for which a fault was returned: a line, ended by a newline, for each place that is found.
+/// What to fix in a document for which a fault was returned: a line, ended by a newline, for each place that is found.
 ///
 /// `Syntax` has the line and the column, counted from 1. `Layout` and `Limit` have a line for each key and each value that
 /// is wrong, until the text has 4,096 bytes: an object is named by the positions of arrays, as `classes[3].features[2]`. The

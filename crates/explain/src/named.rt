@@ -2,7 +2,7 @@
 use mm_types::{Enumeration, Place, RawClass, RawFeature, RawKind, RawMeta};
 use std::fmt;
 
-/// A place of a document as a reader is told of it: by the names that are there.
+/// A place of a document in words for a reader: by the names that are there.
 #[derive(Clone, Copy)]
 pub(crate) struct Named<'m> {
     pub(crate) raw: &'m RawMeta,

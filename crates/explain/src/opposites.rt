@@ -79,7 +79,7 @@ fn explain_type(
     )
 }
 
-/// A reference whose opposite is declared by its type, and is none of it.
+/// A reference whose opposite is declared by its type, and can't be its opposite.
 fn explain_declared(
     alloc: Global,
     out: &mut String,
@@ -178,7 +178,7 @@ fn explain_undeclared(
     }
 }
 
-/// A reference whose opposite is none.
+/// A reference that has no valid opposite under the name that it gives.
 fn explain_none(
     alloc: Global,
     out: &mut String,

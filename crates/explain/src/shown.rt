@@ -8,17 +8,17 @@ pub(crate) const SHOWN_BYTES: usize = 60;
 /// How many bytes a character has at most.
 const CHARACTER_BYTES: usize = 4;
 
-/// A JSON value as a reader is told of it: a text, a number, `true`, `false` and `null` as they are written, but only the
-/// beginning of a long text.
+/// A JSON value in words for a reader: a text, a number, `true`, `false` and `null` as they are written, but only the beginning of a
+/// long text.
 #[derive(Drop)]
 pub struct Shown<'v>(pub &'v Value);
 
 /// How many names of a list are shown at most.
 const SHOWN_NAMES: usize = 8;
 
-/// Names as a reader is told of them: only the first of many, and how many more there are.
+/// Names in words for a reader: only the first of many, and how many more there are.
 #[derive(Drop)]
-pub(crate) struct Listed<'n>(pub(crate) &'n [&'n str]);
+pub struct Listed<'n>(pub &'n [&'n str]);
 
 impl fmt::Display for Listed<'_> {
     fn fmt<W: fmt::Write>(&self, f: &mut fmt::Formatter<W>) -> fmt::Result {

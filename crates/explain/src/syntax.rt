@@ -17,7 +17,7 @@ pub(crate) enum NoJson<'b> {
     ByteOrderMark,
     /// The first of them is not UTF-8.
     NotUtf8,
-    /// They are none, as these show.
+    /// They are no JSON, as these bytes show.
     Shown(&'b str),
 }
 
@@ -51,7 +51,7 @@ fn start_of(bytes: &[u8], line: usize) -> usize {
 }
 
 /// How many bytes come before a place, whose line and column are counted from 1.
-fn offset_of(bytes: &[u8], line: usize, column: usize) -> usize {
+pub fn offset_of(bytes: &[u8], line: usize, column: usize) -> usize {
     start_of(bytes, line).saturating_add(column.saturating_sub(1))
 }
 

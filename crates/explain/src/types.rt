@@ -25,7 +25,7 @@ fn enum_names<'m>(alloc: Global, raw: &'m RawMeta) -> Result<Vec<&'m str>, Alloc
     Ok(names)
 }
 
-/// A name that is none of those that may be there.
+/// A name that is not among those that may be there.
 fn explain_name(
     alloc: Global,
     out: &mut String,
@@ -74,7 +74,7 @@ fn explain_data_type(
     }
 }
 
-/// The first supertype of a class that is none.
+/// The first supertype of a class that is no class.
 fn lost_super(raw: &RawMeta, c: usize) -> Option<&str> {
     for name in class_at(raw, c)?.supers.as_slice() {
         if class_named(raw, name.as_str()).is_none() {
@@ -97,7 +97,7 @@ pub(crate) fn explain_super(
     }
 }
 
-/// A type that is none of those of the kind of feature.
+/// A type that is not one for the kind of feature.
 pub(crate) fn explain_type(
     alloc: Global,
     out: &mut String,

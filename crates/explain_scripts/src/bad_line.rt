@@ -5,7 +5,7 @@ use script_lines::words_of;
 use std::alloc::{AllocError, Global};
 use std::str;
 
-/// Says of a word that it is none of its sort.
+/// Says that a word is not of its kind.
 fn explain_word(
     alloc: Global,
     out: &mut String,
@@ -22,7 +22,7 @@ fn explain_word(
     writeln!(out, "line {number}: {word:?} is not {}", sort.wanted)
 }
 
-/// Says that there are too few words or too many, or of each word after the verb whether it is none of its sort.
+/// Says that there are too few words or too many, or of each word after the verb whether it is of its kind.
 fn explain_form(
     alloc: Global,
     out: &mut String,
@@ -65,8 +65,8 @@ fn explain_verb(
     }
 }
 
-/// Adds a line for each word that makes a line of a script a bad one.
-pub(crate) fn explain_bad_line(
+/// Adds a line for each word that makes a line of a script a bad one. Errs only if memory is refused.
+pub fn explain_bad_line(
     alloc: Global,
     out: &mut String,
     number: u64,

@@ -120,7 +120,7 @@ fn explain_entry(out: &mut String, meta: &Meta, entry: &Entry<'_>) -> Result<(),
     Ok(())
 }
 
-/// Values that are none of their feature's type.
+/// Values that are not of their feature's type.
 pub(crate) fn explain_values(
     out: &mut String,
     meta: &Meta,

@@ -1,12 +1,10 @@
-//! What to mend in the document of a resource.
+//! What to fix in the document of a resource.
 use crate::content::{explain_bounds, explain_values};
-use crate::links::{Link, explain_crosses, explain_ends, explain_references, links_of};
+use crate::linked::{Link, explain_crosses, explain_ends, explain_references, links_of};
 use crate::parts::{Entry, Part, entries_of, parts_of};
 use crate::repeats::explain_repeats;
 use crate::shape::{Names, explain_depth, explain_names, explain_objects, explain_top};
-use explain::{Shown, front_of};
-use mm_check::check;
-use mm_load::load_meta;
+use explain::{Shown, front_of, offset_of};
 use mm_meta::Meta;
 use mm_types::DocFault;
 use serde_json::{Error, Value};
@@ -17,14 +15,14 @@ const SHOWN_BYTES: usize = 20;
 
 /// A document that is refused.
 #[derive(Drop)]
-pub(crate) struct Refused<'d> {
+pub struct RefusedDocument<'d> {
     /// What each line of the explanation begins with.
-    pub(crate) prefix: &'d str,
+    pub prefix: &'d str,
     /// The URI of its resource.
-    pub(crate) uri: &'d str,
+    pub uri: &'d str,
     /// The text of the document.
-    pub(crate) text: &'d str,
-    pub(crate) cause: DocFault,
+    pub text: &'d str,
+    pub cause: DocFault,
 }
 
 /// The beginning of what comes after some bytes of a text.
@@ -33,19 +31,30 @@ fn shown_at(text: &str, start: usize) -> &str {
 }
 
 /// Text that is no JSON.
-fn explain_syntax(out: &mut String, refused: &Refused<'_>, error: Error) -> Result<(), AllocError> {
+fn explain_syntax(
+    out: &mut String,
+    refused: &RefusedDocument<'_>,
+    error: Error,
+) -> Result<(), AllocError> {
     if error.is_memory() {
         return Err(AllocError);
     }
     let prefix = refused.prefix;
+    if refused.text.starts_with('\u{feff}') {
+        return writeln!(
+            out,
+            "{prefix}: the document begins with a byte order mark; take it out"
+        );
+    }
     if error.is_eof() {
         return writeln!(out, "{prefix}: the document ends within the JSON");
     }
-    let column = error.column();
-    let shown = shown_at(refused.text, column.saturating_sub(1));
+    let offset = offset_of(refused.text.as_bytes(), error.line(), error.column());
+    let byte = offset.saturating_add(1);
+    let shown = shown_at(refused.text, offset);
     writeln!(
         out,
-        "{prefix}: from byte {column} on the document is no JSON: {shown:?}"
+        "{prefix}: from byte {byte} on the document is no JSON: {shown:?}"
     )
 }
 
@@ -75,7 +84,7 @@ fn explain_parts(
     alloc: Global,
     out: &mut String,
     meta: &Meta,
-    refused: &Refused<'_>,
+    refused: &RefusedDocument<'_>,
     parts: &[Part<'_>],
 ) -> Result<(), AllocError> {
     match refused.cause {
@@ -97,7 +106,7 @@ fn explain_json(
     alloc: Global,
     out: &mut String,
     meta: &Meta,
-    refused: &Refused<'_>,
+    refused: &RefusedDocument<'_>,
     json: &Value,
 ) -> Result<(), AllocError> {
     let prefix = refused.prefix;
@@ -122,34 +131,16 @@ fn explain_json(
     }
 }
 
-fn explain_text(
+/// Adds a line for each thing in a document that is found to be wrong, for the cause with which it is refused. Errs only if memory is
+/// refused.
+pub fn explain_document(
     alloc: Global,
     out: &mut String,
     meta: &Meta,
-    refused: &Refused<'_>,
+    refused: &RefusedDocument<'_>,
 ) -> Result<(), AllocError> {
     match Value::from_str(alloc, refused.text) {
         Ok(json) => explain_json(alloc, out, meta, refused, &json),
         Err(error) => explain_syntax(out, refused, error),
-    }
-}
-
-/// The metamodel of a document, if it is accepted and there is memory for it.
-fn meta_of(alloc: Global, bytes: &[u8]) -> Option<Box<Meta>> {
-    let raw = load_meta(alloc, bytes).ok()?;
-    let meta = check(alloc, raw).ok()?;
-    Box::new(alloc, meta).ok()
-}
-
-/// Adds a line for each thing in a document that is found to be wrong, for the cause with which it is refused.
-pub(crate) fn explain_document(
-    alloc: Global,
-    out: &mut String,
-    meta: &[u8],
-    refused: &Refused<'_>,
-) -> Result<(), AllocError> {
-    match meta_of(alloc, meta) {
-        Some(meta) => explain_text(alloc, out, &meta, refused),
-        None => Ok(()),
     }
 }

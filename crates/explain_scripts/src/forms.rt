@@ -91,7 +91,7 @@ static SORTS: [Sort; 9] = [
     },
 ];
 
-/// The sort of a word of a form; the rest of a line has none.
+/// The kind of a word of a form; the rest of a line has none.
 pub(crate) fn sort_of(word: &str) -> Option<&'static Sort> {
     for sort in SORTS.iter() {
         if sort.name == word {
@@ -101,7 +101,7 @@ pub(crate) fn sort_of(word: &str) -> Option<&'static Sort> {
     None
 }
 
-/// Whether a word of a line is one of a sort. Errs only if memory is refused.
+/// Whether a word of a line is of a kind. Errs only if memory is refused.
 pub(crate) fn is_of(alloc: Global, sort: &Sort, word: &str) -> Result<bool, AllocError> {
     let before = sort.before;
     let line = format!(in alloc; "{before} {word}")?;

@@ -1,20 +1,21 @@
-//! What to mend in a script: which word of each bad line is wrong, and what is wrong in each refused document.
+//! What to fix in the texts of a script: which words of a bad line are wrong, and what is wrong in a refused document.
 //!
-//! `Watch` goes over the lines of a script and what they print side by side. No contract says what a text is. The functions
-//! are proved safe and ending; cases of the program show their texts.
+//! Both are looked at once more, with the metamodel alone. No contract says what a text is. The functions are proved safe and ending; cases
+//! of the program show their texts.
 #![tactic(auto)]
 
-mod answer;
 mod bad_line;
 mod content;
 mod document;
 mod forms;
 mod led;
-mod links;
+mod linked;
+mod listed;
 mod parts;
 mod repeats;
 mod shape;
-mod watch;
 mod written;
 
-pub use watch::Watch;
+pub use bad_line::explain_bad_line;
+pub use document::{RefusedDocument, explain_document};
+pub use listed::{class_names, concrete_names, feature_names, literal_names};

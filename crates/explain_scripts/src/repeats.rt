@@ -1,6 +1,6 @@
 //! Values that a unique list repeats.
 use crate::led::Led;
-use crate::links::Link;
+use crate::linked::Link;
 use crate::parts::Entry;
 use crate::written::values_of;
 use mm_meta::Meta;

@@ -1,9 +1,10 @@
 //! What is wrong with the shape of a document: its layout, its format, the classes and features that it names, and its depth.
+use crate::listed::{class_names, feature_names};
 use crate::parts::Part;
 use crate::written::known;
 use explain::{Field, Sort, explain_object, nearest};
 use mm_meta::Meta;
-use mm_types::{ClassNo, FeatureNo, limits};
+use mm_types::{ClassNo, limits};
 use serde_json::{Map, Value};
 use std::alloc::{AllocError, Global};
 
@@ -57,18 +58,6 @@ pub(crate) fn explain_objects(
     Ok(())
 }
 
-/// The names of the classes.
-fn class_names<'m>(alloc: Global, meta: &'m Meta) -> Result<Vec<&'m str>, AllocError> {
-    let mut names = Vec::new(alloc);
-    for number in 0..limits::CLASSES as u32 {
-        match meta.class(ClassNo(number)) {
-            Some(class) => names.push(class.name.as_str())?,
-            None => return Ok(names),
-        }
-    }
-    Ok(names)
-}
-
 fn explain_class(
     alloc: Global,
     out: &mut String,
@@ -88,18 +77,6 @@ fn explain_class(
         Some(meant) => writeln!(out, "{path}: {name:?} is no class; is {meant:?} meant?"),
         None => writeln!(out, "{path}: {name:?} is no class"),
     }
-}
-
-fn feature_names<'m>(
-    alloc: Global,
-    meta: &'m Meta,
-    features: &[FeatureNo],
-) -> Result<Vec<&'m str>, AllocError> {
-    let mut names = Vec::new(alloc);
-    for feature in features {
-        names.push(meta.feature_name(*feature))?;
-    }
-    Ok(names)
 }
 
 fn explain_key(
@@ -174,7 +151,7 @@ fn explain_names_in(
     }
 }
 
-/// Names that a document may not have where it has them.
+/// Names that a document has at places at which it may not have them.
 pub(crate) fn explain_names(
     alloc: Global,
     out: &mut String,

@@ -3,8 +3,8 @@ ghost use Rattle.std.specs.Prelude.{◌-◌, [], Some};
 
 use mmrepo_lib::{Adapter, NoRoom, Notice, NoticeKind};
 
-/// Counts the notices that it hears, and those of an addition among them. It keeps none of them. An adapter only stores what it hears:
-/// whoever called the repository acts on what the reply tells.
+/// Counts the notifications that it gets, and those of an addition among them. It keeps none of them. An adapter only stores: whoever
+/// called the repository acts on what the reply says.
 #[derive(Drop)]
 pub struct Tally {
     told: u64,
@@ -19,7 +19,7 @@ impl Tally {
         }
     }
 
-    /// How many notices of an addition it has heard.
+    /// How many notifications of an addition it got.
     pub fn additions(&self) -> u64 {
         self.additions
     }

@@ -33,7 +33,7 @@ use Rattle.fragment_paths.specs.Fragments.{has_one_root, position_in, step_into}
 use Rattle.fragment_paths.proofs.NameLemmas.{own-name, valid-feature}
 use Rattle.fragment_paths.proofs.ObjectLemmas.{all-objects, objects-get}
 
--- the end is one of a containment reference of its node, and the object is there, at its place
+-- the end is one of a containment reference of its node, and the object is there, at its position
 pub record IsHeld (s : Model) (o : ObjectNo) (e : End) : Type 0 where
   pub reference : (shape s.metamodel e.feature).is_reference ≡ true
   pub contains : is_containment s.metamodel e.feature ≡ true

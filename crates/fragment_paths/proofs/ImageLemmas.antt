@@ -1,5 +1,5 @@
--- Addresses follow from what contains what: where the parts of a resource's objects are in another resource at the same places, under
--- other numbers, those objects have the same paths there, and with one URI the same addresses.
+-- Addresses follow from what contains what: if the parts of a resource's objects are in another resource at the same positions, under other
+-- numbers, those objects have the same paths there, and with one URI the same addresses.
 use Rattle.std.proofs.Common.{◌≡◌, ◌∙◌, ℕ, true, List, [], Some, None, length, nat_eq, option_map, slice_get, refl, sym, ap}
 use Rattle.std.specs.Prelude.{option_and_then, if◌then◌else◌}
 use Rattle.mm_types.specs.Lookups as lookups
@@ -29,7 +29,7 @@ use Rattle.fragment_paths.specs.Laws.{HasImagesOfParts, HasImagesOfRoots, IsImag
 use Rattle.fragment_paths.specs.Fragments.{address, fragment, has_one_root, path_of, position_in, step_into}
 use Rattle.fragment_paths.proofs.InsideLemmas.{contents-contains, each-inside}
 
--- the place of a part is where it is
+-- the path of a part is where it is
 pub same-noted : (s : Model) → IsLegal s → (o : ObjectNo) (e : End) (i : ℕ) → is_containment s.metamodel e.feature ≡ true → slice_get (values_at s e) i ≡ Some (value.Object o) → position_in (reading s) e o ≡ i
 same-noted s legal o e i contains at =
     let h = held s legal o e (holder-at s legal e.node e.feature contains i o at) in

@@ -25,7 +25,7 @@ contents-contains m =
     ap (λ (x : Option Feature). is_feature f (option_map_or (λ g. shape_of m f g g.kind) x (contents_shape m)).containing) (slice_get_past m.features (length m.features) (omega arith)) ∙ eq-eqb f.0 f.0 refl
 
 module _ (s : Model) (legal : IsLegal s) where
-  -- what holds of each root of a resource, and of an object where it holds of its holder, holds of each object of the resource
+  -- what holds of each root of a resource, and of an object if it holds of its holder, holds of each object of the resource
   module _ (P : ObjectNo → Type 0) (k : ResourceNo) (at_root : (o : ObjectNo) (e : End) → holder s.links (node.Object o) ≡ Some e → e.node ≡ node.Resource k → P o)
       (at_part : (o : ObjectNo) (e : End) (p : ObjectNo) → holder s.links (node.Object o) ≡ Some e → e.node ≡ node.Object p → resource_of (reading s).above p ≡ Some k → P p → P o) where
     by-holder : (o : ObjectNo) (e : End) → holder s.links (node.Object o) ≡ Some e → resource_of (reading s).above o ≡ Some k

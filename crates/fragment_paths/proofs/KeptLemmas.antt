@@ -67,7 +67,7 @@ pub both-ok : {A B : Type 0} (P Q : Type 0) (r : Result A B) → OnOk r P → On
 both-ok P Q (Ok a) p q = (p, q)
 both-ok P Q (Err b) p q = tt
 
--- once there is room for an object, there is
+-- once there is capacity for an object, there is
 pub room-made : (m : Kept) (o : ObjectNo) → is_full_for (with_room m o) o ≡ false
 room-made m o =
     elim (is_full_for m o) as (λ b. is_full_for m o ≡ b → is_full_for (if b then map.empty else m) o ≡ false) [

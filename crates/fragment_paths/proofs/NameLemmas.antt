@@ -28,7 +28,7 @@ use Rattle.fragment_paths.proofs.SupertypeLemmas.{supertypes-are}
 
 ---------------------------------------------------------------- where a feature is declared
 
--- the feature f of class c is declared at a place, by a class that c conforms to
+-- the feature f of class c is declared at an index, by a class that c conforms to
 record IsOwn (raw : RawMetamodel) (c : ClassNo) (f : FeatureNo) : Type 0 where
   pub class : ℕ
   pub index : ℕ

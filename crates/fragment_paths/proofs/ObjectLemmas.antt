@@ -68,7 +68,7 @@ by-containment r o t f = by_class (r.class o)
     by_class None h = absurd (none-some f h)
     by_class (Some c) h = by_name (lookups.feature_by_name r.metamodel c t.name) h
 
--- an object among objects alone has its place among all values
+-- an object among objects alone has its position among all values
 pub objects-get : (vs : List Value) (k : ℕ) → list_all is_object vs ≡ true → option_and_then object_of (slice_get vs k) ≡ slice_get (objects_of vs) k
 objects-get [] k all = refl
 objects-get (value.Object o ∷ vs) zero all = refl

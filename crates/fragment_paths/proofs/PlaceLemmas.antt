@@ -24,7 +24,7 @@ stands-at s e i o legal reference there =
     let linked : values_at s e ≡ end s.links e = rw reference refl in
     ap (λ (x : Option ℕ). unwrap_or x 0) (sym (position-target s e (value.Object o) (Some i) legal reference (ap (λ vs. slice_get vs i) (sym linked) ∙ there)))
 
--- one more place is known
+-- one more position is known
 pub one-more-known : (s : Model) (old new : List (ℕ × EndPosition)) (e : End) (i : ℕ) (o : ObjectNo) → IsLegal s → (shape s.metamodel e.feature).is_reference ≡ true → slice_get ((reading s).values e) i ≡ Some (value.Object o)
     → ((k : ℕ) → lookup (nat_eq k) new ≡ cond (nat_eq o.0 k) (Some (record { end = e; index = i })) (lookup (nat_eq k) old)) → KnowsPositions (reading s) old → KnowsPositions (reading s) new
 one-more-known s old new e i o legal reference there sets known p q h =

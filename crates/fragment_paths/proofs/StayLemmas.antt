@@ -53,7 +53,7 @@ one-address s legal o b a x y = same_Some o b (sym (address-finds s legal o a x)
 no-fragment : (s : Model) (o : ObjectNo) → resource_of (above s.links) o ≡ None → fragment (reading s) o ≡ None
 no-fragment s o none = ap (option_and_then (λ (k : ResourceNo). option_map (path_text (has_one_root (reading s) k)) (path_of (reading s) o))) none
 
--- who holds an object holds it where the ends that contain are the same
+-- the holder of an object is the same if the ends that contain are the same
 held-still : (m : Metamodel) (v w : ValuesState) (a b : Links) → IsLegal (model_of m v a) → IsLegal (model_of m w b) → HaveSameParts m v w a b → (o : ObjectNo) (e : End) → holder a (node.Object o) ≡ Some e → holder b (node.Object o) ≡ Some e
 held-still m v w a b legal other same o e h =
     let s = model_of m v a in

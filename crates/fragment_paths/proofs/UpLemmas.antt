@@ -77,14 +77,14 @@ module _ (s : Model) (legal : IsLegal s) where
 
   ---------------------------------------------------------------- both
 
-  -- where a resource holds the object, the way ends
+  -- if a resource holds the object, the way ends
   pub locate-root : (o : ObjectNo) (e : End) (k : ResourceNo) (ss : List Step) (all : Option Located) → Some e ≡ holder s.links (node.Object o) → e.node ≡ node.Resource k
       → option_map (further ss) (located (reading s) o) ≡ all → Some (record { resource = k; path = path_by (reading s) e o ss }) ≡ all
   locate-root o e k ss all h is whole =
       sym (ap (λ (x : Option ResourceNo). option_map (further ss) (option_and_then (λ j. option_map (λ p. record { resource = j; path = p }) (path_of (reading s) o)) x)) (resource-root o e k (sym h) is)
       ∙ ap (λ (x : Option Path). option_map (further ss) (option_map (λ p. record { resource = k; path = p }) x)) (path-root o e k (sym h) is)) ∙ whole
 
-  -- where an object holds it, the way goes on from there
+  -- if an object holds it, the way goes on from there
   further-by : (x : Option ResourceNo) (q : Option Path) (t : Step) (ss : List Step)
       → option_map (further (ss ++ t ∷ [])) (option_and_then (λ j. option_map (λ p. record { resource = j; path = p }) q) x)
       ≡ option_map (further ss) (option_and_then (λ j. option_map (λ p. record { resource = j; path = p }) (option_map (λ p. with_step p t) q)) x)

@@ -16,7 +16,7 @@ use Rattle.web_uris.specs.declared.path.Step.{Step}
 abbrev pub roots : Reading → ResourceNo → List ObjectNo
 roots r k = objects_of (r.values (roots_end r k))
 
--- a step goes by a containment reference, with an index where that is many-valued and without one where it is single
+-- a step goes by a containment reference, with an index if that is many-valued and without one if it is single
 abbrev pub goes_by : Reading → Step → FeatureNo → Bool
 goes_by r s f = is_containment r.metamodel f && (if (shape r.metamodel f).is_single then not (is_some s.index) else is_some s.index)
 

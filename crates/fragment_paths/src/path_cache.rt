@@ -72,14 +72,14 @@ impl PathCache {
         self.texts.clear();
     }
 
-    /// Whether there is no room for the text of an object.
+    /// Whether the map has no capacity for the text of an object.
     fn is_full_for(&self, object: ObjectNo) -> bool
         ensures { result ≡ kept.is_full_for self.now object }
     {
         self.texts.len() >= MOST && !self.texts.contains_key(&object.0)
     }
 
-    /// Makes room for the text of an object.
+    /// Reserves capacity for the text of an object.
     fn make_room(&mut self, object: ObjectNo)
         ensures { self.new ≡ kept.with_room self.old object }
     {
@@ -88,7 +88,7 @@ impl PathCache {
         }
     }
 
-    /// Keeps a text, for which there is room.
+    /// Keeps a text, for which there is capacity.
     fn put(&mut self, object: ObjectNo, text: Text)
         requires { kept.is_full_for self.old object ≡ false }
         ensures { (self.new ≡ map.insert self.old object.0 text) ⊎ (self.new ≡ self.old) }

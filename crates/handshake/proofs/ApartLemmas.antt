@@ -1,4 +1,4 @@
--- A chain tells no end twice, but a list that is unset, and so its notices are those that are read in the model as it is.
+-- A chain has no end twice, but a list that is unset, and so its notifications are those that are read in the model as it is.
 use Rattle.std.proofs.Common.{◌≡◌, ◌≢◌, ◌<◌, ◌≤◌, ◌||◌, ℕ, zero, suc, pos, nat_lt, length, take, remove, slice_get, option_to_list, arith, Bool, true, false, not, List, [], ◌∷◌, ◌++◌, filter, flat_map, map, Option, Some, None, option_map, if◌then◌else◌, refl, sym, ap, ◌∙◌, subst, inl, inr, true≢false}
 use Rattle.std.specs.List.{AllByRecursion}
 use Rattle.std.specs.Option.{option_map_or}
@@ -28,8 +28,8 @@ use Rattle.models.specs.Reading.{Reading, at_end, first_at, held_at, is_repeat}
 use Rattle.notice_chain.specs.Replay.{removed, replayed_in}
 use Rattle.notice_chain.specs.declared.kind.NoticeKind.TheVariants as kind
 use Rattle.notice_chain.specs.declared.notice.Notice.{Notice}
-use Rattle.containment.proofs.PartLemmas.{object-reference}
-use Rattle.handshake.proofs.CutLinkEndLemmas.{Stands, all_append, all_front, all_map, all_push, all_weaker, backwards-different, plain-not, link_end_in-different, link_end_in-stand, link_ends_at-different, link_ends_at-stand, link_ends_backwards-stand, values-linked, yields-different, yields-stand}
+use Rattle.containment.proofs.PartLemmas.{all-append, object-reference}
+use Rattle.handshake.proofs.CutLinkEndLemmas.{Stands, all_front, all_push, backwards-different, plain-not, link_end_in-different, link_end_in-stand, link_ends_at-different, link_ends_at-stand, link_ends_backwards-stand, values-linked, yields-different, yields-stand}
 use Rattle.handshake.proofs.KnownLemmas.{add-taken, set-named}
 use Rattle.handshake.proofs.LinkLemmas.{IsNewLink, far-lacks}
 use Rattle.handshake.proofs.PlanLemmas.{add-new, set-new}
@@ -50,8 +50,10 @@ use Rattle.handshake.specs.declared.change_kind.ChangeKind.TheVariants.{Gains, L
 use Rattle.handshake.specs.declared.change_kind.ChangeKind.{ChangeKind}
 use Rattle.handshake.specs.declared.change_kind.FeatureChange.{FeatureChange}
 use Rattle.removal.specs.declared.link_end.LinkEnd.{LinkEnd}
+use Rattle.removal.proofs.ListLemmas.{all-map, all-weaker}
 use Rattle.handshake.proofs.ResolvedLemmas.{resolved-as}
-use Rattle.handshake.proofs.TargetLemmas.{match-apart}
+use Rattle.handshake.proofs.FeatureChangeLemmas.{take-whole}
+use Rattle.proxies.proofs.TargetLemmas.{match-apart}
 
 ---------------------------------------------------------------- lists
 
@@ -76,7 +78,7 @@ all_pass p (x ∷ xs) =
 
 all_flat : {X Y : Type 0} (P : X → Type 0) (Q : Y → Type 0) (f : X → List Y) (xs : List X) → ((x : X) → P x → AllByRecursion Q (f x)) → AllByRecursion P xs → AllByRecursion Q (flat_map f xs)
 all_flat P Q f [] each all = tt
-all_flat P Q f (x ∷ xs) each all = all_append Q (f x) (flat_map f xs) (each x all.0) (all_flat P Q f xs each all.1)
+all_flat P Q f (x ∷ xs) each all = all-append Q (f x) (flat_map f xs) (each x all.0) (all_flat P Q f xs each all.1)
 
 ---------------------------------------------------------------- tellings at other ends
 
@@ -86,7 +88,7 @@ IsNotAt e ts = AllByRecursion (λ (t : FeatureChange). e ≡ t.at → ⊥) ts
 
 pub apart_append : (ts us : List FeatureChange) → AreApart ts → AreApart us → AllByRecursion (λ (t : FeatureChange). IsNotAt t.at us) ts → AreApart (ts ++ us)
 apart_append [] us a b away = b
-apart_append (t ∷ ts) us a b away = (all_append (λ (u : FeatureChange). t.at ≡ u.at → ⊥) ts us a.0 away.0, apart_append ts us a.1 b away.1)
+apart_append (t ∷ ts) us a b away = (all-append (λ (u : FeatureChange). t.at ≡ u.at → ⊥) ts us a.0 away.0, apart_append ts us a.1 b away.1)
 
 pub apart_filter : (p : FeatureChange → Bool) (ts : List FeatureChange) → AreApart ts → AreApart (filter p ts)
 apart_filter p [] apart = tt
@@ -95,18 +97,18 @@ apart_filter p (t ∷ ts) apart =
 
 -- one more telling, at an end other than all those before it
 apart_push : (ts : List FeatureChange) (u : FeatureChange) → AreApart ts → AllByRecursion (λ (t : FeatureChange). t.at ≡ u.at → ⊥) ts → AreApart (ts ++ u ∷ [])
-apart_push ts u apart away = apart_append ts (u ∷ []) apart (tt, tt) (all_weaker _ _ ts (λ t h. (h, tt)) away)
+apart_push ts u apart away = apart_append ts (u ∷ []) apart (tt, tt) (all-weaker _ _ ts (λ t h. (h, tt)) away)
 
 ---------------------------------------------------------------- tellings read in the model as it is
 
--- the notice of a feature change, read in these ends
+-- the notification of a feature change, read in these ends
 abbrev read_in : Metamodel → Ends → FeatureChange → Notice
 read_in m e t = notice_of (shape m t.at.feature) t.at t.does (e t.at)
 
 with_held-other : (e : Ends) (x d : End) (h : Held) → x ≢ d → with_held e x h d ≡ e d
 with_held-other e x d h ne = ap (λ (b : Bool). if b then h else e d) (ne-same_end x d ne)
 
--- a notice changes no other end
+-- a notification changes no other end
 replayed_in-other : (m : Metamodel) (e : Ends) (t : FeatureChange) (d : End) → t.at ≢ d → replayed_in (has_flag m) e (read_in m e t) d ≡ e d
 replayed_in-other m e t d ne = ap (λ (f : Ends). f d) (replayed_all-told m e (t ∷ [])) ∙ with_held-other e t.at d (record { values = changed (shape m t.at.feature) t.does (e t.at).values; flag = flagged (shape m t.at.feature) t.does (e t.at).flag }) ne
 
@@ -116,9 +118,9 @@ told-agreeing m e d (t ∷ ts) apart same =
     let next : Ends = replayed_in (has_flag m) d (read_in m d t) in
     let kept : (u : FeatureChange) → (t.at ≡ u.at → ⊥) × (d u.at ≡ e u.at) → next u.at ≡ e u.at = λ u h. replayed_in-other m d t u.at h.0 ∙ h.1 in
     ap (λ h. notice_of (shape m t.at.feature) t.at t.does h ∷ told m next ts) same.0
-    ∙ ap (λ ns. read_in m e t ∷ ns) (told-agreeing m e next ts apart.1 (all_weaker _ _ ts kept (all_both _ _ ts apart.0 same.1)))
+    ∙ ap (λ ns. read_in m e t ∷ ns) (told-agreeing m e next ts apart.1 (all-weaker _ _ ts kept (all_both _ _ ts apart.0 same.1)))
 
--- if no end is told twice, each notice is the one that is read in the ends as they are
+-- if no end has two notifications, each is the one that is read in the ends as they are
 pub told-apart : (m : Metamodel) (e : Ends) (ts : List FeatureChange) → AreApart ts → told m e ts ≡ map (λ t. notice_of (shape m t.at.feature) t.at t.does (e t.at)) ts
 told-apart m e ts apart = told-agreeing m e e ts apart (all_of (λ (t : FeatureChange). e t.at ≡ e t.at) ts (λ t. refl))
 
@@ -169,7 +171,7 @@ module _ (s : Model) (legal : IsLegal s) where
             | false ↦ ((turned-apart s legal t u is, tt), (tt, tt))
           ]
 
-  -- what several links tell, each at its own ends: names of theirs in one end are of one value
+  -- what happens to several links, each at its own ends: names of theirs in one end are of one value
   module _ (f : LinkEnd → List FeatureChange) (of : (t : LinkEnd) → AllByRecursion (IsOf (reading s) t) (f t)) (Ok Key : LinkEnd → Type 0)
       (key : (t y : LinkEnd) → Ok t → IsNameOf (reading s) t y → Key y) (agree : (y z : LinkEnd) → Stands s.links y → Stands s.links z → Key y → Key z → y.end ≡ z.end → y.value ≡ z.value) where
     abbrev Known : LinkEnd → Type 0
@@ -177,7 +179,7 @@ module _ (s : Model) (legal : IsLegal s) where
 
     others_away : (t : LinkEnd) (ts : List LinkEnd) (x : FeatureChange) → Known t → AllByRecursion (λ (u : LinkEnd). same_link (reading s) u t ≡ false) ts → AllByRecursion Known ts → IsOf (reading s) t x → IsNotAt x.at (flat_map f ts)
     others_away t ts x at_t others known of_x =
-        let away : (u : LinkEnd) → (same_link (reading s) u t ≡ false) × Known u → IsNotAt x.at (f u) = λ u h. all_weaker (IsOf (reading s) u) (λ (y : FeatureChange). x.at ≡ y.at → ⊥) (f u)
+        let away : (u : LinkEnd) → (same_link (reading s) u t ≡ false) × Known u → IsNotAt x.at (f u) = λ u h. all-weaker (IsOf (reading s) u) (λ (y : FeatureChange). x.at ≡ y.at → ⊥) (f u)
         (λ y of_y same.
         let one = sym of_x.at ∙ same ∙ of_y.at in
         names-apart s legal t u of_x.name of_y.name at_t.0 h.1.0 h.0 of_x.is_name of_y.is_name one
@@ -188,7 +190,7 @@ module _ (s : Model) (legal : IsLegal s) where
     flat-apart each [] different known = tt
     flat-apart each (t ∷ ts) different known =
         apart_append (f t) (flat_map f ts) (each t) (flat-apart each ts different.1 known.1)
-        (all_weaker (IsOf (reading s) t) (λ (x : FeatureChange). IsNotAt x.at (flat_map f ts)) (f t) (λ x of_x. others_away t ts x known.0 different.0 known.1 of_x) (of t))
+        (all-weaker (IsOf (reading s) t) (λ (x : FeatureChange). IsNotAt x.at (flat_map f ts)) (f t) (λ x of_x. others_away t ts x known.0 different.0 known.1 of_x) (of t))
 
   ---------------------------------------------------------------- what cuts of an end tell
 
@@ -202,7 +204,7 @@ module _ (s : Model) (legal : IsLegal s) where
       each : (t : LinkEnd) → t.end ≡ e → AllByRecursion (λ (x : FeatureChange). x.at ≡ e → ⊥) (far_loss (reading s) t)
       each t is = by t (turned (reading s) t) is refl
 
-  -- links that are in one end, told at their far ends
+  -- links that are in one end, with notifications at their far ends
   far-name : (e : End) (t y : LinkEnd) → t.end ≡ e → turned (reading s) t ≡ Some y → y.value ≡ node_value e.node
   far-name e t y is turns = by t.value (shape s.metamodel t.end.feature).opposite turns ∙ ap (λ (d : End). node_value d.node) is
     where
@@ -231,19 +233,19 @@ module _ (s : Model) (legal : IsLegal s) where
       let r = reading s in
       let Here : LinkEnd → Type 0 = λ u. (same_link r u t ≡ false) × ((u.end ≡ e) × Stands s.links u) in
       let away : (x : FeatureChange) → ((y : LinkEnd) × (turned r t ≡ Some y) × (x.at ≡ y.end)) → IsNotAt x.at (far_losses r ts) = λ x of_x. all_flat Here (λ (w : FeatureChange). x.at ≡ w.at → ⊥) (far_loss r) ts
-      (λ u h. all_weaker _ _ (far_loss r u) (λ w of_w same. far-others e t u of_x.0 of_w.0 here.0 h.1.0 stand.0 h.1.1 h.0 of_x.1 of_w.1 (sym of_x.2 ∙ same ∙ of_w.2)) (far_loss-far e u h.1.0))
+      (λ u h. all-weaker _ _ (far_loss r u) (λ w of_w same. far-others e t u of_x.0 of_w.0 here.0 h.1.0 stand.0 h.1.1 h.0 of_x.1 of_w.1 (sym of_x.2 ∙ same ∙ of_w.2)) (far_loss-far e u h.1.0))
       (all_both _ _ ts different.0 (all_both _ _ ts here.1 stand.1)) in
       apart_append (far_loss r t) (far_losses r ts) (far_loss-apart r t) (far-apart e ts here.1 different.1 stand.1)
-      (all_weaker _ _ (far_loss r t) away (far_loss-far e t here.0))
+      (all-weaker _ _ (far_loss r t) away (far_loss-far e t here.0))
 
-  -- what is told of cuts of an end, and then of the end itself
+  -- the notifications of cuts of an end, and then of the end itself
   pub emptied-apart : (e : End) (ts : List LinkEnd) (h : ChangeKind) → AllByRecursion (λ (t : LinkEnd). t.end ≡ e) ts → AreDifferent (reading s) ts → AllByRecursion (Stands s.links) ts → AreApart (far_losses (reading s) ts ++ feature_change e h ∷ [])
   emptied-apart e ts h here different stand = apart_push (far_losses (reading s) ts) (feature_change e h) (far-apart e ts here different stand) (far_losses-away e ts here)
 
-  ---------------------------------------------------------------- what a new link tells
+  ---------------------------------------------------------------- the notifications of a new link
 
   module _ (e : End) (o : ObjectNo) (new : IsNewLink s e o) where
-    -- what the displaced links tell
+    -- the notifications of the displaced links
     abbrev kept : List FeatureChange
     kept = flat_map (other_losses (reading s) e o) (yields (reading s) e o)
 
@@ -270,13 +272,13 @@ module _ (s : Model) (legal : IsLegal s) where
     replaced_away : (d : End) → is_replaced (reading s) e o d ≡ true → AllByRecursion (λ (x : FeatureChange). x.at ≡ d → ⊥) kept
     replaced_away d replaced =
         let away : (x : FeatureChange) → not (is_replaced (reading s) e o x.at) ≡ true → x.at ≡ d → ⊥ = λ x h same. false≢true (sym (ap not (subst (λ (y : End). is_replaced (reading s) e o y ≡ true) (sym same) replaced)) ∙ h) in
-        all_weaker _ _ kept away kept-other
+        all-weaker _ _ kept away kept-other
 
     -- and a list of the new link lacks what the displaced ones would lose there
     lacking_away : (d : End) (w : Value) → Lacks s.links d w → ((y : LinkEnd) → IsYielded s e o y → y.end ≡ d → y.value ≡ w) → AllByRecursion (λ (x : FeatureChange). x.at ≡ d → ⊥) kept
     lacking_away d w lacks only =
         all_flat (λ (t : LinkEnd). Stands s.links t × Origin s e o t) (λ (x : FeatureChange). x.at ≡ d → ⊥) (other_losses (reading s) e o) (yields (reading s) e o)
-        (λ t at_t. all_weaker (IsOf (reading s) t) (λ (x : FeatureChange). x.at ≡ d → ⊥) (other_losses (reading s) e o t) (λ x of_x same.
+        (λ t at_t. all-weaker (IsOf (reading s) t) (λ (x : FeatureChange). x.at ≡ d → ⊥) (other_losses (reading s) e o t) (λ x of_x same.
         let y = of_x.name in
         let here : y.end ≡ d = sym of_x.at ∙ same in
         let at_y = name-stands s legal t y at_t.0 of_x.is_name in
@@ -301,10 +303,10 @@ module _ (s : Model) (legal : IsLegal s) where
     with_gain-apart : (q : Option FeatureNo) → (shape s.metamodel e.feature).opposite ≡ q → (h : ChangeKind) → AreApart ((kept ++ gain_by q) ++ feature_change e h ∷ [])
     with_gain-apart None opposite h = apart_push (kept ++ []) (feature_change e h)
         (apart_append kept [] kept-apart tt (all_of (λ (x : FeatureChange). IsNotAt x.at []) kept (λ x. tt)))
-        (all_append (λ (x : FeatureChange). x.at ≡ e → ⊥) kept [] near-away tt)
+        (all-append (λ (x : FeatureChange). x.at ≡ e → ⊥) kept [] near-away tt)
     with_gain-apart (Some g) opposite h = apart_push (kept ++ gain_by (Some g)) (feature_change e h)
         (apart_push kept (feature_change (far_end o g) (Gains (node_value e.node))) kept-apart (far-away g opposite))
-        (all_append (λ (x : FeatureChange). x.at ≡ e → ⊥) kept (gain_by (Some g)) near-away (λ same. (opposites_are_pairs s.metamodel legal.metamodel e.feature g opposite).apart (ap (λ (x : End). x.feature.0) same), tt))
+        (all-append (λ (x : FeatureChange). x.at ≡ e → ⊥) kept (gain_by (Some g)) near-away (λ same. (opposites_are_pairs s.metamodel legal.metamodel e.feature g opposite).apart (ap (λ (x : End). x.feature.0) same), tt))
 
     linked-apart : (h : ChangeKind) → AreApart ((kept ++ far_gain (reading s) e o) ++ feature_change e h ∷ [])
     linked-apart h = with_gain-apart (shape s.metamodel e.feature).opposite refl h
@@ -319,7 +321,7 @@ pub link_end_in-here : (r : Reading) (e : End) (i : ℕ) → AllByRecursion (λ 
 link_end_in-here r e i = elim (slice_get (r.values e) i) as (λ q. AllByRecursion (λ (t : LinkEnd). t.end ≡ e) (option_to_list (option_map (link_end e) q))) [ None ↦ tt | Some v ↦ (refl, tt) ]
 
 pub link_ends_at-here : (r : Reading) (e : End) → AllByRecursion (λ (t : LinkEnd). t.end ≡ e) (link_ends_at r e)
-link_ends_at-here r e = all_map (λ (t : LinkEnd). t.end ≡ e) (link_end e) (r.values e) (all_of _ (r.values e) (λ v. refl))
+link_ends_at-here r e = all-map (λ (t : LinkEnd). t.end ≡ e) (link_end e) (r.values e) (all_of _ (r.values e) (λ v. refl))
 
 one-apart : (t : FeatureChange) → AreApart (t ∷ [])
 one-apart t = (tt, tt)
@@ -342,7 +344,7 @@ add-apart : (s : Model) (n : Node) (f : FeatureNo) (v : Value) (i : Option ℕ) 
 add-apart s n f (value.Object o) i legal early late h = linked-apart s legal (at_end n f) o (add-new s n f o i early late h) (gain_at i (value.Object o))
 add-apart s n f v i legal early late h = one-apart (feature_change (at_end n f) (gain_at i v))
 
--- an addition to an attribute tells of it alone
+-- an addition to an attribute has a notification of it alone
 attribute-add : (s : Model) (n : Node) (f : FeatureNo) (v : Value) (h : ChangeKind) → (shape s.metamodel f).is_reference ≡ false → lookups.takes s.metamodel (reading s).class f v ≡ true
     → AreApart (before_gain (reading s) (at_end n f) v [] ++ feature_change (at_end n f) h ∷ [])
 attribute-add s n f (value.Object o) h attribute takes = absurd (false≢true (sym attribute ∙ object-reference s.metamodel (reading s).class f o takes))
@@ -354,7 +356,7 @@ taken-apart s n f i legal =
     reference-tells (λ ts. AreApart (taken_out (reading s) e ts i)) (shape s.metamodel f).is_reference (link_end_in (reading s) e i)
     (λ reference. emptied-apart s legal e (link_end_in (reading s) e i) (LosesAt i) (link_end_in-here (reading s) e i) (link_end_in-different (reading s) e i) (link_end_in-stand s e i reference)) (one-apart (feature_change e (LosesAt i)))
 
--- where an end is unset, no far end is told twice, and none of them is the end itself
+-- if an end is unset, no far end has two notifications, and none of them is the end itself
 pub unset-apart : (s : Model) (n : Node) (f : FeatureNo) (h : ChangeKind) → IsLegal s → AreApart (far_losses (reading s) (cut_link_ends (reading s) (At (at_end n f) Unset)) ++ feature_change (at_end n f) h ∷ [])
 unset-apart s n f h legal =
     let e = at_end n f in
@@ -365,7 +367,7 @@ unset-apart s n f h legal =
     (link_ends_backwards-stand s e reference))
     (one-apart (feature_change e h))
 
--- no end is told twice, but a list that is unset
+-- no end has two notifications, but a list that is unset
 pub feature_changes-apart : (s : Model) (c : Change) → IsLegal s → early_refusal (reading s) c ≡ None → late_refusal (reading s) c ≡ None → takes_many (reading s) c ≡ false → AreApart (feature_changes (reading s) c)
 feature_changes-apart s (Create c) legal early late few = tt
 feature_changes-apart s (NewResource u) legal early late few = tt
@@ -424,10 +426,6 @@ take-remove : (vs : List Value) (n : ℕ) → n < length vs → remove (take (su
 take-remove [] n low = absurd (omega (arith, low))
 take-remove (v ∷ vs) zero low = refl
 take-remove (v ∷ vs) (suc n) low = ap (λ (ws : List Value). v ∷ ws) (take-remove vs n (omega (arith, low)))
-
-take-all : (vs : List Value) → take (length vs) vs ≡ vs
-take-all [] = refl
-take-all (v ∷ vs) = ap (λ (ws : List Value). v ∷ ws) (take-all vs)
 
 -- the last of a list is taken out
 take-removed : (vs : List Value) (n : ℕ) → n < length vs → removed (take (suc n) vs) (pos n) ≡ take n vs
@@ -504,7 +502,7 @@ unset-read s n f legal many =
     let away = push-away far (feature_change e Unsets) apart in
     let listed : (h e).values ≡ r.values e = ap (λ (b : Bool). shown b (r.values e)) many in
     let is : (happened_all m h far e).values ≡ take (length (r.values e)) (h e).values =
-    ap (λ (k : Held). k.values) (happened-away m h far e away) ∙ listed ∙ sym (ap (take (length (r.values e))) listed ∙ take-all (r.values e)) in
+    ap (λ (k : Held). k.values) (happened-away m h far e away) ∙ listed ∙ sym (ap (take (length (r.values e))) listed ∙ take-whole (r.values e)) in
     let whole : told m h (far ++ own) ≡ map (read_in m h) (far ++ own) =
     told-append m h far own
     ∙ (λ i. told-apart m h far (apart-front far (feature_change e Unsets ∷ []) apart) i ++ lost-read m h e (length (r.values e)) (happened_all m h far) many is (within r e listed) i)
@@ -519,7 +517,7 @@ pub nothing-loaded : (c : Change) → ((k : ResourceNo) (doc : Doc) → c ≡ Lo
 nothing-loaded (Load k doc) none = absurd (none k doc refl)
 nothing-loaded _ none = refl
 
--- the chain of a change that destroys and loads nothing is the notices that are read in the model as it is
+-- the chain of a change that destroys and loads nothing is the notifications that are read in the model as it is
 pub chain-read : (s : Model) (c : Change) → resolves_all c ≡ false → IsLegal s → destroyed_by c ≡ None → loaded_by c ≡ None → early_refusal (reading s) c ≡ None → late_refusal (reading s) c ≡ None → chain (reading s) c ≡ map (notice_at (reading s)) (feature_changes (reading s) c)
 chain-read s c one legal none unloaded early late =
     elim (takes_many (reading s) c) as (λ b. takes_many (reading s) c ≡ b → chain (reading s) c ≡ map (notice_at (reading s)) (feature_changes (reading s) c)) [
@@ -540,7 +538,7 @@ chain-read s c one legal none unloaded early late =
 
 ---------------------------------------------------------------- tellings that are made
 
--- the notices of the tellings that are made are the chain
+-- the notifications that are made are the chain
 pub made-chain : (s : Model) (c : Change) (cut : List LinkEnd) (ts : List FeatureChange) → resolves_all c ≡ false → IsLegal s → destroyed_by c ≡ None → loaded_by c ≡ None → early_refusal (reading s) c ≡ None → late_refusal (reading s) c ≡ None → cut ≡ cut_link_ends (reading s) c → ts ≡ feature_changes_with (reading s) c cut
     → (heard : Bool) → heard ≡ true → map (notice_at (reading s)) ts ≡ (if heard then chain (reading s) c else [])
 made-chain s c cut ts one legal none unloaded early late is_cut made heard is =

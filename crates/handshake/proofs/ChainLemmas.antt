@@ -36,12 +36,13 @@ use Rattle.models.specs.Model.{Model, kept_flag, reading}
 use Rattle.models.specs.Reading.{Reading, at_end, first_at, has_feature, held_at, is_repeat, object_of, position_for}
 use Rattle.notice_chain.specs.Replay as replay
 use Rattle.notice_chain.specs.Replay.{moved, resolved as list-resolved}
-use Rattle.containment.proofs.PartLemmas.{object-reference}
+use Rattle.containment.proofs.PartLemmas.{kinds-are, object-reference}
+use Rattle.containment.proofs.ForestLemmas.{get-within}
 use Rattle.handshake.specs.Displaced.{cut_by_new, cut_by_set, has_already, is_plain_add, is_plain_set, same_link, link_end_in, link_ends_at, link_ends_backwards, yields, cut_link_ends}
 use Rattle.removal.specs.TreeLinkEnds.{link_end}
 use Rattle.handshake.specs.Effects.{add_value, after, of_object, put_values, take_value, value_edits, with_value, without_link_ends, put_by}
 use Rattle.handshake.specs.Laws.{AreDifferent, ChainReplays, comes_with, goes_with}
-use Rattle.handshake.specs.Plans.{HasReadDocument}
+use Rattle.handshake.specs.Changes.{HasReadDocument}
 use Rattle.handshake.specs.Refusals.{early_refusal, late_refusal}
 use Rattle.handshake.specs.FeatureChange.{feature_change}
 use Rattle.handshake.specs.FeatureChanges.{all_lost, before_gain, far_losses, gain_at, resolves_all, taken_out, feature_changes}
@@ -58,11 +59,12 @@ use Rattle.handshake.proofs.CutEndLemmas.{held-none, held-one, reference-flag, r
 use Rattle.handshake.proofs.CutHeldLemmas.{all-left, held_in, near-gives}
 use Rattle.mm_types.specs.Same.{same_end, node_value}
 use Rattle.mm_types.specs.Lists.{put_back, shifted}
-use Rattle.handshake.proofs.CutLinkEndLemmas.{Stands, all_at, any_append_left, any_push, backwards-different, filter_none, is_named-same_link, plain-not, same_link-self, link_end_in-different, link_end_in-stand, link_ends_at-different, link_ends_at-stand, link_ends_backwards-stand, values-linked, without_link_ends-names_of}
+use Rattle.handshake.proofs.CutLinkEndLemmas.{Stands, any_push, backwards-different, filter_none, is_named-same_link, plain-not, same_link-self, link_end_in-different, link_end_in-stand, link_ends_at-different, link_ends_at-stand, link_ends_backwards-stand, values-linked, without_link_ends-names_of}
 use Rattle.removal.specs.Laws.{names_of}
+use Rattle.removal.proofs.ListLemmas.{all-at, any-left}
 use Rattle.handshake.proofs.DestroyLemmas.{destroyed-replays}
 use Rattle.handshake.proofs.HappenedLemmas.{at-own, done, happened_all-at, happened_at, done-here, done-other, done_at}
-use Rattle.handshake.proofs.KnownLemmas.{IsResolvable, add-named, add-taken, delete-named, kinds-are, move-named, move-placed, remove-named, remove-placed, resource-keeps-none, set-named, set-taken, take-named, unset-there, far-reference}
+use Rattle.handshake.proofs.KnownLemmas.{IsResolvable, add-named, add-taken, delete-named, move-named, move-placed, remove-named, remove-placed, resource-keeps-none, set-named, set-taken, take-named, unset-there, far-reference}
 use Rattle.handshake.proofs.LoadChainLemmas.{load-replays}
 use Rattle.handshake.proofs.LinkLemmas.{IsNewLink, near-empty, without_displaced}
 use Rattle.handshake.proofs.ListReplayLemmas.{all_lost-own, list-added, list-moved, list-taken, list-unset, lost-done, one-done, own-one, single-set, single-unset}
@@ -70,11 +72,10 @@ use Rattle.handshake.proofs.LossLemmas.{gained, gained-single, lost}
 use Rattle.handshake.proofs.PlanLemmas.{add-new, add-site, below, set-new}
 use Rattle.handshake.proofs.RelinkLemmas.{add-replays, at-each, cut-replays, kept-replays, list-held, set-replays}
 use Rattle.handshake.proofs.ReplayLemmas.{replayed_all-told}
-use Rattle.handshake.proofs.FeatureChangeLemmas.{get-site}
 use Rattle.handshake.proofs.ResolveLemmas.{alone-there, end-alone, end-joint, far-now, far-there, joint, near-apart, now, site-below, placed, set-there, swapped, swapped-here, there}
 use Rattle.handshake.proofs.ResolvedLemmas.{resolved-as}
-use Rattle.handshake.proofs.TargetLemmas.{match-apart}
-use Rattle.handshake.specs.declared.target.Target.{Target}
+use Rattle.proxies.proofs.TargetLemmas.{match-apart}
+use Rattle.proxies.specs.declared.target.Target.{Target}
 
 ---------------------------------------------------------------- ends that are emptied
 
@@ -83,13 +84,13 @@ all-named : (s : Model) (e : End) (ts : List LinkEnd) → IsLegal s → ((k : �
 all-named s e ts legal each =
     let m = kinds_of s.metamodel in
     end-without_all m (kinds-are s.metamodel legal.metamodel) s.links (names_of ts) legal.links.set legal.links.kinds e
-    ∙ filter_none (is_named m (names_of ts) e) (end s.links e) (all_at _ (end s.links e) (λ k w at. is_named-same_link (reading s) ts (link_end e w) ∙ each k w at))
+    ∙ filter_none (is_named m (names_of ts) e) (end s.links e) (all-at _ (end s.links e) (λ k w at. is_named-same_link (reading s) ts (link_end e w) ∙ each k w at))
 
 backwards-named : (r : Reading) (e : End) (vs : List Value) (k : ℕ) (w : Value) → slice_get vs k ≡ Some w → list_any (same_link r (link_end e w)) (link_ends_backwards e vs) ≡ true
 backwards-named r e [] k w at = absurd (none-some w at)
 backwards-named r e (v ∷ vs) zero w at =
     any_push (same_link r (link_end e w)) (link_ends_backwards e vs) (link_end e v) (subst (λ (x : Value). same_link r (link_end e x) (link_end e v) ≡ true) (same_Some v w at) (same_link-self r (link_end e v)))
-backwards-named r e (v ∷ vs) (suc k) w at = any_append_left (same_link r (link_end e w)) (link_ends_backwards e vs) (link_end e v ∷ []) (backwards-named r e vs k w at)
+backwards-named r e (v ∷ vs) (suc k) w at = any-left (same_link r (link_end e w)) (link_ends_backwards e vs) (link_end e v ∷ []) (backwards-named r e vs k w at)
 
 map-named : (r : Reading) (e : End) (vs : List Value) (k : ℕ) (w : Value) → slice_get vs k ≡ Some w → list_any (same_link r (link_end e w)) (map (link_end e) vs) ≡ true
 map-named r e [] k w at = absurd (none-some w at)
@@ -182,7 +183,7 @@ module _ (s : Model) (legal : IsLegal s) (e : End) (reference : (shape s.metamod
       let b = kept_flag s.values e.node e.feature in
       let below_links = subst (λ (ws : List Value). nat_lt i (length ws) ≡ true) (values-linked s e reference) low in
       let v = slice_index_or vs i value.Null in
-      let at = get-site vs i value.Null (below i (length vs) below_links) in
+      let at = get-within vs i value.Null (below i (length vs) below_links) in
       let one : link_end_in r e i ≡ link_end e v ∷ [] = ap (λ (ws : List Value). option_to_list (option_map (link_end e) (slice_get ws i))) (values-linked s e reference) ∙ ap (λ (q : Option Value). option_to_list (option_map (link_end e) q)) at in
       let cut : end (without_all s.links (names_of (link_end_in r e i))) e ≡ remove vs i =
       ap (λ (ts : List LinkEnd). end (without_all s.links (names_of ts)) e) one ∙ near-gives s legal s.links e v (all-left s legal) (i, at) ∙ sym (remove-filter vs i v (legal.links.set.placed.distinct e) at) in
@@ -311,7 +312,7 @@ by-object s f P attribute each (node.Resource k) has = absurd (resource-keeps-no
 
 ---------------------------------------------------------------- each change
 
--- a set that is plain: of an attribute, or to the value that is there
+-- a set that cuts no link: of an attribute, or to the value that is there
 plain-set : (s : Model) (n : Node) (f : FeatureNo) (v : Value) → IsLegal s → has_feature (reading s) n f ≡ true → (shape s.metamodel f).is_single ≡ true → is_plain_set (reading s) (at_end n f) v ≡ true
     → Replays s (feature_change (at_end n f) (Gains v) ∷ []) (record s { values = applied s.values (value_edits (reading s) (At (at_end n f) (Set v))) })
 plain-set s n f v legal has single plain =

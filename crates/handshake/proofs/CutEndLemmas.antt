@@ -1,9 +1,7 @@
 -- What is left at an end of a legal model once links are cut: an end of one of the links is empty, and each other is as it was.
-use Rattle.std.proofs.Common.{◌≡◌, ℕ, zero, suc, true, false, ◌&&◌, not, List, [], ◌∷◌, slice_index_or, Option, Some, None, option_map, unwrap_or, if◌then◌else◌, refl, ap, ◌∙◌}
-use Rattle.std.specs.List.{All}
+use Rattle.std.proofs.Common.{◌≡◌, true, false, ◌&&◌, not, List, [], ◌∷◌, Option, Some, None, option_map, unwrap_or, if◌then◌else◌, refl, ap, ◌∙◌}
 use Rattle.std.specs.Option.{option_map_or}
 use Rattle.std.proofs.lemmas.Bool.{false≢true}
-use Rattle.std.proofs.lemmas.List.Elements.{All-head, All-tail}
 use Rattle.mm_types.specs.Ends.{shown}
 use Rattle.mm_types.specs.Lookups as lookups
 use Rattle.mm_types.specs.Resolved.{Metamodel}
@@ -24,6 +22,7 @@ use Rattle.models.specs.Legal.{IsLegal, IsLegalObject}
 use Rattle.models.specs.Model.{Model, attribute_values, kept_flag, kept_values, reading}
 use Rattle.models.specs.Reading.{held_at}
 use Rattle.handshake.proofs.LossLemmas.{gained, lost}
+use Rattle.handshake.proofs.ObjectLegalLemmas.{legal-at}
 
 ---------------------------------------------------------------- references
 
@@ -40,11 +39,6 @@ reference-plain m f h = by (lookups.feature m f) h
     by None h = (refl, refl)
     by (Some x) h = reference-kind m f x x.kind h
 
-legal-at : {X : Type 0} (P : Option X → Type 0) (os : List (Option X)) (i : ℕ) → P None → All P os → P (slice_index_or os i None)
-legal-at P [] i none all = none
-legal-at P (o ∷ os) zero none all = All-head P o os all
-legal-at P (o ∷ os) (suc i) none all = legal-at P os i none (All-tail P o os all)
-
 flag-off : (m : Metamodel) (f : FeatureNo) (o : Option ObjectState) → (shape m f).is_unsettable ≡ false → IsLegalObject m o → unwrap_or (option_map (λ s. (stored_under s f).flag) o) false ≡ false
 flag-off m f None off legal = refl
 flag-off m f (Some o) off legal = (legal.1 f).flag ∙ ap (λ b. b && ((shape m f).is_single && not (is_nil (stored_under o f).list))) off
@@ -57,7 +51,7 @@ node-flag s (node.Resource k) f legal off = refl
 pub reference-flag : (s : Model) (n : Node) (f : FeatureNo) → IsLegal s → (shape s.metamodel f).is_reference ≡ true → kept_flag s.values n f ≡ false
 reference-flag s n f legal reference = node-flag s n f legal (reference-plain s.metamodel f reference).0
 
--- what an end holds is told by the links there
+-- what an end holds is determined by the links there
 pub same-held : (s : Model) (t u : Links) (d : End) → end t d ≡ end u d → held_at (reading (record s { links = t })) d ≡ held_at (reading (record s { links = u })) d
 same-held s t u d same =
     let a = shape s.metamodel d.feature in

@@ -27,10 +27,10 @@ use Rattle.links.specs.Plans.{Has}
 use Rattle.models.specs.Legal.{IsLegal, kinds_of}
 use Rattle.models.specs.Model.{Model, kept_flag, reading}
 use Rattle.models.specs.Reading.{held_at}
+use Rattle.containment.proofs.PartLemmas.{kinds-are}
 use Rattle.handshake.proofs.CutLinkEndLemmas.{once-of_different, same_end-symmetric, values-linked}
 use Rattle.removal.specs.Laws.{names_of}
 use Rattle.handshake.proofs.HappenedLemmas.{done, done-other, done_at, happened_at, happened_at-append}
-use Rattle.handshake.proofs.KnownLemmas.{kinds-are}
 use Rattle.handshake.proofs.LinkEndNameLemmas.{open-of}
 use Rattle.handshake.specs.Displaced.{other_side}
 use Rattle.removal.specs.TreeLinkEnds.{link_end}
@@ -206,7 +206,7 @@ module _ (s : Model) (legal : IsLegal s) where
         by (value.Object o) (Some g) w h = absurd (none-some _ (sym h))
         by x q w h = refl
 
-    -- a link of two ends, told at both
+    -- a link of two ends, with a notification at both
     module _ (o : ObjectNo) (g : FeatureNo) (is : v ≡ value.Object o) (opposite : (shape s.metamodel e.feature).opposite ≡ Some g) where
       abbrev far : End
       far = far_end o g

@@ -1,4 +1,4 @@
--- The links that a change cuts: each is there, none is cut twice, and what is cut leaves room for the new link.
+-- The links that a change cuts: each is there, none is cut twice, and what is cut leaves the new link free ends.
 use Rattle.std.proofs.Common.{◌≡◌, ℕ, suc, Bool, true, false, not, List, [], ◌∷◌, ◌++◌, filter, fold, map, slice_get, Option, Some, None, option_map, option_to_list, if◌then◌else◌, refl, sym, ap, ◌∙◌, subst, arith}
 use Rattle.std.specs.Prelude.{◌&&◌, ◌||◌}
 use Rattle.std.specs.List.{AllByRecursion, list_any}
@@ -29,22 +29,25 @@ use Rattle.models.proofs.EndLemmas.{values-single}
 use Rattle.models.specs.Legal.{IsLegal, kinds_of}
 use Rattle.models.specs.Model.{Model, reading}
 use Rattle.models.specs.Reading.{Reading, at_end, first_at, is_repeat}
-use Rattle.handshake.proofs.KnownLemmas.{delete-named, far-reference, kinds-are, set-named}
+use Rattle.containment.proofs.PartLemmas.{all-append, kinds-are}
+use Rattle.handshake.proofs.KnownLemmas.{delete-named, far-reference, set-named}
 use Rattle.handshake.specs.declared.change.Change.{Change}
 use Rattle.handshake.specs.declared.change.Change.TheVariants.{At, Delete}
 use Rattle.handshake.specs.declared.act.Act.TheVariants.{Set, Unset, Add, Remove, RemoveValue, Resolve}
 use Rattle.removal.specs.declared.link_end.LinkEnd.{LinkEnd}
 use Rattle.handshake.specs.Displaced.{cut_by_new, cut_by_set, cut_link_ends, is_plain_add, link_end_in, link_ends_backwards, has_already, in_the_way, is_plain_set, once, holding_link_end, other_side, same_link, same_link_end, link_ends_at, link_ends_if_single, with_link_end, yields, link_ends_resolved}
-use Rattle.handshake.specs.Resolving.{opposite_end}
+use Rattle.proxies.specs.Resolving.{opposite_end}
 use Rattle.removal.specs.TreeLinkEnds.{link_end, tree_link_ends}
 use Rattle.removal.specs.Laws.{names_of}
 use Rattle.removal.specs.Outer.{gone}
 use Rattle.removal.proofs.TreeLemmas.{tree-named}
+use Rattle.removal.proofs.ListLemmas.{all-at, all-map, all-weaker, any-left}
 use Rattle.handshake.specs.Effects.{links_left, without_link_ends}
 use Rattle.handshake.specs.Laws.{AreDifferent}
 use Rattle.handshake.specs.Refusals.{early_refusal, late_refusal}
-use Rattle.handshake.proofs.TargetLemmas.{IsMatch, match-apart, resolved-cuts}
-use Rattle.handshake.specs.declared.target.Counterpart.{Counterpart}
+use Rattle.proxies.proofs.TargetLemmas.{IsMatch, match-apart}
+use Rattle.handshake.proofs.ResolvedCutLemmas.{resolved-cuts}
+use Rattle.proxies.specs.declared.target.Counterpart.{Counterpart}
 
 pub without_link_ends-names_of : (s : Links) (ts : List LinkEnd) → without_link_ends s ts ≡ without_all s (names_of ts)
 without_link_ends-names_of s [] = refl
@@ -56,10 +59,6 @@ pub all_push : {X : Type 0} (P : X → Type 0) (xs : List X) (x : X) → AllByRe
 all_push P [] x all here = (here, tt)
 all_push P (y ∷ ys) x all here = (all.0, all_push P ys x all.1 here)
 
-pub all_append : {X : Type 0} (P : X → Type 0) (xs ys : List X) → AllByRecursion P xs → AllByRecursion P ys → AllByRecursion P (xs ++ ys)
-all_append P [] ys a b = b
-all_append P (x ∷ xs) ys a b = (a.0, all_append P xs ys a.1 b)
-
 pub all_front : {X : Type 0} (P : X → Type 0) (xs ys : List X) → AllByRecursion P (xs ++ ys) → AllByRecursion P xs
 all_front P [] ys all = tt
 all_front P (x ∷ xs) ys all = (all.0, all_front P xs ys all.1)
@@ -68,31 +67,13 @@ pub all_back : {X : Type 0} (P : X → Type 0) (xs ys : List X) → AllByRecursi
 all_back P [] ys all = all
 all_back P (x ∷ xs) ys all = all_back P xs ys all.1
 
-pub all_map : {X Y : Type 0} (P : Y → Type 0) (f : X → Y) (xs : List X) → AllByRecursion (λ (x : X). P (f x)) xs → AllByRecursion P (map f xs)
-all_map P f [] all = tt
-all_map P f (x ∷ xs) all = (all.0, all_map P f xs all.1)
-
 pub all_from_map : {X Y : Type 0} (P : Y → Type 0) (f : X → Y) (xs : List X) → AllByRecursion P (map f xs) → AllByRecursion (λ (x : X). P (f x)) xs
 all_from_map P f [] all = tt
 all_from_map P f (x ∷ xs) all = (all.0, all_from_map P f xs all.1)
 
-pub all_weaker : {X : Type 0} (P Q : X → Type 0) (xs : List X) → ((x : X) → P x → Q x) → AllByRecursion P xs → AllByRecursion Q xs
-all_weaker P Q [] weaker all = tt
-all_weaker P Q (x ∷ xs) weaker all = (weaker x all.0, all_weaker P Q xs weaker all.1)
-
--- what is true of what is at each position
-pub all_at : {X : Type 0} (P : X → Type 0) (xs : List X) → ((k : ℕ) (x : X) → slice_get xs k ≡ Some x → P x) → AllByRecursion P xs
-all_at P [] at = tt
-all_at P (x ∷ xs) at = (at 0 x refl, all_at P xs (λ k y h. at (suc k) y h))
-
 pub filter_none : (p : Value → Bool) (vs : List Value) → AllByRecursion (λ (v : Value). p v ≡ true) vs → filter (λ w. not (p w)) vs ≡ []
 filter_none p [] all = refl
 filter_none p (v ∷ vs) all = ap (λ (b : Bool). if not b then v ∷ filter (λ w. not (p w)) vs else filter (λ w. not (p w)) vs) all.0 ∙ filter_none p vs all.1
-
-pub any_append_left : {X : Type 0} (p : X → Bool) (xs ys : List X) → list_any p xs ≡ true → list_any p (xs ++ ys) ≡ true
-any_append_left p [] ys h = absurd (false≢true h)
-any_append_left p (x ∷ xs) ys h =
-    elim (p x) as (λ b. (b || list_any p xs) ≡ true → (b || list_any p (xs ++ ys)) ≡ true) [ true ↦ λ _. refl | false ↦ λ q. any_append_left p xs ys q ] h
 
 pub any_push : {X : Type 0} (p : X → Bool) (xs : List X) (x : X) → p x ≡ true → list_any p (xs ++ x ∷ []) ≡ true
 any_push p [] x h = or_left (p x) false h
@@ -134,7 +115,7 @@ pub once-of_different : (r : Reading) (ts : List LinkEnd) → AreDifferent r ts 
 once-of_different r [] different = tt
 once-of_different r (t ∷ ts) different =
     let other : (u : LinkEnd) → same_link r u t ≡ false → names (kinds_of r.metamodel) t.end t.value u.end u.value ≡ false = λ u h. names-same_link r u t ∙ h in (
-      all_map (λ (x : End × Value). names (kinds_of r.metamodel) t.end t.value x.0 x.1 ≡ false) (λ (u : LinkEnd). (u.end, u.value)) ts (all_weaker _ _ ts other different.0),
+      all-map (λ (x : End × Value). names (kinds_of r.metamodel) t.end t.value x.0 x.1 ≡ false) (λ (u : LinkEnd). (u.end, u.value)) ts (all-weaker _ _ ts other different.0),
       once-of_different r ts different.1,
     )
 
@@ -174,7 +155,7 @@ module _ (r : Reading) where
   named_fold : (x : LinkEnd) (done ts : List LinkEnd) → list_any (same_link r x) done ≡ true → list_any (same_link r x) (fold (with_link_end r) done ts) ≡ true
   named_fold x done [] h = h
   named_fold x done (t ∷ ts) h =
-      named_fold x (with_link_end r done t) ts (with_link_end-cases (λ (us : List LinkEnd). list_any (same_link r x) us ≡ true) done t (λ _. h) (λ _. any_append_left (same_link r x) done (t ∷ []) h))
+      named_fold x (with_link_end r done t) ts (with_link_end-cases (λ (us : List LinkEnd). list_any (same_link r x) us ≡ true) done t (λ _. h) (λ _. any-left (same_link r x) done (t ∷ []) h))
 
   named_here : (done : List LinkEnd) (t : LinkEnd) → list_any (same_link r t) (with_link_end r done t) ≡ true
   named_here done t = with_link_end-cases (λ (us : List LinkEnd). list_any (same_link r t) us ≡ true) done t (λ h. h) (λ _. any_push (same_link r t) done t (same_link-self t))
@@ -214,7 +195,7 @@ values-linked s e reference = rw reference refl
 pub link_ends_at-stand : (s : Model) (e : End) → (shape s.metamodel e.feature).is_reference ≡ true → AllByRecursion (Stands s.links) (link_ends_at (reading s) e)
 link_ends_at-stand s e reference =
     subst (λ (vs : List Value). AllByRecursion (Stands s.links) (map (link_end e) vs)) (sym (values-linked s e reference))
-    (all_map (Stands s.links) (link_end e) (end s.links e) (all_at (Has s.links e) (end s.links e) (λ k v at. (k, at))))
+    (all-map (Stands s.links) (link_end e) (end s.links e) (all-at (Has s.links e) (end s.links e) (λ k v at. (k, at))))
 
 link_ends_if_single-stand : (s : Model) (e : End) → (shape s.metamodel e.feature).is_reference ≡ true → AllByRecursion (Stands s.links) (link_ends_if_single (reading s) e)
 link_ends_if_single-stand s e reference =
@@ -242,16 +223,16 @@ pub yields-stand : (s : Model) (e : End) (o : ObjectNo) → IsLegal s → (shape
 yields-stand s e o legal reference =
     let P : LinkEnd → Type 0 = Stands s.links in
     all_once (reading s) P (in_the_way (reading s) e o)
-    (all_append P _ _ (link_ends_if_single-stand s e reference) (all_append P _ _ (far-stand s e o legal) (part-stand s (contained e o (shape s.metamodel e.feature).containing) legal)))
+    (all-append P _ _ (link_ends_if_single-stand s e reference) (all-append P _ _ (far-stand s e o legal) (part-stand s (contained e o (shape s.metamodel e.feature).containing) legal)))
 
 ---------------------------------------------------------------- the cuts of a change
 
--- a set that is not plain is of a reference, to another value
+-- a set that may cut links is of a reference, to another value
 pub plain-not : (a b : Bool) → (not a || b) ≡ false → (a ≡ true) × (b ≡ false)
 plain-not true b h = (refl, h)
 plain-not false b h = absurd (false≢true (sym h))
 
--- what a set that is not plain has to cut, and what an unset of a reference has
+-- what a set that may cut links has to cut, and what an unset of a reference has
 module _ (P : List LinkEnd → Type 0) (s : Model) (n : Node) (f : FeatureNo) (none : P []) where
   pub set-cuts : (v : Value) → ((shape s.metamodel f).is_reference ≡ true → has_already (reading s) (at_end n f) v ≡ false → P (cut_by_set (reading s) (at_end n f) v)) → P (cut_link_ends (reading s) (At (at_end n f) (Set v)))
   set-cuts v some =
@@ -299,7 +280,7 @@ backwards-all P e (v ∷ vs) all = all_push P (link_ends_backwards e vs) (link_e
 pub link_ends_backwards-stand : (s : Model) (e : End) → (shape s.metamodel e.feature).is_reference ≡ true → AllByRecursion (Stands s.links) (link_ends_backwards e ((reading s).values e))
 link_ends_backwards-stand s e reference =
     subst (λ (vs : List Value). AllByRecursion (Stands s.links) (link_ends_backwards e vs)) (sym (values-linked s e reference))
-    (backwards-all (Stands s.links) e (end s.links e) (all_at (Has s.links e) (end s.links e) (λ k v at. (k, at))))
+    (backwards-all (Stands s.links) e (end s.links e) (all-at (Has s.links e) (end s.links e) (λ k v at. (k, at))))
 
 pub link_end_in-stand : (s : Model) (e : End) (i : ℕ) → (shape s.metamodel e.feature).is_reference ≡ true → AllByRecursion (Stands s.links) (link_end_in (reading s) e i)
 link_end_in-stand s e i reference =
@@ -313,7 +294,7 @@ different-of_once r [] once = tt
 different-of_once r (t ∷ ts) once =
     let m = kinds_of r.metamodel in
     let other : (u : LinkEnd) → names m t.end t.value u.end u.value ≡ false → same_link r u t ≡ false = λ u h. sym (names-same_link r u t) ∙ h in (
-      all_weaker _ _ ts other (all_from_map (λ (x : End × Value). names m t.end t.value x.0 x.1 ≡ false) (λ (u : LinkEnd). (u.end, u.value)) ts once.0),
+      all-weaker _ _ ts other (all_from_map (λ (x : End × Value). names m t.end t.value x.0 x.1 ≡ false) (λ (u : LinkEnd). (u.end, u.value)) ts once.0),
       different-of_once r ts once.1,
     )
 
@@ -337,12 +318,12 @@ cuts-stand s (At e (Resolve i)) legal early =
     let r = reading s in
     reference-cuts (AllByRecursion (Stands s.links)) s e.node e.feature tt (link_ends_resolved r e i) (λ reference.
     resolved-cuts (AllByRecursion (Stands s.links)) r e i (link_end_in-stand s e i reference) (λ b c t is at.
-    all_append (Stands s.links) (link_end_in r e i) (link_end_in r c.end c.index) (link_end_in-stand s e i reference)
+    all-append (Stands s.links) (link_end_in r e i) (link_end_in r c.end c.index) (link_end_in-stand s e i reference)
     (link_end_in-stand s c.end c.index (subst (λ (d : End). (shape s.metamodel d.feature).is_reference ≡ true) (sym is.stands) (far-reference s.metamodel legal.metamodel e.feature is.feature is.opposite)))))
 cuts-stand s _ legal early = tt
 
 pub cuts-there : (s : Model) (c : Change) → IsLegal s → early_refusal (reading s) c ≡ None → late_refusal (reading s) c ≡ None → AreThere s.links (names_of (cut_link_ends (reading s) c))
-cuts-there s c legal early late = all_map (λ (t : End × Value). Has s.links t.0 t.1) (λ (t : LinkEnd). (t.end, t.value)) (cut_link_ends (reading s) c) (cuts-stand s c legal early)
+cuts-there s c legal early late = all-map (λ (t : End × Value). Has s.links t.0 t.1) (λ (t : LinkEnd). (t.end, t.value)) (cut_link_ends (reading s) c) (cuts-stand s c legal early)
 
 -- the link of what a single end has, if it has something
 pub link_ends-single : (s : Model) (e : End) → IsLegal s → (shape s.metamodel e.feature).is_reference ≡ true → (shape s.metamodel e.feature).is_single ≡ true
@@ -392,7 +373,7 @@ near-different s e v w legal other = by (shape s.metamodel e.feature).opposite r
 
 -- the others of a list that repeats nothing are other values
 others-differ : (v : Value) (vs : List Value) → IsDistinct (v ∷ vs) → AllByRecursion (λ (w : Value). same_value v w ≡ false) vs
-others-differ v vs distinct = all_at (λ (w : Value). same_value v w ≡ false) vs (λ k w at.
+others-differ v vs distinct = all-at (λ (w : Value). same_value v w ≡ false) vs (λ k w at.
     elim (same_value v w) as (λ b. same_value v w ≡ b → b ≡ false) [
       | true ↦ λ same. absurd (zero-not_suc k (distinct 0 (suc k) w (ap Some (same_value-true v w same)) at))
       | false ↦ λ _. refl
@@ -415,7 +396,7 @@ pub backwards-different : (s : Model) (e : End) (vs : List Value) → IsLegal s 
 backwards-different s e [] legal distinct = tt
 backwards-different s e (v ∷ vs) legal distinct =
     let r = reading s in
-    let others = backwards-all (λ (t : LinkEnd). same_link r (link_end e v) t ≡ false) e vs (all_weaker _ _ vs (λ w other. near-different s e v w legal other) (others-differ v vs distinct)) in
+    let others = backwards-all (λ (t : LinkEnd). same_link r (link_end e v) t ≡ false) e vs (all-weaker _ _ vs (λ w other. near-different s e v w legal other) (others-differ v vs distinct)) in
     different_push r (link_ends_backwards e vs) (link_end e v) (backwards-different s e vs legal (rest-distinct v vs distinct)) (none_of (same_link r (link_end e v)) (link_ends_backwards e vs) others)
 
 pub link_end_in-different : (r : Reading) (e : End) (i : ℕ) → AreDifferent r (link_end_in r e i)
@@ -455,7 +436,7 @@ cuts-different s _ legal early = tt
 pub cuts-once : (s : Model) (c : Change) → IsLegal s → early_refusal (reading s) c ≡ None → late_refusal (reading s) c ≡ None → AreOnce (kinds_of s.metamodel) (names_of (cut_link_ends (reading s) c))
 cuts-once s c legal early late = once-of_different (reading s) (cut_link_ends (reading s) c) (cuts-different s c legal early)
 
----------------------------------------------------------------- room for a new link
+---------------------------------------------------------------- what a new link needs
 
 -- a link of which each name is among those that a new link displaces
 abbrev IsDisplaced : Model → End → ObjectNo → LinkEnd → Type 0
@@ -471,7 +452,7 @@ emptied s e o d legal reference single all =
     let linked = subst (λ (vs : List Value). AllByRecursion (IsDisplaced s e o) (map (link_end d) vs)) (values-linked s d reference) at_d in
     let named : (v : Value) → IsDisplaced s e o (link_end d v) → is_named m (names_of ts) d v ≡ true = λ v h. is_named-same_link (reading s) ts (link_end d v) ∙ h in
     end-without_all m (kinds-are s.metamodel legal.metamodel) s.links (names_of ts) legal.links.set legal.links.kinds d
-    ∙ filter_none (is_named m (names_of ts) d) (end s.links d) (all_weaker _ _ (end s.links d) named (all_from_map (IsDisplaced s e o) (link_end d) (end s.links d) linked))
+    ∙ filter_none (is_named m (names_of ts) d) (end s.links d) (all-weaker _ _ (end s.links d) named (all_from_map (IsDisplaced s e o) (link_end d) (end s.links d) linked))
 
 -- a single near end is empty once what a new link displaces is cut
 pub near-emptied : (s : Model) (e : End) (o : ObjectNo) → IsLegal s → (shape s.metamodel e.feature).is_reference ≡ true → (shape s.metamodel e.feature).is_single ≡ true

@@ -373,7 +373,7 @@ module _ (s : Model) (legal : IsLegal s) (o : ObjectNo) (live : is_live (reading
       ] refl
 
 -- what a change destroys lives
--- the notices of its losses are its chain
+-- the notifications of its losses are its chain
 pub destroyed-heard : (s : Model) (c : Change) (q : Option ObjectNo) (o : ObjectNo) → IsLegal s → early_refusal (reading s) c ≡ None → q ≡ destroyed_by c → Some o ≡ q → (heard : Bool) → heard ≡ true
     → map (lost_notice (reading s)) (losses (reading s) o) ≡ (if heard then chain (reading s) c else [])
 destroyed-heard s (Delete p) q o legal early is some heard on =

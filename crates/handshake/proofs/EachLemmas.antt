@@ -11,14 +11,15 @@ use Rattle.models.specs.Model.{Model, reading}
 use Rattle.models.specs.Reading.{Reading, held_at}
 use Rattle.handshake.specs.Effects.{after, joined, with_resolution, without_link_ends}
 use Rattle.handshake.specs.OneByOne.{ResolvesEach, after_each, count_of_each, is_refused, resolve, told_by_each}
-use Rattle.handshake.specs.Proxies.{end_of, sites}
-use Rattle.handshake.specs.Refusals.{early_refusal, resolve_refusal}
-use Rattle.handshake.specs.Resolving.{target_at}
-use Rattle.handshake.specs.ResolvingAll.{Resolution, resolutions, resolved_to, with_resolved}
+use Rattle.proxies.specs.Proxies.{end_of, sites}
+use Rattle.handshake.specs.Refusals.{early_refusal}
+use Rattle.proxies.specs.Refusals.{resolve_refusal}
+use Rattle.proxies.specs.Resolving.{target_at}
+use Rattle.proxies.specs.ResolvingAll.{Resolution, resolutions, resolved_to, with_resolved}
 use Rattle.handshake.specs.FeatureChange.{happened_all, told}
 use Rattle.handshake.specs.FeatureChanges.{chain, resolution_told, resolved}
-use Rattle.handshake.specs.declared.site.ProxySite.{ProxySite}
-use Rattle.handshake.specs.declared.target.Target.{Target}
+use Rattle.proxies.specs.declared.site.ProxySite.{ProxySite}
+use Rattle.proxies.specs.declared.target.Target.{Target}
 use Rattle.handshake.proofs.ApartLemmas.{told-append}
 use Rattle.handshake.proofs.HappenedLemmas.{happened_all-at}
 use Rattle.handshake.proofs.KnownLemmas.{resolvable}
@@ -58,7 +59,7 @@ module _ (s : Model) (legal : IsLegal s) (p : ProxySite) (x : Target) (is : reso
   chain-one : told s.metamodel (held_at r) (resolution_told (record { reads = reading s; site = p; target = x })) ≡ chain r (resolve p)
   chain-one = let of = resolved-to r p x is in sym (ap (λ (q : Option Target). told s.metamodel (held_at r) (option_map_or (resolved e p.index) q [])) of.found)
 
--- what all places make is what each in turn makes
+-- what all locations make is what each in turn makes
 record IsEach (s : Model) (ps : List ProxySite) (xs : List Resolution) : Type 0 where
   pub leaves : with_links s (fold with_resolution s.links xs) ≡ after_each s ps
   pub tells : told s.metamodel (held_at (reading s)) (flat_map resolution_told xs) ≡ told_by_each s ps

@@ -8,6 +8,7 @@ use Rattle.mm_types.specs.Same.{same_value}
 use Rattle.mm_types.specs.declared.end.End.{End}
 use Rattle.mm_types.specs.declared.value.Value.{Value}
 use Rattle.mm_types.specs.declared.value.Value.TheVariants as value
+use Rattle.containment.proofs.ForestLemmas.{get-within}
 use Rattle.handshake.specs.Displaced.{link_ends_backwards}
 use Rattle.removal.specs.TreeLinkEnds.{link_end}
 use Rattle.handshake.specs.FeatureChange.{feature_change}
@@ -53,17 +54,12 @@ site-past vs v h =
 
 ---------------------------------------------------------------- the links of an end
 
-pub get-site : (vs : List Value) (k : ℕ) (d : Value) → k < length vs → slice_get vs k ≡ Some (slice_index_or vs k d)
-get-site [] k d h = absurd (omega (arith, h))
-get-site (w ∷ ws) zero d h = refl
-get-site (w ∷ ws) (suc k) d h = get-site ws k d (omega (arith, h))
-
 -- the link of one value more
 pub link_ends-step : (e : End) (vs : List Value) (k : ℕ) (out new all : List LinkEnd) → k < length vs → new ≡ out ++ option_to_list (option_map (link_end e) (slice_get vs k))
     → out ++ map (link_end e) (drop k vs) ≡ all → new ++ map (link_end e) (drop (k + 1) vs) ≡ all
 link_ends-step e vs k out new all low made whole =
     let v = slice_index_or vs k value.Null in
-    ap (λ (ts : List LinkEnd). ts ++ map (link_end e) (drop (k + 1) vs)) (made ∙ ap (λ (x : Option Value). out ++ option_to_list (option_map (link_end e) x)) (get-site vs k value.Null low))
+    ap (λ (ts : List LinkEnd). ts ++ map (link_end e) (drop (k + 1) vs)) (made ∙ ap (λ (x : Option Value). out ++ option_to_list (option_map (link_end e) x)) (get-within vs k value.Null low))
     ∙ append_assoc out (link_end e v ∷ []) (map (link_end e) (drop (k + 1) vs))
     ∙ ap (λ (ws : List Value). out ++ map (link_end e) ws) (sym (drop_more vs k value.Null low))
     ∙ whole
@@ -85,7 +81,7 @@ pub backwards-step : (e : End) (vs : List Value) (k : ℕ) (out new all : List L
     → out ++ link_ends_backwards e (take (suc k) vs) ≡ all → new ++ link_ends_backwards e (take k vs) ≡ all
 backwards-step e vs k out new all low made whole =
     let v = slice_index_or vs k value.Null in
-    ap (λ (ts : List LinkEnd). ts ++ link_ends_backwards e (take k vs)) (made ∙ ap (λ (x : Option Value). out ++ option_to_list (option_map (link_end e) x)) (get-site vs k value.Null low))
+    ap (λ (ts : List LinkEnd). ts ++ link_ends_backwards e (take k vs)) (made ∙ ap (λ (x : Option Value). out ++ option_to_list (option_map (link_end e) x)) (get-within vs k value.Null low))
     ∙ append_assoc out (link_end e v ∷ []) (link_ends_backwards e (take k vs))
     ∙ ap (λ (ts : List LinkEnd). out ++ ts) (sym (ap (link_ends_backwards e) (take-push vs k value.Null low) ∙ backwards-push e (take k vs) v))
     ∙ whole

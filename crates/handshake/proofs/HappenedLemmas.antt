@@ -42,7 +42,7 @@ pub happened_at-append : (m : Metamodel) (xs ys : List FeatureChange) (d : End) 
 happened_at-append m [] ys d h = refl
 happened_at-append m (t ∷ xs) ys d h = happened_at-append m xs ys d (done_at m d t h)
 
--- an end that a test tells from another one is not that one
+-- an end that a test distinguishes from another one is not that one
 pub apart-of : (q : End → Bool) (x d : End) → q x ≡ false → q d ≡ true → same_end x d ≡ false
 apart-of q x d out within = elim (same_end x d) as (λ b. same_end x d ≡ b → b ≡ false) [
   | true ↦ λ same. absurd (true≢false (sym within ∙ ap q (sym (same_end-true x d same)) ∙ out))

@@ -23,17 +23,17 @@ use Rattle.mm_types.specs.declared.refused.Refused.{Refused}
 use Rattle.mm_types.specs.declared.refused.Refused.TheVariants.{NoObject, NoResource, NoFeature, NotSingle, NotMany, WrongType, TextLength, Index, Duplicate, Bound, Recursive, Limit, ResourceExists, NotProxy, Unloaded, Unresolved, Unmatched}
 use Rattle.mm_types.specs.declared.value.Value.{Value}
 use Rattle.mm_types.specs.declared.value.Value.TheVariants as value
-use Rattle.links.specs.LegalSets.{AreKinds}
 use Rattle.web_uris.specs.Addresses.{uri_part}
-use Rattle.models.specs.Legal.{IsLegal, is_short, kinds_of, is_short_text}
+use Rattle.models.specs.Legal.{IsLegal, is_short, is_short_text}
 use Rattle.models.specs.Model.{Model, reading}
 use Rattle.models.proofs.EndLemmas.{values-single}
 use Rattle.models.specs.Reading.{Reading, at_end, has_feature, is_live, is_node_live, is_repeat, is_value_live, position_for, takes, has_uri}
 use Rattle.containment.proofs.PartLemmas.{object-reference}
-use Rattle.handshake.specs.Refusals.{add_refusal, early_refusal, gain_refusal, is_at_limit, is_full_at, is_mistyped, is_recursive, is_there_already, late_refusal, link_refusal, many_refusal, of_either, resolve_refusal, set_refusal, single_refusal, target_refusal, type_refusal, uri_refusal}
-use Rattle.handshake.specs.Resolving.{is_unmatched, proxy_at, target_at}
-use Rattle.handshake.specs.declared.target.Target.{Target}
-use Rattle.handshake.proofs.TargetLemmas.{IsFound, found-is}
+use Rattle.handshake.specs.Refusals.{add_refusal, early_refusal, gain_refusal, is_at_limit, is_full_at, is_recursive, late_refusal, link_refusal, many_refusal, of_either, set_refusal, single_refusal, type_refusal, uri_refusal}
+use Rattle.proxies.specs.Refusals.{is_mistyped, is_there_already, resolve_refusal, target_refusal}
+use Rattle.proxies.specs.Resolving.{is_unmatched, proxy_at, target_at}
+use Rattle.proxies.specs.declared.target.Target.{Target}
+use Rattle.proxies.proofs.TargetLemmas.{IsFound, found-is}
 use Rattle.handshake.specs.declared.act.Act.{Act}
 use Rattle.handshake.specs.declared.change.Change.TheVariants.{At, Delete}
 use Rattle.handshake.specs.declared.act.Act.TheVariants.{Set, Unset, Add, Remove, RemoveValue, Move, Resolve}
@@ -42,13 +42,6 @@ use Rattle.mm_types.specs.declared.limits.TheConstants.{LIST_VALUES, RESOURCES}
 use Rattle.models.specs.Existence.{end_refusal, node_refusal, value_refusal}
 
 ---------------------------------------------------------------- the metamodel
-
-pub kinds-are : (m : Metamodel) → IsOfDocument m → AreKinds (kinds_of m)
-kinds-are m d = record {
-  inverse = λ f g h. (opposites_are_pairs m d f g h).back;
-  two = λ f g h. (opposites_are_pairs m d f g h).apart;
-  one_container = λ f g h. (opposites_are_pairs m d f g h).one_containing;
-}
 
 -- both features of a pair are references
 pub near-reference : (m : Metamodel) → IsOfDocument m → (f g : FeatureNo) → (shape m f).opposite ≡ Some g → (shape m f).is_reference ≡ true
@@ -190,7 +183,7 @@ not-true : (a : Bool) → not a ≡ false → a ≡ true
 not-true true h = refl
 not-true false h = absurd (false≢true (sym h))
 
-or-none : (a b : Bool) → (a || b) ≡ false → (a ≡ false) × (b ≡ false)
+pub or-none : (a b : Bool) → (a || b) ≡ false → (a ≡ false) × (b ≡ false)
 or-none true b h = absurd (false≢true (sym h))
 or-none false b h = (refl, h)
 

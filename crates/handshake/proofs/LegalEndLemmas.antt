@@ -37,11 +37,12 @@ use Rattle.links.specs.LegalSets.{most}
 use Rattle.models.specs.Legal.{IsLegal, is_legal_end, is_legal_target, kinds_of}
 use Rattle.models.specs.Model.{Model, model_of, reading}
 use Rattle.models.specs.Reading.{Reading, has_feature, shape_at, takes}
+use Rattle.containment.proofs.PartLemmas.{kinds-are}
 use Rattle.handshake.specs.Displaced.{yields}
 use Rattle.handshake.specs.Refusals.{is_at_limit, is_full_at}
 use Rattle.handshake.proofs.CutLinkEndLemmas.{far-emptied, values-linked}
 use Rattle.removal.specs.Laws.{names_of}
-use Rattle.handshake.proofs.KnownLemmas.{far-reference, feature-there, kinds-are}
+use Rattle.handshake.proofs.KnownLemmas.{far-reference, feature-there}
 use Rattle.handshake.proofs.LinkLemmas.{IsNewLink, below-limit, far-of, fewer-left, near-empty, near-of, new-fits, without_displaced}
 
 ---------------------------------------------------------------- lists

@@ -43,7 +43,7 @@ use Rattle.models.specs.Model.{Model, attribute_values, kept_values, reading}
 use Rattle.models.specs.Reading.{at_end, first_at, has_feature, has_resource, is_repeat, position_for, takes}
 use Rattle.resource_docs.specs.declared.doc.Doc.{Doc}
 use Rattle.doc_loader.proofs.TypedLemmas.{read-typed}
-use Rattle.containment.proofs.PartLemmas.{object-reference}
+use Rattle.containment.proofs.PartLemmas.{kinds-are, object-reference}
 use Rattle.handshake.specs.declared.act.Act.{Act}
 use Rattle.handshake.specs.declared.change.Change.{Change}
 use Rattle.handshake.specs.declared.change.Change.TheVariants.{At, Create, Delete, NewResource, ResolveAll, Load}
@@ -52,12 +52,12 @@ use Rattle.handshake.specs.Displaced.{cut_by_new, cut_by_set, cut_link_ends, is_
 use Rattle.handshake.specs.Edits.{link_edits}
 use Rattle.handshake.specs.Effects.{act_edits, after, links_after, put_by, put_under, take_value, value_edits, with_value}
 use Rattle.handshake.specs.Laws.{KeepsLegal, IsBrought, goes_with}
-use Rattle.handshake.specs.Plans.{HasReadDocument, IsDocument}
+use Rattle.handshake.specs.Changes.{HasReadDocument, IsDocument}
 use Rattle.handshake.specs.FeatureChanges.{loaded_by, resolves_all}
 use Rattle.handshake.specs.Refusals.{early_refusal, gain_refusal, is_at_limit, is_full_at, late_refusal}
 use Rattle.handshake.proofs.CutLinkEndLemmas.{left-cuts, values-linked}
 use Rattle.removal.specs.Laws.{names_of}
-use Rattle.handshake.proofs.KnownLemmas.{act-there, add-gains, add-named, add-taken, kinds-are, move-named, move-placed, none-else_by, none-unless, none-where_so, remove-named, resource-keeps-none, set-named, set-taken, take-named, uri-taken}
+use Rattle.handshake.proofs.KnownLemmas.{act-there, add-gains, add-named, add-taken, move-named, move-placed, none-else_by, none-unless, none-where_so, remove-named, resource-keeps-none, set-named, set-taken, take-named, uri-taken}
 use Rattle.handshake.proofs.LegalEndLemmas.{HaveClasses, IsUntouched, cut-end, legal-end-kept, none_goes, put-end, shifted-end, untouched-end}
 use Rattle.handshake.proofs.LinkLemmas.{below-limit, near-empty, without_displaced}
 use Rattle.handshake.proofs.LoadEndLemmas.{linked-legal, no-fewer, same-classes}
@@ -309,7 +309,7 @@ values-after s (Load k doc) legal early late read brought = load-legal s k doc l
 
 ---------------------------------------------------------------- the links after a change
 
--- of a set and an addition that are not plain
+-- of a set and an addition that may cut links
 set-ends : (s : Model) (n : Node) (f : FeatureNo) (v : Value) → IsLegal s → early_refusal (reading s) (At (at_end n f) (Set v)) ≡ None → late_refusal (reading s) (At (at_end n f) (Set v)) ≡ None → is_plain_set (reading s) (at_end n f) v ≡ false → (d : End)
     → is_legal_end (reading s) d (end (with_value (without_all s.links (names_of (cut_by_set (reading s) (at_end n f) v))) (reading s) (at_end n f) None v) d) ≡ true
 set-ends s n f (value.Object o) legal early late h d =

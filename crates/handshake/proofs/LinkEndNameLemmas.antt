@@ -1,4 +1,4 @@
--- A link has a name at each of its ends. Two links share no single end, so a name that both have tells that they are one.
+-- A link has a name at each of its ends. Two links share no single end, so if both have a name, they are one.
 use Rattle.std.proofs.Common.{◌≡◌, ℕ, zero, suc, ◌<◌, ◌≤◌, eq-eqb, eqb-true, Bool, if◌then◌else◌, arith, true, false, IsTrue, List, [], ◌∷◌, slice_get, Option, Some, None, option_to_list, refl, sym, ap, ◌∙◌, subst, inl, inr}
 use Rattle.std.specs.Prelude.{◌⊎◌}
 use Rattle.std.specs.List.{list_all}
@@ -115,7 +115,7 @@ module _ (s : Model) (legal : IsLegal s) where
   linked_by : (t u y : LinkEnd) → turned (reading s) t ≡ Some y → same_link_end u y ≡ true → same_link (reading s) u t ≡ true
   linked_by t u y is same = or_right (same_link_end u t) _ (ap (λ (o : Option LinkEnd). option_map_or (same_link_end u) o false) is ∙ same)
 
-  -- a name of each of two links that is the same tells that they are one
+  -- if two links have a name in common, they are one
   one_link : (t u y : LinkEnd) → Stands s.links t → Stands s.links u → IsNameOf (reading s) t y → IsNameOf (reading s) u y → same_link (reading s) u t ≡ true
   one_link t u y at_t at_u (inl is_t) (inl is_u) = or_left (same_link_end u t) _ (subst (λ (x : LinkEnd). same_link_end u x ≡ true) (sym is_u ∙ is_t) (same_link_end-self u))
   one_link t u y at_t at_u (inr is_t) (inl is_u) = linked_by t u y is_t (subst (λ (x : LinkEnd). same_link_end u x ≡ true) (sym is_u) (same_link_end-self u))

@@ -37,12 +37,13 @@ use Rattle.models.proofs.PlaceLemmas.{has-at}
 use Rattle.models.specs.Legal.{IsLegal, kinds_of}
 use Rattle.models.specs.Model.{Model, reading}
 use Rattle.models.specs.Reading.{Reading, has_feature, is_repeat, is_within, shape_at}
+use Rattle.containment.proofs.PartLemmas.{kinds-are}
 use Rattle.handshake.specs.Displaced.{has_already, yields}
-use Rattle.handshake.specs.Resolving.{opposite_end}
+use Rattle.proxies.specs.Resolving.{opposite_end}
 use Rattle.handshake.specs.Refusals.{is_at_limit, is_recursive_for, of_either}
 use Rattle.handshake.proofs.CutLinkEndLemmas.{freed, near-emptied, values-linked}
 use Rattle.removal.specs.Laws.{names_of}
-use Rattle.handshake.proofs.KnownLemmas.{IsLinkable, far-reference, kinds-are, resource-alone}
+use Rattle.handshake.proofs.KnownLemmas.{IsLinkable, far-reference, resource-alone}
 use Rattle.handshake.proofs.YieldLemmas.{near-kept}
 
 -- a node that has a feature with an opposite is an object

@@ -1,4 +1,4 @@
--- What a change of an attribute tells is what it makes of it.
+-- The notifications of a change of an attribute are what it makes of it.
 use Rattle.std.proofs.Common.{◌≡◌, ℕ, zero, suc, ◌<◌, ◌≤◌, nat_lt, pos, insert, remove, length, slice_get, slice_set, unwrap_or, option_map, arith, Bool, true, false, ◌&&◌, not, IsTrue, List, [], ◌∷◌, Option, Some, None, is_some, if◌then◌else◌, refl, sym, ap, ◌∙◌, subst}
 use Rattle.std.specs.List.{AllByRecursion}
 use Rattle.std.specs.Option.{option_map_or}
@@ -25,6 +25,7 @@ use Rattle.models.specs.Model.{Model, reading}
 use Rattle.models.specs.Reading.{at_end, has_feature, held_at}
 use Rattle.notice_chain.specs.Replay as replay
 use Rattle.notice_chain.specs.Replay.{moved}
+use Rattle.removal.proofs.OuterLemmas.{and-false}
 use Rattle.handshake.specs.Effects.{put_values}
 use Rattle.handshake.specs.FeatureChange.{feature_change}
 use Rattle.handshake.specs.FeatureChanges.{all_lost, gain_at}
@@ -67,10 +68,6 @@ moved-shifted vs to from low_to low_from =
     ap (λ (b : Bool). if b then (if nat_lt to (length vs) then replay.shifted vs to from else vs) else vs) low_from
     ∙ ap (λ (b : Bool). if b then replay.shifted vs to from else vs) low_to
     ∙ elim (slice_get vs from) as (λ q. option_map_or (λ x. insert (remove vs from) to x) q vs ≡ put_back q vs to from) [ None ↦ refl | Some v ↦ refl ]
-
-and-false : (b : Bool) → (b && false) ≡ false
-and-false true = refl
-and-false false = refl
 
 ---------------------------------------------------------------- attributes
 

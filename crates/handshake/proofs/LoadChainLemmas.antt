@@ -29,7 +29,7 @@ use Rattle.doc_loader.proofs.SideLemmas.{contents-shape}
 use Rattle.doc_loader.proofs.TypedLemmas.{read-typed}
 use Rattle.handshake.specs.Effects.{after}
 use Rattle.handshake.specs.Laws.{comes_with}
-use Rattle.handshake.specs.Plans.{IsDocument}
+use Rattle.handshake.specs.Changes.{IsDocument}
 use Rattle.handshake.specs.Refusals.{late_refusal}
 use Rattle.handshake.specs.Reports.{root_notice}
 use Rattle.handshake.specs.FeatureChange.{happened, has_flag, notice, notice_of, feature_change, told}
@@ -62,13 +62,13 @@ gained m e many (v ∷ vs) h =
     ∙ gained m e many vs (record { values = h.values ++ v ∷ []; flag = h.flag })
     ∙ ap (λ (ws : List Value). record { values = ws; flag = h.flag }) (append_assoc h.values (v ∷ []) vs)
 
----------------------------------------------------------------- the notices
+---------------------------------------------------------------- the notifications
 
 some-length : (vs : List Value) → not (is_nil vs) ≡ nat_lt 0 (length vs)
 some-length [] = refl
 some-length (v ∷ vs) = grind (arith, nat_tests)
 
--- the notice of a gain after so many values
+-- the notification of a gain after so many values
 gain-notice : (m : Metamodel) (e : End) (many : (shape m e.feature).is_single ≡ false) (n : ℕ) (h : Held) (j : ℕ) (o : ObjectNo) → length h.values ≡ j
     → notice_of (shape m e.feature) e (Gains (value.Object (loaded n o))) h ≡ root_notice n e (j, o)
 gain-notice m e many n h j o len =
@@ -112,7 +112,7 @@ module _ (s : Model) (k : ResourceNo) (doc : Doc) (legal : IsLegal s) (late : la
   load-chain : chain (reading s) (Load k doc) ≡ map (root_notice (length s.values.objects) roots) (enumerate_from 0 doc.roots)
   load-chain = told-gains s.metamodel roots roots-many (length s.values.objects) (held_at (reading s)) 0 doc.roots (ap (λ (h : Held). length h.values) roots-before)
 
-  -- the notices that are made are the chain
+  -- the notifications that are made are the chain
   pub loaded-heard : (heard : Bool) → heard ≡ true → map (root_notice (length s.values.objects) roots) (enumerate_from 0 doc.roots) ≡ (if heard then chain (reading s) (Load k doc) else [])
   loaded-heard heard on = sym load-chain ∙ ap (λ (b : Bool). if b then chain (reading s) (Load k doc) else []) (sym on)
 

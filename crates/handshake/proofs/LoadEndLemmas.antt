@@ -42,7 +42,7 @@ use Rattle.doc_loader.proofs.SoundLemmas.{IsThere, has-content, there-object}
 use Rattle.doc_loader.proofs.SourceLemmas.{ascending-distinct, loaded_values, source-at, sources-ascending, sources_from}
 use Rattle.containment.proofs.PartLemmas.{takes-same}
 use Rattle.handshake.specs.Laws.{comes_with}
-use Rattle.handshake.specs.Plans.{IsDocument}
+use Rattle.handshake.specs.Changes.{IsDocument}
 use Rattle.handshake.specs.Refusals.{late_refusal}
 use Rattle.handshake.specs.declared.change.Change.TheVariants.{Load}
 use Rattle.handshake.proofs.LegalEndLemmas.{HaveClasses, end-from, legal-end-kept, none_goes, one-bounded, untouched-end}

@@ -27,7 +27,7 @@ use Rattle.doc_loader.proofs.SoundLemmas.{map-at}
 use Rattle.doc_loader.proofs.SourceLemmas.{at-loaded, loaded-value-object, same-object}
 use Rattle.handshake.specs.Effects.{after}
 use Rattle.handshake.specs.Laws.{comes_with}
-use Rattle.handshake.specs.Plans.{IsDocument}
+use Rattle.handshake.specs.Changes.{IsDocument}
 use Rattle.handshake.specs.Refusals.{early_refusal, late_refusal}
 use Rattle.handshake.specs.declared.change.Change.TheVariants.{Load}
 use Rattle.handshake.proofs.CutLinkEndLemmas.{held_stands}
@@ -79,7 +79,7 @@ module _ (s : Model) (k : ResourceNo) (doc : Doc) (legal : IsLegal s) (early : e
       let other : contents_end s.metamodel k ≢ e = λ q. not-there (end s.links e) at.0 o (sym (ap (λ (d : End). end s.links d) q) ∙ no-roots s k doc legal late) at.1 in
       stands-held t loaded-legal e at.0 o (holder-contains s (node.Object o) e legal h) (ap (λ (vs : List Value). slice_get vs at.0) (linked-before s k doc legal late read e old other) ∙ at.1)
 
-  -- an object that was there is none of the new ones
+  -- an object that was there is not one of the new ones
   no-new : (o a : ObjectNo) → o.0 < n → loaded n a ≡ o → ⊥
   no-new o a low same = let number = ap (λ (x : ObjectNo). x.0) same in omega (arith, number, low)
 

@@ -39,7 +39,7 @@ use Rattle.doc_loader.proofs.SameLemmas.{links-made}
 use Rattle.doc_loader.proofs.SideLemmas.{contents-shape}
 use Rattle.doc_loader.proofs.SoundLemmas.{IsSound}
 use Rattle.containment.proofs.PartLemmas.{object-typed}
-use Rattle.handshake.specs.Plans.{HasFittingDocument, HasReadDocument, IsDocument}
+use Rattle.handshake.specs.Changes.{HasFittingDocument, HasReadDocument, IsDocument}
 use Rattle.handshake.specs.Refusals.{late_refusal}
 use Rattle.handshake.specs.declared.change.Change.{Change}
 use Rattle.handshake.specs.declared.change.Change.TheVariants.{Load}
@@ -70,7 +70,7 @@ all-get p [] i v all at = absurd (none-some v at)
 all-get p (w ∷ ws) zero v all at = subst (λ (o : Option Value). option_map_or p o true ≡ true) at (and_parts (p w) (list_all p ws) all).0
 all-get p (w ∷ ws) (suc i) v all at = all-get p ws i v (and_parts (p w) (list_all p ws) all).1 at
 
-nil-is : (vs : List Value) → is_nil vs ≡ true → vs ≡ []
+pub nil-is : (vs : List Value) → is_nil vs ≡ true → vs ≡ []
 nil-is [] h = refl
 nil-is (v ∷ vs) h = absurd (false≢true h)
 

@@ -36,7 +36,7 @@ use Rattle.doc_loader.proofs.TypedLemmas.{read-typed}
 use Rattle.handshake.specs.Effects.{after}
 use Rattle.handshake.specs.Laws.{comes_with}
 use Rattle.handshake.specs.Loaded.{HasObjectsOf, HasRootsOf, IsContainer, IsElseAsBefore, IsWrittenWith, LoadsEnds}
-use Rattle.handshake.specs.Plans.{IsDocument}
+use Rattle.handshake.specs.Changes.{IsDocument}
 use Rattle.handshake.specs.Refusals.{early_refusal, late_refusal}
 use Rattle.handshake.specs.declared.change.Change.TheVariants.{Load}
 use Rattle.handshake.proofs.AttributeLemmas.{stored_for}

@@ -1,4 +1,4 @@
--- What is told where objects are destroyed: the losses of each end in order, at the positions of the moment.
+-- The notifications if objects are destroyed: the losses of each end in order, at the positions of the moment.
 use Rattle.std.proofs.Common.{◌≡◌, ℕ, ◌+◌, suc, pos, nat_lt, remove, length, slice_get, Bool, true, false, ◌||◌, not, List, [], ◌∷◌, ◌++◌, filter, flat_map, map, Option, Some, None, option_to_list, if◌then◌else◌, refl, sym, ap, ◌∙◌, subst, arith}
 use Rattle.std.specs.List.{AllByRecursion}
 use Rattle.std.proofs.lemmas.Bool.{false≢true}
@@ -38,6 +38,7 @@ use Rattle.handshake.proofs.CutEndLemmas.{reference-flag, reference-plain}
 use Rattle.handshake.proofs.CutLinkEndLemmas.{same_end-symmetric, values-linked}
 use Rattle.handshake.proofs.HappenedLemmas.{at-own, done, done-here, happened_all-at, happened_at, happened_at-append}
 use Rattle.handshake.proofs.ReplayLemmas.{removed-index, replayed_all-told}
+use Rattle.handshake.proofs.ResolveLemmas.{length-pushed}
 
 ---------------------------------------------------------------- a value between others
 
@@ -67,10 +68,6 @@ distinct-middle ks v vs distinct = subst IsDistinct (remove-middle ks v vs) (dis
 push-middle : (ks : List Value) (v : Value) (vs : List Value) → ks ++ v ∷ vs ≡ (ks ++ v ∷ []) ++ vs
 push-middle ks v vs = sym (append_assoc ks (v ∷ []) vs)
 
-length-push : (ks : List Value) (v : Value) → length (ks ++ v ∷ []) ≡ suc (length ks)
-length-push [] v = refl
-length-push (k ∷ ks) v = ap suc (length-push ks v)
-
 ---------------------------------------------------------------- one telling
 
 abbrev pub loses : End → Value → FeatureChange
@@ -84,7 +81,7 @@ next-at m e d v h is =
 
 ---------------------------------------------------------------- one end
 
--- the notice of a loss from a list that has something
+-- the notification of a loss from a list that has something
 abbrev removal : Loss → Notice
 removal l = record { notifier = l.end.node; feature = Some l.end.feature; kind = kind.Remove; old_value = l.value; new_value = value.Null; position = pos l.position; was_set = true }
 
@@ -119,7 +116,7 @@ module _ (m : Metamodel) (d : End) (many : (shape m d.feature).is_single ≡ fal
             ∙ ap (λ (ns : List Notice). told_as (loss d v (length ks)) ∷ ns) (many-notices told_as each next ks vs (distinct-middle ks v vs distinct) (next-at m e d v _ is ∙ many-loss ks v vs distinct))
         | false ↦
             many-notices told_as each e (ks ++ v ∷ []) vs (subst IsDistinct (push-middle ks v vs) distinct) (is ∙ (λ i. record { values = push-middle ks v vs i; flag = b }))
-            ∙ ap (λ (k : ℕ). map told_as (lost_from lost d vs k)) (length-push ks v)
+            ∙ ap (λ (k : ℕ). map told_as (lost_from lost d vs k)) (length-pushed ks v)
       ]
 
   many-held : (ks vs : List Value) → IsDistinct (ks ++ vs) → happened_at m (map (loses d) (filter lost vs)) d (record { values = ks ++ vs; flag = b }) ≡ record { values = ks ++ filter (λ v. not (lost v)) vs; flag = b }
@@ -185,7 +182,7 @@ module _ (s : Model) (legal : IsLegal s) (o : ObjectNo) (d : End) (reference : (
           ∙ ap (λ (b : Bool). if b then notice a d (held_at r d) kind.Set v value.Null no_index else notice a d (held_at r d) kind.Remove v value.Null (pos (index_in (held_at r d).values v))) single
           ∙ ap (λ (b : Bool). if b then notice a d (held_at r d) kind.Set v value.Null no_index else notice a d (held_at r d) kind.Remove v value.Null (pos 0)) (sym single)
 
-  -- the notices of what the end loses
+  -- the notifications of what the end loses
   pub end-notices : (e : Ends) → e d ≡ held_at r d → told s.metamodel e (lost_with r o d) ≡ map (lost_notice r) (lost_at r o d)
   end-notices e is =
       let lost = is_lost r o d in

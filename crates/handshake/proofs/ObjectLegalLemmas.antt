@@ -1,5 +1,5 @@
 -- What an object keeps stays legal where a list is put, and so do the objects' classes.
-use Rattle.std.proofs.Common.{◌≡◌, ℕ, zero, suc, eqb, Bool, true, false, ◌&&◌, List, [], ◌∷◌, ◌++◌, slice_index_or, slice_set, Option, Some, None, unwrap_or, option_map, if◌then◌else◌, refl, sym, ap, ◌∙◌, subst, arith}
+use Rattle.std.proofs.Common.{◌≡◌, ℕ, zero, suc, eqb, Bool, true, false, ◌&&◌, List, [], ◌∷◌, ◌++◌, slice_index_or, slice_set, Option, Some, None, unwrap_or, option_map, if◌then◌else◌, refl, sym, ◌∙◌, subst, arith}
 use Rattle.std.specs.List.{All, IsDistinct}
 use Rattle.std.specs.Ordering.{nat_cmp}
 use Rattle.std.specs.FinMap as map
@@ -22,6 +22,7 @@ use Rattle.mm_values.specs.Stored.{Stored, is_nothing, nothing_stored}
 use Rattle.mm_values.specs.Values.{ObjectState, Objects, put_stored}
 use Rattle.mm_values.proofs.StoredIn.{get-with_stored, kept}
 use Rattle.models.specs.Legal.{IsLegalObject, IsLegalStored, IsUniqueList, is_short}
+use Rattle.doc_loader.proofs.SideLemmas.{feature-same}
 use Rattle.handshake.proofs.LegalEndLemmas.{one-bounded}
 
 ---------------------------------------------------------------- what an object keeps
@@ -53,9 +54,6 @@ pub unique-one : (b : Bool) (v : Value) → IsUniqueList b (v ∷ [])
 unfolding IsDistinct
 unique-one true v = (tt, tt)
 unique-one false v = tt
-
-same_number : (f g : FeatureNo) → f.0 ≡ g.0 → f ≡ g
-same_number f g e = ap (λ (n : ℕ). record { 0 = n }) e
 
 -- what holds nothing is legal
 pub nothing-legal : (m : Metamodel) (c : ClassNo) (f : FeatureNo) → IsLegalStored m c f nothing_stored
@@ -100,7 +98,7 @@ pub put-legal : (m : Metamodel) (o : ObjectState) (f : FeatureNo) (h : Stored) �
 put-legal m o f h legal held =
     let at : (g : FeatureNo) (b : Bool) → eqb g.0 f.0 ≡ b → IsLegalStored m o.class g (unwrap_or (if b then kept h else map.get o.stored g.0) nothing_stored) =
     λ g b. elim b as (λ b. eqb g.0 f.0 ≡ b → IsLegalStored m o.class g (unwrap_or (if b then kept h else map.get o.stored g.0) nothing_stored)) [
-      | true ↦ λ e. subst (λ (k : FeatureNo). IsLegalStored m o.class k (unwrap_or (kept h) nothing_stored)) (same_number f g (grind (arith, nat_tests))) (kept-legal m o.class f h held)
+      | true ↦ λ e. subst (λ (k : FeatureNo). IsLegalStored m o.class k (unwrap_or (kept h) nothing_stored)) (feature-same f g (grind (arith, nat_tests))) (kept-legal m o.class f h held)
       | false ↦ λ e. legal.1 g
     ] in
     (legal.0, λ g. subst (λ (r : Option Stored). IsLegalStored m o.class g (unwrap_or r nothing_stored)) (sym (get-with_stored o.stored f.0 h g.0)) (at g (eqb g.0 f.0) refl))

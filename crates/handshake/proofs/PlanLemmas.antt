@@ -20,34 +20,34 @@ use Rattle.links.proofs.LegalLemmas.{IsPlanOfKind-append, PlanFits-append, PlanM
 use Rattle.mm_values.specs.Values as values
 use Rattle.models.specs.Legal.{IsLegal, kinds_of}
 use Rattle.models.specs.Model.{Model, reading}
-use Rattle.models.specs.Reading.{Reading, at_end, is_repeat, position_for, shape_at}
+use Rattle.models.specs.Reading.{at_end, is_repeat, position_for, shape_at}
 use Rattle.resource_docs.specs.declared.doc.Doc.{Doc}
 use Rattle.doc_loader.specs.LoadEdits.{load_edits}
 use Rattle.doc_loader.specs.Loading.{loaded_links, with_links}
 use Rattle.doc_loader.proofs.KindLemmas.{read-kind}
+use Rattle.containment.proofs.PartLemmas.{kinds-are}
 use Rattle.handshake.specs.declared.change.Change.{Change}
 use Rattle.handshake.specs.declared.change.Change.TheVariants.{At, ResolveAll, Load}
 use Rattle.handshake.specs.declared.act.Act.TheVariants.{Set, Add, Move, Resolve}
-use Rattle.handshake.specs.declared.planned.Planned.{Planned}
 use Rattle.removal.specs.declared.link_end.LinkEnd.{LinkEnd}
-use Rattle.handshake.specs.FeatureChanges.{chain, resolved_by, resolves_all, target_of}
+use Rattle.handshake.specs.FeatureChanges.{resolves_all}
 use Rattle.handshake.specs.Displaced.{cut_by_new, cut_by_set, cut_link_ends, has_already, is_plain_add, is_plain_set}
 use Rattle.handshake.specs.Edits.{cut_of, link_edits, made_edits, new_put}
-use Rattle.handshake.specs.Effects.{links_after, put_by, value_edits, with_value}
-use Rattle.handshake.specs.Plans.{HasReadDocument, IsDocument, IsPlanOf, IsRemovalOf}
+use Rattle.handshake.specs.Effects.{links_after, put_by, with_value}
+use Rattle.handshake.specs.Changes.{HasReadDocument, IsDocument}
 use Rattle.handshake.specs.Refusals.{early_refusal, late_refusal, link_refusal}
-use Rattle.handshake.proofs.KnownLemmas.{IsResolvable, add-gains, add-named, add-taken, kinds-are, linkable, move-placed, set-named, set-taken}
+use Rattle.handshake.proofs.KnownLemmas.{IsResolvable, add-gains, add-named, add-taken, linkable, move-placed, set-named, set-taken}
 use Rattle.handshake.proofs.LoadLemmas.{load-makes}
 use Rattle.handshake.proofs.LinkLemmas.{IsNewLink, many-lacks, near-empty, near-same, new-fits, new-outside, new_edit, single-lacks, without_displaced}
 use Rattle.handshake.proofs.CutLinkEndLemmas.{cuts-once, cuts-there, left-cuts, plain-not, values-linked}
 use Rattle.removal.specs.Laws.{names_of}
 use Rattle.handshake.proofs.ResolveLemmas.{alone-fits, alone-outside, both, joint, joint-fits, joint-outside, last-index, left, shift-fits}
 use Rattle.handshake.proofs.ResolvedLemmas.{resolved-as}
-use Rattle.handshake.specs.declared.target.Target.{Target}
+use Rattle.proxies.specs.declared.target.Target.{Target}
 
 ---------------------------------------------------------------- new links
 
--- a set and an addition that are not plain, of an object
+-- a set and an addition of an object that may cut links
 pub set-new : (s : Model) (n : Node) (f : FeatureNo) (o : ObjectNo) → IsLegal s → early_refusal (reading s) (At (at_end n f) (Set (value.Object o))) ≡ None → late_refusal (reading s) (At (at_end n f) (Set (value.Object o))) ≡ None
     → is_plain_set (reading s) (at_end n f) (value.Object o) ≡ false → IsNewLink s (at_end n f) o
 set-new s n f o legal early late h =
@@ -91,7 +91,7 @@ one-put : (s : Model) (legal : IsLegal s) (e : End) (o : ObjectNo) (new : IsNewL
     → ArePuts s (without_displaced s e o) (new_edit s e i o ∷ []) u
 one-put s legal e o new i u placed makes = record { fits = (new-fits s legal e o new i placed, tt); of_kind = ((refl, refl), tt); no_cycle = (new-outside s legal e o new i placed, tt); makes = makes }
 
--- of a set of an end that is not plain
+-- of a set of an end that may cut links
 set-puts : (s : Model) (n : Node) (f : FeatureNo) (v : Value) → IsLegal s → early_refusal (reading s) (At (at_end n f) (Set v)) ≡ None → late_refusal (reading s) (At (at_end n f) (Set v)) ≡ None → is_plain_set (reading s) (at_end n f) v ≡ false
     → (let t = without_all s.links (names_of (cut_by_set (reading s) (at_end n f) v)) in ArePuts s t (option_to_list (new_put (reading s) (at_end n f) 0 v)) (with_value t (reading s) (at_end n f) None v))
 set-puts s n f (value.Object o) legal early late h =
@@ -230,25 +230,3 @@ module _ (s : Model) (c : Change) (one : resolves_all c ≡ false) (legal : IsLe
             ∙ ap (λ (t : Links). put_by t (reading s) c) (sym (left-cuts s c legal early));
       } in
       subst (λ (ys : List Edit). IsPlanFor s c (ys ++ xs)) (sym (cut_edits-pairs (cut_link_ends (reading s) c))) whole
-
--- nothing is resolved by a change that doesn't resolve all proxies
-pub none-counted : (r : Reading) (c : Change) → resolves_all c ≡ false → None ≡ resolved_by r c
-none-counted r ResolveAll one = absurd (true≢false one)
-none-counted r _ one = refl
-
--- what planning gives, by its parts
-pub planned : (is_heard : Bool) (s : Model) (c : Change) (p : Planned) → resolves_all c ≡ false → IsLegal s → early_refusal (reading s) c ≡ None → late_refusal (reading s) c ≡ None → HasReadDocument s.metamodel c → IsRemovalOf (reading s) c p.removal → p.target ≡ target_of (reading s) c → p.resolved ≡ resolved_by (reading s) c
-    → p.edits ≡ link_edits (reading s) c → p.values ≡ value_edits (reading s) c → p.chain ≡ (if is_heard then chain (reading s) c else []) → IsPlanOf is_heard s c p
-planned is_heard s c p one legal early late read removed found resolved edits lists tells =
-    let plan = subst (IsPlanFor s c) (sym edits) (plan-for s c one legal early late read) in
-    record {
-      allowed = late;
-      removed = removed;
-      found = found;
-      resolved = resolved;
-      fits = plan.fits;
-      of_kind = plan.of_kind;
-      links_made = plan.makes;
-      values_made = ap (values.applied s.values) lists;
-      tells = tells;
-    }

@@ -45,13 +45,13 @@ use Rattle.handshake.specs.declared.change.Change.{Change}
 use Rattle.handshake.specs.declared.change.Change.TheVariants.{At, Create, Delete, NewResource, ResolveAll, Load}
 use Rattle.handshake.specs.declared.act.Act.TheVariants.{Set, Unset, Add, Remove, RemoveValue, Move, Resolve}
 use Rattle.handshake.specs.Displaced.{cut_link_ends, is_plain_add, is_plain_set, link_ends_joined}
-use Rattle.handshake.specs.Proxies.{end_of, sites}
-use Rattle.handshake.specs.ResolvingAll.{Resolution, resolutions}
-use Rattle.handshake.specs.Plans.{HasReadDocument}
+use Rattle.proxies.specs.Proxies.{end_of, sites}
+use Rattle.proxies.specs.ResolvingAll.{Resolution, resolutions}
+use Rattle.handshake.specs.Changes.{HasReadDocument}
 use Rattle.handshake.specs.Laws.{BringsSteadyTexts, KeepsSteady}
 use Rattle.handshake.specs.Effects.{act_edits, add_value, if_attribute, joined, links_after, links_left, of_object, put_back, put_by, put_under, take_value, value_edits, with_resolution, with_value, without_link_ends}
-use Rattle.handshake.specs.Resolving.{target_at}
-use Rattle.handshake.specs.declared.target.Target.{Target}
+use Rattle.proxies.specs.Resolving.{target_at}
+use Rattle.proxies.specs.declared.target.Target.{Target}
 
 ---------------------------------------------------------------- links
 

@@ -1,4 +1,4 @@
--- What a change of a reference tells is what it makes of each end.
+-- The notifications of a change of a reference are what it makes of each end.
 use Rattle.std.proofs.Common.{slice_get, ◌≡◌, ℕ, suc, ◌≤◌, nat_lt, length, unwrap_or, arith, inl, inr, Bool, true, false, ◌&&◌, ◌||◌, List, [], ◌∷◌, ◌++◌, flat_map, Option, Some, None, option_map, option_to_list, if◌then◌else◌, refl, sym, ap, ◌∙◌, subst}
 use Rattle.std.specs.Prelude.{◌⊎◌}
 use Rattle.std.specs.List.{AllByRecursion, insert}
@@ -27,7 +27,7 @@ use Rattle.models.specs.Legal.{IsLegal}
 use Rattle.models.specs.Model.{Model, kept_flag, reading}
 use Rattle.models.specs.Reading.{Reading, held_at, value_at}
 use Rattle.handshake.specs.Displaced.{has_already, yields}
-use Rattle.handshake.specs.Resolving.{opposite_end}
+use Rattle.proxies.specs.Resolving.{opposite_end}
 use Rattle.handshake.specs.Laws.{AreDifferent}
 use Rattle.handshake.specs.FeatureChange.{feature_change}
 use Rattle.handshake.specs.FeatureChanges.{far_gain, far_loss, far_losses, gain_at, is_replaced, losses, other_losses}
@@ -39,8 +39,9 @@ use Rattle.handshake.proofs.AttributeLemmas.{Replays}
 use Rattle.handshake.proofs.ApartLemmas.{far_losses-away}
 use Rattle.handshake.proofs.CutEndLemmas.{held-one, reference-flag, reference-plain, same-held}
 use Rattle.handshake.proofs.CutHeldLemmas.{held_in, losses-cut}
-use Rattle.handshake.proofs.CutLinkEndLemmas.{Stands, all_map, far-emptied, same_end-symmetric, yields-different, yields-stand}
+use Rattle.handshake.proofs.CutLinkEndLemmas.{Stands, far-emptied, same_end-symmetric, yields-different, yields-stand}
 use Rattle.removal.specs.Laws.{names_of}
+use Rattle.removal.proofs.ListLemmas.{all-map}
 use Rattle.handshake.proofs.HappenedLemmas.{at-others, at-own, done, done-here, done-other, done_at, happened_at, happened_at-append}
 use Rattle.handshake.proofs.KnownLemmas.{far-reference}
 use Rattle.handshake.proofs.LossLemmas.{gained, gained-single, happened_at-far_loss, happened_at-other_losses}
@@ -51,7 +52,7 @@ pub at-each : (P : End → Type 0) (e d : End) → P e → (same_end e d ≡ fal
 at-each P e d here other = elim (same_end e d) as (λ b. same_end e d ≡ b → P d) [ true ↦ λ same. subst P (same_end-true e d same) here | false ↦ other ] refl
 
 stand-there : (s : Links) (ts : List LinkEnd) → AllByRecursion (Stands s) ts → AreThere s (names_of ts)
-stand-there s ts stand = all_map (λ (x : End × Value). Has s x.0 x.1) (λ (t : LinkEnd). (t.end, t.value)) ts stand
+stand-there s ts stand = all-map (λ (x : End × Value). Has s x.0 x.1) (λ (t : LinkEnd). (t.end, t.value)) ts stand
 
 ---------------------------------------------------------------- the value that is there
 
@@ -161,7 +162,7 @@ module _ (s : Model) (legal : IsLegal s) (e : End) (o : ObjectNo) (new : IsNewLi
   there : AreThere s.links (names_of (yields (reading s) e o))
   there = stand-there s.links (yields (reading s) e o) (yields-stand s e o legal new.reference)
 
-  -- what the displaced links tell, and what is told before the end itself gains
+  -- the notifications of the displaced links, and those before the end itself gains
   abbrev kept : List FeatureChange
   kept = flat_map (other_losses (reading s) e o) (yields (reading s) e o)
 

@@ -10,7 +10,7 @@ use Rattle.containment.specs.Forest.{subtree}
 use Rattle.removal.specs.Removals.{IsRemoval}
 use Rattle.removal.specs.declared.gone.Removal.{Removal}
 use Rattle.handshake.specs.Effects.{value_edits}
-use Rattle.handshake.specs.Plans.{IsRemovalOf}
+use Rattle.handshake.specs.Changes.{IsRemovalOf}
 use Rattle.handshake.specs.FeatureChanges.{destroyed_by}
 use Rattle.handshake.specs.declared.change.Change.{Change}
 use Rattle.handshake.specs.declared.change.Change.TheVariants.{Delete}

@@ -25,16 +25,17 @@ use Rattle.removal.specs.declared.link_end.LinkEnd.{LinkEnd}
 use Rattle.handshake.specs.Displaced.{counter_link_end, link_end_in}
 use Rattle.handshake.specs.Edits.{cut_of, edits_of, joining}
 use Rattle.handshake.specs.Effects.{joined, with_resolution, without_link_ends}
-use Rattle.handshake.specs.Proxies.{end_of}
-use Rattle.handshake.specs.Refusals.{early_refusal, resolve_refusal}
-use Rattle.handshake.specs.Resolving.{target_at}
-use Rattle.handshake.specs.ResolvingAll.{Resolution, resolutions, resolved_to, values_left, values_with, with_resolved}
+use Rattle.proxies.specs.Proxies.{end_of}
+use Rattle.handshake.specs.Refusals.{early_refusal}
+use Rattle.proxies.specs.Refusals.{resolve_refusal}
+use Rattle.proxies.specs.Resolving.{target_at}
+use Rattle.proxies.specs.ResolvingAll.{Resolution, resolutions, resolved_to, values_left, values_with, with_resolved}
 use Rattle.handshake.specs.FeatureChanges.{resolution_told, resolved}
 use Rattle.handshake.specs.declared.change.Change.TheVariants.{At}
 use Rattle.handshake.specs.declared.act.Act.TheVariants.{Resolve}
 use Rattle.handshake.specs.declared.change_kind.FeatureChange.{FeatureChange}
-use Rattle.handshake.specs.declared.site.ProxySite.{ProxySite}
-use Rattle.handshake.specs.declared.target.Target.{Target}
+use Rattle.proxies.specs.declared.site.ProxySite.{ProxySite}
+use Rattle.proxies.specs.declared.target.Target.{Target}
 use Rattle.handshake.proofs.AttributeLemmas.{Replays}
 use Rattle.handshake.proofs.ChainLemmas.{resolve-changes}
 use Rattle.handshake.proofs.HappenedLemmas.{happened_at, happened_at-append}
@@ -136,7 +137,7 @@ resolved-to r p x = by (resolve_refusal r (end_of p) p.index) refl
 abbrev resolution : Reading → ProxySite → Target → Resolution
 resolution r p x = record { reads = r; site = p; target = x }
 
--- what is resolved at places, and what ends hold after it, lead to a legal model
+-- what is resolved at locations, and what ends hold after it, lead to a legal model
 pub all-lead : (ps : List ProxySite) (s : Model) → IsLegal s
     → (let xs = resolutions (reading s) ps in Leads s (flat_map edits_of xs) (flat_map resolution_told xs) (fold with_resolution s.links xs) (values_left (reading s) ps))
 all-lead [] s legal = leads-nowhere s legal

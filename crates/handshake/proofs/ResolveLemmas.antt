@@ -30,15 +30,15 @@ use Rattle.models.proofs.PlaceLemmas.{has-at}
 use Rattle.models.specs.Legal.{IsLegal, is_legal_end, is_legal_target, kinds_of, takes_proxies}
 use Rattle.models.specs.Model.{Model, reading}
 use Rattle.models.specs.Reading.{has_feature, shape_at}
-use Rattle.containment.proofs.PartLemmas.{legal-at}
+use Rattle.containment.proofs.PartLemmas.{kinds-are, legal-at}
 use Rattle.removal.specs.TreeLinkEnds.{link_end}
 use Rattle.handshake.specs.Displaced.{link_end_in}
-use Rattle.handshake.specs.declared.target.Target.{Target}
+use Rattle.proxies.specs.declared.target.Target.{Target}
 use Rattle.handshake.proofs.CutLinkEndLemmas.{values-linked}
-use Rattle.handshake.proofs.KnownLemmas.{IsResolvable, far-reference, kinds-are}
+use Rattle.handshake.proofs.KnownLemmas.{IsResolvable, far-reference}
 use Rattle.handshake.proofs.LegalEndLemmas.{end-from, list_all-insert, taken_out, takes-back}
 use Rattle.handshake.proofs.LinkLemmas.{lacks-far, object-has}
-use Rattle.handshake.proofs.TargetLemmas.{match-apart}
+use Rattle.proxies.proofs.TargetLemmas.{match-apart}
 
 ---------------------------------------------------------------- one value instead of another
 
@@ -83,7 +83,7 @@ shifted-last : (vs : List Value) (w : Value) (j : ℕ) → shifted (vs ++ w ∷ 
 shifted-last vs w j =
     ap (λ (q : Option Value). put_back q (vs ++ w ∷ []) j (length vs)) (last-there vs w) ∙ ap (λ (ys : List Value). insert ys j w) (without-last vs w)
 
-length-pushed : (vs : List Value) (w : Value) → length (vs ++ w ∷ []) ≡ suc (length vs)
+pub length-pushed : (vs : List Value) (w : Value) → length (vs ++ w ∷ []) ≡ suc (length vs)
 length-pushed [] w = refl
 length-pushed (v ∷ vs) w = ap suc (length-pushed vs w)
 

@@ -19,20 +19,20 @@ use Rattle.removal.specs.declared.link_end.LinkEnd.{LinkEnd}
 use Rattle.handshake.specs.Displaced.{counter_link_end, link_end_in, link_ends_resolved}
 use Rattle.handshake.specs.Edits.{joining}
 use Rattle.handshake.specs.Effects.{joined}
-use Rattle.handshake.specs.Refusals.{resolve_refusal}
-use Rattle.handshake.specs.Resolving.{target_at}
+use Rattle.proxies.specs.Refusals.{resolve_refusal}
+use Rattle.proxies.specs.Resolving.{target_at}
 use Rattle.handshake.specs.FeatureChange.{feature_change}
 use Rattle.handshake.specs.FeatureChanges.{resolved}
 use Rattle.handshake.specs.declared.change_kind.ChangeKind.TheVariants.{Resolves}
 use Rattle.handshake.specs.declared.change_kind.FeatureChange.{FeatureChange}
-use Rattle.handshake.specs.declared.target.Counterpart.{Counterpart}
-use Rattle.handshake.specs.declared.target.Target.{Target}
+use Rattle.proxies.specs.declared.target.Counterpart.{Counterpart}
+use Rattle.proxies.specs.declared.target.Target.{Target}
 use Rattle.handshake.proofs.KnownLemmas.{IsResolvable, resolvable}
 use Rattle.handshake.proofs.LinkLemmas.{new_edit}
 use Rattle.handshake.proofs.ResolveLemmas.{joint, one-cut, placed}
-use Rattle.handshake.proofs.TargetLemmas.{IsMatch, alone-of, match-is}
+use Rattle.proxies.proofs.TargetLemmas.{IsMatch, alone-of, match-is}
 
--- something holds of the links that are cut, the edits after the cuts, what is told, and the links that are made
+-- something holds of the links that are cut, the edits after the cuts, the notifications, and the links that are made
 abbrev pub Resolving : Type 1
 Resolving = List LinkEnd → List Edit → List FeatureChange → Links → Type 0
 

@@ -31,28 +31,28 @@ use Rattle.fragment_paths.proofs.StayLemmas.{above-stays}
 use Rattle.fragment_paths.specs.Fragments.{position_in}
 use Rattle.handshake.specs.Displaced.{cut_link_ends}
 use Rattle.handshake.specs.Effects.{after, put_by}
-use Rattle.handshake.specs.Refusals.{resolve_refusal}
-use Rattle.handshake.specs.Resolving.{target_at}
-use Rattle.handshake.specs.ResolvingAll.{replaced, values_with}
+use Rattle.proxies.specs.Refusals.{resolve_refusal}
+use Rattle.proxies.specs.Resolving.{target_at}
+use Rattle.proxies.specs.ResolvingAll.{replaced, values_with}
 use Rattle.handshake.specs.FeatureChanges.{resolved, feature_changes}
 use Rattle.handshake.specs.declared.change.Change.TheVariants.{At}
 use Rattle.handshake.specs.declared.act.Act.TheVariants.{Resolve}
 use Rattle.handshake.specs.declared.change_kind.ChangeKind.{ChangeKind}
 use Rattle.handshake.specs.declared.change_kind.ChangeKind.TheVariants.{Resolves}
 use Rattle.handshake.specs.declared.change_kind.FeatureChange.{FeatureChange}
-use Rattle.handshake.specs.declared.target.Counterpart.{Counterpart}
-use Rattle.handshake.specs.declared.target.Target.{Target}
+use Rattle.proxies.specs.declared.target.Counterpart.{Counterpart}
+use Rattle.proxies.specs.declared.target.Target.{Target}
 use Rattle.handshake.proofs.CutLinkEndLemmas.{without_link_ends-names_of}
 use Rattle.handshake.proofs.KnownLemmas.{IsResolvable, far-reference}
 use Rattle.handshake.proofs.ResolveLemmas.{end-alone, end-joint, far-now, far-there, joint, now, placed, set-there, there}
 use Rattle.handshake.proofs.ResolvedLemmas.{resolved-as}
-use Rattle.handshake.proofs.TargetLemmas.{found-is, match-apart, match-is}
+use Rattle.proxies.proofs.TargetLemmas.{found-is, match-apart, match-is}
 
 -- the model with other links
 abbrev pub with_links : Model → Links → Model
 with_links s u = record s { links = u }
 
--- what ends hold once it is told
+-- what ends hold after the notifications
 abbrev done_in : (End → List Value) → End → ChangeKind → End → List Value
 done_in ends d (Resolves i v) = replaced ends d i v
 done_in ends d _ = ends

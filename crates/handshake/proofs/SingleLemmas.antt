@@ -1,10 +1,9 @@
--- No single end is told twice, whatever the change.
+-- No end of one value has two notifications, whatever the change.
 use Rattle.std.proofs.Common.{◌≡◌, ◌≤◌, ◌&&◌, ℕ, zero, suc, length, slice_get, slice_set, arith, Bool, true, false, not, List, [], ◌∷◌, ◌++◌, filter, flat_map, map, Option, Some, None, option_to_list, if◌then◌else◌, refl, sym, ap, ◌∙◌, subst, true≢false}
 use Rattle.std.specs.List.{AllByRecursion}
 use Rattle.std.specs.Option.{option_map_or}
 use Rattle.std.proofs.lemmas.Bool.{and_parts, false≢true}
 use Rattle.std.proofs.lemmas.Option.{none-some, same_Some}
-use Rattle.std.proofs.Math.ListN.{length-set}
 use Rattle.mm_types.proofs.SameLemmas.{same_end-self}
 use Rattle.mm_types.specs.OfDocument.{IsOfDocument}
 use Rattle.mm_types.specs.Same.{node_value, same_end}
@@ -27,29 +26,31 @@ use Rattle.removal.proofs.LossLemmas.{holder-reference, itself-stays}
 use Rattle.removal.proofs.OuterLemmas.{touched-in_order}
 use Rattle.removal.specs.Losses.{is_lost}
 use Rattle.removal.specs.Outer.{gone, holds_some, outer_ends, touched_ends}
+use Rattle.containment.proofs.PartLemmas.{all-append}
 use Rattle.handshake.proofs.ApartLemmas.{all_filter, apart-front, apart_filter, feature_changes-apart, unset-apart}
 use Rattle.handshake.proofs.CutHeldLemmas.{all-left, one-in}
-use Rattle.handshake.proofs.CutLinkEndLemmas.{all_append, held_stands, values-linked}
+use Rattle.handshake.proofs.CutLinkEndLemmas.{held_stands, values-linked}
 use Rattle.handshake.proofs.KnownLemmas.{far-reference, resolvable}
 use Rattle.handshake.proofs.LoadChainLemmas.{roots-many}
 use Rattle.handshake.proofs.ResolveAllLemmas.{resolved-to}
-use Rattle.handshake.proofs.TargetLemmas.{IsFound, IsMatch, match-apart, match-is}
+use Rattle.proxies.proofs.TargetLemmas.{IsFound, IsMatch, match-apart, match-is}
 use Rattle.handshake.specs.FeatureChange.{feature_change}
 use Rattle.handshake.specs.FeatureChanges.{all_lost, destroyed, far_losses, feature_changes, lost_with, resolution_told, resolved}
 use Rattle.handshake.specs.Displaced.{cut_link_ends}
 use Rattle.handshake.specs.Laws.{AreApart, TellsNoSingleEndTwice, is_of_single, takes_many}
-use Rattle.handshake.specs.Proxies.{end_of, sites}
+use Rattle.proxies.specs.Proxies.{end_of, sites}
 use Rattle.handshake.specs.Refusals.{early_refusal, late_refusal}
-use Rattle.handshake.specs.ResolvingAll.{Resolution, replaced, resolutions, resolved_to, with_resolved}
+use Rattle.proxies.specs.ResolvingAll.{Resolution, replaced, resolutions, resolved_to, with_resolved}
 use Rattle.handshake.specs.declared.act.Act.TheVariants.{Unset}
 use Rattle.handshake.specs.declared.change.Change.{Change}
 use Rattle.handshake.specs.declared.change.Change.TheVariants.{At, Delete, Load, ResolveAll}
 use Rattle.handshake.specs.declared.change_kind.ChangeKind.{ChangeKind}
 use Rattle.handshake.specs.declared.change_kind.ChangeKind.TheVariants.{Gains, Loses, LosesAt, Resolves, Unsets}
 use Rattle.handshake.specs.declared.change_kind.FeatureChange.{FeatureChange}
-use Rattle.handshake.specs.declared.site.ProxySite.{ProxySite}
-use Rattle.handshake.specs.declared.target.Counterpart.{Counterpart}
-use Rattle.handshake.specs.declared.target.Target.{Target}
+use Rattle.proxies.specs.declared.site.ProxySite.{ProxySite}
+use Rattle.proxies.specs.declared.target.Counterpart.{Counterpart}
+use Rattle.proxies.specs.declared.target.Target.{Target}
+use Rattle.proxies.proofs.ReplacedLemmas.{replaced-length}
 
 ---------------------------------------------------------------- lists of which some are kept
 
@@ -136,9 +137,6 @@ object-no-proxy o t is = cc
 abbrev swapped : (End → List Value) → End → ℕ → Target → Option Counterpart → End → List Value
 swapped ends e i x q = replaced (option_map_or (λ c. replaced ends c.end c.index (node_value e.node)) q ends) e i (value.Object x.object)
 
-replaced-length : (ends : End → List Value) (e : End) (i : ℕ) (v : Value) (d : End) → length (replaced ends e i v d) ≡ length (ends d)
-replaced-length ends e i v d = elim (same_end e d) as (λ b. length (if b then slice_set (ends d) i v else ends d) ≡ length (ends d)) [ true ↦ length-set (ends d) i v | false ↦ refl ]
-
 swapped-length : (ends : End → List Value) (e : End) (i : ℕ) (x : Target) (q : Option Counterpart) (d : End) → length (swapped ends e i x q d) ≡ length (ends d)
 swapped-length ends e i x None d = replaced-length ends e i (value.Object x.object) d
 swapped-length ends e i x (Some c) d = replaced-length (replaced ends c.end c.index (node_value e.node)) e i (value.Object x.object) d ∙ replaced-length ends c.end c.index (node_value e.node) d
@@ -160,7 +158,7 @@ far-none : (ends : End → List Value) (c : End) (j : ℕ) (n : Node) (v : Value
 far-none ends c j n v few at =
     subst (λ (b : Bool). AreResolved (if b then slice_set (ends c) j (node_value n) else ends c)) (sym (same_end-self c)) (only-set (ends c) j v (node_value n) (node-no-proxy n) few at)
 
--- an end without proxies hears of none that is resolved
+-- an end without proxies has no notification of one that is resolved
 resolved-away : (r : Reading) (e : End) (i : ℕ) (x : Target) (d : End) → IsFound r e i x → AreResolved (r.values d) → AllByRecursion (λ (u : FeatureChange). d ≡ u.at → ⊥) (resolved e i x)
 resolved-away r e i x d found none =
     let own : d ≡ e → ⊥ = λ same. none i found.text (ap (λ (y : End). slice_get (r.values y) i) same ∙ found.proxy) in
@@ -185,7 +183,7 @@ proxies-away (p ∷ ps) r d none =
       | Some x ↦ λ is.
           let found = (resolvable r (end_of p) p.index (resolved-to r p x is).late).resolvable.found in
           let same = same_Some _ x (sym (resolvable r (end_of p) p.index (resolved-to r p x is).late).is ∙ (resolved-to r p x is).found) in
-          all_append (λ (u : FeatureChange). d ≡ u.at → ⊥) (resolved (end_of p) p.index x) (told_by (with_resolved r p x) ps)
+          all-append (λ (u : FeatureChange). d ≡ u.at → ⊥) (resolved (end_of p) p.index x) (told_by (with_resolved r p x) ps)
           (resolved-away r (end_of p) p.index x d (subst (IsFound r (end_of p) p.index) same found) none)
           (proxies-away ps (with_resolved r p x) d (swapped-none r.values (end_of p) p.index x x.counterpart d none))
     ] refl
@@ -313,7 +311,7 @@ module _ (s : Model) (legal : IsLegal s) (o : ObjectNo) where
     all-away : (es : List End) → AllByRecursion (λ (t : FeatureChange). p t ≡ true → IsAway t (feature_change d (Loses (value.Object o)) ∷ [])) (flat_map (lost_with r o) es)
     all-away [] = tt
     all-away (x ∷ es) =
-        all_append (λ (t : FeatureChange). p t ≡ true → IsAway t (feature_change d (Loses (value.Object o)) ∷ [])) (lost_with r o x) (flat_map (lost_with r o) es)
+        all-append (λ (t : FeatureChange). p t ≡ true → IsAway t (feature_change d (Loses (value.Object o)) ∷ [])) (lost_with r o x) (flat_map (lost_with r o) es)
         (away-last x (filter (is_lost r o x) (r.values x)) (λ same single. ap (λ (y : End). filter (is_lost r o y) (r.values y)) same ∙ none-before (subst (λ (y : End). (shape s.metamodel y.feature).is_single ≡ true) same single)))
         (all-away es)
 

@@ -31,13 +31,14 @@ use Rattle.models.specs.Legal.{IsLegal, kinds_of}
 use Rattle.models.specs.Model.{Model, reading}
 use Rattle.models.specs.Reading.{has_feature}
 use Rattle.containment.proofs.HolderLemmas.{container_at, holding-feature}
-use Rattle.handshake.proofs.CutLinkEndLemmas.{all_append, all_once, all_weaker, is_named-same_link}
+use Rattle.containment.proofs.PartLemmas.{all-append, kinds-are}
+use Rattle.handshake.proofs.CutLinkEndLemmas.{all_once, is_named-same_link}
 use Rattle.removal.specs.Laws.{names_of}
-use Rattle.handshake.proofs.KnownLemmas.{kinds-are}
 use Rattle.handshake.specs.Displaced.{holding_link_end, in_the_way, other_side, same_link, same_link_end, link_ends_at, link_ends_if_single, yields}
-use Rattle.handshake.specs.Resolving.{opposite_end}
+use Rattle.proxies.specs.Resolving.{opposite_end}
 use Rattle.removal.specs.TreeLinkEnds.{link_end}
 use Rattle.removal.specs.declared.link_end.LinkEnd.{LinkEnd}
+use Rattle.removal.proofs.ListLemmas.{all-weaker}
 
 ---------------------------------------------------------------- where they come from
 
@@ -67,7 +68,7 @@ ends_at e (v ∷ vs) = (refl, ends_at e vs)
 if_single : (s : Model) (d : End) (P : LinkEnd → Type 0) → ((t : LinkEnd) → (shape s.metamodel d.feature).is_single ≡ true → t.end ≡ d → P t) → AllByRecursion P (link_ends_if_single (reading s) d)
 if_single s d P each =
     elim (shape s.metamodel d.feature).is_single as (λ b. (shape s.metamodel d.feature).is_single ≡ b → AllByRecursion P (if b then link_ends_at (reading s) d else [])) [
-      | true ↦ λ single. all_weaker (λ (t : LinkEnd). t.end ≡ d) P (link_ends_at (reading s) d) (λ t. each t single) (ends_at d ((reading s).values d))
+      | true ↦ λ single. all-weaker (λ (t : LinkEnd). t.end ≡ d) P (link_ends_at (reading s) d) (λ t. each t single) (ends_at d ((reading s).values d))
       | false ↦ λ _. tt
     ] refl
 
@@ -93,7 +94,7 @@ module _ (s : Model) (e : End) (o : ObjectNo) where
       ] refl
 
   pub yields-origin : AllByRecursion (Origin s e o) (yields (reading s) e o)
-  yields-origin = all_once (reading s) (Origin s e o) (in_the_way (reading s) e o) (all_append _ _ _ near-origin (all_append _ _ _ far-origin holder-origin))
+  yields-origin = all_once (reading s) (Origin s e o) (in_the_way (reading s) e o) (all-append _ _ _ near-origin (all-append _ _ _ far-origin holder-origin))
 
 ---------------------------------------------------------------- what a list keeps
 
@@ -209,4 +210,4 @@ module _ (s : Model) (legal : IsLegal s) (e : End) (o : ObjectNo) (has : has_fea
       end-without_all m (kinds-are s.metamodel legal.metamodel) s.links (names_of ts) legal.links.set legal.links.kinds e
       ∙ filter_all (is_named m (names_of ts) e) (end s.links e) (λ k w at.
       is_named-same_link (reading s) ts (link_end e w)
-      ∙ none-any (same_link (reading s) (link_end e w)) ts (all_weaker _ _ ts (not-displaced w (λ same. lacks k (subst (λ (x : Value). slice_get (end s.links e) k ≡ Some x) same at))) (yields-origin s e o)))
+      ∙ none-any (same_link (reading s) (link_end e w)) ts (all-weaker _ _ ts (not-displaced w (λ same. lacks k (subst (λ (x : Value). slice_get (end s.links e) k ≡ Some x) same at))) (yields-origin s e o)))

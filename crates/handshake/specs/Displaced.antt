@@ -16,8 +16,8 @@ use Rattle.links.specs.Holders.{contained}
 use Rattle.models.specs.Reading.{Reading, is_repeat, shape_at, first_at, value_at}
 use Rattle.removal.specs.TreeLinkEnds.{link_end, tree_link_ends}
 use Rattle.handshake.specs.declared.change.Change.{Change}
-use Rattle.handshake.specs.declared.target.Target.{Target}
-use Rattle.handshake.specs.Resolving.{opposite_end, target_at}
+use Rattle.proxies.specs.declared.target.Target.{Target}
+use Rattle.proxies.specs.Resolving.{opposite_end, target_at}
 use Rattle.handshake.specs.declared.change.Change.TheVariants.{At, Delete}
 use Rattle.handshake.specs.declared.act.Act.TheVariants.{Set, Unset, Add, Remove, RemoveValue, Resolve}
 

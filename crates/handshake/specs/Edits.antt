@@ -11,14 +11,14 @@ use Rattle.models.specs.Reading.{Reading, position_for, shape_at}
 use Rattle.handshake.specs.declared.change.Change.{Change}
 use Rattle.handshake.specs.declared.change.Change.TheVariants.{At, ResolveAll, Load}
 use Rattle.handshake.specs.declared.act.Act.TheVariants.{Set, Add, Move, Resolve}
-use Rattle.handshake.specs.declared.target.Counterpart.{Counterpart}
-use Rattle.handshake.specs.declared.target.Target.{Target}
+use Rattle.proxies.specs.declared.target.Counterpart.{Counterpart}
+use Rattle.proxies.specs.declared.target.Target.{Target}
 use Rattle.removal.specs.declared.link_end.LinkEnd.{LinkEnd}
 use Rattle.doc_loader.specs.LoadEdits.{load_edits}
 use Rattle.handshake.specs.Displaced.{cut_link_ends, is_plain_add, is_plain_set, link_ends_joined}
-use Rattle.handshake.specs.Proxies.{end_of, sites}
-use Rattle.handshake.specs.ResolvingAll.{Resolution, resolutions}
-use Rattle.handshake.specs.Resolving.{target_at}
+use Rattle.proxies.specs.Proxies.{end_of, sites}
+use Rattle.proxies.specs.ResolvingAll.{Resolution, resolutions}
+use Rattle.proxies.specs.Resolving.{target_at}
 
 abbrev pub cut_of : LinkEnd → Edit
 cut_of t = cut_edit t.end t.value

@@ -20,14 +20,14 @@ use Rattle.handshake.specs.declared.act.Act.{Act}
 use Rattle.handshake.specs.declared.change.Change.{Change}
 use Rattle.handshake.specs.declared.change.Change.TheVariants.{At, Create, Delete, NewResource, ResolveAll, Load}
 use Rattle.handshake.specs.declared.act.Act.TheVariants.{Set, Unset, Add, Remove, RemoveValue, Move, Resolve}
-use Rattle.handshake.specs.declared.target.Counterpart.{Counterpart}
-use Rattle.handshake.specs.declared.target.Target.{Target}
+use Rattle.proxies.specs.declared.target.Counterpart.{Counterpart}
+use Rattle.proxies.specs.declared.target.Target.{Target}
 use Rattle.removal.specs.declared.link_end.LinkEnd.{LinkEnd}
 use Rattle.doc_loader.specs.Loading.{loaded_links, loaded_values, with_links}
 use Rattle.handshake.specs.Displaced.{cut_link_ends, is_plain_add, is_plain_set, link_ends_joined}
-use Rattle.handshake.specs.Proxies.{end_of, sites}
-use Rattle.handshake.specs.ResolvingAll.{Resolution, resolutions}
-use Rattle.handshake.specs.Resolving.{target_at}
+use Rattle.proxies.specs.Proxies.{end_of, sites}
+use Rattle.proxies.specs.ResolvingAll.{Resolution, resolutions}
+use Rattle.proxies.specs.Resolving.{target_at}
 
 ---------------------------------------------------------------- values
 

@@ -1,4 +1,4 @@
--- What happens to ends, without positions; and the notices that report it, each read in the ends that the notices before it left.
+-- What happens to ends, without positions; and the notifications that report it, each read in the ends that the ones before it left.
 use Rattle.std.specs.Prelude.{ℤ, pos, Bool, false, List, [], ◌∷◌, ◌++◌, length, Some, if◌then◌else◌}
 use Rattle.mm_types.specs.Resolved.{Metamodel}
 use Rattle.mm_types.specs.Same.{same_value}
@@ -21,9 +21,9 @@ use Rattle.handshake.specs.declared.change_kind.FeatureChange.{FeatureChange}
 abbrev pub feature_change : End → ChangeKind → FeatureChange
 feature_change e h = record { at = e; does = h }
 
----------------------------------------------------------------- how it is told
+---------------------------------------------------------------- its notification
 
--- a notice of an end that holds h
+-- a notification at an end that holds h
 abbrev pub notice : Shape → End → Held → NoticeKind → Value → Value → ℤ → Notice
 notice a e h k old new p =
     record { notifier = e.node; feature = Some e.feature; kind = k; old_value = old; new_value = new; position = p; was_set = is_set a h }
@@ -41,7 +41,7 @@ notice_of a e Unsets h = notice a e h kind.Unset (value_in h.values 0) a.default
 notice_of a e (Moves to from) h = notice a e h kind.Move (value.Int (pos from)) (value_in h.values from) (pos to)
 notice_of a e (Resolves i v) h = notice a e h kind.Resolve (value_in h.values i) v (if a.is_single then no_index else pos i)
 
--- the notice of a feature change, read in a model
+-- the notification of a feature change, read in a model
 abbrev pub notice_at : Reading → FeatureChange → Notice
 notice_at r t = notice_of (shape_at r t.at) t.at t.does (held_at r t.at)
 
@@ -49,7 +49,7 @@ notice_at r t = notice_of (shape_at r t.at) t.at t.does (held_at r t.at)
 abbrev pub has_flag : Metamodel → FeatureNo → Bool
 has_flag m f = (shape m f).is_unsettable
 
--- each feature change becomes a notice, read in the ends so far, and the ends go on by replaying it
+-- each feature change becomes a notification, read in the ends so far, and the ends go on by replaying it
 abbrev pub told : Metamodel → Ends → List FeatureChange → List Notice
 told m e [] = []
 told m e (t ∷ ts) =

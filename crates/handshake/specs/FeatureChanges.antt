@@ -1,4 +1,4 @@
--- What a change makes happen, end by end in the order of the rules, and its chain of notices.
+-- What a change makes happen, end by end in the order of the rules, and its chain of notifications.
 use Rattle.std.specs.Prelude.{ℕ, zero, suc, ◌&&◌, ◌||◌, Bool, true, false, not, List, [], ◌∷◌, ◌++◌, filter, flat_map, length, map, Option, Some, None, option_to_list, if◌then◌else◌}
 use Rattle.std.specs.Option.{option_map_or}
 use Rattle.mm_types.specs.Same.{node_value, same_end}
@@ -21,13 +21,13 @@ use Rattle.handshake.specs.declared.act.Act.TheVariants.{Set, Unset, Add, Remove
 use Rattle.handshake.specs.declared.change_kind.ChangeKind.TheVariants.{Gains, GainsAt, Loses, LosesAt, Unsets, Moves, Resolves}
 use Rattle.handshake.specs.declared.change_kind.ChangeKind.{ChangeKind}
 use Rattle.handshake.specs.declared.change_kind.FeatureChange.{FeatureChange}
-use Rattle.handshake.specs.declared.planned.Resolved.{Resolved}
-use Rattle.handshake.specs.declared.target.Target.{Target}
+use Rattle.proxies.specs.declared.resolved.Resolved.{Resolved}
+use Rattle.proxies.specs.declared.target.Target.{Target}
 use Rattle.removal.specs.declared.link_end.LinkEnd.{LinkEnd}
 use Rattle.handshake.specs.Displaced.{cut_link_ends, is_plain_set, turned}
-use Rattle.handshake.specs.Proxies.{end_of, sites}
-use Rattle.handshake.specs.ResolvingAll.{Resolution, done, left, resolutions}
-use Rattle.handshake.specs.Resolving.{opposite_end, target_at}
+use Rattle.proxies.specs.Proxies.{end_of, sites}
+use Rattle.proxies.specs.ResolvingAll.{Resolution, done, left, resolutions}
+use Rattle.proxies.specs.Resolving.{opposite_end, target_at}
 use Rattle.handshake.specs.FeatureChange.{feature_change, told}
 
 ---------------------------------------------------------------- links
@@ -65,8 +65,8 @@ all_lost e (suc n) = feature_change e (LosesAt n) ∷ all_lost e n
 
 ---------------------------------------------------------------- changes
 
--- what a change that cuts these links tells before the end itself gains: of a new link, the displaced links' losses and the far end's
--- gain; of null, the far ends' losses
+-- what a change that cuts these links makes happen before the end itself gains: of a new link, the displaced links' losses and the far
+-- end's gain; of null, the far ends' losses
 abbrev pub before_gain : Reading → End → Value → List LinkEnd → List FeatureChange
 before_gain r e (value.Object o) ts = flat_map (other_losses r e o) ts ++ far_gain r e o
 before_gain r e v ts = far_losses r ts
@@ -160,6 +160,6 @@ feature_changes_with r _ ts = []
 abbrev pub feature_changes : Reading → Change → List FeatureChange
 feature_changes r c = feature_changes_with r c (cut_link_ends r c)
 
--- the notices that a change tells, in order
+-- the notifications of a change, in order
 abbrev pub chain : Reading → Change → List Notice
 chain r c = told r.metamodel (held_at r) (feature_changes r c)

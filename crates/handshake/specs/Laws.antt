@@ -22,7 +22,7 @@ use Rattle.handshake.specs.declared.change_kind.FeatureChange.{FeatureChange}
 use Rattle.removal.specs.declared.link_end.LinkEnd.{LinkEnd}
 use Rattle.handshake.specs.Displaced.{cut_link_ends, same_link}
 use Rattle.handshake.specs.Effects.{after}
-use Rattle.handshake.specs.Plans.{HasReadDocument}
+use Rattle.handshake.specs.Changes.{HasReadDocument}
 use Rattle.handshake.specs.Refusals.{early_refusal, late_refusal}
 use Rattle.handshake.specs.FeatureChange.{has_flag, feature_change}
 use Rattle.handshake.specs.FeatureChanges.{chain, far_losses, feature_changes}
@@ -72,12 +72,12 @@ takes_many r ResolveAll = true
 takes_many r (Load k doc) = true
 takes_many r _ = false
 
--- no end is told twice
+-- no end has two notifications
 abbrev pub AreApart : List FeatureChange → Type 0
 AreApart [] = Unit {0}
 AreApart (t ∷ ts) = AllByRecursion (λ (u : FeatureChange). t.at ≡ u.at → ⊥) ts × AreApart ts
 
--- but a list that is unset, which is told last, value by value, the lists that hold what is destroyed, and that of the roots of a load
+-- but a list that is unset, which comes last, value by value, the lists that hold what is destroyed, and that of the roots of a load
 abbrev pub TellsNoEndTwice : Model → Change → Type 0
 TellsNoEndTwice = OfAllowed (λ s c. IsFalse (takes_many (reading s) c) → AreApart (feature_changes (reading s) c))
 
@@ -85,11 +85,11 @@ TellsNoEndTwice = OfAllowed (λ s c. IsFalse (takes_many (reading s) c) → AreA
 abbrev pub is_of_single : Metamodel → FeatureChange → Bool
 is_of_single m t = (shape m t.at.feature).is_single
 
--- no single end is told twice, whatever the change
+-- no end of one value has two notifications, whatever the change
 abbrev pub TellsNoSingleEndTwice : Model → Change → Type 0
 TellsNoSingleEndTwice = OfAllowed (λ s c. AreApart (filter (is_of_single s.metamodel) (feature_changes (reading s) c)))
 
--- where a list is unset, no far end is told twice, and none of them is the list
+-- if a list is unset, no far end has two notifications, and none of them is the list
 abbrev pub FarEndsAreApart : Model → End → Type 0
 FarEndsAreApart s e =
     let far = far_losses (reading s) (cut_link_ends (reading s) (At e Unset)) in

@@ -1,4 +1,3 @@
-pub mod Resolving
 pub mod Displaced
 pub mod FeatureChange
 pub mod Reports
@@ -6,13 +5,7 @@ pub mod FeatureChanges
 pub mod Effects
 pub mod Edits
 pub mod Refusals
-pub mod Proxies
-pub mod ResolvingAll
-pub mod Keys
-pub mod Leads
-pub mod Joining
-pub mod LonePuts
-pub mod Plans
+pub mod Changes
 pub mod Laws
 pub mod OneByOne
 pub mod Loaded

@@ -21,7 +21,7 @@ use Rattle.doc_loader.specs.Typed.{class_in}
 use Rattle.handshake.specs.declared.change.Change.TheVariants.{Load}
 use Rattle.handshake.specs.Effects.{after}
 use Rattle.handshake.specs.Laws.{OfAllowed, comes_with}
-use Rattle.handshake.specs.Plans.{HasReadDocument}
+use Rattle.handshake.specs.Changes.{HasReadDocument}
 
 -- a feature of an object of a document is written with another object of it
 abbrev pub IsWrittenWith : Doc → ObjectNo → FeatureNo → ObjectNo → Type 0

@@ -4,14 +4,14 @@ use Rattle.mm_types.specs.Conditions.{◌else_by◌}
 use Rattle.notice_chain.specs.declared.notice.Notice.{Notice}
 use Rattle.models.specs.Model.{Model, reading}
 use Rattle.handshake.specs.Effects.{after}
-use Rattle.handshake.specs.Proxies.{end_of, sites}
+use Rattle.proxies.specs.Proxies.{end_of, sites}
 use Rattle.handshake.specs.Refusals.{early_refusal, late_refusal}
-use Rattle.handshake.specs.ResolvingAll.{done, left}
+use Rattle.proxies.specs.ResolvingAll.{done, left}
 use Rattle.handshake.specs.FeatureChanges.{chain}
 use Rattle.handshake.specs.declared.change.Change.{Change}
 use Rattle.handshake.specs.declared.change.Change.TheVariants.{At, ResolveAll}
 use Rattle.handshake.specs.declared.act.Act.TheVariants.{Resolve}
-use Rattle.handshake.specs.declared.site.ProxySite.{ProxySite}
+use Rattle.proxies.specs.declared.site.ProxySite.{ProxySite}
 
 abbrev pub resolve : ProxySite → Change
 resolve p = At (end_of p) (Resolve p.index)
@@ -24,7 +24,7 @@ abbrev pub after_each : Model → List ProxySite → Model
 after_each s [] = s
 after_each s (p ∷ ps) = if is_refused s (resolve p) then after_each s ps else after_each (after s (resolve p)) ps
 
--- the notices of each
+-- the notifications of each
 abbrev pub told_by_each : Model → List ProxySite → List Notice
 told_by_each s [] = []
 told_by_each s (p ∷ ps) =

@@ -3,7 +3,6 @@
 use Rattle.std.specs.Prelude.{ℕ, ◌+◌, ◌&&◌, ◌||◌, Bool, false, not, List, length, nat_le, nat_lt, Option, None, is_some, if◌then◌else◌}
 use Rattle.std.specs.Option.{option_map_or}
 use Rattle.mm_types.specs.Conditions.{◌unless◌, ◌where_so◌, ◌else_by◌}
-use Rattle.mm_types.specs.Ends.{has_value}
 use Rattle.mm_types.specs.Same.{same_feature}
 use Rattle.mm_types.specs.Shapes.{is_full_list, shape}
 use Rattle.mm_types.specs.declared.limits.TheConstants.{LIST_VALUES, OBJECTS, RESOURCES}
@@ -13,10 +12,9 @@ use Rattle.mm_types.specs.declared.numbers.ResourceNo.{ResourceNo}
 use Rattle.mm_types.specs.declared.numbers.Node.TheVariants as node
 use Rattle.mm_types.specs.declared.end.End.{End}
 use Rattle.mm_types.specs.declared.refused.Refused.{Refused}
-use Rattle.mm_types.specs.declared.refused.Refused.TheVariants.{NotSingle, NotMany, WrongType, TextLength, Index, Duplicate, Bound, Recursive, Limit, ResourceExists, NotEmpty, NotProxy, Unloaded, Unresolved, Unmatched}
+use Rattle.mm_types.specs.declared.refused.Refused.TheVariants.{NotSingle, NotMany, WrongType, TextLength, Index, Duplicate, Bound, Recursive, Limit, ResourceExists, NotEmpty}
 use Rattle.mm_types.specs.declared.value.Value.{Value}
 use Rattle.mm_types.specs.declared.value.Value.TheVariants as value
-use Rattle.web_uris.specs.Addresses.{uri_part}
 use Rattle.models.specs.Reading.{Reading, has_uri, is_repeat, is_within, position_for, shape_at, takes}
 use Rattle.models.specs.Legal.{is_short, is_short_text}
 use Rattle.doc_loader.specs.Loading.{is_empty_resource}
@@ -24,9 +22,9 @@ use Rattle.resource_docs.specs.declared.doc.Doc.{Doc}
 use Rattle.models.specs.Existence.{class_refusal, end_refusal, node_refusal, value_refusal}
 use Rattle.mm_types.specs.Resolved.{Metamodel}
 use Rattle.handshake.specs.Displaced.{has_already}
-use Rattle.handshake.specs.Resolving.{is_unmatched, opposite_end, proxy_at, target_at}
+use Rattle.proxies.specs.Resolving.{opposite_end}
+use Rattle.proxies.specs.Refusals.{resolve_refusal}
 use Rattle.handshake.specs.declared.change.Change.{Change}
-use Rattle.handshake.specs.declared.target.Target.{Target}
 use Rattle.handshake.specs.declared.change.Change.TheVariants.{At, Create, Delete, NewResource, Load}
 use Rattle.handshake.specs.declared.act.Act.TheVariants.{Set, Unset, Add, Remove, RemoveValue, Move, Resolve}
 
@@ -88,28 +86,6 @@ uri_refusal r u =
     TextLength unless is_short_text u else_by
     Limit unless nat_lt (length r.uris) RESOURCES else_by
     ResourceExists where_so has_uri r u
-
--- the object at a proxy's address is not one of the feature's type, or the feature is an attribute
-abbrev pub is_mistyped : Reading → End → Option Target → Bool
-is_mistyped r e q = not (shape_at r e).is_reference || option_map_or (λ x. not (takes r e.feature (value.Object x.object))) q false
-
--- the object at a proxy's address is in the list already
-abbrev pub is_there_already : Reading → End → Option Target → Bool
-is_there_already r e q = option_map_or (λ x. has_value (r.values e) (value.Object x.object)) q false
-
--- why the proxy at an index can't be resolved to what it finds
-abbrev pub target_refusal : Reading → End → ℕ → Option Target → Option Refused
-target_refusal r e i q =
-    WrongType where_so is_mistyped r e q else_by
-    Index unless nat_lt i (count_at r e) else_by
-    Duplicate where_so is_there_already r e q else_by
-    NotProxy unless is_some (proxy_at r e i) else_by
-    Unloaded where_so option_map_or (λ t. not (has_uri r (uri_part t))) (proxy_at r e i) false else_by
-    Unresolved unless is_some q else_by
-    Unmatched where_so option_map_or (is_unmatched r e) q false
-
-abbrev pub resolve_refusal : Reading → End → ℕ → Option Refused
-resolve_refusal r e i = target_refusal r e i (target_at r e i)
 
 -- why a document can't be loaded into a resource
 abbrev pub load_refusal : Reading → ResourceNo → Doc → Option Refused

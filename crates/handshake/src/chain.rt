@@ -1,4 +1,4 @@
-//! The notices of what happens to ends.
+//! The notifications of what happens to ends.
 ghost use Rattle.std.specs.Prelude.{◌≡◌, ◌∷◌, ◌++◌, [], map, IfOk, OnOk};
 ghost use Rattle.mm_types.specs.Ends.{index_in};
 ghost use Rattle.mm_types.specs.Shapes.{shape};
@@ -18,8 +18,8 @@ use notice_chain::{Chain, NO_INDEX, Notice, NoticeKind};
 use removal::{Loss, Removal, losses};
 use std::alloc::{AllocError, Global};
 
-/// The notices of what happens to ends, each read in the model as it is.
-pub(crate) fn notices<L: LinkStore>(
+/// The notifications of what happens to ends, each read in the model as it is.
+pub fn notices<L: LinkStore>(
     alloc: Global,
     model: &ModelRef<L>,
     feature_changes: Vec<FeatureChange>,
@@ -33,7 +33,7 @@ pub(crate) fn notices<L: LinkStore>(
     Ok(chain)
 }
 
-/// Adds the notice of what happens to an end.
+/// Adds the notification of what happens to an end.
 fn push_notice<L: LinkStore>(
     alloc: Global,
     model: &ModelRef<L>,
@@ -46,8 +46,8 @@ fn push_notice<L: LinkStore>(
     Ok(())
 }
 
-/// The notices of what is lost with an object and all that is below it.
-pub(crate) fn lost_notices<L: LinkStore>(
+/// The notifications of what is lost with an object and all that is below it.
+pub fn lost_notices<L: LinkStore>(
     alloc: Global,
     model: &ModelRef<L>,
     removal: &Removal,
@@ -72,7 +72,7 @@ fn each_lost<L: LinkStore>(
     Ok(chain)
 }
 
-/// The notice of a loss: SET to null at a single end, and else REMOVE at the loss's position.
+/// The notification of a loss: SET to null at a single end, and else REMOVE at the loss's position.
 fn lost_notice<L: LinkStore>(model: &ModelRef<L>, loss: Loss) -> Notice
     ensures { result ≡ lost_notice_of (reading model.now) loss }
 {
@@ -97,7 +97,7 @@ fn lost_notice<L: LinkStore>(model: &ModelRef<L>, loss: Loss) -> Notice
     }
 }
 
-/// What a notice reports of the end that it names.
+/// What a notification reports of the end that it names.
 #[derive(Drop)]
 pub(crate) struct Report {
     kind: NoticeKind,
@@ -106,7 +106,7 @@ pub(crate) struct Report {
     position: i64,
 }
 
-/// The notice of what happens to an end.
+/// The notification of what happens to an end.
 fn notice<L: LinkStore>(
     alloc: Global,
     model: &ModelRef<L>,

@@ -26,7 +26,7 @@ pub enum Change {
 }
 
 impl Change {
-    ghost use Rattle.handshake.specs.Plans.{edits_values_alone};
+    ghost use Rattle.handshake.specs.Changes.{edits_values_alone};
 
     /// Whether it edits values alone, and no link: it makes an object, or changes an attribute. Takes no memory.
     pub fn edits_values_alone(&self, meta: &Meta) -> bool

@@ -9,25 +9,25 @@ ghost use Rattle.removal.specs.Removals.{IsRemoval};
 ghost use Rattle.removal.specs.TreeLinkEnds as t;
 ghost use Rattle.removal.specs.TreeLinkEnds.{link_end};
 ghost use Rattle.handshake.specs.Displaced as d;
-ghost use Rattle.handshake.specs.Plans.{IsRemovalOf};
-ghost use Rattle.handshake.specs.Resolving.{target_at};
+ghost use Rattle.handshake.specs.Changes.{IsRemovalOf};
+ghost use Rattle.proxies.specs.Resolving.{target_at};
 ghost use Rattle.handshake.specs.Refusals as refusals;
 ghost use Rattle.handshake.specs.FeatureChanges.{target_of};
 ghost use Rattle.handshake.specs.declared.change.Change.TheVariants.{At};
 
 use crate::act::Act;
 use crate::change::Change;
-use crate::link_end::{is_among, node_value, opposite_end};
-use crate::target::Target;
+use crate::link_end::{is_among, node_value};
 use links::LinkStore;
 use mm_meta::Meta;
 use mm_types::{End, Node, ObjectNo, Value};
 use models::{Found, ModelRef};
+use proxies::{Target, opposite_end};
 use removal::{LinkEnd, Removal, tree_link_ends};
 use std::alloc::{AllocError, Global};
 
 /// Whether a new link of an object at an end displaces a link. Takes no memory.
-pub(crate) fn displaces<L: LinkStore>(model: &ModelRef<L>, end: End, object: ObjectNo) -> bool
+pub fn displaces<L: LinkStore>(model: &ModelRef<L>, end: End, object: ObjectNo) -> bool
     ensures { result ≡ d.displaces (reading model.now) end object }
 {
     if is_taken(model, end) {
@@ -144,7 +144,7 @@ fn contained(meta: &Meta, end: End, object: ObjectNo) -> Option<Node>
 }
 
 /// The links that a change cuts, in order.
-pub(crate) fn cut_link_ends<L: LinkStore>(
+pub fn cut_link_ends<L: LinkStore>(
     alloc: Global,
     model: &ModelRef<L>,
     change: &Change,
@@ -206,7 +206,7 @@ fn link_ends_resolved<L: LinkStore>(
 }
 
 /// Adds the link of the proxy at the opposite end.
-pub(crate) fn add_counterpart<L: LinkStore>(
+pub fn add_counterpart<L: LinkStore>(
     alloc: Global,
     model: &ModelRef<L>,
     target: Option<Target>,
@@ -333,7 +333,7 @@ fn link_end_in<L: LinkStore>(
 }
 
 /// Adds the link of what was found at an end.
-pub(crate) fn push_link_end(
+pub fn push_link_end(
     alloc: Global,
     end: End,
     found: Option<Found>,
@@ -349,14 +349,14 @@ pub(crate) fn push_link_end(
 }
 
 /// Whether an addition makes no link: to an attribute, or of a value that a unique list has.
-pub(crate) fn is_plain_add<L: LinkStore>(model: &ModelRef<L>, end: End, value: &Value) -> bool
+pub fn is_plain_add<L: LinkStore>(model: &ModelRef<L>, end: End, value: &Value) -> bool
     ensures { result ≡ d.is_plain_add (reading model.now) end value.now }
 {
     !model.meta().is_reference(end.feature) || model.is_repeat(end, value)
 }
 
 /// Whether a set makes and cuts no link: of an attribute, or to the value that is there.
-pub(crate) fn is_plain_set<L: LinkStore>(model: &ModelRef<L>, end: End, value: &Value) -> bool
+pub fn is_plain_set<L: LinkStore>(model: &ModelRef<L>, end: End, value: &Value) -> bool
     ensures { result ≡ d.is_plain_set (reading model.now) end value.now }
 {
     if !model.meta().is_reference(end.feature) {
@@ -366,7 +366,7 @@ pub(crate) fn is_plain_set<L: LinkStore>(model: &ModelRef<L>, end: End, value: &
 }
 
 /// Whether a single reference has a value already.
-pub(crate) fn has_already<L: LinkStore>(model: &ModelRef<L>, end: End, value: &Value) -> bool
+pub fn has_already<L: LinkStore>(model: &ModelRef<L>, end: End, value: &Value) -> bool
     requires reference { (shape model.now.metamodel end.feature).is_reference ≡ true }
     ensures { result ≡ d.has_already (reading model.now) end value.now }
 {

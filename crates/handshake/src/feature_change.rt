@@ -12,17 +12,17 @@ use crate::act::Act;
 use crate::change::Change;
 use crate::change_kind::{ChangeKind, FeatureChange};
 use crate::displaced::is_plain_set;
-use crate::link_end::{node_value, opposite_end, turned};
-use crate::target::Target;
+use crate::link_end::{node_value, turned};
 use links::LinkStore;
 use mm_types::{End, ObjectNo, Value};
 use models::ModelRef;
+use proxies::{Target, opposite_end};
 use removal::LinkEnd;
 use std::alloc::{AllocError, Global};
 
-/// What a change makes happen at each end, in the order in which it is told, given the links that it cuts. For changes that destroy and
+/// What a change makes happen at each end, in the order of the notifications, given the links that it cuts. For changes that destroy and
 /// load nothing and don't resolve all proxies.
-pub(crate) fn feature_changes<L: LinkStore>(
+pub fn feature_changes<L: LinkStore>(
     alloc: Global,
     model: &ModelRef<L>,
     change: &Change,
@@ -36,7 +36,7 @@ pub(crate) fn feature_changes<L: LinkStore>(
     ensures { IfOk result (λ ts. ts.items ≡ t.feature_changes_with (reading model.now) change.now link_ends.now) }
 {
     let mut out = Vec::new(alloc);
-    // `chain` makes the notices of a delete, `loads` those of a load, and `resolving_all` those that resolve all proxies
+    // `chain` makes the notifications of a delete, `loads` those of a load, and `resolving_all` those that resolve all proxies
     if let Change::At(end, act) = change {
         push_act(model, *end, act, link_ends, target, &mut out)?;
     }
@@ -80,7 +80,7 @@ fn push_unset<L: LinkStore>(
 }
 
 /// Adds what happens when a proxy is resolved: to the opposite end first.
-pub(crate) fn push_resolved(
+pub fn push_resolved(
     end: End,
     index: u32,
     target: Option<Target>,
@@ -199,7 +199,7 @@ fn push_all_lost(end: End, len: u32, out: &mut Vec<FeatureChange>) -> Result<(),
     Ok(())
 }
 
-/// Adds what a change that cuts these links tells before the end itself gains.
+/// Adds what a change that cuts these links makes happen before the end itself gains.
 fn push_cuts<L: LinkStore>(
     model: &ModelRef<L>,
     end: End,

@@ -5,19 +5,15 @@ ghost use Rattle.mm_types.specs.Shapes.{shape};
 ghost use Rattle.models.specs.Model.{reading};
 ghost use Rattle.handshake.specs.Refusals as refusals;
 
-use crate::link_end::opposite_end;
 use crate::recursion::is_recursive;
 use links::LinkStore;
 use mm_meta::Meta;
 use mm_types::{End, FeatureNo, ObjectNo, Refused, Value, limits};
 use models::ModelRef;
+use proxies::opposite_end;
 
 /// Why an end can't gain a value: `Bound`, `Recursive` or `Limit`.
-pub(crate) fn gain_refusal<L: LinkStore>(
-    model: &ModelRef<L>,
-    end: End,
-    value: &Value,
-) -> Option<Refused>
+pub fn gain_refusal<L: LinkStore>(model: &ModelRef<L>, end: End, value: &Value) -> Option<Refused>
     ensures { result ≡ refusals.gain_refusal (reading model.now) end value.now }
 {
     match value {
@@ -29,7 +25,7 @@ pub(crate) fn gain_refusal<L: LinkStore>(
 }
 
 /// Why an end can't gain a link to an object.
-pub(crate) fn link_refusal<L: LinkStore>(
+pub fn link_refusal<L: LinkStore>(
     model: &ModelRef<L>,
     end: End,
     object: ObjectNo,

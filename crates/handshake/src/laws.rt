@@ -26,7 +26,7 @@ pub fn keeps_steady_texts()
     ensures { (s : Model) (c : Change) → KeepsSteady s c }
 {}
 
-/// To replay the notices of feature changes is to do what they tell, one after another, at every end.
+/// To replay the notifications of feature changes is to make these changes, one after another, at every end.
 #[tactic(auto, using(crate::proofs::ReplayLemmas::replaying))]
 pub fn the_notices_of_feature_changes_replay_them()
     ensures { (m : Metamodel) (e : Ends) (ts : List FeatureChange) → replayed_all (has_flag m) e (told m e ts) ≡ happened_all m e ts }
@@ -39,8 +39,8 @@ pub fn the_chain_of_a_change_replays_it()
     ensures { (s : Model) (c : Change) → ChainReplays s c }
 {}
 
-/// A change of a legal model, if nothing refuses it, tells no single end twice. It tells no end twice at all, unless it is an unset of a
-/// list, a deletion, a load, or the change that resolves all proxies. An unset of a list tells no far end twice, and the list is none of
+/// In a change of a legal model, if nothing refuses it, no end of one value has two notifications. No end at all has two, unless the change
+/// is an unset of a list, a deletion, a load, or resolves all proxies. In an unset of a list no far end has two, and the list is not one of
 /// the far ends.
 pub fn a_chain_tells_no_end_twice()
     ensures single_ends { (s : Model) (c : Change) → TellsNoSingleEndTwice s c }
@@ -63,7 +63,7 @@ pub fn a_load_reads_as_its_document()
 
 /// To resolve all proxies of a legal model is to resolve one after another, by object number, by feature in the order of all features, and
 /// by index; each is resolved in the model that the earlier ones left, and passed over if it is refused there. It leaves the same model,
-/// tells their notices in order, and counts those that were resolved, and the proxies that are left (EMF: EcoreUtil.resolveAll).
+/// has their notifications in order, and counts those that were resolved, and the proxies that are left (EMF: EcoreUtil.resolveAll).
 pub fn all_proxies_are_resolved_one_after_another()
     ensures { (s : Model) → IsLegal s → ResolvesEach s }
 {}

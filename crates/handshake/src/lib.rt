@@ -1,43 +1,29 @@
-//! Changes of a model: why a change is refused, the edits that make it, and the notices that it tells.
+//! Changes of a model: why a change is refused, which links it cuts, what it makes of the model, and the notifications that it tells.
 //!
-//! `specs/Refusals.antt` says when a change is refused, `specs/Effects.antt` what it makes of a model, `specs/FeatureChanges.antt` what it
-//! tells, and `specs/Displaced.antt` which links a new link displaces.
+//! `specs/Refusals.antt` says when a change is refused, `specs/Effects.antt` what it makes of a model, `specs/FeatureChanges.antt` what
+//! happens at which ends, and `specs/Displaced.antt` which links a new link displaces.
 #![tactic(auto)]
 
 mod act;
 mod chain;
 mod change;
 mod change_kind;
-mod cuts;
-mod destroyed;
 mod displaced;
-mod edits;
 mod feature_change;
 mod gains;
-mod joining;
-mod keys;
 pub mod laws;
-mod leads;
 mod link_end;
-mod link_planning;
-mod loads;
 mod named;
-mod planned;
-mod planning;
 mod recursion;
-mod resolving;
-mod resolving_all;
-mod site;
-mod target;
-mod value_planning;
 
 pub use act::Act;
+pub use chain::{lost_notices, notices};
 pub use change::Change;
 pub use change_kind::{ChangeKind, FeatureChange};
-pub use link_planning::{lone_add, lone_set};
+pub use displaced::{
+    add_counterpart, cut_link_ends, displaces, has_already, is_plain_add, is_plain_set,
+    push_link_end,
+};
+pub use feature_change::{feature_changes, push_resolved};
+pub use gains::{gain_refusal, link_refusal};
 pub use named::{early_refusal, list_early_refusal, set_early_refusal};
-pub use planned::{Planned, Resolved};
-pub use planning::plan;
-pub use site::ProxySite;
-pub use target::{Counterpart, Target};
-pub use value_planning::{attribute_refusal, create_refusal, plan_values};

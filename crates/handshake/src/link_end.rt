@@ -3,13 +3,12 @@ ghost use Rattle.std.specs.Prelude.{◌≡◌};
 ghost use Rattle.std.specs.List.{list_any};
 ghost use Rattle.mm_types.specs.Same as same;
 ghost use Rattle.models.specs.Model.{reading};
-ghost use Rattle.links.specs.Links.{far_end as far_end_of};
 ghost use Rattle.handshake.specs.Displaced as d;
-ghost use Rattle.handshake.specs.Resolving as resolving;
 
 use links::LinkStore;
-use mm_types::{End, FeatureNo, Node, ObjectNo, Value};
+use mm_types::{Node, Value};
 use models::{ModelRef, is_same};
+use proxies::opposite_end;
 use removal::LinkEnd;
 
 /// An object as a value; a resource is the value of no end.
@@ -19,30 +18,6 @@ pub(crate) fn node_value(node: Node) -> Value
     match node {
         Node::Object(object) => Value::Object(object),
         Node::Resource(_) => Value::Null,
-    }
-}
-
-/// The end of an object under a feature.
-pub(crate) fn far_end(object: ObjectNo, feature: FeatureNo) -> End
-    ensures { result ≡ far_end_of object feature }
-{
-    End {
-        node: Node::Object(object),
-        feature,
-    }
-}
-
-/// The opposite end of a link between an end and an object.
-pub(crate) fn opposite_end<L: LinkStore>(
-    model: &ModelRef<L>,
-    end: End,
-    object: ObjectNo,
-) -> Option<End>
-    ensures { result ≡ resolving.opposite_end (reading model.now) end object }
-{
-    match model.meta().opposite(end.feature) {
-        Some(feature) => Some(far_end(object, feature)),
-        None => None,
     }
 }
 

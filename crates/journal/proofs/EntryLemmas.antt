@@ -97,7 +97,7 @@ entries-append (x ∷ xs) ys =
     ap (λ (bytes : List ℕ). MARK ∷ x ++ NEWLINE ∷ bytes) (entries-append xs ys)
     ∙ sym (append_assoc (MARK ∷ x) (NEWLINE ∷ entries xs) (entries ys))
 
--- ---- a front of what stands for nothing
+-- ---- a prefix of what stands for nothing
 
 with_byte-none : (c : ℕ) (ls : List (List ℕ)) → with_byte c ls ≡ [] → ls ≡ []
 with_byte-none c [] none = refl

@@ -44,7 +44,7 @@ pub(crate) fn entries_len(bytes: &[u8]) -> usize
     bytes.len() - rest.len()
 }
 
-/// Appends the entry of a line. If memory is refused, a front of the entry may have been appended.
+/// Appends the entry of a line. If memory is refused, a prefix of the entry may have been appended.
 pub(crate) fn put_entry(pending: &mut Vec<u8>, line: &[u8]) -> Result<(), AllocError>
     ensures ok { OnOk result (pending.new.items ≡ pending.old.items ++ entry line.now) }
     ensures err { OnErr result (take (length pending.old.items) pending.new.items ≡ pending.old.items) }

@@ -1,4 +1,4 @@
--- The places that a scan of rows finds.
+-- The positions that a scan of rows finds.
 use Rattle.std.proofs.Common.{◌≡◌, List, map}
 use Rattle.link_store.proofs.IncomingLemmas.{rows_incoming}
 use Rattle.links.proofs.EntriesLemmas.{incoming-same, entries_all}

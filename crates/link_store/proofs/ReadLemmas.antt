@@ -27,7 +27,7 @@ module _ (rows : List Link) (placed : IsPlaced (of_rows rows)) (e : End) where
   pub rows_at : (k : ℕ) → value_at rows e k ≡ slice_get (end (of_rows rows) e) k
   rows_at k = value_at_end rows (of_rows rows) e (end (of_rows rows) e) (from_list_HasLinks rows) (placed.ends e) k
 
--- the object at a place, or what the rest has
+-- the object at a position, or what the rest has
 object_step : (o : Option (ℕ × Value)) (k : ℕ) (rest : Option Value) → (if is_index k o then object_on o else option_and_then object_of rest) ≡ option_and_then object_of (at_indexed o k rest)
 object_step None k rest = refl
 object_step (Some p) k rest = elim (p.0 == k) as (λ b. (if b then object_of p.1 else option_and_then object_of rest) ≡ option_and_then object_of (if b then Some p.1 else rest)) [ true ↦ refl | false ↦ refl ]
@@ -39,7 +39,7 @@ first_object-value (l ∷ ls) e k = ap (λ (r : Option ObjectNo). if is_index k 
 pub rows_object : (rows : List Link) → IsPlaced (of_rows rows) → (e : End) (k : ℕ) → first_object rows e k ≡ object_at (of_rows rows) e k
 rows_object rows placed e k = first_object-value rows e k ∙ ap (λ (o : Option Value). option_and_then object_of o) (rows_at rows placed e k)
 
--- the text at a place, or what the rest has
+-- the text at a position, or what the rest has
 text_step : (o : Option (ℕ × Value)) (k : ℕ) (rest : Option Value) → (if is_index k o then text_on o else option_and_then text_of rest) ≡ option_and_then text_of (at_indexed o k rest)
 text_step None k rest = refl
 text_step (Some p) k rest = elim (p.0 == k) as (λ b. (if b then text_of p.1 else option_and_then text_of rest) ≡ option_and_then text_of (if b then Some p.1 else rest)) [ true ↦ refl | false ↦ refl ]

@@ -137,7 +137,7 @@ rows_cut_near rows os rs e v l placed at out is none_far =
 pub rows_cut_none : (rows : List Link) (e : End) (v : Value) → IsPlaced (of_rows rows) → find (has_value e v) rows ≡ None → of_rows rows ≡ cut_value (of_rows rows) e v
 rows_cut_none rows e v placed at = sym (cut_value-rows rows e v placed ∙ ap (λ (o : Option Link). cut_some (of_rows rows) o) at)
 
----------------------------------------------------------------- a cut by the places of its link
+---------------------------------------------------------------- a cut by the positions of its link
 
 found_spot : (o : Option Link) (x : LinkPositions) → option_map positions o ≡ Some x → (l : Link) × (o ≡ Some l) × (positions l ≡ x)
 found_spot None x h = absurd (none-some x h)

@@ -1,4 +1,4 @@
--- Rows of links, as a plain store keeps them: what a scan finds, and how a link is renumbered.
+-- Rows of links, as the store of rows keeps them: what a scan finds, and how a link is renumbered.
 use Rattle.std.specs.Prelude.{ℕ, ◌+◌, ◌<◌, ◌^◌, ⊤, ◌++◌, ◌==◌, Bool, true, false, List, [], ◌∷◌, fold, insert, Option, Some, None, MatchOption, option_and_then, if◌then◌else◌}
 use Rattle.std.specs.Option.{option_map, option_map_or}
 use Rattle.std.specs.List.{prefix_len}
@@ -92,6 +92,6 @@ abbrev pub ends_with : List Link → Node → List End
 ends_with [] n = []
 ends_with (l ∷ ls) n = ends_to l n ++ ends_with ls n
 
--- where each of the ends has v first
+-- the first position of v in each of the ends
 abbrev pub places_in : List Link → List End → Value → List Incoming
 places_in ls es v = entries_by (λ e. position_in ls e v) es

@@ -1,4 +1,4 @@
-//! The places of an object.
+//! The positions of an object.
 ghost use Rattle.std.specs.Prelude.{◌≡◌, ◌++◌, IfOk, OnOk};
 ghost use Rattle.link_store.specs.Rows.{places_in};
 ghost use Rattle.links.specs.Found.{entry_if};

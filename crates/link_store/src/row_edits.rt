@@ -71,7 +71,7 @@ fn cut_row(rows: &mut Vec<Link>, end: End, value: &Value)
     }
 }
 
-/// A link between places of two ends, written from the lower feature.
+/// A link between positions of two ends, written from the lower feature.
 fn join(x: End, i: u32, y: End, j: u32, container: Option<FeatureNo>) -> Link
     ensures { result ≡ joined x i y j container }
 {

@@ -1,4 +1,4 @@
-//! The plain store: rows of links, scanned.
+//! The store of rows: rows of links, scanned.
 ghost use Rattle.std.specs.Prelude.{◌≡◌, ◌+◌, ◌≤◌, length, vec_len, vec_capacity};
 ghost use Rattle.std.specs.FinSet as set;
 

@@ -69,6 +69,6 @@ new_contained s e i o (Some g) c x d apart at =
       | false ↦ λ p. far_contained e i o g j c x d apart.0 p
     ] at
 
--- where what becomes contained is free, so is all that the new link contains
+-- if what becomes contained is free, so is all that the new link contains
 pub free_new : (s : Links) (e : End) (i : ℕ) (o : ObjectNo) (g c : Option FeatureNo) → IsApart e g → IsFree s (contained e o c) → (x : Node) (d : End) → holding (new_link s e i o g c) x ≡ Some d → holder s x ≡ None
 free_new s e i o g c apart free x d at = subst (λ (n : Option Node). IsFree s n) (new_contained s e i o g c x d apart at) free

@@ -1,4 +1,4 @@
--- What a cut and a shift do to each end, and that each link keeps a place of its own.
+-- What a cut and a shift do to each end, and that each link keeps a position of its own.
 use Rattle.std.proofs.Common.{◌≡◌, ◌≢◌, ℕ, ◌<◌, ◌≤◌, List, [], length, Option, Some, None, refl, sym, ap, ◌∙◌, subst, inl, inr, arith}
 use Rattle.std.specs.List.{remove}
 use Rattle.std.specs.FinSet as set
@@ -25,7 +25,7 @@ use Rattle.mm_types.specs.declared.value.Value.{Value}
 
 ---------------------------------------------------------------- cut
 
--- where a link is, by its two sides
+-- the positions of a link, by its two sides
 pub indexed_near : (l : Link) → indexed l l.end ≡ Some (l.index, far_value l.far)
 indexed_near l = rw (same_end-self l.end) refl
 

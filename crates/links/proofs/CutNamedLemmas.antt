@@ -118,7 +118,7 @@ module _ (m : Kinds) (ok : AreKinds m) (s : Links) (legal : IsLegalSet s) (kinds
       ] refl
     ] refl
 
-    -- n loses its holder where the name names that link, and else keeps it
+    -- n loses its holder if the name names that link, and else keeps it
     pub holder-cut_value : holder (cut_value s e v) n ≡ kept (holder s n)
     holder-cut_value = elim (cut_value-cases s legal.placed e v) [
       | inl (l, k, within, at, is) ↦ ap (λ (t : Links). holder t n) is ∙ holder-cut s legal.placed legal.held l within n ∙ after_cut l k within at

@@ -78,15 +78,15 @@ pub In_remove : (s : Links) (k l : Link) → l ≢ k → In l s → In l (set.re
 In_remove s k l ne h =
     set.contains-remove link_cmp_total s k l ∙ and_from _ _ (not_from_false _ (false_from_ne_true _ (λ e. ne (same_link l k e)))) h
 
----------------------------------------------------------------- places
+---------------------------------------------------------------- positions
 
--- a renumbered place was one before
+-- a renumbered position was one before
 renumbered-some : (r : ℕ → ℕ) (o : Option (ℕ × Value)) (k : ℕ) (v : Value) → option_map (renumbered_indexed r) o ≡ Some (k, v) → (j : ℕ) × (o ≡ Some (j, v)) × (r j ≡ k)
 renumbered-some r None k v h = absurd (none-some _ h)
 renumbered-some r (Some p) k v h = let parts = some_pair_parts (r p.0) k p.1 v h in (p.0, (λ i. Some (p.0, parts.1 i)), parts.0)
 
 module _ (s : Links) (e : End) (r : ℕ → ℕ) where
-  -- in e each place is renumbered
+  -- in e each position is renumbered
   pub Stands-renumbered : (k : ℕ) (v : Value) → Stands (renumbered s e r) e k v → (j : ℕ) × Stands s e j v × (r j ≡ k)
   Stands-renumbered k v (m, within, at) =
       let from = In-renumbered s e r m within in
@@ -97,7 +97,7 @@ module _ (s : Links) (e : End) (r : ℕ → ℕ) where
   Stands_renumbered j v (l, within, at) =
       (moved l e r, In_renumbered s e r l within, indexed-moved l e r ∙ ap (option_map (renumbered_indexed r)) at)
 
-  -- in any other end each place stays
+  -- in any other end each position stays
   pub Stands-renumbered_other : (d : End) (k : ℕ) (v : Value) → d ≢ e → Stands (renumbered s e r) d k v → Stands s d k v
   Stands-renumbered_other d k v ne (m, within, at) =
       let from = In-renumbered s e r m within in
@@ -262,7 +262,7 @@ IsEnd-shift s e xs to from f t is = record {
 
 ---------------------------------------------------------------- each position once
 
--- no two links are at one place
+-- no two links are at one position
 abbrev pub IsOnce : Links → Type 0
 IsOnce s = (l m : Link) (e : End) (k : ℕ) (v w : Value) → In l s → In m s → indexed l e ≡ Some (k, v) → indexed m e ≡ Some (k, w) → l ≡ m
 
@@ -292,7 +292,7 @@ IsOnce-renumbered s e r once apart l m d k v w in_l in_m at_l at_m =
 pub IsOnce-remove : (s : Links) (k : Link) → IsOnce s → IsOnce (set.remove s k)
 IsOnce-remove s k once l m e i v w in_l in_m at_l at_m = once l m e i v w (In-remove s k l in_l).1 (In-remove s k m in_m).1 at_l at_m
 
--- a link at places that are free
+-- a link at positions that are free
 abbrev pub IsVacant : Links → Link → Type 0
 IsVacant s l = (e : End) (k : ℕ) (v w : Value) → indexed l e ≡ Some (k, v) → Stands s e k w → ⊥
 

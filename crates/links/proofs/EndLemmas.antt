@@ -99,7 +99,7 @@ length_at-below (l ∷ ls) e n h =
     let here : past (indexed l e) ≤ n = elim (indexed l e) as (λ o. indexed l e ≡ o → past o ≤ n) [ None ↦ λ _. omega arith | Some p ↦ λ at. omega (arith, h l p.0 p.1 (Among_head l ls) at) ] refl in
     omega (arith, later, here)
 
--- a place with nothing is past the end
+-- a position with nothing is past the end
 pub not_within : {X : Type 0} (xs : List X) (k : ℕ) → slice_get xs k ≡ None → length xs ≤ k
 not_within [] k h = omega arith
 not_within (x ∷ xs) zero h = absurd (none-some x (sym h))

@@ -1,4 +1,4 @@
--- Lists of ends joined, and the places that a search finds in ends.
+-- Lists of ends joined, and the positions that a search finds in ends.
 use Rattle.std.proofs.Common.{◌≡◌, ℕ, true, List, [], ◌∷◌, ◌++◌, map, Option, Some, None, MatchOption, refl, sym, ap, ◌∙◌, subst, inl, inr, arith}
 use Rattle.std.specs.Prelude.{◌⊎◌}
 use Rattle.std.specs.List.{Contains, slice_get}
@@ -55,7 +55,7 @@ module _ (s : Links) (distinct : (e : End) → IsDistinct (end s e)) (v : Value)
     | Some j ↦ λ h. ap Some (distinct e j k v (stands e j h) at)
   ] refl
 
-  -- each entry is a place of the value
+  -- each entry is a position of the value
   entries-stand : (es : List End) (i : Incoming) → Contains (entries_by search es) i → slice_get (end s (incoming_end i)) i.position ≡ Some v
   entries-stand [] i h = absurd (nothing_in i h)
   entries-stand (e ∷ es) i h = elim (Contains-append_cases (entry_if e (search e)) (entries_by search es) i h) [
@@ -65,7 +65,7 @@ module _ (s : Links) (distinct : (e : End) → IsDistinct (end s e)) (v : Value)
     | inr later ↦ entries-stand es i later
   ]
 
-  -- each place in one of the ends has an entry
+  -- each position in one of the ends has an entry
   stand-entries : (es : List End) (i : Incoming) → has_end es (incoming_end i) ≡ true → slice_get (end s (incoming_end i)) i.position ≡ Some v → Contains (entries_by search es) i
   stand-entries [] i h at = absurd (false≢true h)
   stand-entries (e ∷ es) i h at = elim (or_cases (same_end e (incoming_end i)) (has_end es (incoming_end i)) h) [
@@ -85,11 +85,11 @@ module _ (s : Links) (distinct : (e : End) → IsDistinct (end s e)) (v : Value)
       let rest = ends_of_entries es (λ d h. all d (or_right (same_end e d) _ h)) in
       rw is (ap (λ (ds : List End). e ∷ ds) rest)
 
--- ends that have the same members hold the object alike
+-- ends that have the same members hold the object in the same way
 pub incoming-same : (s : Links) (o : ObjectNo) (es ds : List End) → ((e : End) → has_end ds e ≡ has_end es e) → AreIncoming s o es → AreIncoming s o ds
 incoming-same s o es ds same are e = (λ h. (are e).0 (sym (same e) ∙ h), λ has. same e ∙ (are e).1 has)
 
--- all places of an object, in ends in order
+-- all positions of an object, in ends in order
 pub entries_all : (s : Links) → ((e : End) → IsDistinct (end s e)) → (o : ObjectNo) (search : End → Option ℕ) → ((e : End) → MatchOption (search e) (Lacks s e (value.Object o)) (λ k. slice_get (end s e) k ≡ Some (value.Object o))) → (es : List End) → AreIncoming s o es → AreInOrder es → (let is = entries_by search es in AreEntriesOf s o is × AreInOrder (map incoming_end is))
 entries_all s distinct o search law es are order =
     let v = value.Object o in (

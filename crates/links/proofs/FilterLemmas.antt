@@ -8,7 +8,7 @@ use Rattle.links.specs.LegalSets.{IsDistinct}
 use Rattle.mm_types.specs.Same.{same_value}
 use Rattle.mm_types.specs.declared.value.Value.{Value}
 
--- where the test finds none of the values, all are kept
+-- if the test finds none of the values, all are kept
 pub filter_all : (p : Value → Bool) (xs : List Value) → ((k : ℕ) (v : Value) → slice_get xs k ≡ Some v → p v ≡ false) → filter (λ v. not (p v)) xs ≡ xs
 filter_all p [] h = refl
 filter_all p (x ∷ xs) h = let here = h zero x refl in rw here (ap (λ (ys : List Value). x ∷ ys) (filter_all p xs (λ k v at. h (suc k) v at)))

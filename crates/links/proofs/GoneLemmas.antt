@@ -53,7 +53,7 @@ module _ (s t : Links) (legal_s : IsLegalSet s) (legal : IsLegalSet t) (part : I
   near_has : is_value_at (far_value l.far) (indexed l l.end) ≡ true
   near_has = is_value_at-indexed (indexed l l.end) l.index (far_value l.far) (indexed_near l)
 
-  -- where the set lacks the link, no link of it is that one
+  -- if the set lacks the link, no link of it is that one
   absent : ((j : ℕ) → slice_get (end t l.end) j ≡ Some (far_value l.far) → ⊥) → (k : Link) → In k t → bare k ≡ bare l → ⊥
   absent lacks k h same =
       let at = is_value_at-true (indexed k l.end) (far_value l.far) (same_has k l l.end (far_value l.far) same ∙ near_has) in
@@ -172,7 +172,7 @@ far_goes gone e (At d j) two = sym (goes_node gone d.node two.2)
 far_goes gone e (Alone o) two = refl
 far_goes gone e (Proxy t) two = refl
 
--- a link names a node that goes, if that is so of the end or of the value at any of its places
+-- a link names a node that goes, if that is so of the end or of the value at any of its positions
 module _ (gone : Node → Bool) (l : Link) (two : HasTwoSides l.end l.far) (d : End) (j : ℕ) (w : Value) (at : indexed l d ≡ Some (j, w)) where
   touches_far : (x : Far) → l.far ≡ x → l.end ≢ d → touches gone l ≡ (gone d.node || goes gone w)
   touches_far (At c i) h ne = elim (cases_end c d) [

@@ -91,7 +91,7 @@ module _ (m : Kinds) (l : Link) (ok : IsOfKind m l) (two : HasTwoSides l.end l.f
   pub two_entries : AreOpposite m e d v w
   two_entries = by_far l.far refl
 
----------------------------------------------------------------- what a name tells
+---------------------------------------------------------------- what a name says
 
 abbrev pub NamesFar : End → Value → Option FeatureNo → End → Value → Type 0
 NamesFar e v q d w = (o : ObjectNo) × (g : FeatureNo) × (v ≡ value.Object o) × (q ≡ Some g) × (far_end o g ≡ d) × (node_value e.node ≡ w)

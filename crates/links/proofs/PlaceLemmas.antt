@@ -58,7 +58,7 @@ far_indexed-moved (At d j) v e r =
 far_indexed-moved (Alone n) v e r = refl
 far_indexed-moved (Proxy t) v e r = refl
 
--- its place in that end is renumbered
+-- its position in that end is renumbered
 pub indexed-moved : (l : Link) (e : End) (r : ℕ → ℕ) → indexed (moved l e r) e ≡ option_map (renumbered_indexed r) (indexed l e)
 indexed-moved l e r =
     elim (same_end l.end e) as (λ b. same_end l.end e ≡ b → indexed (if b then record l { index = r l.index } else record l { far = far_moved l.far e r }) e ≡ option_map (renumbered_indexed r) (if b then Some (l.index, far_value l.far) else far_indexed l.far (node_value l.end.node) e)) [

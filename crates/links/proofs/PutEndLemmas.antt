@@ -1,4 +1,4 @@
--- What a put makes of each end and of each holder, computed; and when it makes no cycle.
+-- What a put makes of each end and of each holder; and when it makes no cycle.
 use Rattle.std.proofs.Common.{◌≡◌, ◌≢◌, ℕ, length, Bool, true, false, ltb, [], ◌∷◌, ◌++◌, Option, Some, None, if◌then◌else◌, refl, sym, ap, ◌∙◌, subst}
 use Rattle.std.specs.Prelude.{◌&&◌, ◌||◌}
 use Rattle.std.specs.List.{insert}

@@ -1,4 +1,4 @@
--- What a put does to each end, and that each link keeps a place of its own.
+-- What a put does to each end, and that each link keeps a position of its own.
 use Rattle.std.proofs.Common.{◌≡◌, ◌≢◌, ℕ, ◌<◌, ◌≤◌, true, false, ltb, List, [], ◌∷◌, ◌++◌, length, Option, Some, None, if◌then◌else◌, refl, sym, ◌∙◌, subst, inl, inr, arith}
 use Rattle.std.specs.Prelude.{◌⊎◌}
 use Rattle.std.specs.List.{insert}
@@ -38,7 +38,7 @@ pub apart_of : (s : Links) (e : End) (n : ObjectNo) (g : Option FeatureNo) → F
 apart_of s e n None fits = tt
 apart_of s e n (Some g) fits = (fits.apart, fits.object)
 
--- a set whose every end has some list, and no two links at one place, is placed
+-- a set whose every end has some list, and no two links at one position, is placed
 pub placed_from : (s : Links) → ((e : End) → (xs : List Value) × IsEnd s e xs × IsDistinct xs × (length xs ≤ most)) → IsOnce s → AreTwoSided s → IsPlaced s
 placed_from s all once apart = record {
   ends = λ e. let some = all e in subst (λ (xs : List Value). IsEnd s e xs) (sym (end_is s e some.0 some.1)) some.1;
@@ -102,7 +102,7 @@ module _ (s : Links) (placed : IsPlaced s) (e : End) (i : ℕ) (n : ObjectNo) (c
       (IsEnd-renumbered_other s d e (raise i) (end s d) (λ same. ne (sym same)) (placed.ends d))
 
   module _ (g : Option FeatureNo) (apart : IsApart e g) where
-    -- the value goes in at its place
+    -- the value goes in at its position
     pub end-put_near : end (put s e i n g c) e ≡ insert (end s e) i (value.Object n)
     end-put_near = end_is (put s e i n g c) e (insert (end s e) i (value.Object n)) (IsEnd-put_near g apart)
 
@@ -118,7 +118,7 @@ pub put_far : (s : Links) (placed : IsPlaced s) (e : End) (i : ℕ) (n : ObjectN
 put_far s placed e i n c range None fits d is = absurd is
 put_far s placed e i n c range (Some g) fits d is = end-put_far s placed e i n c range g (fits.apart, fits.object) d is
 
----------------------------------------------------------------- put keeps each link at its place
+---------------------------------------------------------------- put keeps each link at its position
 
 pub cases_far : (n : ObjectNo) (g : Option FeatureNo) (d : End) → IsFar n g d ⊎ (IsFar n g d → ⊥)
 cases_far n None d = inr (λ h. h)

@@ -15,7 +15,7 @@ use Rattle.mm_types.specs.declared.end.End.{End}
 use Rattle.mm_types.specs.declared.value.Value.{Value}
 
 module _ (kinds : Kinds) (s t : Links) (ls : IsPlaced s) (lt : IsPlaced t) (ks : AreOfKind kinds s) (kt : AreOfKind kinds t) (same : (e : End) → end s e ≡ end t e) where
-  -- t has at a place what a link of s has there
+  -- t has at a position what a link of s has there
   there : (l : Link) → In l s → (e : End) (k : ℕ) (v : Value) → indexed l e ≡ Some (k, v) → slice_get (end t e) k ≡ Some v
   there l h e k v at = sym (ap (λ (xs : List Value). slice_get xs k) (same e)) ∙ (ls.ends e).has k v (l, h, at)
 

@@ -104,7 +104,7 @@ module _ (n : Node) where
         | Some y ↦ λ q s. none-some y (sym s)
       ] refl h
 
-  -- where all links that give something give the same, the order of the links is of no matter
+  -- if all links that give something give the same, the order of the links does not matter
   pub same_first_holding : (s : Links) (ls ms : List Link) → HasLinks ls s → HasLinks ms s → ((l m : Link) (x y : End) → In l s → In m s → holding l n ≡ Some x → holding m n ≡ Some y → x ≡ y) → first_holding ls n ≡ first_holding ms n
   same_first_holding s ls ms of_l of_m one =
       elim (first_holding ls n) as (λ o. first_holding ls n ≡ o → o ≡ first_holding ms n) [

@@ -18,7 +18,7 @@ use Rattle.mm_types.specs.declared.numbers.Node.TheVariants as node
 use Rattle.mm_types.specs.declared.numbers.ObjectNo.{ObjectNo}
 use Rattle.mm_types.specs.declared.value.Value.TheVariants as value
 
--- the ends of a set have a link of the kinds at its places
+-- the ends of a set have a link of the kinds at its positions
 pub record IsShown (kinds : Kinds) (t : Links) (l : Link) : Type 0 where
   pub kind : IsOfKind kinds l
   pub sides : HasTwoSides l.end l.far

@@ -33,7 +33,7 @@ pub same_parts : (x y : End) → x.node ≡ y.node → x.feature.0 ≡ y.feature
 same_parts x y n f = λ i. record { node = n i; feature = record { 0 = f i } }
 
 module _ (l : Link) (x y : End) (k : ℕ) (two : HasTwoSides l.end l.far) (pair : IsPaired l x.feature y.feature) (at : indexed l x ≡ Some (k, node_value y.node)) where
-  -- the link that has y's node at a place of x has x's node at a place of y
+  -- the link that has y's node at a position of x has x's node at a position of y
   far_at : (d : End) (j : ℕ) → l.far ≡ At d j → (m : ℕ) × (indexed l y ≡ Some (m, node_value x.node))
   far_at d j h =
       let sides = subst (λ (o : Far). HasTwoSides l.end o) h two in

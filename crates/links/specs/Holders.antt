@@ -19,7 +19,7 @@ is_far_node (At d j) n = same_node d.node n
 is_far_node (Alone o) n = same_node (node.Object o) n
 is_far_node (Proxy t) n = false
 
--- the far side's end, where it is of the containing feature h and n is on the near side
+-- the far side's end, if it is of the containing feature h and n is on the near side
 abbrev pub far_holding : Far → FeatureNo → Node → Node → Option End
 far_holding (At d j) h near n = if same_feature d.feature h && same_node near n then Some d else None
 far_holding (Alone o) h near n = None

@@ -15,13 +15,13 @@ far_value (At d j) = node_value d.node
 far_value (Alone o) = value.Object o
 far_value (Proxy t) = value.Proxy t
 
--- where the far side is in e, with the value v
+-- the position of the far side in e, with the value v
 abbrev pub far_indexed : Far → Value → End → Option (ℕ × Value)
 far_indexed (At d j) v e = if same_end d e then Some (j, v) else None
 far_indexed (Alone o) v e = None
 far_indexed (Proxy t) v e = None
 
--- the position and the value of a link in e, where it is there
+-- the position and the value of a link in e, if it is there
 abbrev pub indexed : Link → End → Option (ℕ × Value)
 indexed l e = if same_end l.end e then Some (l.index, far_value l.far) else far_indexed l.far (node_value l.end.node) e
 

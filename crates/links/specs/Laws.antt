@@ -32,7 +32,7 @@ pub record PutMakes (s : Links) (e : End) (i : ℕ) (o : ObjectNo) (g c : Option
   pub others : (d : End) → (e ≡ d → ⊥) → (IsFar o g d → ⊥) → end (put s e i o g c) d ≡ end s d
   pub holders : (n : Node) → holder (put s e i o g c) n ≡ option_or (holding (new_link s e i o g c) n) (holder s n)
 
--- d is the end of the opposite, as a test
+-- whether d is the end of the opposite
 abbrev pub is_far : ObjectNo → Option FeatureNo → End → Bool
 is_far o None d = false
 is_far o (Some g) d = same_end (far_end o g) d

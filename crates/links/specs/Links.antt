@@ -70,11 +70,11 @@ abbrev pub text_of : Value → Option (List ℕ)
 text_of (value.Proxy t) = Some t
 text_of _ = None
 
--- the object at position k of e, where one is there
+-- the object at position k of e, if one is there
 abbrev pub object_at : Links → End → ℕ → Option ObjectNo
 object_at s e k = option_and_then object_of (slice_get (end s e) k)
 
--- the text of the proxy at position k of e, where one is there
+-- the text of the proxy at position k of e, if one is there
 abbrev pub proxy_at : Links → End → ℕ → Option (List ℕ)
 proxy_at s e k = option_and_then text_of (slice_get (end s e) k)
 
@@ -90,7 +90,7 @@ raise i k = if nat_lt k i then k else suc k
 abbrev pub lower : ℕ → ℕ → ℕ
 lower i k = if nat_lt i k then k - 1 else k
 
--- where k is once what is at `from` is taken out and put in at `to`
+-- the new position of k once what is at `from` is taken out and put in at `to`
 abbrev pub shifted_index : ℕ → ℕ → ℕ → ℕ
 shifted_index to from k = if k == from then to else raise to (lower from k)
 
@@ -99,7 +99,7 @@ lowered_far s (At d j) = renumbered s d (lower j)
 lowered_far s (Alone o) = s
 lowered_far s (Proxy t) = s
 
--- takes the link out, and lowers the later positions where it stood
+-- takes the link out, and lowers the later positions at its ends
 unfoldable pub cut : Links → Link → Links
 cut s l = lowered_far (renumbered (set.remove s l) l.end (lower l.index)) l.far
 
@@ -110,7 +110,7 @@ cut_some s o = option_map_or (cut s) o s
 unfoldable pub cut_value : Links → End → Value → Links
 cut_value s e v = cut_some s (find (has_value e v) (set.items s))
 
--- one link between places of two ends, written from the lower feature
+-- one link between positions of two ends, written from the lower feature
 abbrev pub joined : End → ℕ → End → ℕ → Option FeatureNo → Link
 joined x i y j c =
     if nat_lt x.feature.0 y.feature.0
@@ -141,7 +141,7 @@ put_proxy s e i t = set.insert (renumbered s e (raise i)) (new_proxy e i t)
 unfoldable pub shift : Links → End → ℕ → ℕ → Links
 shift s e to from = renumbered s e (shifted_index to from)
 
--- a list without what stood at a position: what a cut makes of an end
+-- a list without what was at a position: what a cut makes of an end
 abbrev pub without : List Value → Option (ℕ × Value) → List Value
 without vs p = option_map_or (λ q. remove vs q.0) p vs
 

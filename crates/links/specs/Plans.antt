@@ -124,7 +124,7 @@ AreIncoming s o es = (e : End) → (has_end es e ≡ true) ↔ Has s e (value.Ob
 abbrev pub incoming_end : Incoming → End
 incoming_end i = record { node = i.node; feature = i.feature }
 
--- the places are those where the object is, and no others
+-- the positions are those at which the object is, and no others
 abbrev pub AreEntriesOf : Links → ObjectNo → List Incoming → Type 0
 AreEntriesOf s o is = (i : Incoming) → Contains is i ↔ (slice_get (end s (incoming_end i)) i.position ≡ Some (value.Object o))
 

@@ -1,4 +1,4 @@
-//! The places of an object.
+//! The positions of an object.
 use mm_types::{FeatureNo, Node};
 
 /// A position at which an object is: in the end of a node's feature.

@@ -159,7 +159,7 @@ pub fn both_ends_agree()
     ensures { (m : Kinds) (s : Links) → IsLegalSet s → AreOfKind m s → BothEndsAgree m s }
 {}
 
-/// Links of the kinds of features are told by their ends: two legal sets with the same ends are one.
+/// Links of the kinds of features are determined by their ends: two legal sets with the same ends are one.
 pub fn the_ends_determine_the_links()
     ensures { (m : Kinds) (s t : Links) → IsLegalSet s → IsLegalSet t → AreOfKind m s → AreOfKind m t → HaveSameEnds s t → s ≡ t }
 {}

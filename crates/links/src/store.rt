@@ -26,7 +26,7 @@ pub trait LinkStore: Drop {
     /// The kinds of features that it can be of.
     ghost kinds: { Self → Kinds → Type 0 };
 
-    /// Whether there is room for a plan.
+    /// Whether there is capacity for a plan.
     ghost has_room: { Self → List Edit → Type 0 };
 
     /// A store with no link. Takes no memory.
@@ -59,8 +59,8 @@ pub trait LinkStore: Drop {
         requires legal { IsLegalSet (links self.now) }
         ensures { result ≡ holder_of (links self.now) (node.Object object) };
 
-    /// The places of an object: each position of each end that has it, by the numbers of the features, then the nodes,
-    /// objects before resources, each by number. An end has an object once. Errs only if memory is refused.
+    /// The positions of an object: each position of each end that has it, by the numbers of the features, then the nodes, objects
+    /// before resources, each by number. An end has an object once. Errs only if memory is refused.
     fn incoming(&self, alloc: Global, object: ObjectNo) -> Result<Vec<Incoming>, AllocError>
         requires legal { IsLegalSet (links self.now) }
         ensures entries { IfOk result (λ r. AreEntriesOf (links self.now) object r.items) }

@@ -26,7 +26,7 @@ none_past (x ∷ xs) (suc i) is low = none_past xs i is (omega arith)
 pub no_class : (raw : RawMetamodel) (c : ℕ) → None ≡ slice_get raw.classes c → IsTrue false ↔ HasDuplicate raw (Class c)
 no_class raw c is = ((λ (h : false ≡ true). absurd cc), (λ (h : HasDuplicate raw (Class c)). absurd (none_past raw.classes c is (class_inside raw DuplicateName c h))))
 
--- where neither the name of a class nor a supertype occurs twice, a duplicate is a clash
+-- if neither the name of a class nor a supertype occurs twice, a duplicate is a clash
 pub only_clash : (raw : RawMetamodel) (c : ℕ) (k : RawClass) (b : Bool) → Some k ≡ slice_get raw.classes c
     → (is_among (reserved_names ++ enum_names raw ++ take c (class_names raw)) k.name || repeats [] k.supers) ≡ false
     → IsTrue b ↔ Clash (graph_of raw.classes) (own_names raw) c → IsTrue b ↔ HasDuplicate raw (Class c)

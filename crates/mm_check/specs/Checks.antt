@@ -6,7 +6,7 @@ use Rattle.mm_types.specs.WellFormed.{IsFirstFault, WellFormed}
 use Rattle.mm_types.specs.declared.meta_fault.MetaFault.{MetaFault}
 use Rattle.mm_types.specs.declared.meta_fault.MetaFault.TheVariants.{Syntax, Layout, Limit, IllFormed, Memory}
 
--- the resolved metamodel where it is well-formed, else its first fault; nothing is said if memory is refused
+-- the resolved metamodel if it is well-formed, else its first fault; nothing is said if memory is refused
 abbrev pub Checks : RawMetamodel → Result Metamodel MetaFault → Type 0
 Checks raw (Ok m) = WellFormed raw × (m ≡ resolved raw)
 Checks raw (Err Syntax) = ⊥

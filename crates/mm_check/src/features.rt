@@ -103,7 +103,7 @@ impl<'a> Checker<'a> {
         }
     }
 
-    /// Whether a literal is none of the type of its attribute.
+    /// Whether a literal is not of the type of its attribute.
     fn is_no_literal(
         &self,
         alloc: Global,
@@ -138,8 +138,8 @@ impl<'a> Checker<'a> {
         }
     }
 
-    /// Whether there is an attribute at a place whose default literal is none of its type, or that is
-    /// many-valued and has one. Errs only if memory is refused.
+    /// Whether there is an attribute at a place whose default literal is not of its type, or that is many-valued
+    /// and has one. Errs only if memory is refused.
     pub fn has_bad_default(&self, alloc: Global, place: Place) -> Result<bool, AllocError>
         ensures { IfOk result (λ b. b ≡ has_bad_default_at self.now place) }
     {

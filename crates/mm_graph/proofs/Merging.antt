@@ -76,7 +76,7 @@ same_flat f h [] all = refl
 same_flat f h (e ∷ es) all =
     ap (λ s. s ++ flat_map f es) (all 0 0 (omega arith)) ∙ ap (λ s. h e ++ s) (same_flat f h es (λ k d low. all (suc k) d (omega arith)))
 
--- Depths past a class's place in the order list the same.
+-- Depths past a class's index in the order list the same.
 pub same_listed : (g own : List (List ℕ)) (order : List ℕ) → IsOrder g order → (k m j : ℕ) → j < k → j < m → j < length order
     → listed g own k (get_or order j 0) ≡ listed g own m (get_or order j 0)
 same_listed g own order o zero m j low below within = absurd (omega arith)

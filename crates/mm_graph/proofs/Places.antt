@@ -1,11 +1,11 @@
--- The places at which the names of a class are in the list that was gathered.
+-- The indexes at which the names of a class are in the list that was gathered.
 use Rattle.std.proofs.Common.{◌≡◌, ◌∙◌, ◌+◌, ◌++◌, ◌⊎◌, Bool, true, false, List, [], ◌∷◌, ℕ, Some, ⊎_elim, inl, inr, suc, zero, ap, arith, length, refl, sym}
 use Rattle.std.specs.List.{slice_get, slice_index_or}
 use Rattle.std.proofs.lemmas.Option.{slice_get_within}
 use Rattle.mm_graph.specs.Gathered.{gathered}
 use Rattle.mm_graph.specs.Sets.{is_in}
 
--- the place of the name that a class declares at an index
+-- the index, in the whole list, of the name that a class declares at an index of its own
 abbrev pub place_of : List Bool → List (List (List ℕ)) → ℕ → ℕ → ℕ
 place_of [] nss c i = i
 place_of (b ∷ bs) [] c i = i
@@ -32,7 +32,7 @@ get_cases (x ∷ xs) ys (suc p) n h = ⊎_elim
     (λ (r : (q : ℕ) × (p ≡ length xs + q) × (slice_get ys q ≡ Some n)). inr (r.0, (let e = r.1 in omega arith), r.2))
     (get_cases xs ys p n h)
 
--- a declared name is at its place
+-- a declared name is at its index
 pub declared_place : (bs : List Bool) (nss : List (List (List ℕ))) (c i : ℕ) (n : List ℕ) → is_in bs c ≡ true
     → slice_get (slice_index_or nss c []) i ≡ Some n → slice_get (gathered bs nss) (place_of bs nss c i) ≡ Some n
 declared_place [] nss c i n kept at = cc
@@ -43,7 +43,7 @@ declared_place (true ∷ bs) (ns ∷ nss) (suc c) i n kept at =
     get_right ns (gathered bs nss) (place_of bs nss c i) _ refl ∙ declared_place bs nss c i n kept at
 declared_place (false ∷ bs) (ns ∷ nss) (suc c) i n kept at = declared_place bs nss c i n kept at
 
--- a class of the set declares the name that is at a place
+-- a class of the set declares the name that is at an index
 pub record HasPlace (bs : List Bool) (nss : List (List (List ℕ))) (p : ℕ) (n : List ℕ) : Type 0 where
   pub class : ℕ
   pub index : ℕ
@@ -64,7 +64,7 @@ has_place (false ∷ bs) (ns ∷ nss) p n h =
     let d = has_place bs nss p n h in
     record { class = suc d.class; index = d.index; kept = d.kept; at = d.at; place = d.place }
 
--- no two declared names are at one place
+-- no two declared names are at one index
 pub same_place : (bs : List Bool) (nss : List (List (List ℕ))) (c i d j : ℕ) (n : List ℕ)
     → is_in bs c ≡ true → slice_get (slice_index_or nss c []) i ≡ Some n → is_in bs d ≡ true → slice_get (slice_index_or nss d []) j ≡ Some n
     → place_of bs nss c i ≡ place_of bs nss d j → (c ≡ d) × (i ≡ j)

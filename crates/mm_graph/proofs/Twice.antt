@@ -1,4 +1,4 @@
--- A name that occurs twice in a list, by its two places.
+-- A name that occurs twice in a list, by its two indexes.
 use Rattle.std.proofs.Common.{◌≡◌, ◌∙◌, ◌<◌, ◌++◌, ◌||◌, ◌⊎◌, Bool, true, false, List, [], ◌∷◌, ℕ, Some, ⊎_elim, inl, inr, suc, zero, ap, arith, refl, sym}
 use Rattle.std.specs.List.{slice_get}
 use Rattle.std.specs.Str.{bytes_eq}
@@ -81,7 +81,7 @@ repeats_cases seen (x ∷ xs) h = ⊎_elim
     (repeats_cases (seen ++ x ∷ []) xs r))
     (or_cases (is_among seen x) (repeats (seen ++ x ∷ []) xs) h)
 
--- A list repeats a name exactly if it is at two places.
+-- A list repeats a name exactly if it is at two indexes.
 pub repeats_twice : (xs : List (List ℕ)) → repeats [] xs ≡ true → IsTwice xs
 repeats_twice xs h = ⊎_elim
     (λ (s : IsSeen [] xs). let no : false ≡ true = s.among in absurd cc)

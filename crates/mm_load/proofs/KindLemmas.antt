@@ -18,7 +18,7 @@ nothing true None = refl
 nothing true (Some f) = refl
 nothing false o = refl
 
--- where one of the rows says nothing, the object does not
+-- if one of the rows says nothing, the object does not
 object_lacks : {A B : Type 0} (fields : Fields (A → B)) (field : Fields A) (d : Data) → field.reading d ≡ None → object_of (fields also field) d ≡ None
 object_lacks fields field d h = rw h (nothing (has_only (fields also field).keys d) (fields.reading d))
 

@@ -32,7 +32,7 @@ feature_fields = makes new_head
 abbrev pub new_attribute : Unit {0} → Bool → Bool → Option (List ℕ) → RawKind
 new_attribute kind unique unsettable default = Attribute unique unsettable default
 
--- what an attribute says beside
+-- the other keys of an attribute
 abbrev pub attribute_fields : Fields RawKind
 attribute_fields = makes new_attribute
     -- that it is one
@@ -47,7 +47,7 @@ attribute_fields = makes new_attribute
 abbrev pub new_reference : Unit {0} → Bool → Option (List ℕ) → RawKind
 new_reference kind containment opposite = Reference containment opposite
 
--- what a reference says beside
+-- the other keys of a reference
 abbrev pub reference_fields : Fields RawKind
 reference_fields = makes new_reference
     -- that it is one
@@ -65,11 +65,11 @@ abbrev pub is_unsettable : RawKind → Bool
 is_unsettable (Attribute unique unsettable default) = unsettable
 is_unsettable (Reference containment opposite) = false
 
--- single where it is unsettable
+-- single if it is unsettable
 abbrev pub unsets_one : RawFeature → Bool
 unsets_one f = not (is_unsettable f.kind) || int_eq f.upper (pos 1)
 
--- an object of the fields of features and attributes, which is single where it is unsettable
+-- an object of the fields of features and attributes, which is single if it is unsettable
 unfoldable pub attribute : Data → Option RawFeature
 attribute d = object_of (makes new_feature also feature_fields also attribute_fields) d such_that unsets_one
 

@@ -12,12 +12,12 @@ use Rattle.mm_load.specs.Layout.{document}
 abbrev pub limited : RawMetamodel → Result RawMetamodel MetaFault
 limited raw = if is_within_limits raw then Ok raw else Err Limit
 
--- the limits, where the layout is right
+-- the limits, if the layout is right
 abbrev pub laid_out : Option RawMetamodel → Result RawMetamodel MetaFault
 laid_out None = Err Layout
 laid_out (Some raw) = limited raw
 
--- the layout, where the bytes are JSON
+-- the layout, if the bytes are JSON
 abbrev pub parsed : Option Data → Result RawMetamodel MetaFault
 parsed None = Err Syntax
 parsed (Some d) = laid_out (document d)

@@ -52,7 +52,7 @@ impl FromJson for Text {
 fn each_of<T: FromJson + Drop>(alloc: Global, values: Vec<Value>) -> Result<Seq<T>, ReadFault>
     ensures { Gives result (each T.reads (items_view values.items)) }
 {
-    // Room for the whole list at once: within the limits none is longer than that of the classes may be.
+    // The capacity for the whole list at once: within the limits no list is longer than that of the classes may be.
     let mut items = Vec::with_capacity(alloc, values.len().min(limits::CLASSES))?;
     'values: for value in values {
         items.push(T::from_json(alloc, value)?)?;

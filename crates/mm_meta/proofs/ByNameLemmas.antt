@@ -37,7 +37,7 @@ own_name [] c i r at = cc
 own_name (k ∷ ks) zero i r at = slice_get-map (λ f. f.name) k.features i ∙ ap (option_map (λ f. f.name)) at
 own_name (k ∷ ks) (suc c) i r at = own_name ks c i r at
 
--- a feature that a class has: the place in the document at which it is declared
+-- a feature that a class has: the class that declares it, and its index there
 record IsInherited (raw : RawMetamodel) (c : ClassNo) (f : FeatureNo) (name : List ℕ) : Type 0 where
   pub class : ℕ
   pub index : ℕ
@@ -282,7 +282,7 @@ pub record IsFirst (m : Metamodel) (c : ClassNo) (name : List ℕ) (i : ℕ) : T
   pub low : i < length m.features
   pub came : ComesTo m c name i
 
--- the first place that the table has for a name
+-- the first index that the table has for a name
 pub known_first : (m : Metamodel) (n : FeatureNames) → Known m n → (c : ClassNo) (name : List ℕ) (i : ℕ)
     → ((names : List (List ℕ)) → AreFeatureNames n names → Some i ≡ position (λ x. bytes_eq x name) names) → IsFirst m c name i
 known_first m n k c name i found =

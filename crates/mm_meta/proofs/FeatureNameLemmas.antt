@@ -1,4 +1,4 @@
--- The next place at which a name is, for each place of a list of names, found from the end backwards.
+-- The next index at which a name is, for each index of a list of names, found from the end backwards.
 use Rattle.std.proofs.Common.{◌≡◌, ◌≢◌, ◌∙◌, ◌+◌, ◌<◌, ◌≤◌, ℕ, zero, suc, Bool, true, false, cond, List, [], ◌∷◌, Some, None, ⊎_elim, ap, arith, get_or, get_or-set_other, get_or-set_same, length, length-set, map, refl, set, subst, sym}
 use Rattle.std.specs.Prelude.{position}
 use Rattle.std.specs.List.{position_from}
@@ -41,11 +41,11 @@ stands names f low is =
     let here : bytes_eq (get_or names f []) (get_or names f []) ≡ true = is_name (get_or names f []) (get_or names f []) refl in
     cc
 
--- the name at a place is nowhere before it
+-- the name at an index is nowhere before it
 abbrev pub IsFirstAt : List (List ℕ) → ℕ → Type 0
 IsFirstAt names p = position (λ n. bytes_eq n (get_or names p [])) names ≡ Some p
 
--- from a place on the next place of each name is known, and of each name the first of these places
+-- from an index on the next index of each name is known, and of each name the first of these indexes
 pub record AreMet (names : List (List ℕ)) (f : ℕ) (next met : List ℕ) : Type 0 where
   pub long_next : length next ≡ length names
   pub long_met : length met ≡ length names
@@ -69,7 +69,7 @@ at_once names name f low is = record {
   here = λ within. is;
 }
 
--- the next place from one on is the next from the one before, where another name is there
+-- the next index from one on is the next from the one before, if another name is there
 one_before : (names : List (List ℕ)) (name : List ℕ) (f g : ℕ) → IsNext names name (suc f) g → (get_or names f [] ≡ name → ⊥) → IsNext names name f g
 one_before names name f g n other = record {
   behind = let past = n.behind in omega arith;
@@ -108,7 +108,7 @@ nexts_more names f g next within ahead known h past low = ⊎_elim
     (λ (n : h ≢ f). subst (λ (k : ℕ). IsNext names (get_or names h []) (suc h) k) (sym (get_or-set_other next f h g 0 n)) (known h (omega arith) low))
     (cases_eq h f)
 
--- the place before is put in front of the places of its name
+-- the index before is put in front of the indexes of its name
 pub met_more : (names : List (List ℕ)) (f p : ℕ) (next met : List ℕ) → AreMet names (suc f) next met → position (λ n. bytes_eq n (get_or names f [])) names ≡ Some p
     → AreMet names f (set next f (get_or met p 0)) (set met p f)
 met_more names f p next met m is =

@@ -45,7 +45,7 @@ get_right [] ys i j is = let same : j ≡ i = omega arith in ap (slice_get ys) s
 get_right (x ∷ xs) ys i zero is = absurd (omega arith)
 get_right (x ∷ xs) ys i (suc j) is = get_right xs ys i j (omega arith)
 
--- at place i of the features of some classes is one whose owner is class j of these; the first of them has the number c
+-- at index i of the features of some classes is one whose owner is class j of these; the first of them has the number c
 record IsOwnedAt (raw : RawMetamodel) (c : ℕ) (ks : List RawClass) (i j : ℕ) : Type 0 where
   pub feature : Feature
   pub here : slice_get (features_from raw c ks) i ≡ Some feature
@@ -101,7 +101,7 @@ owned_is_declared raw c n (k ∷ ks) i x is = ⊎_elim
     (suc p.0, omega arith, subst (λ (f : ℕ). Contains (by_class (own_from (n + length k.features) ks) p.0) f) number p.2))
     (cases_lt i (length k.features))
 
--- all features of the class at place i
+-- all features of the class at index i
 all_at : (all : List RawClass) (c : ℕ) (ks : List RawClass) (i : ℕ) → i < length ks
     → option_map (λ k. k.all) (slice_get (classes_from all c ks) i) ≡ Some (map feature_no (all_features (graph_of all) (own_of all) (c + i)))
 all_at all c [] i low = absurd (omega arith)
@@ -180,7 +180,7 @@ has_of_owner raw well c f x is =
           )),
     )
 
--- If a test tells whether a class conforms to a feature's owner, it tells whether the class has the feature.
+-- If a test decides whether a class conforms to a feature's owner, it decides whether the class has the feature.
 pub has_as_owner : (m : Metamodel) → IsOfDocument m → (c : ClassNo) (f : FeatureNo) (x : Feature) (b : Bool) → feature m f ≡ Some x
     → IsTrue b ↔ ConformsTo m c x.owner → b ≡ has_feature m c f
 has_as_owner m d c f x b =

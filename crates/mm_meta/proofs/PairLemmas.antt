@@ -20,8 +20,8 @@ use Rattle.mm_types.proofs.Pairing.{HasOpposite, NameEachOther, has_opposite, no
 use Rattle.mm_types.proofs.Unique.{unique_names}
 use Rattle.mm_meta.proofs.PlaceLemmas.{IsDeclared, declared_at, number_of}
 
--- f and g are two references, each of which has the other as its opposite and the other's owner as its type; one of them
--- contains at most, and where one does the other is single
+-- f and g are two references, each of which has the other as its opposite and the other's owner as its type; one of them contains at
+-- most, and if one does the other is single
 pub record AreOpposites (m : Metamodel) (f g : FeatureNo) : Type 0 where
   pub near : Feature
   pub far : Feature
@@ -55,7 +55,7 @@ near_resolved raw well c i d j p g far =
     resolved_reference raw p.near.type_name p.far.name p.near.kind d j g p.near_type p.near_names
     (own_at_first raw (unique_names raw well) d j p.far p.far_here) far.number
 
--- two places with one number are one place
+-- two indexes with one number are one index
 one_place : (raw : RawMetamodel) → WellFormed raw → (c i d j : ℕ) (r s : RawFeature) (f g : FeatureNo) → IsDeclared raw c i r f → IsDeclared raw d j s g → g.0 ≡ f.0 → (d ≡ c) × (j ≡ i)
 one_place raw well c i d j r s f g here there same =
     let x : feature (resolved raw) g ≡ Some (resolved_feature raw c r) = ap (slice_get (resolved raw).features) same ∙ here.resolves in

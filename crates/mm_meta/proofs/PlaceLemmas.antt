@@ -1,4 +1,4 @@
--- The number of a feature, and the place in the document at which a class declares it.
+-- The number of a feature, the class that declares it, and its index there.
 use Rattle.std.proofs.Common.{◌≡◌, ◌∙◌, ◌+◌, ◌-◌, ◌<◌, ◌≤◌, ℕ, zero, suc, List, [], ◌∷◌, Some, ⊎_elim, ap, arith, length, map, sym}
 use Rattle.std.specs.Prelude.{option_and_then, option_map, slice_get}
 use Rattle.std.specs.List.{range_with_len}
@@ -21,7 +21,7 @@ range_get : (n k i : ℕ) → i < k → slice_get (range_with_len n k) i ≡ Som
 range_get n k i low =
     slice_get_read (range_with_len n k) k i (n + i) (sym (length-range_with_len n k)) low (sym (get_or-range_with_len n k i (n + i) low))
 
--- the feature at place i among those of class j of some classes, the first of which has the number c and its first feature n
+-- the feature at index i among those of class j of some classes, the first of which has the number c and its first feature n
 record IsPlaced (raw : RawMetamodel) (c n : ℕ) (ks : List RawClass) (f : ℕ) (x : Feature) : Type 0 where
   pub class : ℕ
   pub index : ℕ
@@ -45,7 +45,7 @@ later raw c n k ks f x past p =
       number = p.number ∙ ap Some number;
     }
 
--- what is at a number is declared at some place
+-- what is at a number is declared by some class at some index
 placed : (raw : RawMetamodel) (c n : ℕ) (ks : List RawClass) (f : ℕ) (x : Feature) → slice_get (features_from raw c ks) f ≡ Some x → IsPlaced raw c n ks f x
 placed raw c n [] f x is = cc
 placed raw c n (k ∷ ks) f x is = ⊎_elim
@@ -77,7 +77,7 @@ record IsNumbered (raw : RawMetamodel) (c n : ℕ) (ks : List RawClass) (j i : �
   pub here : slice_get (features_from raw c ks) place ≡ Some (resolved_feature raw (c + j) r)
   pub number : slice_get (by_class (own_from n ks) j) i ≡ Some (n + place)
 
--- what is declared at a place has a number
+-- what a class declares at an index has a number
 numbered : (raw : RawMetamodel) (c n : ℕ) (ks : List RawClass) (j i : ℕ) (r : RawFeature) → option_and_then (λ k. slice_get k.features i) (slice_get ks j) ≡ Some r
     → IsNumbered raw c n ks j i r
 numbered raw c n [] j i r at = cc

@@ -51,7 +51,7 @@ turned m f g p = record {
 near_shape : (m : Metamodel) (f g : FeatureNo) (p : AreOpposites m f g) → shape m f ≡ shape_of m f p.near (Reference p.far.owner p.near_contains (Some g))
 near_shape m f g p = shape_at m f p.near (Reference p.far.owner p.near_contains (Some g)) p.near_here p.near_kind
 
--- a reference is a container reference where its opposite contains
+-- a reference is a container reference if its opposite contains
 container_is : (m : Metamodel) (f g : FeatureNo) (p : AreOpposites m f g) → is_container m f ≡ p.far_contains
 container_is m f g p =
     ap (λ (o : Option FeatureNo). option_map_or (λ x. is_containment_kind x.kind) (option_and_then (feature m) o) false) (opposite_is m f g p)

@@ -13,7 +13,7 @@ zip_push R [] (b ∷ bs) x y h r = absurd h
 zip_push R (a ∷ as') [] x y h r = absurd h
 zip_push R (a ∷ as') (b ∷ bs) x y h r = (h.0, zip_push R as' bs x y h.1 r)
 
--- what is at one place of both lists is related
+-- what is at one index of both lists is related
 pub zip_at : {A B : Type 0} (R : A → B → Type 0) (xs : List A) (ys : List B) (i : ℕ) (x : A) (y : B) → AllZip R xs ys → slice_get xs i ≡ Some x → slice_get ys i ≡ Some y → R x y
 zip_at R [] ys i x y h p q = absurd (cc)
 zip_at R (a ∷ as') [] i x y h p q = absurd h

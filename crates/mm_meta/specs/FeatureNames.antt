@@ -8,7 +8,7 @@ use Rattle.mm_types.specs.declared.numbers.FeatureNo.{FeatureNo}
 use Rattle.mm_meta.specs.NameTable.{IsTableOf}
 use Rattle.mm_meta.specs.declared.feature_names.FeatureNames.{FeatureNames}
 
--- g is the first position from one on at which a name is, or the end of the list where it is at none
+-- g is the first position from one on at which a name is, or the end of the list if it is at none
 pub record IsNext (names : List (List ℕ)) (name : List ℕ) (from g : ℕ) : Type 0 where
   pub behind : from ≤ g
   pub within : g ≤ length names

@@ -29,7 +29,8 @@ pub record IsContainerOf (m : Metamodel) (f h : FeatureNo) : Type 0 where
   pub apart : (h.0 ≡ f.0) → ⊥
   pub contains : (shape m h).containing ≡ Some h
 
--- the feature that contains is the feature itself, or the opposite of a container reference; `contents` is one too
+-- the containing feature of a feature's links is the feature itself, or the opposite of a container reference; that of `contents` is
+-- `contents`
 abbrev pub ContainingIsKnown : Metamodel → Type 0
 ContainingIsKnown m = (f h : FeatureNo) → f.0 ≤ length m.features → (shape m f).containing ≡ Some h → (h ≡ f) ⊎ IsContainerOf m f h
 
@@ -42,7 +43,7 @@ abbrev pub TakesWhatHasTheOpposite : Metamodel → Type 0
 TakesWhatHasTheOpposite m =
     (class_of : ObjectNo → Option ClassNo) (o : ObjectNo) (f g : FeatureNo) → (shape m f).opposite ≡ Some g → takes m class_of f (Object o) ≡ class_has m class_of o g
 
--- where an end of a reference may hold an object, the opposite end of that object may hold the first one
+-- if an end of a reference may hold an object, the opposite end of that object may hold the first one
 abbrev pub FarTypesFit : Metamodel → Type 0
 FarTypesFit m =
     (class_of : ObjectNo → Option ClassNo) (p o : ObjectNo) (f g : FeatureNo) → (shape m f).opposite ≡ Some g

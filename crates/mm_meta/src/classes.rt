@@ -22,7 +22,7 @@ fn class_numbers(alloc: Global, numbers: &[usize]) -> Result<Seq<ClassNo>, Alloc
     Ok(found)
 }
 
-/// The features of a class, in a list that holds no more places than features.
+/// The features of a class, in a list whose capacity is the number of features.
 fn feature_numbers(alloc: Global, numbers: &[u32]) -> Result<Seq<FeatureNo>, AllocError>
     ensures { IfOk result (λ s. s ≡ map feature_no numbers.now) }
 {

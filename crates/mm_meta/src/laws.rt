@@ -20,8 +20,8 @@ pub fn opposites()
     ensures shape { (m : Metamodel) (f : FeatureNo) → (shape m f).opposite ≡ opposite m f }
 {}
 
-/// The feature that contains what a feature links is the feature itself, or the opposite of the feature, which is
-/// then single: an object has one container (EMF: EReference.isContainment, isContainer). Of `contents` it is `contents`.
+/// Of the two ends of a link, the feature itself contains, or its opposite; if the opposite does, the feature is single: an
+/// object has one container (EMF: EReference.isContainment, isContainer). Of `contents` it is `contents`.
 pub fn containers()
     ensures { (m : Metamodel) → IsOfDocument m → ContainingIsKnown m }
 {}

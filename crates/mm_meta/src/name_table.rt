@@ -130,7 +130,8 @@ impl NameTable {
         }
     }
 
-    /// The first position of a name, which is found by its hash. It is apart, so that a search by a hint saves no registers for it.
+    /// The first position of a name, which is found by its hash. It is a function of its own, so that a search by a hint spills no
+    /// registers for it.
     #[cold]
     fn hashed(&self, name: &str) -> Option<usize>
         ensures { result ≡ get_by_text self.now.positions name.now }
@@ -156,7 +157,7 @@ fn hints_for(alloc: Global, positions: &IndexMap<String, usize>) -> Result<Vec<u
     Ok(hints)
 }
 
-/// The slot of a name among so many hints, a power of two. The length and three bytes of the name tell most names apart.
+/// The slot of a name among so many hints, a power of two. The length and three bytes of the name distinguish most names.
 fn slot_of(name: &str, hints: usize) -> usize {
     let bytes = name.as_bytes();
     let len = bytes.len();

@@ -16,7 +16,7 @@ use Rattle.mm_types.specs.declared.raw.RawKind.TheVariants.{Attribute, Reference
 use Rattle.mm_types.proofs.Opposing.{at_decides, lacks_decides, opposite_is, test_here}
 use Rattle.mm_types.proofs.Unique.{unique_names}
 
--- the features at two places are two references, each of which names the other
+-- the features at two indexes are two references, each of which names the other
 pub record NameEachOther (raw : RawMetamodel) (c i d j : ℕ) : Type 0 where
   pub near : RawFeature
   pub far : RawFeature
@@ -57,7 +57,7 @@ join raw c i d j out back apart =
       apart = apart;
     }
 
--- the opposite of the reference at a place, and where it is
+-- the opposite of the reference at an index, and its own index
 pub record HasOpposite (raw : RawMetamodel) (c i : ℕ) : Type 0 where
   pub class : ℕ
   pub index : ℕ

@@ -25,7 +25,7 @@ changed_nothing l f (Insert i v) none ready = absurd (none ready)
 changed_nothing l f (Remove i) none ready = remove_nothing i
 changed_nothing l f (Move to from) none ready = sym (shifted_past [] to from (omega arith))
 
--- a list that is ready has the places that the edit takes
+-- a list that is ready has the capacity that the edit takes
 pub is_ready : (l : List Entry) (f : ℕ) (e : ListEdit) (n : ℕ) → (HasPlace l f 1 → 1 ≤ n) → IsReadyFor l f e → taken e ≤ n
 is_ready l f (Insert i v) n one ready = one ready
 is_ready l f (Remove i) n one ready = omega arith

@@ -1,4 +1,4 @@
--- What a search finds among entries whose attributes rise, and what an edit at that place does.
+-- What a search finds among entries whose attributes rise, and what an edit at that index does.
 use Rattle.std.proofs.Common.{◌≡◌, ℕ, ◌+◌, ◌-◌, ◌<◌, ◌≤◌, eqb, cond, Bool, List, length, get_or, set, None, Result, Ok, Err, IfOk, IfErr, unwrap_or, refl, inl, inr, sym, ap, subst, ◌∙◌, arith, [], ◌∷◌, ◌++◌, false, eq-eqb, true}
 use Rattle.std.specs.List.{insert}
 use Rattle.std.specs.List.Sorted.{IsSearchInRange, IsBinarySearchResult, IsNonDecreasingBy}
@@ -37,7 +37,7 @@ module _ (l : List Entry) (rising : IsRising l) (f : ℕ) where
   }
 
 module _ (l : List Entry) (rising : IsRising l) (f at : ℕ) (is_at : IsAt l f at) where
-  -- the numbers before the place are smaller, so none is f
+  -- the numbers before the index are smaller, so none is f
   none_before_at : NoneBefore l f at
   none_before_at j lt same = omega (arith, rising j at lt is_at.in_range, is_at.has_feature)
 
@@ -80,7 +80,7 @@ module _ (l : List Entry) (rising : IsRising l) (f at : ℕ) (is_at : IsAt l f a
   pub stored_in-changed : (x e : Entry) (g : List Value → List Value) → x ≡ get_or l at x → e.feature.0 ≡ f → e.list.items ≡ g x.list.items → e.flag ≡ x.flag → stored_in (set l at e) ≡ change_stored (stored_in l) f g
   stored_in-changed x e g read is items flag = stored_in-put e (g x.list.items) x.flag is items flag ∙ ap (λ h. with_stored (stored_in l) f (list_changed g h)) (sym (stored_read x read))
 
-  -- its places stay but for those that are taken, and those of the others all
+  -- its capacity stays but for what is taken, and that of the others all
   pub index-set : (x e : Entry) (k : ℕ) → x ≡ get_or l at x → e.feature.0 ≡ f → x.list.spare ≤ e.list.spare + k → (q n : ℕ) → HasPlace l q n → HasPlace (set l at e) q (n - taken_of f k q)
   index-set x e k read is spare q n has = record {
     index = has.index;
@@ -98,7 +98,7 @@ module _ (l : List Entry) (rising : IsRising l) (f at : ℕ) (is_at : IsAt l f a
     ];
   }
 
-  -- it has as many places as its list
+  -- it has as much capacity as its list
   pub place_here : (e : Entry) (n : ℕ) → e.feature.0 ≡ f → n ≤ e.list.spare → HasPlace (set l at e) f n
   place_here e n is many = record {
     index = at;
@@ -126,7 +126,7 @@ none_of f q = elim (eqb q f) as (λ b. ◌≡◌ {A = ℕ} (cond b 0 0) 0) [
   | false ↦ refl
 ]
 
--- a place for many is one for fewer
+-- capacity for many is capacity for fewer
 pub fewer : (l : List Entry) (f n m : ℕ) → m ≤ n → HasPlace l f n → HasPlace l f m
 fewer l f n m le has = record { index = has.index; is_at = has.is_at; spare = omega (arith, has.spare) }
 
@@ -138,7 +138,7 @@ module _ (l : List Entry) (f at : ℕ) (gap : IsGapFor l f at) where
   pub stored_in_gap : unwrap_or (map.get (stored_in l) f) nothing_stored ≡ nothing_stored
   stored_in_gap = ap (λ o. unwrap_or o nothing_stored) (get-stored_in l f ∙ found_absent l f none)
 
-  -- it has no place
+  -- it has no capacity
   pub no_place : (n : ℕ) → HasPlace l f n → ⊥
   no_place n has = none has.index has.is_at.in_range has.is_at.has_feature
 
@@ -166,7 +166,7 @@ module _ (l : List Entry) (f at : ℕ) (gap : IsGapFor l f at) (e : Entry) (is :
   pub stored_in-pushed : (vs : List Value) (b : Bool) → at ≡ length l → e.list.items ≡ vs → e.flag ≡ b → stored_in (l ++ e ∷ []) ≡ with_stored (stored_in l) f (record { list = vs; flag = b })
   stored_in-pushed vs b end items flag = ap stored_in (sym (ap (λ i. insert l i e) end ∙ insert_end l e)) ∙ stored_in-put_new vs b items flag
 
-  -- a place that is made in the gap changes nothing that is stored
+  -- an entry that is put into the gap changes nothing that is stored
   pub stored_in-made : stored_of e ≡ nothing_stored → stored_in (insert l at e) ≡ stored_in l
   stored_in-made holds = stored_in-insert ∙ ap (with_stored (stored_in l) f) (holds ∙ sym (stored_in_gap l f at gap)) ∙ with_stored_same l f
 
@@ -192,7 +192,7 @@ module _ (l : List Entry) (f at : ℕ) (gap : IsGapFor l f at) (e : Entry) (is :
   pub is_at_made : IsAt (insert l at e) f at
   is_at_made = record { in_range = omega (arith, length-insert l at e gap.in_range, gap.in_range); has_feature = feature_here at refl }
 
-  -- and each earlier place stays, or has moved up by one
+  -- and each earlier entry stays, or has moved up by one
   pub index-insert : (q n : ℕ) → HasPlace l q n → HasPlace (insert l at e) q n
   index-insert q n has = elim (cases_lt has.index at) [
     | inl below ↦ record {

@@ -1,4 +1,4 @@
--- Room for a plan, edit by edit.
+-- Capacity for a plan, edit by edit.
 use Rattle.std.proofs.Common.{◌≡◌, ℕ, ◌+◌, ◌-◌, ◌≤◌, Bool, true, false, ◌||◌, List, [], ◌∷◌, cond, inl, inr, refl, arith, eq-eqb, ◌&&◌, Option, Some, None, eqb, eqb-true, subst}
 use Rattle.std.proofs.lemmas.Bool.{and_parts}
 use Rattle.std.specs.List.{list_any, sum_by}
@@ -14,7 +14,7 @@ use Rattle.mm_values.specs.Slots.{Slots, HasPlaceAt, KeepsPlaces}
 use Rattle.mm_values.specs.Room.{HasRoom, HasPlaceFor, HasPlacesIn, inserted_in, is_insert, is_insert_at, is_insert_in, is_new_object, is_new_uri, needed, places_taken}
 use Rattle.mm_values.proofs.Place.{fewer}
 
--- a place for many is one for fewer
+-- capacity for many is capacity for fewer
 pub fewer_at : (r : Slots) (o f n m : ℕ) → m ≤ n → HasPlaceAt r o f n → HasPlaceAt r o f m
 fewer_at r o f n m le has d lt = elim (has d lt) [
   | inl dead ↦ inl dead
@@ -41,7 +41,7 @@ first_counts o f e es false behind = omega arith
 needed_first : (o f : ℕ) (e : ValueEdit) (es : List ValueEdit) → needed (e ∷ []) o f ≤ needed (e ∷ es) o f
 needed_first o f e es = first_counts o f e es (is_insert_at o f e) (list_any (is_insert_at o f) es)
 
--- a place for an edit of a plan, as the plan and the objects change
+-- capacity for an edit of a plan, as the plan and the objects change
 pub place_for_less : (r r' : Slots) (plan plan' : List ValueEdit) → ((o f : ℕ) → HasPlaceAt r o f (needed plan o f) → HasPlaceAt r' o f (needed plan' o f)) → (e : ValueEdit) → HasPlaceFor r plan e → HasPlaceFor r' plan' e
 place_for_less r r' plan plan' less (NewObject c) has = tt
 place_for_less r r' plan plan' less (DropObject o) has = tt
@@ -51,11 +51,11 @@ place_for_less r r' plan plan' less (RemoveValue o f i) has = tt
 place_for_less r r' plan plan' less (MoveValue o f to from) has = tt
 place_for_less r r' plan plan' less (NewUri u) has = tt
 
--- a place that is kept with none taken
+-- capacity that is kept with none taken
 pub kept_for : (r r' : Slots) (plan : List ValueEdit) → KeepsPlaces (λ o f. 0) r r' → (e : ValueEdit) → HasPlaceFor r plan e → HasPlaceFor r' plan e
 kept_for r r' plan kept = place_for_less r r' plan plan (λ o f has. fewer_at r' o f (needed plan o f - 0) (needed plan o f) (omega arith) (kept.places o f (needed plan o f) has))
 
--- a list whose places were made for one insert has them for the next
+-- a list whose capacity was reserved for one insert has it for the next
 pub made_for : (r : Slots) (plan : List ValueEdit) (e : ValueEdit) → HasPlaceFor r plan e → HasPlacesIn r plan (inserted_in e)
 made_for r plan (NewObject c) has = tt
 made_for r plan (DropObject o) has = tt
@@ -104,11 +104,11 @@ none_inserted o f (e ∷ es) none =
 pub none_needed : (es : List ValueEdit) → list_any is_insert es ≡ false → (o f : ℕ) → needed [] o f ≡ needed es o f
 none_needed es none o f = rw (none_inserted o f es none) refl
 
--- a place for an edit is one where the plan needs as many
+-- capacity for an edit is some if the plan needs as much
 pub place_for_same : (r : Slots) (plan plan' : List ValueEdit) → ((o f : ℕ) → needed plan o f ≡ needed plan' o f) → (e : ValueEdit) → HasPlaceFor r plan e → HasPlaceFor r plan' e
 place_for_same r plan plan' same = place_for_less r r plan plan' (λ o f has. subst (λ n. HasPlaceAt r o f n) (same o f) has)
 
--- room for edits is room for the first
+-- capacity for edits is capacity for the first
 pub room_first : (v : Values) (e : ValueEdit) (es : List ValueEdit) → HasRoom v (e ∷ es) → HasRoom v (e ∷ [])
 room_first v e es room = record {
   slots = omega (arith, room.slots, sum_by-cons (λ x. cond (is_new_object x) 1 0) e es);
@@ -119,7 +119,7 @@ room_first v e es room = record {
   uris = omega (arith, room.uris, sum_by-cons (λ x. cond (is_new_uri x) 1 0) e es);
 }
 
--- a value that is put into a list has a place there
+-- there is capacity for a value that is put into a list
 needed_insert : (o : ObjectNo) (f : FeatureNo) (i : ℕ) (w : Value) (u : Bool) → 1 ≤ needed (InsertValue o f i w u ∷ []) o.0 f.0
 needed_insert o f i w u = rw (eq-eqb o.0 o.0 refl, eq-eqb f.0 f.0 refl) (omega arith)
 
@@ -133,7 +133,7 @@ put_has_place v o f list flag room =
     let has = All-head (HasPlaceFor v.objects (PutList o f list flag ∷ [])) (PutList o f list flag) [] room.places in
     fewer_at v.objects o.0 f.0 (needed (PutList o f list flag ∷ []) o.0 f.0) 0 (omega arith) has
 
--- the first edit leaves the room for the others
+-- the first edit leaves the capacity for the others
 pub room_rest : (v w : Values) (e : ValueEdit) (es : List ValueEdit) → HasRoom v (e ∷ es) → KeepsPlaces (places_taken e) v.objects w.objects → w.objects.next ≡ v.objects.next + cond (is_new_object e) 1 0 → v.uris.room ≤ w.uris.room + cond (is_new_uri e) 1 0 → HasRoom w es
 room_rest v w e es room kept next uris = record {
   slots = omega (arith, room.slots, sum_by-cons (λ x. cond (is_new_object x) 1 0) e es, kept.slots, next);

@@ -1,4 +1,4 @@
--- What a write to one slot does to the objects and their places.
+-- What a write to one slot does to the objects and their capacity.
 use Rattle.std.proofs.Common.{◌≡◌, ℕ, zero, suc, ◌-◌, ◌<◌, ◌≤◌, ◌⊎◌, cond, eqb, eq-eqb, subst, true, false, List, [], ◌∷◌, ◌++◌, ◌+◌, length, get_or, set, take, Option, Some, None, is_some, refl, inl, inr, sym, ap, ◌∙◌, arith}
 use Rattle.std.specs.Option.{option_map}
 use Rattle.std.specs.FinMap as map
@@ -73,7 +73,7 @@ dead_none : (y : Option ClassNo) → is_some y ≡ false → y ≡ None
 dead_none None dead = refl
 dead_none (Some c) dead = cc
 
--- a class that was read and is none
+-- a class that was read and is not there
 pub none_read : (cs : List (Option ClassNo)) (i : ℕ) (y : Option ClassNo) → i < length cs → y ≡ get_or cs i y → is_some y ≡ false → get_or cs i None ≡ None
 none_read cs i y within read dead = sym (get_or_read cs i y within read None) ∙ dead_none y dead
 
@@ -120,14 +120,14 @@ module _ (cs : List (Option ClassNo)) (ls : List (List Entry)) (n i : ℕ) where
     | inr ahead ↦ sym (set_past (objects_of (columns cs ls n)) i (option_map g (get_or (objects_of (columns cs ls n)) i None)) (omega (arith, length-take n (states_of cs ls))))
   ]
 
-  -- what a live object has where a dead one need not
+  -- what a live object has and a dead one need not
   pub live_has : (P : List Entry → Type 0) (y : Option ClassNo) (x : List Entry) → length cs ≡ length ls → i < length ls → y ≡ get_or cs i y → is_some y ≡ true → x ≡ get_or ls i x → ((d : List Entry) → i < length ls → IsDead (columns cs ls n) i ⊎ P (get_or ls i d)) → P x
   live_has P y x same within class live read has = elim (has x within) [
     | inl dead ↦ let none : y ≡ None = get_or_read cs i y (omega arith) class None ∙ dead.1 in absurd (some_none y live none)
     | inr here ↦ subst P (sym read) here
   ]
 
-  -- one slot's lists are written, with some places less
+  -- one slot's lists are written, with some capacity less
   pub kept_set : (x l : List Entry) (taken : ℕ → ℕ → ℕ) → i < length ls → x ≡ get_or ls i x → ((f m : ℕ) → HasPlace x f m → HasPlace l f (m - taken i f)) → KeepsPlaces taken (columns cs ls n) (columns cs (set ls i l) n)
   kept_set x l taken within read more = record { slots = length-set ls i l; places = places }
     where
@@ -150,11 +150,11 @@ module _ (cs : List (Option ClassNo)) (ls : List (List Entry)) (n i : ℕ) where
         | inr (inr more) ↦ others o f m (λ e. omega arith) has
       ]
 
-  -- with no place less
+  -- with no less capacity
   pub kept_all : (x l : List Entry) → i < length ls → x ≡ get_or ls i x → ((f m : ℕ) → HasPlace x f m → HasPlace l f m) → KeepsPlaces none_taken (columns cs ls n) (columns cs (set ls i l) n)
   kept_all x l within read more = kept_set x l none_taken within read (λ f m index. fewer l f m (m - 0) (omega arith) (more f m index))
 
-  -- an object that is ended needs no place
+  -- an object that is ended needs no capacity
   pub kept_ended : (l : List Entry) → length cs ≡ length ls → i < n → n ≤ length ls → KeepsPlaces none_taken (columns cs ls n) (columns (set cs i None) (set ls i l) n)
   kept_ended l same made in_range = record { slots = length-set ls i l; places = places }
     where
@@ -171,12 +171,12 @@ module _ (cs : List (Option ClassNo)) (ls : List (List Entry)) (n i : ℕ) where
         | inr (inr more) ↦ others o f m (λ e. omega arith) has
       ]
 
--- with some places of one attribute less
+-- with some capacity of one attribute less
 pub kept_taken : (cs : List (Option ClassNo)) (ls : List (List Entry)) (n : ℕ) (o : ObjectNo) (g : FeatureNo) (k : ℕ) (x l : List Entry) → o.0 < length ls → x ≡ get_or ls o.0 x → ((f m : ℕ) → HasPlace x f m → HasPlace l f (m - taken_of g.0 k f)) → KeepsPlaces (taken_at o g k) (columns cs ls n) (columns cs (set ls o.0 l) n)
 kept_taken cs ls n o g k x l within read more = kept_set cs ls n o.0 x l (taken_at o g k) within read (λ f m index.
     subst (λ t. HasPlace l f (m - t)) (sym (ap (λ b. cond b (taken_of g.0 k f) 0) (eq-eqb o.0 o.0 refl))) (more f m index))
 
--- if nothing is written, no place is less
+-- if nothing is written, the capacity is not less
 pub kept_same : (r : Slots) (taken : ℕ → ℕ → ℕ) → KeepsPlaces taken r r
 kept_same r taken = record {
   slots = refl;

@@ -9,7 +9,7 @@ use Rattle.mm_values.specs.Stored.{Stored, StoredMap, nothing_stored, is_nothing
 use Rattle.mm_values.specs.Attributes.{stored_in, stored_of, place_for, feature_at, IsAt}
 use Rattle.mm_values.specs.declared.attribute_lists.Entry.{Entry}
 
--- what a look-up answers where h is stored
+-- what a look-up returns if h is stored
 abbrev pub kept : Stored → Option Stored
 kept h = if is_nothing h then None else Some h
 
@@ -34,11 +34,11 @@ pub get-stored_in : (l : List Entry) (q : ℕ) → map.get (stored_in l) q ≡ f
 get-stored_in [] q = map.get-empty nat_cmp q
 get-stored_in (e ∷ l) q = get-with_stored (stored_in l) e.feature.0 (stored_of e) q ∙ ap (λ r. cond (eqb q e.feature.0) (kept (stored_of e)) r) (get-stored_in l q)
 
--- maps that answer alike are equal
+-- maps that give the same answers are equal
 pub same_stored : (m n : StoredMap) → ((q : ℕ) → map.get m q ≡ map.get n q) → m ≡ n
 same_stored m n same = map.same_map nat_cmp_total map.nat_cmp-IsAntisymmetric m n same
 
--- no entry before place i is the attribute's
+-- no entry before index i is the attribute's
 abbrev pub NoneBefore : List Entry → ℕ → ℕ → Type 0
 NoneBefore l f i = (j : ℕ) → j < i → feature_at l j ≢ f
 

@@ -1,4 +1,4 @@
--- What a list of entries holds, and at which attributes it has places.
+-- What a list of entries holds, and at which attributes it has capacity.
 use Rattle.std.specs.Prelude.{◌≡◌, ℕ, ◌<◌, ◌≤◌, false, List, [], ◌∷◌, length, nat_eq, slice_index_or, unwrap_or, if◌then◌else◌}
 use Rattle.std.specs.FinMap as map
 use Rattle.mm_types.specs.declared.numbers.FeatureNo.{FeatureNo}
@@ -47,12 +47,12 @@ pub record IsGapFor (l : List Entry) (f i : ℕ) : Type 0 where
 abbrev pub spare_at : List Entry → ℕ → ℕ
 spare_at l i = let e = slice_index_or l i (place_for 0) in e.list.spare
 
--- there is room for what the attribute will hold, where n values may come with no memory taken
+-- there is capacity for what the attribute will hold; n values may be put in without memory
 pub record HasPlace (l : List Entry) (f n : ℕ) : Type 0 where
   pub index : ℕ
   pub is_at : IsAt l f index
   pub spare : n ≤ spare_at l index
 
--- of the places for the f-th attribute's values, k are taken
+-- of the capacity for the f-th attribute's values, k are taken
 abbrev pub taken_of : ℕ → ℕ → ℕ → ℕ
 taken_of f k q = if nat_eq q f then k else 0

@@ -1,4 +1,4 @@
--- What a repository's values are, and when there is room for what a plan makes.
+-- What a repository's values are, and when there is capacity for what a plan makes.
 use Rattle.std.specs.Prelude.{ℕ, ◌+◌, ◌≤◌, ◌&&◌, Bool, true, false, List, Option, Some, None, is_some, IfSome, length, count_by, sum_by, nat_eq, All, if◌then◌else◌}
 use Rattle.std.specs.List.{list_any}
 use Rattle.mm_types.specs.declared.numbers.FeatureNo.{FeatureNo}
@@ -38,23 +38,23 @@ abbrev pub is_insert_in : Option (ObjectNo × FeatureNo) → ValueEdit → Bool
 is_insert_in None e = false
 is_insert_in (Some p) e = is_insert_at p.0.0 p.1.0 e
 
--- how many places for values an edit takes, by object and attribute
+-- how much capacity for values an edit takes, by object and attribute
 abbrev pub places_taken : ValueEdit → ℕ → ℕ → ℕ
 places_taken (PutList x g list flag) = taken_at x g (length list)
 places_taken (InsertValue x g i w u) = taken_at x g 1
 places_taken _ = none_taken
 
--- how many places the list that o has under f needs for a plan: none if no value is put into it
+-- how much capacity the list that o has under f needs for a plan: none if no value is put into it
 abbrev pub needed : List ValueEdit → ℕ → ℕ → ℕ
 needed plan o f = if list_any (is_insert_at o f) plan then sum_by (λ e. places_taken e o f) plan else 0
 
--- a list that is put, or that a value is put into, has its entry and the places that the plan needs
+-- a list that is put, or that a value is put into, has its entry and the capacity that the plan needs
 abbrev pub HasPlaceFor : Slots → List ValueEdit → ValueEdit → Type 0
 HasPlaceFor r plan (PutList x g list flag) = HasPlaceAt r x.0 g.0 (needed plan x.0 g.0)
 HasPlaceFor r plan (InsertValue x g i w u) = HasPlaceAt r x.0 g.0 (needed plan x.0 g.0)
 HasPlaceFor r plan _ = Unit {0}
 
--- a list that need not be there has the places that the plan needs
+-- a list that need not be there has the capacity that the plan needs
 abbrev pub HasPlacesIn : Slots → List ValueEdit → Option (ObjectNo × FeatureNo) → Type 0
 HasPlacesIn r plan list = IfSome list (λ p. HasPlaceAt r p.0.0 p.1.0 (needed plan p.0.0 p.1.0))
 

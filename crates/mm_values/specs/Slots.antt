@@ -38,7 +38,7 @@ pub record IsReady (r : Slots) : Type 0 where
 abbrev pub IsDead : Slots → ℕ → Type 0
 IsDead r o = (o < r.next) × (slice_index_or r.classes o None ≡ None)
 
--- the object has room for what the attribute will hold, and for n values more, or needs none: it is dead, or never made
+-- the object has capacity for what the attribute will hold, and for n values more, or needs none: it is dead, or never made
 abbrev pub HasPlaceAt : Slots → ℕ → ℕ → ℕ → Type 0
 HasPlaceAt r o f n = (d : List Entry) → o < length r.lists → IsDead r o ⊎ HasPlace (slice_index_or r.lists o d) f n
 
@@ -46,14 +46,14 @@ HasPlaceAt r o f n = (d : List Entry) → o < length r.lists → IsDead r o ⊎ 
 abbrev pub IsReadyAt : Slots → ℕ → ℕ → ListEdit → Type 0
 IsReadyAt r o f e = (d : List Entry) → o < length r.lists → IsDead r o ⊎ IsReadyFor (slice_index_or r.lists o d) f e
 
--- of the places for values of each object and attribute, how many are taken: none, and k of one object's attribute
+-- of the capacity for values of each object and attribute, how much is taken: none, and k of one object's attribute
 abbrev pub none_taken : ℕ → ℕ → ℕ
 none_taken o f = 0
 
 abbrev pub taken_at : ObjectNo → FeatureNo → ℕ → ℕ → ℕ → ℕ
 taken_at x g k o f = if nat_eq o x.0 then taken_of g.0 k f else 0
 
--- as many entries as before, and their places but for those that are taken
+-- as many entries as before, and their capacity but for what is taken
 pub record KeepsPlaces (taken : ℕ → ℕ → ℕ) (old new : Slots) : Type 0 where
   pub slots : length new.lists ≡ length old.lists
   pub places : (o f n : ℕ) → HasPlaceAt old o f n → HasPlaceAt new o f (n - taken o f)

@@ -6,7 +6,7 @@ use Rattle.slot_lists.specs.Places.{Places}
 use Rattle.mm_types.specs.Same.{is_nil}
 use Rattle.mm_types.specs.declared.value.Value.{Value}
 
--- the values under an attribute, and whether it is set, where that is a state of its own
+-- the values under an attribute, and whether it is set, if that is a state of its own
 pub record Stored : Type 0 where
   pub list : List Value
   pub flag : Bool

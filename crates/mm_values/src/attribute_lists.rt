@@ -69,8 +69,8 @@ impl AttributeLists {
         }
     }
 
-    /// Makes room for what an attribute will hold, and places for more values of a list. The list may be one that is looked
-    /// up by value, or not. Errs only if memory is refused.
+    /// Reserves capacity for what an attribute will hold, and for more values of a list. The list may be one that is looked up by
+    /// value, or not. Errs only if memory is refused.
     pub fn make_place(
         &mut self,
         feature: FeatureNo,
@@ -120,7 +120,7 @@ impl AttributeLists {
         }
     }
 
-    /// Makes places for more values in the entry of an attribute.
+    /// Reserves capacity for more values in the entry of an attribute.
     fn reserve(
         &mut self,
         feature: FeatureNo,
@@ -137,7 +137,7 @@ impl AttributeLists {
         self.entries[at].list.reserve(alloc, additional, is_asked)
     }
 
-    /// Makes room for an entry if there is none: for two at first, then by a quarter at a time, since most objects hold little.
+    /// Reserves capacity for an entry if there is none: for two at first, then by a quarter at a time, since most objects hold little.
     fn grow(&mut self) -> Result<(), AllocError>
         ensures { self.new ≡ self.old }
     {
@@ -161,8 +161,8 @@ impl AttributeLists {
         }
     }
 
-    /// Replaces what is stored under an attribute, and makes room for it if it has none. Errs only if memory is refused, and then
-    /// nothing that is seen has changed.
+    /// Replaces what is stored under an attribute, and takes memory for it if it has none. Errs only if memory is refused, and then nothing
+    /// that is seen has changed.
     pub fn set(&mut self, feature: FeatureNo, list: NewValues, flag: bool) -> Result<(), AllocError>
         ensures ok { OnOk result (stored_in self.new ≡ with_stored (stored_in self.old) feature.0 (record { list = list; flag = flag })) }
         ensures err { OnErr result (stored_in self.new ≡ stored_in self.old) }

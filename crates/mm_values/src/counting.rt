@@ -28,7 +28,7 @@ fn has_insert(plan: &[ValueEdit]) -> bool
     plan.iter().any(|e| e.is_insert())
 }
 
-/// The edits of which the needed places are counted: none, and so no time, if no value is put into a list.
+/// The edits for which capacity is counted: none, and so no time, if no value is put into a list.
 pub(crate) fn counted(plan: &[ValueEdit]) -> &[ValueEdit]
     ensures { (o f : ℕ) → needed result.now o f ≡ needed plan.now o f }
 {
@@ -42,7 +42,7 @@ fn is_inserted_at(plan: &[ValueEdit], object: ObjectNo, feature: FeatureNo) -> b
     plan.iter().any(|e| e.is_insert_at(object, feature))
 }
 
-/// How many places a plan needs in the list that an object has under an attribute. Errs if no memory has so many.
+/// How much capacity a plan needs in the list that an object has under an attribute. Errs if no memory has so many.
 pub(crate) fn places_needed(
     plan: &[ValueEdit],
     object: ObjectNo,

@@ -123,8 +123,8 @@ impl Objects {
         Ok(())
     }
 
-    /// Makes room for what an attribute of an object will hold, even of one that is still to be made, and places for more values
-    /// of a list. The list may be one that is looked up by value, or not. Errs only if memory is refused.
+    /// Reserves capacity for what an attribute of an object will hold, even of one that is still to be made, and for more values of a list.
+    /// The list may be one that is looked up by value, or not. Errs only if memory is refused.
     pub fn make_place(
         &mut self,
         object: ObjectNo,

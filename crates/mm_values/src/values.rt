@@ -209,7 +209,7 @@ impl Values {
         self.objects.set(object, feature, list, flag)
     }
 
-    /// Makes an edit, as one of a plan is made.
+    /// Makes an edit in the way in which those of a plan are made.
     fn try_any(&mut self, edit: ValueEdit) -> Result<(), AllocError>
         ensures ok { OnOk result (values_of self.new ≡ edited (values_of self.old) edit) }
         ensures err { OnErr result (values_of self.new ≡ values_of self.old) }
@@ -219,7 +219,7 @@ impl Values {
         Ok(())
     }
 
-    /// Makes edits, in their order, once there is room for all of them.
+    /// Makes edits, in their order, once there is capacity for all of them.
     fn try_all(&mut self, edits: Seq<ValueEdit>) -> Result<(), AllocError>
         ensures ok { OnOk result (values_of self.new ≡ applied (values_of self.old) edits) }
         ensures err { OnErr result (values_of self.new ≡ values_of self.old) }
@@ -239,7 +239,7 @@ impl Values {
         }
     }
 
-    /// Makes one edit, and keeps the room for those that follow.
+    /// Makes one edit, and keeps the capacity for those that follow.
     fn apply_edit(&mut self, edit: ValueEdit)
         requires { HasRoom self.old (edit ∷ []) }
         ensures edited { values_of self.new ≡ edited (values_of self.old) edit }
@@ -282,7 +282,7 @@ impl Values {
         }
     }
 
-    /// Makes room for each list that is put or changed.
+    /// Reserves capacity for each list that is put or changed.
     fn make_places(&mut self, edits: &[ValueEdit]) -> Result<(), AllocError>
         ensures unchanged { values_of self.new ≡ values_of self.old }
         ensures next { self.new.objects.next ≡ self.old.objects.next }
@@ -292,7 +292,7 @@ impl Values {
         let plan = counted(edits);
         let mut made = None;
         for edit in edits {
-            // Of consecutive inserts into one list, the first makes the places for all.
+            // Of consecutive inserts into one list, the first reserves for all.
             if edit.is_insert_in(made) {
                 continue;
             }
@@ -302,7 +302,7 @@ impl Values {
         Ok(())
     }
 
-    /// Makes room for a list that an edit of a plan puts or changes.
+    /// Reserves capacity for a list that an edit of a plan puts or changes.
     fn make_place_for(&mut self, edit: &ValueEdit, plan: &[ValueEdit]) -> Result<(), AllocError>
         ensures unchanged { values_of self.new ≡ values_of self.old }
         ensures next { self.new.objects.next ≡ self.old.objects.next }
@@ -335,7 +335,7 @@ impl Values {
         }
     }
 
-    /// Makes room for a list, and the places for values that a plan needs in it.
+    /// Reserves capacity for a list, and for the values that a plan puts into it.
     fn make_list(
         &mut self,
         object: ObjectNo,

@@ -1,8 +1,17 @@
 //! What the words of the command line ask for.
+use crate::misuse::{Misuse, misuse_of};
 use crate::stop::Stop;
 use script_program::{Dress, Options, options_of};
 use script_streams::RunFault;
+use std::io::IsTerminal;
 use std::{env, io};
+
+/// A resource by its URI, and the file of its document.
+#[derive(Drop)]
+pub(crate) struct ResourceFile {
+    pub(crate) uri: String,
+    pub(crate) file: String,
+}
 
 /// What the program is asked for.
 #[derive(Drop)]
@@ -11,7 +20,11 @@ pub(crate) struct Asked {
     pub(crate) meta: String,
     /// The file of the script, if it has one.
     pub(crate) script: Option<String>,
-    /// How answers are dressed.
+    /// What is loaded before the script.
+    pub(crate) load: Vec<ResourceFile>,
+    /// What is saved after it.
+    pub(crate) save: Vec<ResourceFile>,
+    /// The output options.
     pub(crate) dress: Dress,
     /// Whether a refused or bad line gives a status of its own.
     pub(crate) strict: bool,
@@ -19,8 +32,10 @@ pub(crate) struct Asked {
     pub(crate) live: bool,
     /// The file that keeps the lines that change the model, if there is one.
     pub(crate) journal: Option<String>,
-    /// Whether it says what to mend, after what it reports.
+    /// Whether it says what to fix, after what it reports.
     pub(crate) explain: bool,
+    /// Whether it says which file can't be read or written, and why: also to a person at a terminal.
+    pub(crate) names_files: bool,
 }
 
 /// The words that the program was called with.
@@ -47,20 +62,53 @@ fn path_of(rt: &HostRuntime, path: Option<&str>) -> Result<Option<String>, Stop>
     }
 }
 
-/// The option that a live run does not take, if one is given: its script is what comes in, and its answers are bare.
-fn not_live(options: &Options<'_>) -> Option<&'static str> {
-    let given = [
-        (options.script.is_some(), "--script"),
-        (options.dress.echo, "--echo"),
-        (options.dress.number, "--number"),
-        (options.dress.stop, "--stop"),
-    ];
-    for (is_given, option) in given {
-        if is_given {
-            return Some(option);
+/// The resource and the file that a value of an option names. The last `=` is between them, since a URI may have others.
+fn resource_file(
+    rt: &HostRuntime,
+    option: &'static str,
+    value: &str,
+) -> Result<ResourceFile, Stop> {
+    match value.rsplit_once('=') {
+        Some((uri, file)) if !file.is_empty() => {
+            let uri = String::from_str(rt.alloc(), uri)?;
+            let file = String::from_str(rt.alloc(), file)?;
+            Ok(ResourceFile { uri, file })
         }
+        _ => Err(Stop::Misuse(Misuse::NoFile(option))),
     }
-    None
+}
+
+/// The resources and the files that the values of an option name.
+fn resource_files(
+    rt: &HostRuntime,
+    option: &'static str,
+    values: &[&str],
+) -> Result<Vec<ResourceFile>, Stop> {
+    let mut files = Vec::new(rt.alloc());
+    for value in values {
+        files.push(resource_file(rt, option, value)?)?;
+    }
+    Ok(files)
+}
+
+/// What options ask for, copied out of the words.
+fn copied(rt: &HostRuntime, options: &Options<'_>) -> Result<Asked, Stop> {
+    let script = path_of(rt, options.script)?;
+    let load = resource_files(rt, "--load", options.load.as_slice())?;
+    let save = resource_files(rt, "--save", options.save.as_slice())?;
+    let journal = path_of(rt, options.journal)?;
+    Ok(Asked {
+        meta: String::from_str(rt.alloc(), options.meta)?,
+        script,
+        load,
+        save,
+        dress: options.dress,
+        strict: options.strict,
+        live: options.live,
+        journal,
+        explain: options.explain,
+        names_files: options.explain || rt.stderr().is_terminal(),
+    })
 }
 
 /// What the words ask for, copied out of them.
@@ -69,25 +117,10 @@ fn asked_of(rt: &HostRuntime, words: &[&str]) -> Result<Asked, Stop> {
         Ok(options) => options,
         Err(error) => return Err(Stop::Arguments(error)),
     };
-    if options.live
-        && let Some(option) = not_live(&options)
-    {
-        return Err(Stop::NotLive(option));
+    match misuse_of(&options) {
+        Some(misuse) => Err(Stop::Misuse(misuse)),
+        None => copied(rt, &options),
     }
-    if !options.live && options.journal.is_some() {
-        return Err(Stop::OnlyLive("--journal"));
-    }
-    let script = path_of(rt, options.script)?;
-    let journal = path_of(rt, options.journal)?;
-    Ok(Asked {
-        meta: String::from_str(rt.alloc(), options.meta)?,
-        script,
-        dress: options.dress,
-        strict: options.strict,
-        live: options.live,
-        journal,
-        explain: options.explain,
-    })
 }
 
 /// What the arguments ask for.

@@ -10,6 +10,17 @@ use script_streams::RunFault;
 use std::alloc::AllocError;
 use std::io;
 
+/// A fault of a file for which the system has a reason.
+fn failed(rt: &HostRuntime, explain: bool, path: &str, fault: RunFault, error: io::Error) -> Stop {
+    if !explain {
+        return Stop::Run(fault);
+    }
+    match format!(in rt.alloc(); "{path}: {error}\n") {
+        Ok(text) => Stop::Explained(fault, text),
+        Err(_) => Stop::Run(RunFault::Memory),
+    }
+}
+
 /// Why a file is not opened.
 pub(crate) fn explained_open(
     rt: &HostRuntime,
@@ -17,13 +28,20 @@ pub(crate) fn explained_open(
     path: &str,
     error: io::Error,
 ) -> Stop {
-    if !explain {
-        return Stop::Run(RunFault::Read);
+    failed(rt, explain, path, RunFault::Read, error)
+}
+
+/// Why a file is not written.
+pub(crate) fn explained_write(
+    rt: &HostRuntime,
+    explain: bool,
+    path: &str,
+    error: io::Error,
+) -> Stop {
+    if error.kind() == io::ErrorKind::OutOfMemory {
+        return Stop::Run(RunFault::Memory);
     }
-    match format!(in rt.alloc(); "{path}: {error}\n") {
-        Ok(text) => Stop::Explained(RunFault::Read, text),
-        Err(_) => Stop::Run(RunFault::Memory),
-    }
+    failed(rt, explain, path, RunFault::Write, error)
 }
 
 /// Why a file is not read.
@@ -79,27 +97,19 @@ fn refused(explain: bool, refusal: JournalRefusal, text: Result<String, AllocErr
 /// Why the file of a journal is not opened.
 pub(crate) fn explained_lock(
     rt: &HostRuntime,
-    explain: bool,
+    asked: &Asked,
     path: &str,
     fault: OpenFault,
 ) -> Stop {
     match fault {
         OpenFault::InUse => {
             let text = format!(in rt.alloc(); "{path}: another process has it open\n");
-            refused(explain, JournalRefusal::InUse, text)
+            refused(asked.explain, JournalRefusal::InUse, text)
         }
-        OpenFault::Io(error) => {
-            if error.kind() == io::ErrorKind::OutOfMemory {
-                return Stop::Run(RunFault::Memory);
-            }
-            if !explain {
-                return Stop::Run(RunFault::Journal);
-            }
-            match format!(in rt.alloc(); "{path}: {error}\n") {
-                Ok(text) => Stop::Explained(RunFault::Journal, text),
-                Err(_) => Stop::Run(RunFault::Memory),
-            }
+        OpenFault::Io(error) if error.kind() == io::ErrorKind::OutOfMemory => {
+            Stop::Run(RunFault::Memory)
         }
+        OpenFault::Io(error) => failed(rt, asked.names_files, path, RunFault::Journal, error),
     }
 }
 
@@ -113,7 +123,7 @@ pub(crate) fn explained_journal(
     match fault {
         JournalFault::Memory => Stop::Run(RunFault::Memory),
         JournalFault::Failed => {
-            explained_disk(rt, asked.explain, path, Stop::Run(RunFault::Journal))
+            explained_disk(rt, asked.names_files, path, Stop::Run(RunFault::Journal))
         }
         JournalFault::NoJournal => {
             let text = format!(in rt.alloc();

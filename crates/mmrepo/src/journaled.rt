@@ -7,23 +7,22 @@ use crate::asked::Asked;
 use crate::explained::{explained_disk, explained_journal, explained_lock};
 use crate::prompt::Prompted;
 use crate::running::writer_of;
+use crate::saving::save_files;
 use crate::stop::Stop;
-use crate::watched::Watched;
+use crate::watched::{Ear, Watching};
 use adapters::Adapter;
-use explain_scripts::Watch;
 use journal::Disk;
 use link_store::SlotStore;
 use mm_meta::Meta;
 use script_program::{Journaled, KeptFault, head_of, run_kept};
 use script_streams::RunFault;
-use std::cell::RefCell;
 use std::io::BufReader;
 
 /// Why a run with the journal at a path stops.
 fn explained_kept(rt: &HostRuntime, asked: &Asked, path: &str, fault: KeptFault) -> Stop {
     match fault {
         KeptFault::Unopened(fault) => explained_journal(rt, asked, path, fault),
-        KeptFault::Stopped(fault) => explained_disk(rt, asked.explain, path, Stop::Run(fault)),
+        KeptFault::Stopped(fault) => explained_disk(rt, asked.names_files, path, Stop::Run(fault)),
     }
 }
 
@@ -33,15 +32,14 @@ fn answer<D: Disk + Drop, A: Adapter>(
     head: &[u8],
     disk: D,
     bytes: Vec<u8>,
-    session: &mut Journaled<SlotStore, A>,
-    watch: Option<&RefCell<Watch<'_>>>,
+    session: &mut Journaled<SlotStore, A, Ear<'_>>,
+    watch: Watching<'_>,
 ) -> Result<Result<(), KeptFault>, Stop>
     requires head { IsLine head.now }
     requires bytes { D.seen disk ≡ bytes.items }
     requires durable { IsDurable (D.seen disk) (D.may_leave disk) }
 {
-    let stream = Watched::new(rt, Prompted::new(rt), watch);
-    let Ok(mut reader) = BufReader::new(rt.alloc(), stream) else {
+    let Ok(mut reader) = BufReader::new(rt.alloc(), Prompted::new(rt)) else {
         return Err(Stop::Run(RunFault::Memory));
     };
     let writer = writer_of(rt, watch)?;
@@ -55,13 +53,13 @@ fn answer_from<A: Adapter>(
     asked: &Asked,
     path: &str,
     digest: &[u8],
-    session: &mut Journaled<SlotStore, A>,
-    watch: Option<&RefCell<Watch<'_>>>,
+    session: &mut Journaled<SlotStore, A, Ear<'_>>,
+    watch: Watching<'_>,
 ) -> Result<(), Stop> {
     let head = head_of(rt.alloc(), digest)?;
     let (disk, bytes) = match file_disk::open(rt, path) {
         Ok(file) => file,
-        Err(fault) => return Err(explained_lock(rt, asked.explain, path, fault)),
+        Err(fault) => return Err(explained_lock(rt, asked, path, fault)),
     };
     match answer(rt, head.as_slice(), disk, bytes, session, watch)? {
         Ok(()) => Ok(()),
@@ -77,11 +75,11 @@ pub(crate) fn run_journaled<A: Adapter>(
     digest: &[u8],
     meta: Box<Meta>,
     boxes: Vec<A>,
-    watch: Option<&RefCell<Watch<'_>>>,
+    watch: Watching<'_>,
 ) -> Result<bool, Stop> {
-    let mut session = Journaled::new(rt.alloc(), Box::into_inner(meta), boxes)?;
-    match answer_from(rt, asked, path, digest, &mut session, watch) {
-        Ok(()) => Ok(session.is_faulty()),
-        Err(stop) => Err(stop),
-    }
+    let meta = Box::into_inner(meta);
+    let mut session = Journaled::new(rt.alloc(), meta, boxes, Ear::new(watch))?;
+    answer_from(rt, asked, path, digest, &mut session, watch)?;
+    save_files(rt, asked, session.repository(), watch)?;
+    Ok(session.is_faulty())
 }

@@ -3,10 +3,13 @@
 
 mod asked;
 mod explained;
+mod files;
 mod journaled;
 mod metamodel;
+mod misuse;
 mod prompt;
 mod running;
+mod saving;
 mod stop;
 mod watched;
 

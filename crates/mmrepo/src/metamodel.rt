@@ -15,11 +15,11 @@ pub(crate) fn read_meta(rt: &HostRuntime, asked: &Asked) -> Result<Vec<u8>, Stop
     let path = asked.meta.as_str();
     let mut file = match fs::open(rt, path) {
         Ok(file) => file,
-        Err(error) => return Err(explained_open(rt, asked.explain, path, error)),
+        Err(error) => return Err(explained_open(rt, asked.names_files, path, error)),
     };
     match read_all(rt.alloc(), &mut file) {
         Ok(bytes) => Ok(bytes),
-        Err(fault) => Err(explained_read(rt, asked.explain, path, fault)),
+        Err(fault) => Err(explained_read(rt, asked.names_files, path, fault)),
     }
 }
 

@@ -5,7 +5,7 @@ use std::io::{IsTerminal, Read, StdinLock};
 /// What is on standard error while a line is waited for.
 const PROMPT: &str = "> ";
 
-/// Standard input. On a terminal each read asks for a line on standard error.
+/// Standard input. On a terminal a prompt is written to standard error before each read.
 #[derive(Drop)]
 pub(crate) struct Prompted<'a> {
     rt: &'a HostRuntime,

@@ -1,39 +1,41 @@
 //! The script is run.
 use crate::asked::Asked;
 use crate::explained::{explained_open, explained_run};
+use crate::files::load_files;
 use crate::journaled::run_journaled;
 use crate::prompt::Prompted;
+use crate::saving::save_files;
 use crate::stop::Stop;
-use crate::watched::Watched;
+use crate::watched::{Ear, Watched, Watching};
 use adapters::{Adapter, Counter, Recorder, Window};
-use explain_scripts::Watch;
+use explain_commands::{Talk, Watch};
 use link_store::SlotStore;
 use mm_meta::Meta;
 use repository::Repository;
-use script_program::{Dress, Summary, run_live, run_over};
+use script_program::{Summary, live_over, run_over};
 use script_streams::RunFault;
 use sha2::{Digest, Sha256};
 use std::cell::RefCell;
-use std::io::{BufReader, BufWriter, Printer, Read, Write};
+use std::io::{BufReader, BufWriter, IsTerminal, Printer, Read, Write};
 use std::{fs, io};
 
-/// How many boxes a run has.
+/// How many adapters a run has.
 const BOXES: u32 = 8;
 
-/// How many boxes a live run has.
+/// How many adapters a live run has.
 const LIVE_BOXES: u32 = 1000;
 
-/// How many notices A8 can still count, its last one included.
+/// How many notifications A8 can still count, its last one included.
 const LEFT: u64 = 2;
 
 /// The status after a script of which a line was refused or bad, if that gives a status of its own.
 const FAULTY: u8 = 4;
 
 /// Standard output through a buffer. It is watched below the buffer, so that a write into the buffer costs no more than the copy.
-pub(crate) fn writer_of<'w, 'm>(
+pub(crate) fn writer_of<'w>(
     rt: &'w HostRuntime,
-    watch: Option<&'w RefCell<Watch<'m>>>,
-) -> Result<BufWriter<Watched<'w, 'm, Printer<'w, HostRuntime>>>, Stop> {
+    watch: Watching<'w>,
+) -> Result<BufWriter<Watched<'w, Printer<'w, HostRuntime>>>, Stop> {
     match BufWriter::new(rt.alloc(), Watched::new(rt, io::writer(rt), watch)) {
         Ok(writer) => Ok(writer),
         Err(_) => Err(Stop::Run(RunFault::Memory)),
@@ -53,47 +55,47 @@ fn ended<W: Write>(
     Ok(summary)
 }
 
-/// Runs the script that a reader gives over an empty repository.
+/// Runs the script that a reader gives over a repository.
 fn run_reader<R: Read + Drop, A: Adapter>(
     rt: &HostRuntime,
-    reader: R,
-    meta: Box<Meta>,
+    mut reader: R,
+    asked: &Asked,
+    repository: &mut Repository<SlotStore, A>,
     boxes: Vec<A>,
-    dress: Dress,
-    watch: Option<&RefCell<Watch<'_>>>,
+    watch: Watching<'_>,
 ) -> Result<Summary, Stop> {
-    let mut reader = Watched::new(rt, reader, watch);
     let mut writer = writer_of(rt, watch)?;
-    let mut repository: Repository<SlotStore, A> = Repository::new(
-        rt.alloc(),
-        Box::into_inner(meta),
-    );
     let outcome = run_over(
         rt.alloc(),
         &mut reader,
         &mut writer,
-        &mut repository,
+        repository,
         boxes,
-        dress,
+        &mut Ear::new(watch),
+        asked.dress,
     );
-    let _ = repository.close_at_exit();
     Ok(ended(&mut writer, outcome)?)
 }
 
 /// Answers the lines that come on standard input, each before the next is read.
 fn run_dialogue<A: Adapter>(
     rt: &HostRuntime,
-    meta: Box<Meta>,
+    repository: &mut Repository<SlotStore, A>,
     boxes: Vec<A>,
-    watch: Option<&RefCell<Watch<'_>>>,
+    watch: Watching<'_>,
 ) -> Result<Summary, Stop> {
-    let stream = Watched::new(rt, Prompted::new(rt), watch);
-    let Ok(mut reader) = BufReader::new(rt.alloc(), stream) else {
+    let Ok(mut reader) = BufReader::new(rt.alloc(), Prompted::new(rt)) else {
         return Err(Stop::Run(RunFault::Memory));
     };
     let mut writer = writer_of(rt, watch)?;
-    let meta = Box::into_inner(meta);
-    let outcome = run_live::<_, _, SlotStore, _>(rt.alloc(), &mut reader, &mut writer, meta, boxes);
+    let outcome = live_over(
+        rt.alloc(),
+        &mut reader,
+        &mut writer,
+        repository,
+        boxes,
+        &mut Ear::new(watch),
+    );
     Ok(ended(&mut writer, outcome)?)
 }
 
@@ -102,55 +104,82 @@ fn is_faulty(summary: Summary) -> bool {
     summary.refused > 0 || summary.bad > 0
 }
 
-/// Runs the lines that come on standard input live, and keeps those that change the model if a journal is asked for.
-fn run_live_lines<A: Adapter>(
-    rt: &HostRuntime,
-    asked: &Asked,
-    digest: &[u8],
-    meta: Box<Meta>,
-    boxes: Vec<A>,
-    watch: Option<&RefCell<Watch<'_>>>,
-) -> Result<bool, Stop> {
-    match &asked.journal {
-        Some(path) => run_journaled(rt, asked, path.as_str(), digest, meta, boxes, watch),
-        None => Ok(is_faulty(run_dialogue(rt, meta, boxes, watch)?)),
-    }
-}
-
 /// Runs the script of a file, or that on standard input.
 fn run_script<A: Adapter>(
     rt: &HostRuntime,
     asked: &Asked,
-    meta: Box<Meta>,
+    repository: &mut Repository<SlotStore, A>,
     boxes: Vec<A>,
-    watch: Option<&RefCell<Watch<'_>>>,
+    watch: Watching<'_>,
 ) -> Result<Summary, Stop> {
+    if asked.live {
+        return run_dialogue(rt, repository, boxes, watch);
+    }
     let Some(path) = &asked.script else {
-        return run_reader(rt, rt.reader(), meta, boxes, asked.dress, watch);
+        return run_reader(rt, rt.reader(), asked, repository, boxes, watch);
     };
-    let file = match fs::open(rt, path.as_str()) {
+    let path = path.as_str();
+    let file = match fs::open(rt, path) {
         Ok(file) => file,
-        Err(error) => return Err(explained_open(rt, asked.explain, path.as_str(), error)),
+        Err(error) => return Err(explained_open(rt, asked.names_files, path, error)),
     };
-    match run_reader(rt, file, meta, boxes, asked.dress, watch) {
-        Err(Stop::Run(fault)) => Err(explained_run(rt, asked.explain, path.as_str(), fault)),
+    match run_reader(rt, file, asked, repository, boxes, watch) {
+        Err(Stop::Run(fault)) => Err(explained_run(rt, asked.names_files, path, fault)),
         outcome => outcome,
     }
 }
 
-/// Runs the script with its boxes: A1 to A4, which keep every notice, A5 and A6, which keep the last 2 and the last 100, A7,
-/// which counts, and A8, which can count two more. A live run has more that count, so that a long one keeps no notices. Returns whether
-/// a line was refused or bad.
+/// Loads files, runs the script and saves files. Nothing is saved if the script was ended by a line that is refused or bad.
+fn run_between<A: Adapter>(
+    rt: &HostRuntime,
+    asked: &Asked,
+    repository: &mut Repository<SlotStore, A>,
+    boxes: Vec<A>,
+    watch: Watching<'_>,
+) -> Result<bool, Stop> {
+    load_files(rt, asked, repository, watch)?;
+    let summary = run_script(rt, asked, repository, boxes, watch)?;
+    let faulty = is_faulty(summary);
+    if !(asked.dress.stop && faulty) {
+        save_files(rt, asked, repository, watch)?;
+    }
+    Ok(faulty)
+}
+
+/// Runs all that is asked for over a new repository, which keeps no journal. Returns whether a line was refused or bad.
+fn run_unkept<A: Adapter>(
+    rt: &HostRuntime,
+    asked: &Asked,
+    meta: Box<Meta>,
+    boxes: Vec<A>,
+    watch: Watching<'_>,
+) -> Result<bool, Stop> {
+    let mut repository: Repository<SlotStore, A> = Repository::new(
+        rt.alloc(),
+        Box::into_inner(meta),
+    );
+    let outcome = run_between(rt, asked, &mut repository, boxes, watch);
+    let _ = repository.close_at_exit();
+    outcome
+}
+
+/// The number of the last adapter of a run.
+fn last_box(asked: &Asked) -> u32 {
+    if asked.live { LIVE_BOXES } else { BOXES }
+}
+
+/// Runs the script with its adapters: A1 to A4, which keep every notification, A5 and A6, which keep the last 2 and the last 100, A7, which
+/// counts, and A8, which can count two more. A live run has more that count, so that a long one keeps no notifications. Returns whether a
+/// line was refused or bad.
 fn run_with_boxes(
     rt: &HostRuntime,
     asked: &Asked,
     digest: &[u8],
     meta: Box<Meta>,
-    watch: Option<&RefCell<Watch<'_>>>,
+    watch: Watching<'_>,
 ) -> Result<bool, Stop> {
-    let last = if asked.live { LIVE_BOXES } else { BOXES };
     let mut boxes: Vec<Box<dyn Adapter>> = Vec::new(rt.alloc());
-    for no in 1..=last {
+    for no in 1..=last_box(asked) {
         match no {
             1..=4 => boxes.push(Box::new(rt.alloc(), Recorder::new(rt.alloc()))?)?,
             5 => boxes.push(Box::new(rt.alloc(), Window::new(rt.alloc(), 2)?)?)?,
@@ -159,26 +188,13 @@ fn run_with_boxes(
             _ => boxes.push(Box::new(rt.alloc(), Counter::new())?)?,
         }
     }
-    if asked.live {
-        run_live_lines(rt, asked, digest, meta, boxes, watch)
-    } else {
-        Ok(is_faulty(run_script(rt, asked, meta, boxes, watch)?))
+    match &asked.journal {
+        Some(path) => run_journaled(rt, asked, path.as_str(), digest, meta, boxes, watch),
+        None => run_unkept(rt, asked, meta, boxes, watch),
     }
 }
 
-/// Runs the script, and explains its bad lines and the documents that are refused.
-fn run_explained(
-    rt: &HostRuntime,
-    asked: &Asked,
-    digest: &[u8],
-    meta: Box<Meta>,
-    document: &[u8],
-) -> Result<bool, Stop> {
-    let watch = RefCell::new(Watch::new(rt.alloc(), document, asked.dress.number));
-    run_with_boxes(rt, asked, digest, meta, Some(&watch))
-}
-
-/// The digest of the metamodel's document, which a journal has in its first line. Without a journal it is that of nothing.
+/// The digest of the metamodel's document, which a journal has in its first line. Without a journal it is the digest of no bytes.
 fn digest_for(asked: &Asked, document: &[u8]) -> [u8; 32] {
     match asked.journal {
         Some(_) => Sha256::digest(document),
@@ -186,8 +202,8 @@ fn digest_for(asked: &Asked, document: &[u8]) -> [u8; 32] {
     }
 }
 
-/// Runs the script as it is asked for, and returns whether a line was refused or bad. The metamodel's document is dropped if nothing is
-/// explained.
+/// Runs the script as it is asked for, and returns whether a line was refused or bad. The lines are watched if something is said of them, or
+/// if the resources that they make are to be saved.
 pub(crate) fn run_asked(
     rt: &HostRuntime,
     asked: &Asked,
@@ -195,11 +211,16 @@ pub(crate) fn run_asked(
     document: Vec<u8>,
 ) -> Result<bool, Stop> {
     let digest = digest_for(asked, document.as_slice());
-    if asked.explain {
-        return run_explained(rt, asked, &digest, meta, document.as_slice());
-    }
     drop(document);
-    run_with_boxes(rt, asked, &digest, meta, None)
+    let talk = Talk {
+        explains: asked.explain,
+        guides: asked.live && rt.reader().is_terminal(),
+    };
+    if !(talk.explains || talk.guides) && asked.save.is_empty() {
+        return run_with_boxes(rt, asked, &digest, meta, None);
+    }
+    let watch = RefCell::new(Watch::new(rt.alloc(), talk, last_box(asked)));
+    run_with_boxes(rt, asked, &digest, meta, Some(&watch))
 }
 
 /// The status of a run that came to its end.

@@ -1,6 +1,8 @@
 //! Why the program stops, and what it says of that.
+use crate::misuse::Misuse;
 use clap::error::ErrorKind;
-use mm_types::MetaFault;
+use mm_types::{MetaFault, Refused};
+use script_program::usage_of;
 use script_streams::RunFault;
 use std::alloc::{AllocError, AllocFailed};
 use std::fmt;
@@ -36,22 +38,22 @@ pub(crate) enum Stop {
     Arguments(clap::Error),
     /// An argument is not UTF-8.
     NotUtf8,
-    /// An option is given that a live run does not take.
-    NotLive(&'static str),
-    /// An option is given that only a live run takes.
-    OnlyLive(&'static str),
+    /// Options don't go together.
+    Misuse(Misuse),
     /// The metamodel is refused.
     Metamodel(MetaFault),
     /// The journal is refused.
     Journal(JournalRefusal),
     /// A stream or the journal failed, an input is too long, or memory was refused.
     Run(RunFault),
-    /// The metamodel is refused, and a text says what to mend.
+    /// The metamodel is refused, and a text says what to fix.
     Mend(MetaFault, String),
     /// The journal is refused, and a text says why.
     ExplainedJournal(JournalRefusal, String),
-    /// A file is not read, or the journal not written, and a text says why.
+    /// A file is not read or written, and a text says why.
     Explained(RunFault, String),
+    /// The resource of a file is not loaded or not saved, and a text may say why.
+    Resource(String, Refused, String),
 }
 
 impl From<AllocError> for Stop {
@@ -95,13 +97,11 @@ fn report_not_utf8(rt: &HostRuntime) -> u8 {
     2
 }
 
-fn report_not_live(rt: &HostRuntime, option: &str) -> u8 {
-    let _ = eprintln!(rt; "error: --live can't be used with {option}");
-    2
-}
-
-fn report_only_live(rt: &HostRuntime, option: &str) -> u8 {
-    let _ = eprintln!(rt; "error: {option} can't be used without --live");
+fn report_misuse(rt: &HostRuntime, misuse: Misuse) -> u8 {
+    let _ = eprintln!(rt; "error: {misuse}");
+    if let Ok(usage) = usage_of(rt.alloc()) {
+        let _ = eprintln!(rt; "\n{usage}\n\nFor more information, try '--help'.");
+    }
     2
 }
 
@@ -120,6 +120,11 @@ fn report_run(rt: &HostRuntime, fault: RunFault) -> u8 {
     3
 }
 
+fn report_resource(rt: &HostRuntime, file: &str, refused: Refused) -> u8 {
+    let _ = eprintln!(rt; "{file}: refused {refused}");
+    5
+}
+
 /// Says on standard error what a status is explained by, and returns it.
 fn explain(rt: &HostRuntime, status: u8, text: &str) -> u8 {
     let _ = eprint!(rt; "{text}");
@@ -131,8 +136,7 @@ pub(crate) fn report(rt: &HostRuntime, stop: Stop) -> u8 {
     match stop {
         Stop::Arguments(error) => report_arguments(rt, error),
         Stop::NotUtf8 => report_not_utf8(rt),
-        Stop::NotLive(option) => report_not_live(rt, option),
-        Stop::OnlyLive(option) => report_only_live(rt, option),
+        Stop::Misuse(misuse) => report_misuse(rt, misuse),
         Stop::Metamodel(fault) => report_metamodel(rt, fault),
         Stop::Journal(refusal) => report_journal(rt, refusal),
         Stop::Run(fault) => report_run(rt, fault),
@@ -141,5 +145,12 @@ pub(crate) fn report(rt: &HostRuntime, stop: Stop) -> u8 {
             explain(rt, report_journal(rt, refusal), text.as_str())
         }
         Stop::Explained(fault, text) => explain(rt, report_run(rt, fault), text.as_str()),
+        Stop::Resource(file, refused, text) => {
+            explain(
+                rt,
+                report_resource(rt, file.as_str(), refused),
+                text.as_str(),
+            )
+        }
     }
 }

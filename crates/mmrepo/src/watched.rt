@@ -1,75 +1,87 @@
-//! The streams of the program, watched if a run is explained.
-use explain_scripts::Watch;
+//! The listener of a run, and when its lines are written.
+use adapters::Adapter;
+use explain_commands::Watch;
+use links::LinkStore;
+use repository::Repository;
+use script_program::Listener;
 use std::cell::RefCell;
 use std::io;
-use std::io::{Read, Write};
+use std::io::Write;
 
-/// A stream, and what is told of all that is read from it or written to it.
-#[derive(Drop)]
-pub(crate) struct Watched<'w, 'm, S> {
-    rt: &'w HostRuntime,
-    stream: S,
-    /// Nothing if the run is not explained.
-    watch: Option<&'w RefCell<Watch<'m>>>,
+/// The watch over a run; there is none if nothing is said of its lines.
+pub(crate) type Watching<'w> = Option<&'w RefCell<Watch>>;
+
+/// Calls a watch with the lines that were run.
+#[derive(Clone, Copy, Drop)]
+pub(crate) struct Ear<'w> {
+    watch: Watching<'w>,
 }
 
-impl<'w, 'm, S> Watched<'w, 'm, S> {
-    pub(crate) fn new(
-        rt: &'w HostRuntime,
-        stream: S,
-        watch: Option<&'w RefCell<Watch<'m>>>,
-    ) -> Self {
-        Watched { rt, stream, watch }
+impl<'w> Ear<'w> {
+    pub(crate) fn new(watch: Watching<'w>) -> Self {
+        Ear { watch }
+    }
+}
+
+impl Listener for Ear<'_> {
+    fn is_listening(&self) -> bool {
+        self.watch.is_some()
     }
 
-    /// Says on standard error what the watch has to say.
-    fn say(&self) {
+    fn script_begins(&mut self) {
         if let Some(watch) = self.watch
             && let Ok(mut watch) = watch.try_borrow_mut()
         {
-            let text = watch.take();
-            let _ = eprint!(self.rt; "{text}");
+            watch.begin();
+        }
+    }
+
+    fn line_was_run<L: LinkStore, A: Adapter>(
+        &mut self,
+        repository: &Repository<L, A>,
+        line: &[u8],
+        printed: &[u8],
+    ) {
+        if let Some(watch) = self.watch
+            && let Ok(mut watch) = watch.try_borrow_mut()
+        {
+            watch.line_was_run(repository, line, printed);
         }
     }
 }
 
-/// Tells a watch of bytes that were read.
-fn note_read(watch: &RefCell<Watch<'_>>, bytes: &[u8]) {
+/// A stream for answers. When it is flushed, what the watch has to say follows on standard error.
+#[derive(Drop)]
+pub(crate) struct Watched<'w, S> {
+    rt: &'w HostRuntime,
+    stream: S,
+    watch: Watching<'w>,
+}
+
+impl<'w, S> Watched<'w, S> {
+    pub(crate) fn new(rt: &'w HostRuntime, stream: S, watch: Watching<'w>) -> Self {
+        Watched { rt, stream, watch }
+    }
+}
+
+/// Says on standard error what a watch has to say.
+fn say(rt: &HostRuntime, watch: &RefCell<Watch>) {
     if let Ok(mut watch) = watch.try_borrow_mut() {
-        watch.read(bytes);
+        let text = watch.take();
+        let _ = eprint!(rt; "{text}");
     }
 }
 
-/// Tells a watch of bytes that were written.
-fn note_written(watch: &RefCell<Watch<'_>>, bytes: &[u8]) {
-    if let Ok(mut watch) = watch.try_borrow_mut() {
-        watch.printed(bytes);
-    }
-}
-
-impl<R: Read> Read for Watched<'_, '_, R> {
-    fn read(&mut self, buf: &mut [u8]) -> io::Result<usize> {
-        let n = self.stream.read(buf)?;
-        if let Some(watch) = self.watch {
-            note_read(watch, &buf[..n]);
-        }
-        Ok(n)
-    }
-}
-
-impl<W: Write> Write for Watched<'_, '_, W> {
+impl<W: Write> Write for Watched<'_, W> {
     fn write(&mut self, buf: &[u8]) -> io::Result<usize> {
-        let n = self.stream.write(buf)?;
-        if let Some(watch) = self.watch {
-            note_written(watch, &buf[..n]);
-        }
-        Ok(n)
+        self.stream.write(buf)
     }
 
-    /// Flushes the stream, and then says on standard error what the watch has to say.
     fn flush(&mut self) -> io::Result<()> {
         self.stream.flush()?;
-        self.say();
+        if let Some(watch) = self.watch {
+            say(self.rt, watch);
+        }
         Ok(())
     }
 }

@@ -1,4 +1,4 @@
--- A pointer and a loose box own what a box of a session owns.
+-- A pointer and a loose `Box` own what a `Box` of a session owns.
 use mir.Syntax.{impl, tnil, dnil}
 use mathlib.Core.List.{[]}
 use mathlib.Core.Path.{◌≡◌, refl, subst}
@@ -14,7 +14,7 @@ use Rattle.mmrepo_c.proofs.session.Session.TheLaws as session
 use Rattle.mmrepo_c.specs.contracts.loose.Loose as loose
 use Rattle.mmrepo_c.specs.contracts.pointer.SessionPointer as pointer
 
--- a box of a session, in the memory of the process
+-- a `Box` of a session, in the memory of the process
 abbrev pub E : Bx
 E = record { row = session_type.the_row; laws = session.the_row_laws; al = record { row = heap_type.the_row; laws = heap.the_row_laws; g = ghosts; d = dict; drops = impl [] tnil dnil } }
 

@@ -101,7 +101,7 @@ abbrev pub text_of : Option Held → List ℕ
 text_of None = []
 text_of (Some h) = answer h
 
--- the text of a handle was copied into room, and the handle is as it was
+-- the text of a handle was copied into a buffer, and the handle is as it was
 pub record Copies (held : Option Held) (room : List ℕ) (count : ℕ) (filled_room : List ℕ) (new : Option Held) : Type 0 where
   pub counted : count ≡ length (text_of held)
   pub copied : filled_room ≡ filled (text_of held) room

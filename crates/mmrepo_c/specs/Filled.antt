@@ -1,6 +1,6 @@
--- A text that is copied into room.
+-- A text that is copied into a buffer.
 use Rattle.std.specs.Prelude.{ℕ, List, ◌++◌, length, min, take, drop}
 
--- room whose begin is that of a text
+-- a buffer that begins with what a text begins with
 abbrev pub filled : List ℕ → List ℕ → List ℕ
 filled text room = take (min (length text) (length room)) text ++ drop (min (length text) (length room)) room

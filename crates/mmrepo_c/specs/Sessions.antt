@@ -16,11 +16,11 @@ running h = session h.interpreter.repository h.interpreter.pool
 abbrev pub answer : Held → List ℕ
 answer h = h.interpreter.output
 
--- an adapter that has heard nothing, and keeps nothing of what it hears
+-- an adapter that was notified of nothing, and keeps no notification
 abbrev pub unheard : View
 unheard = record { told = 0; room = Some 0; kept = [] }
 
--- as many adapters as a session has, none of which has heard anything
+-- as many adapters as a session has, none of which was notified of anything
 abbrev pub AreUnheard : {A : Type 0} → (A → View) → List A → Type 0
 AreUnheard heard boxes = map (λ a. Some (heard a)) boxes ≡ replicate BOXES (Some unheard)
 

@@ -1,4 +1,4 @@
-//! What calls with a node, or without a line, share.
+//! What the calls share that take a node, or that run no line.
 ghost use Rattle.std.specs.Prelude.{◌≡◌, MatchResult, Some};
 ghost use Rattle.mmrepo_c.specs.Calls as c;
 ghost use Rattle.mmrepo_c.specs.Statuses as s;

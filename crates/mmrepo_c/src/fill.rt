@@ -1,9 +1,8 @@
-//! A text is copied into room of a caller's.
+//! A text is copied into a caller's buffer.
 ghost use Rattle.std.specs.Prelude.{◌≡◌, length};
 ghost use Rattle.mmrepo_c.specs.Filled.{filled};
 
-/// Copies the beginning of a text as far as there is room, and leaves the rest of the room as it was. Returns how long the text
-/// is.
+/// Copies as much of a text as the buffer can hold, and leaves the rest of the buffer as it was. Returns how long the text is.
 pub(crate) fn fill(room: &mut [u8], text: &[u8]) -> usize
     ensures count { result ≡ length text.now }
     ensures copied { room.new ≡ filled text.now room.old }

@@ -29,8 +29,8 @@ pub use session::Session;
 use std::alloc::Global;
 use std::str;
 
-/// Opens a session: an empty repository over the metamodel of a document. What the handle had before is closed. Its adapters, A1 to
-/// A1000, count what they hear and keep nothing of it.
+/// Opens a session: an empty repository over the metamodel of a document. What the handle had before is closed. Its adapters, A1 to A1000,
+/// count their notifications and keep none of them.
 ///
 /// Returns `OK`; from 1 to 12 the first fault of the document; `TOO_LONG` if it has more than `INPUT_BYTES` bytes; `MEMORY` if memory
 /// is refused. The handle is closed if the status is not `OK`.
@@ -147,7 +147,7 @@ pub extern "C" fn mmrepo_load(
     put_back(handle, session, outcome)
 }
 
-/// Copies the text of the last answer, or as much of it as there is room for. Returns how many bytes the text has: none if no line was
+/// Copies the text of the last answer, or as much of it as the buffer can hold. Returns how many bytes the text has: none if no line was
 /// run, and if the handle is closed.
 #[unsafe(no_mangle)]
 pub extern "C" fn mmrepo_text(alloc: Global, handle: &mut Handle, out: &mut [u8]) -> usize

@@ -10,7 +10,7 @@ use std::alloc::Global;
 use std::marker::Model;
 use std::ptr;
 
-/// The box of a session, or none, as C holds it: a pointer, of which C knows nothing.
+/// The `Box` of a session, or none, as C holds it: a pointer, of which C knows nothing.
 #[repr(C)]
 #[derive(Drop)]
 pub struct SessionPointer {
@@ -41,7 +41,7 @@ impl SessionPointer {
         SessionPointer::of_loose(Loose::of(session))
     }
 
-    /// The box of a pointer that has one.
+    /// The `Box` of a pointer that has one.
     pub(crate) fn into_box(self) -> Box<Session>
         requires { IsSome self.held }
         ensures { self.held ≡ Some result.value }

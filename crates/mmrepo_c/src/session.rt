@@ -23,7 +23,7 @@ pub struct Session {
     interpreter: Interpreter<SlotStore, Counter>,
 }
 
-/// The adapters of a session, none of which has heard anything. Errs only if memory is refused.
+/// The adapters of a session, none of which was notified of anything. Errs only if memory is refused.
 pub(crate) fn counters(alloc: Global) -> Result<Vec<Counter>, AllocError>
     ensures { IfOk result (λ v. AreUnheard (⟦<Counter as Adapter>⟧.heard) v.items) }
 {

@@ -1,5 +1,5 @@
--- What the contracts and the laws of a repository cite: its state, the step of a command and a run of several, what a reply is seen as, what
--- an adapter has heard, what notices replay, and what reloading brings back.
+-- What the contracts and the laws of a repository cite: its state, the step of a command and a run of several, what a reply is seen as,
+-- what an adapter was notified of, what notifications replay, and what reloading brings back.
 pub use Rattle.doc_writer.specs.Saved.{IsReadAs}
 pub use Rattle.models.specs.Legal as models
 pub use Rattle.models.specs.Model.{Model, model_of, reading}

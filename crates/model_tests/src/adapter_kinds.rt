@@ -1,11 +1,11 @@
-//! What each kind of adapter keeps of three notices, by its own type and in a box, and a counter that can't count on.
+//! What each kind of adapter keeps of three notifications, by its own type and in a `Box`, and a counter that can't count any further.
 use crate::latest::Latest;
 use crate::notices::added;
 use adapters::{Adapter, Counter, NoRoom, Recorder, Window};
 use std::process::Abort;
 use std::test::Fail;
 
-/// Notifies an adapter three times, at the positions 0 to 2, if it has room for the notices.
+/// Notifies an adapter three times, at the positions 0 to 2, if it has capacity for that.
 fn notify_three<A: Adapter>(adapter: &mut A) -> Result<(), NoRoom> {
     match adapter.reserve(3) {
         Err(reason) => Err(reason),
@@ -18,7 +18,7 @@ fn notify_three<A: Adapter>(adapter: &mut A) -> Result<(), NoRoom> {
     }
 }
 
-/// The position in the notice that an adapter keeps at `i`.
+/// The position in the notification that an adapter keeps at `i`.
 fn position_at<A: Adapter>(adapter: &A, i: u64) -> Option<i64> {
     match adapter.kept(i) {
         Some(notice) => Some(notice.position),
@@ -26,7 +26,7 @@ fn position_at<A: Adapter>(adapter: &A, i: u64) -> Option<i64> {
     }
 }
 
-/// Notifies an adapter three times, and checks which notices it keeps, by their positions.
+/// Notifies an adapter three times, and checks which notifications it keeps, by their positions.
 fn check_three<A: Adapter>(rt: &impl Abort, adapter: &mut A, room: Option<u64>, kept: &[i64]) {
     assert!(rt; notify_three(adapter).is_ok());
     assert_eq!(rt; adapter.told(), 3);

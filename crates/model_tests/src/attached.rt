@@ -9,7 +9,7 @@ use notice_chain::{Chain, Notice};
 use std::alloc::{AllocError, Global};
 use std::test::Fail;
 
-/// How many notices the three adapters of a list were told.
+/// How many notifications the three adapters of a list got.
 fn told_of_three<A: Adapter>(list: &AdapterList<A>) -> [Option<u64>; 3] {
     [
         list.told(AdapterNo(5)),
@@ -18,7 +18,7 @@ fn told_of_three<A: Adapter>(list: &AdapterList<A>) -> [Option<u64>; 3] {
     ]
 }
 
-/// Why three notices are not delivered to a list of three adapters at object 1, and how many each was told then.
+/// Why three notifications are not delivered to a list of three adapters at object 1, and how many each got then.
 fn refused_to_three<A: Adapter>(
     alloc: Global,
     first: A,
@@ -32,7 +32,7 @@ fn refused_to_three<A: Adapter>(
     Ok((refused, told_of_three(&*list)))
 }
 
-/// Three adapters of which some can't hear a chain, and why it is refused: the first of them decides.
+/// Three adapters of which some can't be notified of a chain, and why it is refused: the first of them decides.
 const REFUSED: [(Kind, Kind, Kind, Refused); 3] = [
     (
         Kind::Recorder,
@@ -79,7 +79,7 @@ fn counters(alloc: Global) -> Result<Box<AdapterList<Counter>>, Fail> {
     )
 }
 
-/// The number and the first target of the adapter at each ordinal, and at the ordinal past the last.
+/// The number and the first target of the adapter at each index, and at the index past the last.
 const PLACES: [Option<(AdapterNo, Node)>; 4] = [
     Some((AdapterNo(5), Node::Object(ObjectNo(1)))),
     Some((AdapterNo(6), Node::Object(ObjectNo(2)))),
@@ -87,14 +87,14 @@ const PLACES: [Option<(AdapterNo, Node)>; 4] = [
     None,
 ];
 
-/// The number and the first target of the adapter at an ordinal.
+/// The number and the first target of the adapter at an index.
 fn first_at<A: Adapter>(list: &AdapterList<A>, i: usize) -> Option<(AdapterNo, Node)> {
     let (no, targets) = list.at(i)?;
     let target = targets.front()?;
     Some((no, target.node))
 }
 
-/// Who hears a notice.
+/// Which adapters get a notification.
 fn audience<A: Adapter>(
     alloc: Global,
     list: &AdapterList<A>,
@@ -118,7 +118,7 @@ fn adapters_stand_in_attach_order(rt: HostRuntime) -> Result<(), Fail> {
     Ok(())
 }
 
-/// Who is told what, by the adapter's number and the notice's position.
+/// Which adapter is notified of what, by the adapter's number and the notification's position.
 fn told(alloc: Global, told: &[(AdapterNo, Notice)]) -> Result<String, AllocError> {
     let mut shown = String::new(alloc);
     for (no, notice) in told {
@@ -128,8 +128,8 @@ fn told(alloc: Global, told: &[(AdapterNo, Notice)]) -> Result<String, AllocErro
     Ok(shown)
 }
 
-/// Delivers three notices to a list of two adapters at object 1 and one at object 2 between them. Shows who is told
-/// what, how many each was told, and how many the first keeps.
+/// Delivers three notifications to a list of two adapters at object 1 and one at object 2 between them. Shows which adapter is
+/// notified of what, how many notifications each got, and how many the first keeps.
 fn delivered<A: Adapter>(alloc: Global, first: A, second: A, third: A) -> Result<String, Fail> {
     let mut list = three(alloc, [1, 2, 1], first, second, third)?;
     let chain = three_notices(alloc)?;

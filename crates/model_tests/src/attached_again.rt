@@ -1,4 +1,4 @@
-//! An adapter that is refused when it is attached once more: its box comes back, with what it had heard.
+//! An adapter that is refused when it is attached once more: its `Box` comes back, with what it was notified of.
 use crate::books::{NAME, RowRepository, attach, object, one_book, text};
 use crate::counted::{Drops, NO_DROPS, counted_box};
 use crate::replies::{failure_text, made};
@@ -10,12 +10,13 @@ use std::cell::Cell;
 use std::rc::Rc;
 use std::test::Fail;
 
-/// A case in which an adapter can't be attached that was at a book, of which it heard a change and its own leaving. The number 6 is taken.
+/// A case in which an adapter can't be attached that was at a book, and got notifications of a change and of its own leaving. The number 6
+/// is taken.
 struct Again {
     kind: Kind,
     no: u32,
     target: Node,
-    /// The refusal and what the adapter has heard that comes back.
+    /// The refusal, and what the adapter that comes back was notified of.
     wanted: &'static str,
 }
 
@@ -38,7 +39,7 @@ const AGAIN: [Again; 5] = [
         target: Node::Object(ObjectNo(0)),
         wanted: "refused 26, back, 2 told, SET -1, REMOVING_ADAPTER 0",
     },
-    // It could hear two more.
+    // It could get two more.
     Again {
         kind: Kind::NearlyFull,
         no: 5,
@@ -63,7 +64,7 @@ fn released<A: Adapter>(repository: &mut RowRepository<A>) -> Result<A, Fail> {
     }
 }
 
-/// An adapter that was at a book, and heard that it was named.
+/// An adapter that was at a book, and was notified that the book was named.
 fn heard<A: Adapter>(
     alloc: Global,
     repository: &mut RowRepository<A>,
@@ -75,8 +76,8 @@ fn heard<A: Adapter>(
     released(repository)
 }
 
-/// Attaches an adapter, which has to be refused. Shows the refusal, what the adapter has heard that comes back, and how many were dropped
-/// by then.
+/// Attaches an adapter, which has to be refused. Shows the refusal, what the adapter that comes back was notified of, and how many were
+/// dropped by then.
 fn refused<A: Adapter>(
     alloc: Global,
     repository: &mut RowRepository<A>,
@@ -113,7 +114,7 @@ fn an_adapter_that_is_refused_comes_back_as_it_was(rt: HostRuntime) -> Result<()
         let other = counted_box(alloc, &drops, Kind::Counter)?;
         let (found, dropped) = refused_at_a_book(alloc, again, adapter, other, &drops)?;
         assert_eq!(rt; found.as_str(), again.wanted);
-        // The box that came back is not dropped before its refusal is, and the other with its repository.
+        // The `Box` that came back is not dropped before its refusal is, and the other with its repository.
         assert_eq!(rt; dropped, 0);
         assert_eq!(rt; drops.get().all, 2);
     }

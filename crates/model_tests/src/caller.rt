@@ -15,7 +15,7 @@ const NAME: FeatureNo = FeatureNo(0);
 
 const VIEW: AdapterNo = AdapterNo(1);
 
-/// Attaches a view to a book, names the book, and detaches the view: it comes back with what it heard.
+/// Attaches a view to a book, names the book, and detaches the view: it comes back with what it was notified of.
 fn name_book<L: LinkStore, A: Adapter>(
     alloc: Global,
     repository: &mut Repository<L, A>,

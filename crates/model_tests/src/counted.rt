@@ -1,4 +1,5 @@
-//! Adapters with a part that is counted when it is dropped, and again if REMOVING_ADAPTER was its last notice. Some are refused memory once.
+//! Adapters with a part that is counted when it is dropped, and again if REMOVING_ADAPTER was its last notification. Some are refused
+//! memory once.
 use crate::telling::{Kind, LAST_ALONE, NEARLY_FULL};
 use adapters::{Adapter, Counter, NoRoom, Recorder, Window};
 use notice_chain::{Notice, NoticeKind};
@@ -6,7 +7,7 @@ use std::alloc::{AllocError, Global};
 use std::cell::Cell;
 use std::rc::Rc;
 
-/// How many were dropped, and how many of them after REMOVING_ADAPTER, their last notice.
+/// How many were dropped, and how many of them after REMOVING_ADAPTER, their last notification.
 #[derive(Clone, Copy)]
 pub(crate) struct Drops {
     pub all: u64,
@@ -102,7 +103,7 @@ impl<A: Adapter> Adapter for Counted<A> {
     }
 }
 
-/// A box of an adapter with a part. The parts are inside the boxes, since the borrow checker takes no box of a box.
+/// A `Box` of an adapter with a part. The parts are inside the `Box`, since the borrow checker takes no `Box` of a `Box`.
 pub(crate) fn counted_box(
     alloc: Global,
     drops: &Rc<Cell<Drops>>,

@@ -1,4 +1,4 @@
-//! Which of two adapters decides why a chain is refused that neither can hear.
+//! Which of two adapters decides why a chain is refused of which neither can be notified.
 use crate::no_links::without_links;
 use crate::notices::added;
 use crate::telling::{Kind, adapter, attach, tell};

@@ -113,7 +113,7 @@ fn a_dropped_list_drops_its_adapters(rt: HostRuntime) -> Result<(), Fail> {
     assert_eq!(rt; drops.get().all, 0);
     drop(list);
     assert_eq!(rt; drops.get().all, 3);
-    // No one was told of it: only `detach`, `release` and `close` notify.
+    // No adapter was notified: only `detach`, `release` and `close` notify.
     assert_eq!(rt; drops.get().removed, 0);
     Ok(())
 }

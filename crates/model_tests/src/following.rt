@@ -17,7 +17,7 @@ const BOOKS: FeatureNo = FeatureNo(1);
 
 const VIEW: AdapterNo = AdapterNo(1);
 
-/// The notices of a reply that the view's adapter was told.
+/// The notifications of a reply that are for the view's adapter.
 fn told_to_view(alloc: Global, reply: &Reply<Counter>) -> Result<Vec<Notice>, AllocError> {
     let mut notices = Vec::new(alloc);
     for (no, notice) in reply.told.as_slice() {
@@ -39,7 +39,7 @@ fn after(
     Ok(Box::new(alloc, view)?)
 }
 
-/// Follows a library that is named and gets a book: asks for a snapshot once, and then hears of every change.
+/// Follows a library that is named and gets a book: asks for a snapshot once, and is then notified of every change.
 fn follow<L: LinkStore>(
     alloc: Global,
     repository: &mut Repository<L, Counter>,

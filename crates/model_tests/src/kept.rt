@@ -1,4 +1,4 @@
-//! What an adapter has kept, compared with what it was told.
+//! What an adapter has kept, compared with what it was notified of.
 use adapters::Adapter;
 use notice_chain::{Notice, NoticeKind};
 
@@ -12,7 +12,7 @@ fn is_same(one: &Notice, other: &Notice) -> bool {
         && one.was_set == other.was_set
 }
 
-/// Whether an adapter has kept a notice at a position.
+/// Whether an adapter has kept a notification at a position.
 fn keeps_at<A: Adapter>(adapter: &A, position: u64, notice: &Notice) -> bool {
     match adapter.kept(position) {
         Some(kept) => is_same(kept, notice),
@@ -20,7 +20,7 @@ fn keeps_at<A: Adapter>(adapter: &A, position: u64, notice: &Notice) -> bool {
     }
 }
 
-/// Whether the notices that an adapter has kept from a position on are its last ones from targets.
+/// Whether the notifications that an adapter has kept from a position on are its last ones from targets.
 fn ends_with_removals<A: Adapter>(adapter: &A, from: u64) -> bool {
     for position in from..adapter.kept_len() {
         match adapter.kept(position) {
@@ -31,7 +31,7 @@ fn ends_with_removals<A: Adapter>(adapter: &A, from: u64) -> bool {
     true
 }
 
-/// Whether an adapter without a bound has kept these notices from its attach on, and then so many last ones from targets.
+/// Whether an adapter that keeps all has kept these notifications from its attach on, and then so many last ones from targets.
 pub(crate) fn has_kept<A: Adapter>(adapter: &A, heard: &[Notice], last: u64) -> bool {
     let mut position: u64 = 0;
     for notice in heard {

@@ -5,7 +5,7 @@ ghost use Rattle.std.specs.Option.{option_to_list};
 use adapters::{Adapter, NoRoom};
 use notice_chain::Notice;
 
-/// Keeps the latest notice alone.
+/// Keeps the latest notification alone.
 #[derive(Drop)]
 pub(crate) struct Latest {
     told: u64,

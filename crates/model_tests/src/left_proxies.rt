@@ -1,4 +1,4 @@
-//! Proxies that can't be resolved are left, and nobody hears of them.
+//! Proxies that can't be resolved are left, and notify nobody.
 use crate::books::object;
 use crate::network::{Network, Order, SEES, network, reload, resource, snapshots};
 use crate::replies::{given, made, made_attached};
@@ -77,7 +77,7 @@ fn fill<L: LinkStore>(
     Ok(())
 }
 
-/// What it gives to resolve all proxies: the answer, and who was told what. Fails unless all is as it was.
+/// What it gives to resolve all proxies: the answer, and which adapter was notified of what. Fails unless all is as it was.
 fn resolved<L: LinkStore>(alloc: Global, repository: &mut Network<L>) -> Result<String, Fail> {
     let before = snapshots(alloc, repository, 2)?;
     let found = given(alloc, repository.resolve_all())?;
@@ -93,7 +93,7 @@ fn resolved_of<L: LinkStore>(alloc: Global, features: &str) -> Result<String, Fa
     resolved(alloc, &mut repository)
 }
 
-/// Fails unless no proxy is resolved, so many are left, and nobody is told of anything.
+/// Fails unless no proxy is resolved, so many are left, and nobody is notified of anything.
 fn check_left<L: LinkStore>(alloc: Global, features: &str, left: u64) -> Result<(), Fail> {
     let found = resolved_of::<L>(alloc, features)?;
     let wanted = format!(in alloc; "Resolved {{ done: 0, left: {left} }}")?;

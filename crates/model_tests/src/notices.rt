@@ -1,4 +1,4 @@
-//! The kinds of notices by number and name, and a chain that gives its notices back.
+//! The kinds of notifications by number and name, and a chain that gives its notifications back.
 use crate::books::object;
 use mm_types::{FeatureNo, ObjectNo, Value};
 use notice_chain::{Chain, NO_INDEX, Notice, NoticeKind};

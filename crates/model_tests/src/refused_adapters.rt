@@ -1,4 +1,4 @@
-//! Changes that an adapter can't hear.
+//! Changes of which an adapter can't be notified.
 use crate::books::{NAME, RowRepository, name_book, object, watched};
 use crate::counted::{Drops, NO_DROPS, counted_box};
 use crate::replies::{back, given, made};
@@ -10,13 +10,13 @@ use std::cell::Cell;
 use std::rc::Rc;
 use std::test::Fail;
 
-/// How many notices an adapter was told, and how many it keeps.
+/// How many notifications an adapter got, and how many it keeps.
 fn counts<A: Adapter>(repository: &RowRepository<A>, no: u32) -> Result<(u64, u64), Refused> {
     let told = repository.adapter_told(AdapterNo(no))?;
     Ok((told, repository.adapter_kept(AdapterNo(no))?))
 }
 
-/// What three adapters have heard, and the name of the book.
+/// What three adapters were notified of, and the name of the book.
 fn state<A: Adapter>(alloc: Global, repository: &RowRepository<A>) -> Result<String, AllocError> {
     let counts = (
         counts(repository, 5),
@@ -37,9 +37,9 @@ const TOLD: &str =
 /// A book with three adapters of which one is refused memory when it is named, in attach order.
 struct Watched {
     kinds: [Kind; 3],
-    /// What the adapters have heard, and the book's name, after the second call: the poor one keeps none.
+    /// What the adapters were notified of, and the book's name, after the second call: the poor one keeps none.
     after: &'static str,
-    /// What the adapters have heard when the repository is closed.
+    /// What the adapters were notified of when the repository is closed.
     closed: &'static str,
 }
 
@@ -61,7 +61,7 @@ const WATCHED: [Watched; 3] = [
     },
 ];
 
-/// Why the book is not named, and what the adapters have heard and the book has before and after.
+/// Why the book is not named, and what the adapters were notified of and the book has before and after.
 fn refusal<A: Adapter>(alloc: Global, repository: &mut RowRepository<A>) -> Result<String, Fail> {
     let before = state(alloc, repository)?;
     let refused = made(name_book(alloc, repository, 0)?).err();
@@ -74,7 +74,7 @@ fn named<A: Adapter>(alloc: Global, repository: &mut RowRepository<A>) -> Result
     given(alloc, name_book(alloc, repository, 0)?)
 }
 
-/// What the adapters have heard when the repository is closed.
+/// What the adapters were notified of when the repository is closed.
 fn closed<A: Adapter>(
     alloc: Global,
     repository: Box<RowRepository<A>>,
@@ -83,8 +83,8 @@ fn closed<A: Adapter>(
     back(alloc, adapters.as_slice())
 }
 
-/// Names a book with three adapters, twice. Shows why it is refused first, what it gives then, and what the adapters
-/// have heard and the book has before, between and after.
+/// Names a book with three adapters, twice. Shows why it is refused first, what it gives then, and what the adapters were
+/// notified of and the book has before, between and after.
 fn named_twice<A: Adapter>(
     alloc: Global,
     repository: &mut RowRepository<A>,
@@ -95,7 +95,7 @@ fn named_twice<A: Adapter>(
     Ok([refused, told, after])
 }
 
-/// What that gives over a book of its own, and what the adapters have heard when its repository is closed.
+/// What that gives over a book of its own, and what the adapters were notified of when its repository is closed.
 fn twice_at_a_book<A: Adapter>(
     alloc: Global,
     first: A,
@@ -108,7 +108,7 @@ fn twice_at_a_book<A: Adapter>(
     Ok((found, closed))
 }
 
-/// What that gives with three boxes whose parts are counted.
+/// What that gives with three adapters in a `Box` each, whose parts are counted.
 fn twice_by(
     alloc: Global,
     drops: &Rc<Cell<Drops>>,

@@ -1,4 +1,4 @@
-//! An edit of a list that one of its adapters can't hear: no link is cut, and nobody is notified.
+//! An edit of a list of which one of its adapters can't be notified: no link is cut, and nobody is notified.
 use crate::books::{RowRepository, object};
 use crate::boxes::{PARTS, boxes};
 use crate::replies::{given, made, made_attached};
@@ -18,7 +18,7 @@ fn attach<A: Adapter>(
     made_attached(repository.attach(AdapterNo(at), object(at), false, adapter))
 }
 
-/// What is in the first box and in the last, and how many notices the adapters of the first and the second were told.
+/// What is in the first box and in the last, and how many notifications the adapters of the first and the second got.
 fn state<A: Adapter>(alloc: Global, repository: &RowRepository<A>) -> Result<String, AllocError> {
     let first = repository.e_get(object(0), PARTS);
     let last = repository.e_get(object(3), PARTS);

@@ -1,4 +1,4 @@
-//! Scripts whose views replay what they were told.
+//! Scripts whose views replay their notifications.
 use crate::books::{empty, metamodel};
 use crate::library::{
     A_BOOK, A_FOLDER, A_LIBRARY, A_PERSON, BOOKS, FAVOURITE, LIBRARY, LIKES, NEXT, NOTE, PAGES,
@@ -187,8 +187,8 @@ fn flags_and_values_are_followed(rt: HostRuntime) -> Result<(), Fail> {
     Ok(())
 }
 
-/// A book comes to a library and goes again: the library's snapshot from before it came, with the three notices of it, is the one from
-/// after it went.
+/// A book comes to a library and goes again: the library's snapshot from before it came, with the three notifications of it, is the one
+/// from after it went.
 fn come_and_go(alloc: Global) -> Result<bool, Fail> {
     let mut repository: Box<Store<RowStore>> = empty(alloc, metamodel(alloc, LIBRARY)?)?;
     let mut told = Vec::new(alloc);
@@ -204,7 +204,7 @@ fn come_and_go(alloc: Global) -> Result<bool, Fail> {
     Ok(told.len() == 3 && *replayed == *after)
 }
 
-/// Does a step that is not refused, and keeps what adapter 1 is told.
+/// Does a step that is not refused, and keeps the notifications of adapter 1.
 fn execute<L: LinkStore>(
     alloc: Global,
     repository: &mut Store<L>,

@@ -22,7 +22,7 @@ fn told(alloc: Global, told: &[(AdapterNo, Notice)]) -> Result<String, AllocErro
     Ok(text)
 }
 
-/// What an adapter has heard, as `2 told, SET -1, REMOVING_ADAPTER 0`: how many notices, and of those that it keeps the
+/// What an adapter was notified of, as `2 told, SET -1, REMOVING_ADAPTER 0`: how many notifications, and of those that it keeps the
 /// kinds and positions.
 fn heard<A: Adapter>(alloc: Global, adapter: &A) -> Result<String, AllocError> {
     let mut text = format!(in alloc; "{} told", adapter.told())?;

@@ -1,4 +1,4 @@
-//! Who hears that all proxies are resolved, and an adapter that can't hear it.
+//! Which adapters are notified that all proxies are resolved, and an adapter that can't be.
 use crate::network::{
     Network, Order, check_resolved, check_saved, network, reload, resource, snapshots,
 };
@@ -25,8 +25,8 @@ fn attach<L: LinkStore>(
     made_attached(repository.attach(AdapterNo(no), target, deep, counter))
 }
 
-/// Each node that is loaded, with how many notices an adapter there is told, and how many one that is deep there: a proxy gives one notice
-/// at its own end, and that of a link with an opposite another one at the other end.
+/// Each node that is loaded, with how many notifications an adapter there gets, and how many one that is deep there: a proxy gives one
+/// notification at its own end, and that of a link with an opposite another one at the other end.
 const HEARD: [(Node, u64, u64); 11] = [
     (Node::Object(ObjectNo(0)), 5, 6),
     (Node::Object(ObjectNo(1)), 1, 1),
@@ -96,19 +96,19 @@ fn each_end_that_is_resolved_is_told_once(rt: HostRuntime) -> Result<(), Fail> {
     Ok(())
 }
 
-/// How many notices a counter was told that can hear so many more.
+/// How many notifications a counter got that can get so many more.
 fn with_room(room: u64) -> u64 {
     u64::MAX - room
 }
 
-/// Attaches a counter to the second resource, and one with some room to the first, each deep.
+/// Attaches a counter to the second resource, and one with some capacity to the first, each deep.
 fn attach_two<L: LinkStore>(repository: &mut Network<L>, room: u64) -> Result<(), Refused> {
     attach(repository, 1, resource(1), true, Counter::new())?;
     let counter = Counter::starting_at(with_room(room));
     attach(repository, 0, resource(0), true, counter)
 }
 
-/// Fails unless the adapters were told as many as they were when they were attached.
+/// Fails unless the adapters got as many notifications as when they were attached.
 fn check_untold<L: LinkStore>(repository: &Network<L>, room: u64) -> Result<(), Fail> {
     let told = (
         repository.adapter_told(AdapterNo(0)),
@@ -120,7 +120,7 @@ fn check_untold<L: LinkStore>(repository: &Network<L>, room: u64) -> Result<(), 
     Err(Fail::new(format_args!("{told:?} with room for {room}")))
 }
 
-/// Fails unless all is refused for lack of room, and nothing changes and nobody is told.
+/// Fails unless all is refused for lack of capacity, and nothing changes and nobody is notified.
 fn check_refused<L: LinkStore>(
     alloc: Global,
     repository: &mut Network<L>,
@@ -138,7 +138,7 @@ fn check_refused<L: LinkStore>(
     Ok(())
 }
 
-/// Six notices are of the first resource, and one more is for the last notice: with less room all is refused.
+/// Six notifications are of the first resource, and one more is the last notification: with less capacity all is refused.
 fn check_rooms<L: LinkStore>(alloc: Global, repository: &mut Network<L>) -> Result<(), Fail> {
     let texts = documents(alloc)?;
     reload(alloc, repository, texts.as_slice(), IN_ORDER)?;

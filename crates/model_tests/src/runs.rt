@@ -20,7 +20,7 @@ fn run_books<L: LinkStore, R: Read, W: Write>(
     Ok(run::<_, _, L, _>(alloc, reader, writer, Box::into_inner(meta), boxes))
 }
 
-/// A script that loads, saves and destroys, with adapters at a resource and at a book; some of its lines are refused, and one is none.
+/// A script that loads, saves and destroys, with adapters at a resource and at a book; some of its lines are refused, and one is bad.
 const SCRIPT: &str = r#"resource "http://m.example/a"
 attach A1 r0 flat
 load r0 {"format":1,"roots":[]

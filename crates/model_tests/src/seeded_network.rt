@@ -32,7 +32,7 @@ fn describe<L: LinkStore>(
     Ok(())
 }
 
-/// Puts an item into an earlier one of its resource, or among the roots. An item may be the core of the one before it alone, so no core
+/// Puts an item into an earlier one of its resource, or among the roots. An item can be the core only of the item before it, so no core
 /// displaces another.
 fn put_in<L: LinkStore>(repository: &mut Network<L>, item: u32, seed: u32) -> Result<(), Refused> {
     let back = below(seed, item / RESOURCES + 1);
@@ -63,8 +63,7 @@ fn add_items<L: LinkStore>(
     Ok(seed)
 }
 
-/// Links two items that a seed gives by one of the references; a link that an end has already, or for which an end has no room, is not
-/// made.
+/// Links two items that a seed gives by one of the references; a link that an end has already, or for which an end is full, is not made.
 fn link<L: LinkStore>(repository: &mut Network<L>, items: u32, seed: u32) -> Result<(), Refused> {
     let (a, b) = (next(seed), next(next(seed)));
     let (node, value) = (

@@ -12,7 +12,7 @@ use snapshots::{FeatureState, NodeState};
 use std::alloc::{AllocError, Global};
 use std::test::Fail;
 
-/// The site of a proxy.
+/// The location of a proxy.
 #[derive(Clone, Copy)]
 struct Site {
     resource: u32,
@@ -21,7 +21,7 @@ struct Site {
     index: u32,
 }
 
-/// Adds the places of the proxies of a feature.
+/// Adds the locations of the proxies of a feature.
 fn push_sites(
     sites: &mut Vec<Site>,
     resource: u32,
@@ -43,7 +43,7 @@ fn push_sites(
     Ok(())
 }
 
-/// Adds the places of an object's proxies.
+/// Adds the locations of an object's proxies.
 fn push_sites_of(
     sites: &mut Vec<Site>,
     resource: u32,
@@ -58,7 +58,7 @@ fn push_sites_of(
     Ok(())
 }
 
-/// Adds the places of a resource's proxies.
+/// Adds the locations of a resource's proxies.
 fn push_sites_in<L: LinkStore>(
     alloc: Global,
     sites: &mut Vec<Site>,
@@ -72,7 +72,7 @@ fn push_sites_in<L: LinkStore>(
     Ok(())
 }
 
-/// The places of all proxies.
+/// The locations of all proxies.
 fn sites<L: LinkStore>(alloc: Global, repository: &Network<L>) -> Result<Vec<Site>, Fail> {
     let mut sites = Vec::new(alloc);
     for number in 0..RESOURCES {
@@ -90,7 +90,7 @@ fn count_links(sites: &[Site]) -> u64 {
     sites.len().wrapping_sub(ends / 2) as u64
 }
 
-/// How many of the places are in a resource.
+/// How many of the locations are in a resource.
 fn count_in(sites: &[Site], number: u32) -> u64 {
     let count = sites.iter().filter(|site| site.resource == number);
     count.count() as u64
@@ -105,7 +105,7 @@ fn attach_to_resources<L: LinkStore>(repository: &mut Network<L>) -> Result<(), 
     Ok(())
 }
 
-/// Fails unless the adapter of each resource was told once of each proxy there.
+/// Fails unless the adapter of each resource was notified once of each proxy there.
 fn check_told<L: LinkStore>(repository: &Network<L>, sites: &[Site]) -> Result<(), Fail> {
     for number in 0..RESOURCES {
         let told = repository.adapter_told(AdapterNo(number))?;
@@ -131,7 +131,7 @@ fn check_at_once<L: LinkStore>(
     check_saved(repository, texts, order)
 }
 
-/// Whether the proxy at a site is resolved: it's gone already if it was the other end of an earlier one.
+/// Whether the proxy at a location is resolved: it's gone already if it was the other end of an earlier one.
 fn is_resolved<L: LinkStore>(repository: &mut Network<L>, site: Site) -> Result<bool, Refused> {
     match made(repository.resolve(site.object, site.feature, site.index)) {
         Ok(()) => Ok(true),
@@ -140,7 +140,7 @@ fn is_resolved<L: LinkStore>(repository: &mut Network<L>, site: Site) -> Result<
     }
 }
 
-/// Resolves proxies one by one, in an order of their places; returns how many were resolved.
+/// Resolves proxies one by one, in an order of their locations; returns how many were resolved.
 fn resolve_each<L: LinkStore>(
     repository: &mut Network<L>,
     sites: &[Site],

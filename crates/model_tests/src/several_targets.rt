@@ -1,4 +1,4 @@
-//! Adapters with two targets: refused memory at each of their reserves, too full for another notice or another target, and taken from
+//! Adapters with two targets: refused memory at each of their reserves, too full for another notification or another target, and taken from
 //! one target after the other.
 use crate::books::{BOOK, NAME, RowRepository, attach, name_book, object, one_book};
 use crate::counted::{Drops, NO_DROPS, counted_box};
@@ -29,7 +29,7 @@ fn watch_both<A: Adapter>(
     made(repository.watch(AdapterNo(no), object(1), false))
 }
 
-/// What the three adapters were told, and the name of the second book.
+/// What the three adapters were notified of, and the name of the second book.
 fn state<A: Adapter>(alloc: Global, repository: &RowRepository<A>) -> Result<String, AllocError> {
     let told = [5, 6, 7].map(|no| repository.adapter_told(AdapterNo(no)));
     let name = repository.e_get(object(1), NAME);
@@ -150,7 +150,7 @@ fn refused_to_two<A: Adapter>(
 #[test]
 fn the_first_adapter_that_refuses_decides(rt: HostRuntime) -> Result<(), Fail> {
     let alloc = rt.alloc();
-    // A nearly full counter can hear the last notices of its two targets, and so none before them.
+    // A nearly full counter can get the last notifications of its two targets, and so none before them.
     let cases = [
         (false, Kind::LastAlone, Kind::Poor, Refused::AdapterFull),
         (false, Kind::Poor, Kind::LastAlone, Refused::Memory),

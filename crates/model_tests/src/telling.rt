@@ -18,30 +18,30 @@ use std::cell::Cell;
 use std::rc::Rc;
 use std::test::Fail;
 
-/// An adapter by what it can hear.
+/// An adapter by what it can be notified of.
 #[derive(Clone, Copy)]
 pub(crate) enum Kind {
     Recorder,
     Counter,
-    /// A counter that can hear two notices more, and so not two and its last one.
+    /// A counter that can get two notifications more, and so not two and its last one.
     NearlyFull,
-    /// A counter that can hear its last notice alone.
+    /// A counter that can get its last notification alone.
     LastAlone,
     /// A counter that is refused memory at its second reserve.
     Poor,
     /// A recorder that is refused memory at its third reserve.
     PoorRecorder,
-    /// A window that keeps one notice.
+    /// A window that keeps one notification.
     WindowOfOne,
 }
 
-/// How many notices a nearly full counter was told.
+/// How many notifications a nearly full counter got.
 pub(crate) const NEARLY_FULL: u64 = 18446744073709551613;
 
-/// How many notices a counter was told that can hear its last one alone.
+/// How many notifications a counter got that can get its last one alone.
 pub(crate) const LAST_ALONE: u64 = 18446744073709551614;
 
-/// A box of an adapter, whose drop nobody counts.
+/// A `Box` of an adapter, whose drop is not counted.
 pub(crate) fn adapter(alloc: Global, kind: Kind) -> Result<Box<dyn Adapter>, AllocError> {
     let drops = Rc::new(alloc, Cell::new(NO_DROPS))?;
     counted_box(alloc, &drops, kind)
@@ -75,13 +75,13 @@ pub(crate) fn three<A: Adapter>(
     Ok(list)
 }
 
-/// Three notices: two at object 1, and one at object 2 between them.
+/// Three notifications: two at object 1, and one at object 2 between them.
 pub(crate) fn three_notices(alloc: Global) -> Result<Chain, AllocError> {
     Ok(Chain::from_vec(vec![in alloc; added(1, 0), added(2, 0), added(1, 1)]?))
 }
 
-/// Delivers a chain by the containers of a store; gives who was told what, in order. Its contract is what a caller can say of the two calls
-/// together.
+/// Delivers a chain by the containers of a store; gives which adapter was notified of what, in order. Its contract is what a caller can say
+/// of the two calls together.
 pub(crate) fn tell<L: LinkStore, A: Adapter>(
     alloc: Global,
     store: &L,

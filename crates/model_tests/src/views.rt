@@ -1,5 +1,5 @@
-//! Views that replay what they were told, each a recorder deep at a node. They are compared with snapshots after every command, and with what
-//! the boxes kept that come back.
+//! Views that replay their notifications, each a recorder deep at a node. They are compared with snapshots after every command, and with
+//! what the adapters that come back have kept.
 use crate::books::{empty, metamodel};
 use crate::kept::has_kept;
 use crate::library::{LIBRARY, Step, command};
@@ -15,7 +15,7 @@ use std::test::Fail;
 
 pub(crate) type Store<L> = Repository<L, Recorder>;
 
-/// A recorder that is deep at a node, and what its notices made of the snapshot from its attach.
+/// A recorder that is deep at a node, and what its notifications made of the snapshot from its attach.
 #[derive(Drop)]
 struct Watch {
     no: AdapterNo,
@@ -24,7 +24,7 @@ struct Watch {
     view: Option<Box<Snapshot>>,
     /// The nodes that were the target or below it after each command so far.
     staying: Vec<Node>,
-    /// All that the replies told the recorder.
+    /// The notifications that the replies have for the recorder.
     heard: Vec<Notice>,
 }
 
@@ -99,7 +99,7 @@ fn watch_new<L: LinkStore>(
     }
 }
 
-/// What one adapter was told among what all were told.
+/// The notifications of one adapter among those of all.
 pub(crate) fn heard(
     alloc: Global,
     told: &[(AdapterNo, Notice)],
@@ -150,7 +150,7 @@ fn are_alike(view: &Snapshot, now: &Snapshot, nodes: &[Node]) -> bool {
     true
 }
 
-/// Replays what a view was told, and compares it with the snapshot now: returns how many nodes were compared.
+/// Replays the notifications of a view, and compares it with the snapshot now: returns how many nodes were compared.
 fn follow<L: LinkStore>(
     alloc: Global,
     repository: &Store<L>,
@@ -189,8 +189,8 @@ fn follow_all<L: LinkStore>(
     Ok(compared)
 }
 
-/// Compares what the recorders kept that come back with what the replies told them; at the end of a repository no reply tells of the last
-/// notices, which are so many.
+/// Compares what the recorders that come back have kept with what the replies have for them; at the end of a repository no reply has the
+/// last notifications, which are so many.
 fn compare_kept(
     watches: &[Watch],
     released: &[(AdapterNo, Recorder)],

@@ -1,4 +1,4 @@
--- What is at the places of ends, and where values are.
+-- What is at the positions of ends, and where values are.
 use Rattle.std.proofs.Common.{◌≡◌, ◌≤◌, ◌<◌, ◌+◌, ◌||◌, nat_le, nat_lt, pos, not, arith, ℕ, zero, suc, Bool, true, false, cond, IsTrue, List, [], ◌∷◌, length, slice_get, slice_index_or, Option, Some, None, unwrap_or, option_map, option_and_then, if◌then◌else◌, refl, sym, ap, ◌∙◌, subst}
 use Rattle.std.specs.Prelude.{int_le, MatchOption, position}
 use Rattle.std.specs.List.{All, list_all, position_or_len}
@@ -69,7 +69,7 @@ has-at (w ∷ ws) v zero h = subst (λ (x : Value). (same_value v x || has_value
 has-at (w ∷ ws) v (suc k) h =
     elim (same_value v w) as (λ b. (b || has_value ws v) ≡ true) [ true ↦ refl | false ↦ has-at ws v k h ]
 
--- a place that has a value is the first, in a list that repeats none
+-- a position that has a value is the first, in a list that repeats none
 pub first_in-place : (vs : List Value) (v : Value) (q : Option ℕ) → ((j k : ℕ) (w : Value) → slice_get vs j ≡ Some w → slice_get vs k ≡ Some w → j ≡ k)
     → MatchOption q ((k : ℕ) → slice_get vs k ≡ Some v → ⊥) (λ k. slice_get vs k ≡ Some v) → q ≡ first_in vs v
 first_in-place vs v None distinct h =
@@ -87,11 +87,11 @@ object-is : (v : Value) (o : ObjectNo) → links.object_of v ≡ Some o → v �
 object-is (value.Object p) o h = ap value.Object (same_Some p o h)
 object-is _ o h = absurd (none-some o h)
 
--- the object at a place of a reference
+-- the object at a position of a reference
 pub object_in-is : (s : Model) (e : End) (k : ℕ) → (shape s.metamodel e.feature).is_reference ≡ true → links.object_at s.links e k ≡ option_and_then object_of (slice_get ((reading s).values e) k)
 object_in-is s e k reference = rw reference refl
 
--- where an object is found, it is there
+-- if an object is found, it is there
 pub object-there : (q : Option Value) (o : ObjectNo) → option_and_then links.object_of q ≡ Some o → q ≡ Some (value.Object o)
 object-there None o h = absurd (none-some o h)
 object-there (Some v) o h = ap Some (object-is v o h)
@@ -155,7 +155,7 @@ none-of r e (w ∷ ws) v not h =
       | false ↦ λ _. none-of r e ws v not both.1
     ] refl
 
--- where a value is at a reference, and that it is an object or a proxy
+-- the position of a value at a reference, and that it is an object or a proxy
 pub position-target : (s : Model) (e : End) (v : Value) (q : Option ℕ) → IsLegal s → (shape s.metamodel e.feature).is_reference ≡ true
     → MatchOption q (Lacks s.links e v) (λ k. slice_get (end s.links e) k ≡ Some v) → q ≡ first_in ((reading s).values e) v
 position-target s e v q legal reference at = rw reference (first_in-place (end s.links e) v q (legal.links.set.placed.distinct e) at)
@@ -164,7 +164,7 @@ same-there : (q : Option Value) (v : Value) → option_map_or (same_value v) q f
 same-there None v h = absurd (false≢true h)
 same-there (Some w) v h = ap Some (sym (same_value-true v w h))
 
--- a place that has the value
+-- a position that has the value
 pub position-same : (s : Model) (e : End) (v : Value) (k : ℕ) → IsLegal s → (shape s.metamodel e.feature).is_reference ≡ true
     → option_map_or (same_value v) (slice_get ((reading s).values e) k) false ≡ true → Some k ≡ first_in ((reading s).values e) v
 position-same s e v k legal reference same =
@@ -175,7 +175,7 @@ get-below [] k v h = absurd (none-some v h)
 get-below (w ∷ ws) zero v h = omega arith
 get-below (w ∷ ws) (suc k) v h = let low = get-below ws k v h in omega (arith, low)
 
--- no place of all that there are has it
+-- no position of all that there are has it
 pub position-nowhere : (s : Model) (e : End) (v : Value) (n : ℕ) → IsLegal s → (shape s.metamodel e.feature).is_reference ≡ true
     → length ((reading s).values e) ≤ n → ((k : ℕ) → k < n → slice_get ((reading s).values e) k ≡ Some v → ⊥) → None ≡ first_in ((reading s).values e) v
 position-nowhere s e v n legal reference all none =
@@ -226,7 +226,7 @@ values-few s e legal =
 pub attribute_values-few : (s : Model) (e : End) → IsLegal s → length (attribute_values (shape s.metamodel e.feature) (kept_values s.values e.node e.feature)) ≤ 1000000
 attribute_values-few s e legal = attribute-few (shape s.metamodel e.feature) (kept_values s.values e.node e.feature) (kept-few s e e.node legal)
 
--- the place of the first of a value is one of the list
+-- the position of the first of a value is one of the list
 pub first-below : (vs : List Value) (v : Value) (k : ℕ) → Some k ≡ first_in vs v → k < length vs
 first-below vs v k h =
     elim (has_value vs v) as (λ b. has_value vs v ≡ b → Some k ≡ (if b then Some (index_in vs v) else None) → k < length vs) [

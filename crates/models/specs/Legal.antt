@@ -45,7 +45,7 @@ abbrev pub IsUniqueList : Bool → List Value → Type 0
 IsUniqueList true vs = IsDistinct same_value vs
 IsUniqueList false vs = Unit {0}
 
--- what an object keeps under a feature: no value twice where it is unique, and a flag where it is unsettable, single and has a value
+-- what an object keeps under a feature: no value twice if it is unique, and a flag if it is unsettable, single and has a value
 pub record IsLegalStored (m : Metamodel) (c : ClassNo) (f : FeatureNo) (h : Stored) : Type 0 where
   pub values : IsTrue (is_legal_list m c f h.list)
   pub unique : IsUniqueList (shape m f).is_unique h.list
@@ -65,7 +65,7 @@ kinds_of m = record { opposite = λ f. (shape m f).opposite; container = λ f. (
 abbrev pub takes_proxies : Shape → Bool
 takes_proxies a = a.is_reference && not (is_some a.containing)
 
--- an object of a feature's type, or a proxy where the feature takes proxies
+-- an object of a feature's type, or a proxy if the feature takes proxies
 abbrev pub is_legal_target : Reading → FeatureNo → Value → Bool
 is_legal_target r f (value.Object o) = takes r f (value.Object o)
 is_legal_target r f (value.Proxy t) = takes_proxies (shape r.metamodel f)

@@ -47,7 +47,7 @@ roots_end r k = contents_end r.metamodel k
 abbrev pub shape_at : Reading → End → Shape
 shape_at r e = shape r.metamodel e.feature
 
--- what ends hold, as it is told: an empty single one holds null
+-- what ends hold, as notifications show it: an empty single one holds null
 abbrev pub held_at : Reading → Ends
 held_at r e = record { values = shown (shape_at r e).is_single (r.values e); flag = r.flag e }
 

@@ -1,4 +1,4 @@
--- What a change of one row, or rows that have grown, make of the cells and of the room.
+-- What a change of one row, or rows that have grown, make of the cells and of the capacity.
 use Rattle.std.proofs.Common.{◌≡◌, ◌≢◌, ℕ, zero, ◌+◌, ◌≤◌, Bool, true, false, List, Option, Some, None, if◌then◌else◌, refl, sym, ap, ◌∙◌, subst, arith}
 use Rattle.std.proofs.lemmas.Bool.{false≢true}
 use Rattle.mm_types.specs.Same.{same_end, same_feature, same_node}
@@ -159,7 +159,7 @@ pub resources_reordered : (t u : NodeSlots) → AreRowsReordered (row_in t.resou
 resources_reordered t u h same (node.Resource r) = h r.0
 resources_reordered t u h same (node.Object o) = subst (λ (x : Table). IsRowReordered (row_in t.objects o.0) (row_in x o.0)) (sym same) (row_unmoved (row_in t.objects o.0))
 
----------------------------------------------------------------- places promised
+---------------------------------------------------------------- capacity reserved
 
 module _ (t u : NodeSlots) (each : (n : Node) → IsRowGrown (row_at t n) (row_at u n)) where
   pub promised_value : (e : End) (n : Node) → e.node ≡ n → row_indexes (row_at t n) e.feature + 1 ≤ row_indexes (row_at u n) e.feature → HasGained (λ x. one_if (same_end e x)) no_ends (room t) (room u)
@@ -184,7 +184,7 @@ module _ (t u : NodeSlots) (each : (n : Node) → IsRowGrown (row_at t n) (row_a
     ] refl;
   }
 
--- an end that was promised a place for any value may have any
+-- an end for which capacity for any value is reserved may have any
 pub promised_mixed : (t : NodeSlots) (e : End) (n : Node) (b : Bool) → e.node ≡ n → (b ≡ true → row_mixed (row_at t n) e.feature ≡ true) → b ≡ true → (room t).mixed e ≡ true
 unfolding room
 promised_mixed t e n b is h q = subst (λ (k : Node). row_mixed (row_at t k) e.feature ≡ true) (sym is) (h q)
@@ -193,7 +193,7 @@ pub same_twice : {X : Type 0} (b : Bool) (z : X) → (if b then z else z) ≡ z
 same_twice true z = refl
 same_twice false z = refl
 
--- what is promised is no part of the cells
+-- what is reserved is no part of the cells
 pub forget_cells : (n : Node) (f : FeatureNo) (k : ℕ) (c : Cells) → cell_edit n (Change f (Forget k)) c ≡ c
 forget_cells n f k c = λ i.
     record {
@@ -240,7 +240,7 @@ module _ (t : NodeSlots) (n : Node) (x : RowEdit) (none : row_index_of t n ≡ N
   pub unedited_room : KeepsRoom n x (room t) (room t)
   unedited_room = room_edited t t n x unchanged (λ m ne. refl)
 
--- a node with a row has a place for it
+-- a node with a row has an index for it
 pub known_place : (t : NodeSlots) (n : Node) → row_index_of t n ≡ None → (room t).rows n ≡ true → ⊥
 unfolding room
 known_place t (node.Object o) none h = false≢true (ap (λ (p : Option ℕ). is_row (row_from t.objects.rows p)) (sym none) ∙ h)

@@ -62,7 +62,7 @@ pub present : (ss ts : List Slot) (f : FeatureNo) (o : Option ℕ) → ts ≡ ss
 present ss ts f None same search is none = false≢true is
 present ss ts f (Some i) same search is none = some_is ss f i (ap (position (is_of f)) (sym same) ∙ sym search) none
 
--- a slot is told by the number of its feature
+-- a slot is found by the number of its feature
 pub same_slot : (ss : List Slot) (f g : FeatureNo) → f.0 ≡ g.0 → slot_in ss g ≡ slot_in ss f
 same_slot ss f g e = ap (λ (k : ℕ). slot_in ss (record { 0 = k })) (sym e)
 

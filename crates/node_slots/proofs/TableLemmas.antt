@@ -25,7 +25,7 @@ slice_get-set_other (y ∷ xs) (suc i) (suc j) x ne = slice_get-set_other xs i j
 
 ---------------------------------------------------------------- entries of zero
 
--- one more zero is no place
+-- one more zero is no index
 pub row_index_at-zero : (ps : List ℕ) (n : ℕ) → row_index_at (ps ++ 0 ∷ []) n ≡ row_index_at ps n
 row_index_at-zero [] zero = refl
 row_index_at-zero [] (suc n) = refl
@@ -43,7 +43,7 @@ places_none c = record { within = λ n k h. cc; apart = λ m n k a b. cc }
 
 ---------------------------------------------------------------- a row written
 
--- the row r that was read at the place k of number n is written as s
+-- the row r that was read at the index k of number n is written as s
 module _ (ps : List ℕ) (rs : List Row) (n k : ℕ) (r s : Row) (ok : ArePlaces ps (length rs)) (at : row_index_at ps n ≡ Some k) (read : r ≡ get_or rs k r) where
   abbrev old : Table
   old = record { places = ps; rows = rs }
@@ -95,7 +95,7 @@ module _ (ps : List ℕ) (rs : List Row) (n k : ℕ) (r s : Row) (ok : ArePlaces
 
 ---------------------------------------------------------------- one more row
 
--- the number n, which has no row, is given the row r, at the place k
+-- the number n, which has no row, is given the row r, at the index k
 module _ (ps : List ℕ) (rs : List Row) (n k : ℕ) (r : Row) (t : Table) (view : record { places = ps; rows = rs } ≡ t) (ok : ArePlaces ps (length rs)) (in_range : n < length t.places) (none : row_index_at t.places n ≡ None) (last : k ≡ length rs) where
   abbrev qs : List ℕ
   qs = set ps n (k + 1)
@@ -116,7 +116,7 @@ module _ (ps : List ℕ) (rs : List Row) (n k : ℕ) (r : Row) (t : Table) (view
   place_else : (m : ℕ) → m ≢ n → row_index_at qs m ≡ row_index_at ps m
   place_else m ne = ap place_at (slice_get-set_other ps n m (k + 1) ne)
 
-  -- the place of a number is new, or was one
+  -- the index of a number is new, or was one
   from_place : (m j : ℕ) → row_index_at qs m ≡ Some j → ((m ≡ n) × (j ≡ length rs)) ⊎ ((row_index_at ps m ≡ Some j) × (j < length rs))
   from_place m j h = elim (cases_eq m n) [
     | inl is ↦ inl (is, same_Some j k (sym h ∙ ap (row_index_at qs) is ∙ place_made) ∙ last)

@@ -1,4 +1,4 @@
--- Ends that proxies are put into, as room grows.
+-- Ends that proxies are put into, as capacity grows.
 use Rattle.std.proofs.Common.{◌≡◌, ℕ, zero, suc, ◌+◌, ◌<◌, true, List, [], ◌∷◌, length, get_or, take, add-one, subst, arith}
 use Rattle.mm_types.specs.declared.end.End.{End}
 use Rattle.links.specs.declared.plan.Edit.{Edit}

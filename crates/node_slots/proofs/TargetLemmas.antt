@@ -37,7 +37,7 @@ text_of_objects xs i = ap (option_and_then text_of) (slice_get-map object_value 
 pub is_value_objects : (v : Value) (xs : List ObjectNo) (i : ℕ) → is_value v (slice_get (objects xs) i) ≡ is_value v (option_map object_value (slice_get xs i))
 is_value_objects v xs i = ap (is_value v) (slice_get-map object_value xs i)
 
--- a value that is no object is none of them
+-- a value that is no object is not one of them
 not_same : (v : Value) → ((o : ObjectNo) → v ≡ value.Object o → ⊥) → (o : ObjectNo) → same_value v (object_value o) ≡ false
 not_same value.Null none o = refl
 not_same (value.Bool b) none o = refl

@@ -16,7 +16,7 @@ use Rattle.node_slots.specs.Slots.{CanEdit, taken, unpaired}
 use Rattle.node_slots.specs.Rows.{entered_after, entries_taken, hold_after, is_row, places_taken, row_entered, row_entries, row_hold, row_mixed, row_pairing, row_indexes, row_slots, row_vals, told_after, vals_after}
 use Rattle.node_slots.specs.Tables.{Table, place_at, row_index_at, row_from, row_in}
 
--- the values of each end, what puts told of its feature, the end that contains each node, and the ends with no opposite that hold it
+-- the values of each end, what puts said of its feature, the end that contains each node, and the ends with no opposite that hold it
 pub record Cells : Type 0 where
   pub vals : End → List Value
   pub pairing : End → Pairing
@@ -27,8 +27,8 @@ pub record Cells : Type 0 where
 abbrev pub no_cells : Cells
 no_cells = record { vals = λ e. []; pairing = λ e. unpaired; hold = λ n. None; entered = λ n. [] }
 
--- how many values more are promised of each end, and whether those may be other values than objects; how many ends more of each node, with
--- room for each; and which nodes have a row
+-- for how many more values of each end capacity is reserved, and whether those may be values other than objects; for how many more ends of
+-- each node; and which nodes have a row
 pub record Room : Type 0 where
   pub places : End → ℕ
   pub mixed : End → Bool
@@ -108,7 +108,7 @@ cell_edit n x c =
       entered = λ m. if same_node n m then entered_after x (c.entered m) else c.entered m;
     }
 
--- there is room for what a change of the node n brings; only a node with a row is told its holder
+-- there is capacity for what a change of the node n brings; the holder is set only of a node with a row
 abbrev pub Fits : Node → RowEdit → Room → Type 0
 Fits n (Change f x) r = (taken x ≤ r.places (record { node = n; feature = f })) × CanEdit (r.mixed (record { node = n; feature = f })) x
 Fits n (Hold None) r = Unit {0}
@@ -117,7 +117,7 @@ Fits n (Enter d) r = 1 ≤ r.entries n
 Fits n (Leave i) r = Unit {0}
 Fits n (ForgetEntries k) r = k ≤ r.entries n
 
--- the room is what it was, but for the places that a change of the node n takes
+-- the capacity is what it was, but for what a change of the node n takes
 pub record KeepsRoom (n : Node) (x : RowEdit) (old new : Room) : Type 0 where
   pub places : (e : End) → old.places e ≤ new.places e + (if same_node n e.node then places_taken x e.feature else zero)
   pub mixed : (e : End) → new.mixed e ≡ old.mixed e

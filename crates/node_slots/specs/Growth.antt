@@ -1,4 +1,4 @@
--- How much room a plan takes.
+-- How much capacity a plan needs.
 use Rattle.std.specs.Prelude.{◌≡◌, ℕ, ◌+◌, ◌≤◌, Bool, true, false, List, [], ◌∷◌, sum_by, Option, Some, None}
 use Rattle.mm_types.specs.Same.{same_end, same_node}
 use Rattle.mm_types.specs.declared.numbers.FeatureNo.{FeatureNo}
@@ -57,13 +57,13 @@ abbrev pub TakesAll : Room → List Edit → Type 0
 TakesAll r [] = Unit {0}
 TakesAll r (x ∷ xs) = Takes r x × TakesAll r xs
 
--- there are places for all that a plan adds
+-- there is capacity for all that a plan adds
 pub record HasRoom (r : Room) (plan : List Edit) : Type 0 where
   pub places : (e : End) → gains plan e ≤ r.places e
   pub takes : TakesAll r plan
   pub entries : (n : Node) → entries plan n ≤ r.entries n
 
--- so many more values and ends have places
+-- there is capacity for so many more values and ends
 pub record HasGained (values : End → ℕ) (ends : Node → ℕ) (old new : Room) : Type 0 where
   pub places : (e : End) → old.places e + values e ≤ new.places e
   pub mixed : (e : End) → old.mixed e ≡ true → new.mixed e ≡ true

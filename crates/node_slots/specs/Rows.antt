@@ -61,7 +61,7 @@ vals_after (Enter d) g vs = vs
 vals_after (Leave i) g vs = vs
 vals_after (ForgetEntries n) g vs = vs
 
--- and of what is told of g
+-- and of what is known of the feature g
 abbrev pub told_after : RowEdit → FeatureNo → Pairing → Pairing
 told_after (Change f x) g p = if same_feature f g then pairing_after x p else p
 told_after (Hold h) g p = p
@@ -83,7 +83,7 @@ entered_after (Enter d) ds = ds ++ d ∷ []
 entered_after (Leave i) ds = remove ds i
 entered_after (ForgetEntries n) ds = ds
 
--- how many places for values at g a change takes
+-- how much capacity for values at g a change takes
 abbrev pub places_taken : RowEdit → FeatureNo → ℕ
 places_taken (Change f x) g = if same_feature f g then taken x else zero
 places_taken (Hold h) g = zero
@@ -99,7 +99,7 @@ entries_taken (Enter d) = 1
 entries_taken (Leave i) = zero
 entries_taken (ForgetEntries n) = n
 
--- there is room for what the change brings; only a node with a row is told its holder
+-- there is capacity for what the change brings; the holder is set only of a node with a row
 abbrev pub RowFits : RowEdit → Option Row → Type 0
 RowFits (Change f x) o = (taken x ≤ row_indexes o f) × CanEdit (row_mixed o f) x
 RowFits (Hold None) o = Unit {0}
@@ -123,7 +123,7 @@ pub record AreRowsEdited (i : ℕ) (x : RowEdit) (old new : ℕ → Option Row) 
   pub here : IsRowEdited x (old i) (new i)
   pub others : (j : ℕ) → ((j ≡ i) → ⊥) → new j ≡ old j
 
--- the same, with no fewer places
+-- the same, with no less capacity
 pub record IsRowGrown (old new : Option Row) : Type 0 where
   pub vals : (g : FeatureNo) → row_vals new g ≡ row_vals old g
   pub pairing : (g : FeatureNo) → row_pairing new g ≡ row_pairing old g

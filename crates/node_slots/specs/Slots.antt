@@ -30,7 +30,7 @@ pairing_after (Remove i) q = q
 pairing_after (Move to from) q = q
 pairing_after (Forget n) q = q
 
--- how many places for values a change takes
+-- how much capacity for values a change takes
 abbrev pub taken : SlotEdit → ℕ
 taken (Insert i v p) = 1
 taken (Push v p) = 1
@@ -38,7 +38,7 @@ taken (Remove i) = 0
 taken (Move to from) = 0
 taken (Forget n) = n
 
--- a list may be changed so, where it may have other values than objects or not
+-- whether a list may be changed so, if it may have values other than objects, and if it may not
 abbrev pub CanEdit : Bool → SlotEdit → Type 0
 CanEdit mixed (Insert i v p) = CanHave mixed v
 CanEdit mixed (Push v p) = CanHave mixed v
@@ -46,11 +46,11 @@ CanEdit mixed (Remove i) = Unit {0}
 CanEdit mixed (Move to from) = Unit {0}
 CanEdit mixed (Forget n) = Unit {0}
 
--- how many values more are promised, and have room
+-- for how many more values capacity is reserved
 abbrev pub slot_places : Slot → ℕ
 slot_places s = min s.promised s.values.spare
 
--- the change is made, and takes no more places than it may
+-- the change is made, and takes no more capacity than it may
 pub record IsSlotEdited (x : SlotEdit) (old new : Slot) : Type 0 where
   pub feature : new.feature ≡ old.feature
   pub values : new.values.items ≡ values_after x old.values.items
@@ -83,7 +83,7 @@ abbrev pub mixed_of : Option Slot → Bool
 mixed_of None = false
 mixed_of (Some s) = s.values.mixed
 
--- a feature is changed, where it has a slot or not
+-- a feature is changed, whether it has a slot or not
 pub record IsFeatureEdited (x : SlotEdit) (old new : Option Slot) : Type 0 where
   pub values : values_of new ≡ values_after x (values_of old)
   pub pairing : pairing_of new ≡ pairing_after x (pairing_of old)
@@ -95,7 +95,7 @@ pub record AreSlotsEdited (f : FeatureNo) (x : SlotEdit) (old new : List Slot) :
   pub here : IsFeatureEdited x (slot_in old f) (slot_in new f)
   pub others : (g : FeatureNo) → ((f.0 ≡ g.0) → ⊥) → slot_in new g ≡ slot_in old g
 
--- the same values, with no fewer places
+-- the same values, with no less capacity
 pub record IsFeatureGrown (old new : Option Slot) : Type 0 where
   pub values : values_of new ≡ values_of old
   pub pairing : pairing_of new ≡ pairing_of old

@@ -2,7 +2,7 @@
 use Rattle.std.specs.Prelude.{◌≡◌, ℕ, zero, suc, ◌<◌, List, slice_get, Option, Some, None}
 use Rattle.node_slots.specs.declared.row.Row.{Row}
 
--- by number, zero where it has no row, and else one more than the index of its row
+-- by number, zero if it has no row, and else one more than the index of its row
 pub record Table : Type 0 where
   pub places : List ℕ
   pub rows : List Row

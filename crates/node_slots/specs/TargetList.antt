@@ -1,4 +1,4 @@
--- How the values of an end lie in memory.
+-- The layout of the values of an end in memory.
 use Rattle.std.specs.Prelude.{true, false}
 use Rattle.node_slots.specs.declared.targets.Layout.{Layout}
 use Rattle.node_slots.specs.declared.targets.Layout.TheVariants.{Objects, Mixed}

@@ -18,12 +18,12 @@ object_value o = value.Object o
 abbrev pub objects : List ObjectNo → List Value
 objects os = map object_value os
 
--- a list may have the value, where it may have other values than objects or not
+-- whether a list may have the value, if it may have values other than objects, and if it may not
 abbrev pub CanHave : Bool → Value → Type 0
 CanHave mixed (value.Object o) = Unit {0}
 CanHave mixed v = mixed ≡ true
 
--- the value is what is at a place
+-- whether a value is the one that was found
 abbrev pub is_value : Value → Option Value → Bool
 is_value v None = false
 is_value v (Some w) = same_value v w

@@ -16,7 +16,7 @@ pub use growth::PutPlaces;
 use mm_types::{End, Node, ObjectNo, Value};
 use std::alloc::Global;
 
-/// A row for each node that was promised room for a value, or for an end that holds it.
+/// A row for each node that had capacity reserved for a value, or for an end that holds it.
 #[derive(Drop)]
 pub struct NodeSlots {
     objects: RowTable,
@@ -109,7 +109,7 @@ impl NodeSlots {
         self.slot(end)?.values.position(value)
     }
 
-    /// What the last put of an object into an end told of its feature.
+    /// What the last put of an object into an end said of its feature.
     #[tactic(auto, unfolding(crate::specs::Cells::cells))]
     pub fn pairing(&self, end: End) -> Pairing
         ensures { result ≡ (cells self.now).pairing end }
@@ -179,7 +179,7 @@ impl NodeSlots {
         }
     }
 
-    /// Makes one change of a node, for which there is room. Takes no memory. An end takes an object always, and a proxy only if it may
+    /// Makes one change of a node, for which there is capacity. Takes no memory. An end takes an object always, and a proxy only if it may
     /// have other values than objects. `reserve_for` made that so for each proxy of its plan, and the change is of that plan.
     pub fn edit(&mut self, node: Node, edit: RowEdit)
         requires { Fits node edit (room self.old) }
@@ -192,8 +192,8 @@ impl NodeSlots {
         }
     }
 
-    /// Makes one change of a node, for which there is room, as `edit` does. The row of the node is at an index. Takes no memory, and
-    /// moves no row.
+    /// Makes one change of a node, for which there is capacity, as `edit` does, in the row at `row_index`. Takes no memory, and moves no
+    /// row.
     pub fn edit_at(&mut self, node: Node, row_index: usize, edit: RowEdit)
         requires at { row_index_of self.old node ≡ Some row_index }
         requires fits { Fits node edit (room self.old) }

@@ -16,13 +16,13 @@ use std::alloc::{AllocError, Global};
 pub enum RowEdit {
     /// Changes the values of a feature.
     Change(FeatureNo, SlotEdit),
-    /// Tells the end that contains the node.
+    /// Sets the end that contains the node.
     Hold(Option<End>),
     /// Adds an end with no opposite that holds the node.
     Enter(End),
     /// Takes an end with no opposite that holds the node away, at its index; past the last nothing changes.
     Leave(usize),
-    /// Takes places back that were promised to ends with no opposite that hold the node. No end changes.
+    /// Takes back capacity that was reserved for ends with no opposite that hold the node. No end changes.
     ForgetEntries(usize),
 }
 
@@ -35,7 +35,7 @@ pub struct Row {
     pub holder: Option<End>,
     /// The ends with no opposite that hold the node, in the order in which they came, until they are put in order.
     pub entered: ShortList<End>,
-    /// How many ends more are promised room there.
+    /// For how many more ends capacity is reserved there.
     pub promised: usize,
 }
 
@@ -64,8 +64,8 @@ impl Row {
         }
     }
 
-    /// Makes one change, for which `promise` made room. Takes no memory. A value that is put in is an object, unless the promise was of
-    /// room for any value.
+    /// Makes one change, for which `promise` reserved capacity. Takes no memory. A value that is put in is an object, unless capacity was
+    /// reserved for any value.
     pub fn edit(&mut self, edit: RowEdit)
         requires { RowFits edit (Some self.old) }
         ensures { IsRowEdited edit (Some self.old) (Some self.new) }
@@ -89,7 +89,7 @@ impl Row {
         put_in_order(&mut self.entered);
     }
 
-    /// Promises room for one more value of a feature, for an object or for any value. Errs only if memory is refused; no value changes.
+    /// Reserves capacity for one more value of a feature, for an object or for any value. Errs only if memory is refused; no value changes.
     pub fn promise(&mut self, feature: FeatureNo, is_mixed: bool) -> Result<(), AllocError>
         ensures grown { IsRowGrown (Some self.old) (Some self.new) }
         ensures ok { OnOk result (places_of (slot_in self.old.slots.items feature) + 1 ≤ places_of (slot_in self.new.slots.items feature)) }
@@ -99,14 +99,14 @@ impl Row {
         promise_in(&mut self.slots, feature, is_mixed)
     }
 
-    /// How many ends more that hold the node come with no memory taken: those that are promised room, and have it.
+    /// How many more ends that hold the node can be put in without memory: those for which capacity is reserved.
     pub fn entries(&self) -> usize
         ensures { result ≡ row_entries (Some self.now) }
     {
         self.promised.min(self.entered.spare())
     }
 
-    /// Promises room for one more end that holds the node. Errs only if memory is refused; no end changes.
+    /// Reserves capacity for one more end that holds the node. Errs only if memory is refused; no end changes.
     pub fn promise_entry(&mut self) -> Result<(), AllocError>
         ensures grown { IsRowGrown (Some self.old) (Some self.new) }
         ensures ok { OnOk result (row_entries (Some self.old) + 1 ≤ row_entries (Some self.new)) }
@@ -141,7 +141,7 @@ fn edit_slot(slots: &mut Vec<Slot>, feature: FeatureNo, edit: SlotEdit)
     }
 }
 
-/// Adds a slot, and room for half as many more. Errs only if memory is refused, and then nothing has changed.
+/// Adds a slot, and reserves capacity for half as many more. Errs only if memory is refused, and then nothing has changed.
 fn push_slot(slots: &mut Vec<Slot>, slot: Slot) -> Result<(), AllocError>
     ensures { slots.new.items ≡ (if is_ok result then slots.old.items ++ slot ∷ [] else slots.old.items) }
 {
@@ -162,7 +162,7 @@ fn add_slot(slots: &mut Vec<Slot>, feature: FeatureNo) -> Result<(), AllocError>
     Ok(())
 }
 
-/// Promises room for one more value in the slot of a feature.
+/// Reserves capacity for one more value in the slot of a feature.
 fn promise_in(slots: &mut Vec<Slot>, feature: FeatureNo, is_mixed: bool) -> Result<(), AllocError>
     requires { (slot_in slots.old.items feature ≡ None) → ⊥ }
     ensures grown { AreSlotsGrown slots.old.items slots.new.items }
@@ -178,7 +178,7 @@ fn promise_in(slots: &mut Vec<Slot>, feature: FeatureNo, is_mixed: bool) -> Resu
     }
 }
 
-/// Puts an end in last, for which there is room.
+/// Puts an end in last, for which there is capacity.
 fn push_on(ends: &mut ShortList<End>, end: End)
     requires { 1 ≤ ends.old.spare }
     ensures items { ends.new.items ≡ ends.old.items ++ end ∷ [] }

@@ -9,7 +9,7 @@ use crate::targets::TargetList;
 use mm_types::{FeatureNo, Value};
 use std::alloc::{AllocError, Global};
 
-/// What a put tells of a feature.
+/// What a put says of a feature.
 #[derive(Clone, Copy)]
 pub struct Pairing {
     /// Its opposite, if it has one.
@@ -21,7 +21,8 @@ pub struct Pairing {
 /// One change of the values of an end.
 #[derive(Drop)]
 pub enum SlotEdit {
-    /// Puts a value in at an index; past the end it is put last. A put of an object tells of the feature.
+    /// Puts a value in at an index; past the end it is put last. A put of an object says of the feature what its opposite is, and whether
+    /// it contains.
     Insert {
         index: usize,
         value: Value,
@@ -41,7 +42,7 @@ pub enum SlotEdit {
         to: usize,
         from: usize,
     },
-    /// Takes promised places back. No value changes.
+    /// Takes back reserved capacity. No value changes.
     Forget {
         places: usize,
     },
@@ -51,10 +52,10 @@ pub enum SlotEdit {
 #[derive(Drop)]
 pub struct Slot {
     pub feature: FeatureNo,
-    /// As the last put of an object told; neither opposite nor container if none was put.
+    /// As the last put of an object said; neither opposite nor container if none was put.
     pub pairing: Pairing,
     pub values: TargetList,
-    /// How many values more are promised room.
+    /// For how many more values capacity is reserved.
     pub promised: usize,
 }
 
@@ -76,14 +77,14 @@ impl Slot {
         }
     }
 
-    /// How many values more come with no memory taken: those that are promised room, and have it.
+    /// How many more values can be put in without memory: those for which capacity is reserved.
     pub fn places(&self) -> usize
         ensures { result ≡ slot_places self.now }
     {
         self.promised.min(self.values.spare())
     }
 
-    /// Promises room for one more value, for an object or for any value. Errs only if memory is refused; no value changes.
+    /// Reserves capacity for one more value, for an object or for any value. Errs only if memory is refused; no value changes.
     pub fn promise(&mut self, alloc: Global, is_mixed: bool) -> Result<(), AllocError>
         ensures feature { self.new.feature ≡ self.old.feature }
         ensures values { self.new.values.items ≡ self.old.values.items }
@@ -102,8 +103,8 @@ impl Slot {
         Ok(())
     }
 
-    /// Makes one change, for which `promise` made room. Takes no memory. A value that is put in is an object, unless the promise was of
-    /// room for any value.
+    /// Makes one change, for which `promise` reserved capacity. Takes no memory. A value that is put in is an object, unless capacity was
+    /// reserved for any value.
     pub fn edit(&mut self, edit: SlotEdit)
         requires places { taken edit ≤ slot_places self.old }
         requires can { CanEdit self.old.values.mixed edit }
@@ -131,7 +132,7 @@ impl Slot {
     }
 }
 
-/// Makes places for values, for objects or for any. Errs only if memory is refused; no value changes.
+/// Reserves capacity for values, for objects or for any. Errs only if memory is refused; no value changes.
 fn make_places(
     values: &mut TargetList,
     alloc: Global,
@@ -150,7 +151,7 @@ fn make_places(
     values.reserve(alloc, places)
 }
 
-/// Puts a value in, for which there is room.
+/// Puts a value in, for which there is capacity.
 fn insert_in(values: &mut TargetList, index: usize, value: Value)
     requires room { 1 ≤ values.old.spare }
     requires can { CanHave values.old.mixed value }
@@ -161,7 +162,7 @@ fn insert_in(values: &mut TargetList, index: usize, value: Value)
     values.insert(index.min(values.len()), value);
 }
 
-/// Puts a value in last, for which there is room.
+/// Puts a value in last, for which there is capacity.
 fn push_in(values: &mut TargetList, value: Value)
     requires room { 1 ≤ values.old.spare }
     requires can { CanHave values.old.mixed value }

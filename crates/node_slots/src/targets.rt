@@ -12,14 +12,14 @@ use slot_lists::{ShortList, SlotList};
 use std::alloc::{AllocError, Global};
 use std::marker::Model;
 
-/// How the values of an end lie in memory. Most ends have objects alone: four bytes each.
+/// The layout of the values of an end in memory. Most ends have objects alone: four bytes each.
 #[derive(Drop)]
 enum Layout {
     Objects(ShortList<ObjectNo>),
     Mixed(Box<SlotList<Value>>),
 }
 
-/// The values of an end, and places for more. A list has objects alone until it is told that it may have other values (`mix`).
+/// The values of an end, and capacity for more. A list has objects alone until `mix` says that it may have other values.
 #[derive(Drop)]
 pub struct TargetList {
     layout: Layout,
@@ -126,7 +126,7 @@ impl TargetList {
         }
     }
 
-    /// Makes places for more values. Errs only if memory is refused, and then the values stay and no position is lost.
+    /// Reserves capacity for more values. Errs only if memory is refused, and then the values stay and no position is lost.
     pub fn reserve(&mut self, alloc: Global, additional: usize) -> Result<(), AllocError>
         ensures items { self.new.items ≡ self.old.items }
         ensures spare { self.old.spare ≤ self.new.spare }
@@ -139,7 +139,7 @@ impl TargetList {
         }
     }
 
-    /// Inserts a value before the one at an index, or at the end, for which there is room. Takes no memory. A value that is no object
+    /// Inserts a value before the one at an index, or at the end, for which there is capacity. Takes no memory. A value that is no object
     /// is inserted only after `mix`.
     #[tactic(auto, using(crate::proofs::TargetLemmas::length_objects))]
     pub fn insert(&mut self, index: usize, value: Value)
@@ -238,7 +238,7 @@ fn is_number(there: Option<&ObjectNo>, object: ObjectNo) -> bool
     }
 }
 
-/// Inserts an object before the one at an index, or at the end, for which there is room.
+/// Inserts an object before the one at an index, or at the end, for which there is capacity.
 #[tactic(auto, using(crate::proofs::TargetLemmas::insert_objects))]
 fn insert_object(list: &mut ShortList<ObjectNo>, index: usize, value: Value)
     requires room { 0 < list.old.spare }
@@ -263,7 +263,7 @@ fn position_in(list: &ShortList<ObjectNo>, value: &Value) -> Option<usize>
     }
 }
 
-/// Objects as values, in a list with as many places. Errs only if memory is refused.
+/// Objects as values, in a list of the same capacity. Errs only if memory is refused.
 fn values_of(alloc: Global, list: &ShortList<ObjectNo>) -> Result<Box<SlotList<Value>>, AllocError>
     ensures items { IfOk result (λ b. b.value.items ≡ objects list.now.items) }
     ensures spare { IfOk result (λ b. list.now.spare ≤ b.value.spare) }
@@ -275,7 +275,7 @@ fn values_of(alloc: Global, list: &ShortList<ObjectNo>) -> Result<Box<SlotList<V
     Ok(values)
 }
 
-/// Puts objects in last, in places that there are.
+/// Puts objects in last, in capacity that there is.
 fn push_objects(values: &mut SlotList<Value>, list: &ShortList<ObjectNo>)
     requires room { length list.now.items ≤ values.old.spare }
     requires none { values.old.items ≡ [] }

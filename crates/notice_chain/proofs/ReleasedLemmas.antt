@@ -33,7 +33,7 @@ all-have (r ∷ rs) h =
       ap (λ b. map (λ (q : Listed). (q.no, q.view)) (cond (not b) (r ∷ filter (λ q. not (has_targets q)) rs) (filter (λ q. not (has_targets q)) rs))) has ∙ rest.1,
     )
 
--- where each has a target all stay, and nobody leaves
+-- if each has a target all stay, and nobody leaves
 pub all-stay : (rs : List Listed) → HaveTargets rs → (staying rs ≡ rs) × (leaving rs ≡ [])
 all-stay rs h = all-have rs (recursion_from_All (λ (r : Listed). 0 < length r.targets) rs h)
 

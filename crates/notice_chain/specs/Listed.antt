@@ -1,4 +1,4 @@
--- The attached adapters in attach order, each with its targets: which of them hear a notice, and what notifying them does.
+-- The attached adapters in attach order, each with its targets: which of them get a notification, and what notifying them does.
 use Rattle.std.specs.Prelude.{ℕ, ◌+◌, ◌<◌, Bool, ◌&&◌, ◌||◌, nat_eq, nat_lt, nat_le, List, [], ◌∷◌, ◌++◌, map, filter, length, ◌^◌, Option, if◌then◌else◌, All, sum_by}
 use Rattle.std.specs.List.{IsDistinct, list_any, find}
 use Rattle.mm_types.specs.declared.numbers.AdapterNo.{AdapterNo}
@@ -70,49 +70,50 @@ watched number t rs = with_changed number (with_target t) rs
 abbrev pub Above : Type 0
 Above = Node → List Node
 
--- a target brings in its own notices, and a deep one those of all nodes below it too
+-- a target brings in its own notifications, and a deep one those of all nodes below it too
 abbrev pub brings_in : Above → Node → Target → Bool
 brings_in up x t = same_node t.node x || (t.deep && list_any (same_node t.node) (up x))
 
--- an adapter hears a notice, once, if any of its targets brings it in
+-- an adapter gets a notification, once, if any of its targets brings it in
 abbrev pub hears : Above → Listed → Notice → Bool
 hears up r n = list_any (brings_in up n.notifier) r.targets
 
--- the notices of a chain that it hears, in order
+-- the notifications of a chain that it gets, in order
 abbrev pub heard_of : Above → List Notice → Listed → List Notice
 heard_of up ns r = filter (λ n. hears up r n) ns
 
--- those that hear a notice
+-- those that get a notification
 abbrev pub audience : Above → Notice → List Listed → List Listed
 audience up n rs = filter (λ r. hears up r n) rs
 
--- the numbers of those that hear a notice
+-- the numbers of those that get a notification
 abbrev pub audience_numbers : Above → Notice → List Listed → List AdapterNo
 audience_numbers up n rs = map (λ r. r.no) (audience up n rs)
 
--- the adapter after some notices
+-- the adapter after some notifications
 abbrev pub told_all : Listed → List Notice → Listed
 told_all r ns = record { no = r.no; targets = r.targets; view = hear_all r.view ns }
 
--- the adapters after a chain: each has heard its own notices of it in turn, whatever the others hear
+-- the adapters after a chain: each got its own notifications of it in turn, whatever the others get
 abbrev pub tell_chain : Above → List Notice → List Listed → List Listed
 tell_chain up ns rs = map (λ r. told_all r (heard_of up ns r)) rs
 
--- the numbers of those that hear a notice, each with the notice
+-- the numbers of those that get a notification, each with the notification
 abbrev pub told_of : Above → Notice → List Listed → List (AdapterNo × Notice)
 told_of up n rs = map (λ r. (r.no, n)) (audience up n rs)
 
--- who is notified of what: the chain in order, each notice with its audience in attach order
+-- which adapter is notified of what: the chain in order, each notification with its adapters in attach order
 abbrev pub told_list : Above → List Notice → List Listed → List (AdapterNo × Notice)
 told_list up [] rs = []
 told_list up (n ∷ ns) rs = told_of up n rs ++ told_list up ns rs
 
 ----------------------------------------------------------------- counting on
 
--- an adapter of t targets that is to hear k notices, k above 0, and then one for each of its targets, would count past the greatest u64
+-- an adapter of t targets that is to get k notifications, k above 0, and then one for each of its targets, would count past the greatest
+-- u64
 abbrev pub is_full : ℕ → ℕ → View → Bool
 is_full k t v = nat_lt 0 k && nat_le (2 ^ 64) (v.told + (k + t))
 
--- one of the adapters can't count the notices of a chain that it hears
+-- one of the adapters can't count the notifications of a chain that it gets
 abbrev pub is_chain_full : Above → List Notice → List Listed → Bool
 is_chain_full up ns rs = list_any (λ r. is_full (length (heard_of up ns r)) (length r.targets) r.view) rs

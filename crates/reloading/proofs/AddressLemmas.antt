@@ -1,11 +1,9 @@
 -- Addresses: an object is found by its own, and a load leaves those that there were.
-use Rattle.std.proofs.Common.{◌≡◌, ◌∙◌, ℕ, ◌+◌, ◌<◌, true, false, List, [], ◌∷◌, Option, Some, None, length, nat_le, slice_get, arith, refl, sym, ap}
+use Rattle.std.proofs.Common.{◌≡◌, ◌∙◌, ℕ, ◌+◌, ◌<◌, false, List, [], Option, Some, None, length, nat_le, slice_get, arith, refl, sym, ap}
 use Rattle.std.specs.Prelude.{option_and_then, option_map}
-use Rattle.std.proofs.lemmas.Bool.{false≢true}
 use Rattle.std.proofs.lemmas.Bool.Decides.{nat_tests}
 use Rattle.std.proofs.lemmas.Option.{none-some, same_Some}
 use Rattle.mm_types.specs.Conditions.{◌unless◌}
-use Rattle.mm_types.specs.Same.{is_nil}
 use Rattle.mm_types.specs.declared.end.End.{End}
 use Rattle.mm_types.specs.declared.limits.TheConstants.{OBJECTS}
 use Rattle.mm_types.specs.declared.numbers.FeatureNo.{FeatureNo}
@@ -33,11 +31,12 @@ use Rattle.doc_loader.specs.Loading.{is_empty_resource}
 use Rattle.handshake.specs.Effects.{after}
 use Rattle.handshake.specs.Laws.{comes_with}
 use Rattle.handshake.specs.Loaded.{IsLoaded}
-use Rattle.handshake.specs.Plans.{IsDocument}
+use Rattle.handshake.specs.Changes.{IsDocument}
 use Rattle.handshake.specs.Refusals.{early_refusal, late_refusal}
 use Rattle.handshake.specs.declared.change.Change.TheVariants.{Load}
 use Rattle.handshake.proofs.KnownLemmas.{none-else_by, none-unless}
 use Rattle.handshake.proofs.AllLemmas.{change-keeps-legal}
+use Rattle.handshake.proofs.LoadLemmas.{nil-is}
 use Rattle.reloading.specs.Laws.{HasOwnAddresses}
 
 pub own-addresses : (s : Model) → IsLegal s → HasOwnAddresses (reading s)
@@ -53,10 +52,6 @@ address-inside s o a is = by (resource_of (above s.links) o) refl
     by : (x : Option ResourceNo) → resource_of (above s.links) o ≡ x → (k : ResourceNo) × (resource_of (above s.links) o ≡ Some k)
     by None none = absurd (none-some a (sym (no-address s o none) ∙ is))
     by (Some k) inside = (k, inside)
-
-nil-is : (vs : List Value) → is_nil vs ≡ true → vs ≡ []
-nil-is [] h = refl
-nil-is (v ∷ vs) h = absurd (false≢true h)
 
 module _ (s : Model) (k : ResourceNo) (doc : Doc) (legal : IsLegal s) (early : early_refusal (reading s) (Load k doc) ≡ None) (late : late_refusal (reading s) (Load k doc) ≡ None) (read : IsDocument s.metamodel doc)
     (now : IsLoaded (reading s) k doc (reading (after s (Load k doc)))) where
@@ -82,7 +77,7 @@ module _ (s : Model) (k : ResourceNo) (doc : Doc) (legal : IsLegal s) (early : e
           let root = (held-root s legal x e k there is).0 in
           none-some (value.Object x) (ap (λ (vs : List Value). slice_get vs (position_in (reading s) e x)) (sym (ap (values_at s) root ∙ was-empty)) ∙ there.here)
 
-  -- an object that was there is none of the new ones
+  -- an object that was there is not one of the new ones
   pub old-object : (o : ObjectNo) → o.0 < length s.values.objects → comes_with (reading s) (Load k doc) (node.Object o) ≡ false
   old-object o low = let high : nat_le (length s.values.objects) o.0 ≡ false = grind (arith, nat_tests) in high
 

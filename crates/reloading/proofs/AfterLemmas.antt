@@ -1,5 +1,5 @@
--- What a proxy that is resolved leaves: the model is between as before. All means what it meant, and a link with an opposite that has
--- lost the proxy at one end has lost the one at the other.
+-- What a proxy that is resolved leaves: the model is partly resolved as before. All means what it meant, and a link with an opposite that
+-- has lost the proxy at one end has lost the one at the other.
 use Rattle.std.proofs.Common.{◌≡◌, ◌∙◌, ℕ, suc, ◌+◌, Bool, true, false, List, Option, Some, None, is_some, map, slice_get, slice_set, if◌then◌else◌, arith, refl, sym, ap, subst}
 use Rattle.std.specs.Prelude.{option_and_then, option_map}
 use Rattle.std.specs.Option.{option_map_or}
@@ -29,17 +29,17 @@ use Rattle.fragment_paths.specs.Fragments.{address}
 use Rattle.round_trip.proofs.ListLemmas.{each-of, map-each}
 use Rattle.handshake.specs.Effects.{after}
 use Rattle.handshake.specs.Refusals.{early_refusal, late_refusal}
-use Rattle.handshake.specs.Resolving.{counterpart, first_to, target, target_at}
+use Rattle.proxies.specs.Resolving.{counterpart, first_to, target, target_at}
 use Rattle.handshake.specs.declared.change.Change.TheVariants.{At}
 use Rattle.handshake.specs.declared.act.Act.TheVariants.{Resolve}
-use Rattle.handshake.specs.declared.target.Counterpart.{Counterpart}
+use Rattle.proxies.specs.declared.target.Counterpart.{Counterpart}
 use Rattle.reloading.specs.Addressed.{By, meant}
 use Rattle.reloading.specs.Alike.{HasSame, HaveSame, IsThere}
 use Rattle.reloading.specs.Between.{AreBothOrNone, Between, has_proxy}
 use Rattle.reloading.specs.Proxies.{proxies_len}
 use Rattle.reloading.proofs.LeftLemmas.{of-features, one-fewer, with_values}
 use Rattle.reloading.proofs.MatchLemmas.{IsMatched, LeftProxy, early-none, from, goal, goal-at, goal-target, late-none, matched, place, reference}
-use Rattle.reloading.proofs.PlainLemmas.{reference-of}
+use Rattle.doc_writer.proofs.PlainLemmas.{reference-of}
 use Rattle.reloading.proofs.ListLemmas.{IsSet, New, Old, proxy-object, set-at, set-gone, set-name, set-other}
 use Rattle.reloading.proofs.ResolvedLemmas.{addresses-kept, far-values, other-values, own-values, resolved-legal}
 

@@ -1,4 +1,4 @@
--- A model without proxies that is between a saved one without proxies and itself is alike to that.
+-- A model without proxies that is a saved one without proxies, partly resolved, is isomorphic to that one.
 use Rattle.std.proofs.Common.{◌≡◌, ◌∙◌, ℕ, List, map, refl, sym, subst}
 use Rattle.std.specs.Prelude.{Contains}
 use Rattle.mm_types.specs.declared.end.End.{End}

@@ -36,7 +36,7 @@ use Rattle.round_trip.proofs.EndLemmas.{written-of}
 use Rattle.round_trip.proofs.ListLemmas.{any-in, any-none}
 use Rattle.round_trip.proofs.SideLemmas.{among-class, first-set, target-of}
 use Rattle.round_trip.proofs.ValuesListLemmas.{behind, in-front, is-kept}
-use Rattle.reloading.proofs.PlainLemmas.{attribute-plain, is_plain}
+use Rattle.doc_writer.proofs.PlainLemmas.{attribute-plain, is_plain}
 use Rattle.reloading.proofs.StoredLemmas.{not-set, set-some, stored-of}
 
 ---------------------------------------------------------------- contents of different features
@@ -86,7 +86,7 @@ reference-written s legal o f i x reference plain at = by (values_at s e) refl a
         ∙ first-set (shape s.metamodel f) y ys (r.flag d) like.0 like.1 (target-of r f y two.1) in
         is-kept (is_written r o) (all_features_of r (node.Object o)) f (among-class r o f two.0) (λ j. set j && not (plain j))
 
----------------------------------------------------------------- what is plain
+---------------------------------------------------------------- what is no proxy
 
 plain-renamed : (r : Reading) (os : List ObjectNo) (vs : List Value) → list_all is_plain vs ≡ true → map (renamed r os) vs ≡ vs
 plain-renamed r os [] all = refl

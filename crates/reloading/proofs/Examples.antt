@@ -8,7 +8,7 @@ use Rattle.mm_types.specs.declared.value.Value.TheVariants as value
 use Rattle.models.specs.Reading.{Reading}
 use Rattle.round_trip.proofs.Examples.{end_of, fid, o, two_resources, v, whole}
 use Rattle.round_trip.specs.Copied.{copied}
-use Rattle.handshake.specs.Proxies.{sites}
+use Rattle.proxies.specs.Proxies.{sites}
 use Rattle.handshake.specs.declared.change.Change.TheVariants.{Load, NewResource}
 use Rattle.reloading.specs.Addressed.{By, Plain, meant, named}
 use Rattle.reloading.specs.Images.{image, value_image}

@@ -29,7 +29,7 @@ use Rattle.round_trip.specs.Copied.{copied, object_copied}
 use Rattle.round_trip.proofs.ShapeLemmas.{live-inside}
 use Rattle.handshake.specs.Effects.{after}
 use Rattle.handshake.specs.Loaded.{IsLoaded}
-use Rattle.handshake.specs.Plans.{IsDocument}
+use Rattle.handshake.specs.Changes.{IsDocument}
 use Rattle.handshake.specs.declared.change.Change.TheVariants.{Load}
 use Rattle.handshake.proofs.LoadedLemmas.{loads-ends}
 use Rattle.reloading.specs.Images.{HasImages, image}

@@ -48,7 +48,7 @@ use Rattle.round_trip.proofs.ShapeLemmas.{live-inside}
 use Rattle.round_trip.proofs.ValuesListLemmas.{IsAt, stands}
 use Rattle.handshake.specs.Effects.{after}
 use Rattle.handshake.specs.Loaded.{IsContainer, IsLoaded, IsWrittenWith}
-use Rattle.handshake.specs.Plans.{IsDocument}
+use Rattle.handshake.specs.Changes.{IsDocument}
 use Rattle.handshake.specs.Refusals.{early_refusal, late_refusal}
 use Rattle.handshake.specs.declared.change.Change.TheVariants.{Load}
 use Rattle.reloading.specs.Images.{HasImages, image, value_image}
@@ -57,7 +57,7 @@ use Rattle.reloading.proofs.ContainerLemmas.{Held, IsContainerReference, IsHeldB
 use Rattle.reloading.proofs.DocumentLemmas.{attribute-as, object-in, reference-values}
 use Rattle.reloading.proofs.MeaningLemmas.{map-get}
 use Rattle.reloading.proofs.NumberLemmas.{image-is, place-in, renamed-inside, value-inside}
-use Rattle.reloading.proofs.PlainLemmas.{attribute-plain, is_plain}
+use Rattle.doc_writer.proofs.PlainLemmas.{attribute-plain, is_plain}
 use Rattle.reloading.proofs.StoredLemmas.{stored-of}
 
 -- a reference that contains is no container reference

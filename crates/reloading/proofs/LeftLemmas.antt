@@ -1,4 +1,4 @@
--- How many proxies are left: one fewer if a plain value takes the place of one; and if none are, no proxy is anywhere.
+-- How many proxies are left: one fewer if a value that is no proxy takes the place of one; and if none are, no proxy is anywhere.
 use Rattle.std.proofs.Common.{◌≡◌, ◌∙◌, ℕ, zero, suc, ◌+◌, ◌<◌, Bool, true, false, ◌&&◌, List, [], ◌∷◌, Option, Some, None, filter, flat_map, inl, inr, is_some, length, length-append, map, nat_eq, slice_get, slice_set, if◌then◌else◌, arith, refl, sym, ap, subst}
 use Rattle.std.specs.Prelude.{option_and_then}
 use Rattle.std.specs.List.{IsDistinct, range_with_len}
@@ -31,11 +31,11 @@ use Rattle.round_trip.proofs.ListLemmas.{of-each}
 use Rattle.round_trip.proofs.PartsListLemmas.{all-passing}
 use Rattle.round_trip.proofs.SideLemmas.{among-class}
 use Rattle.round_trip.proofs.ValuesListLemmas.{place-of, stands}
-use Rattle.handshake.specs.Proxies.{is_proxy_site, site, sites_of, sites_under}
-use Rattle.handshake.specs.declared.site.ProxySite.{ProxySite}
-use Rattle.handshake.proofs.FollowLemmas.{get-set}
+use Rattle.proxies.specs.Proxies.{is_proxy_site, site, sites_of, sites_under}
+use Rattle.proxies.specs.declared.site.ProxySite.{ProxySite}
+use Rattle.proxies.proofs.ReplacedLemmas.{get-set}
 use Rattle.reloading.specs.Proxies.{HasNoProxy, proxies_len}
-use Rattle.reloading.proofs.PlainLemmas.{reference-of}
+use Rattle.doc_writer.proofs.PlainLemmas.{reference-of}
 
 ---------------------------------------------------------------- what passes a test
 
@@ -53,7 +53,7 @@ module _ {X : Type 0} (p q : X → Bool) where
       let rest = pass-alike xs (λ j y at. same (suc j) y at) in
       count (p x) x (filter p xs) ∙ (λ i. as_one (same 0 x refl i) + rest i) ∙ sym (count (q x) x (filter q xs))
 
-  -- where one element passes no more, and each other as before
+  -- if one element passes no more, and each other as before
   one-passes-less : (xs : List X) (i : ℕ) (a : X) → slice_get xs i ≡ Some a → p a ≡ true → q a ≡ false → ((j : ℕ) (x : X) → slice_get xs j ≡ Some x → (j ≡ i → ⊥) → p x ≡ q x)
       → length (filter p xs) ≡ suc (length (filter q xs))
   one-passes-less [] i a at before now same = absurd (none-some a at)
@@ -80,7 +80,7 @@ module _ {X Y : Type 0} (g h : X → List Y) where
       let rest = as-many xs (λ j y at. same (suc j) y at) in
       length-append (g x) (flat_map g xs) ∙ (λ i. here i + rest i) ∙ sym (length-append (h x) (flat_map h xs))
 
-  -- where one element gives one fewer, and each other as many
+  -- if one element gives one fewer, and each other as many
   one-fewer-in : (xs : List X) (i : ℕ) (a : X) → slice_get xs i ≡ Some a → ((j : ℕ) (x : X) → slice_get xs j ≡ Some x → (j ≡ i → ⊥) → length (g x) ≡ length (h x)) → length (g a) ≡ suc (length (h a))
       → length (flat_map g xs) ≡ suc (length (flat_map h xs))
   one-fewer-in [] i a at same fewer = absurd (none-some a at)
@@ -100,7 +100,7 @@ module _ {X Y : Type 0} (g h : X → List Y) where
 turned : (a b : ℕ) → nat_eq a b ≡ nat_eq b a
 turned a b = grind (arith, nat_tests)
 
--- features at two places of a list without repeats are two
+-- features at two indexes of a list without repeats are two
 distinct-at : (fs : List FeatureNo) (j k : ℕ) (f g : FeatureNo) → IsDistinct same_feature fs → slice_get fs j ≡ Some g → slice_get fs k ≡ Some f → (j ≡ k → ⊥) → same_feature f g ≡ false
 unfolding IsDistinct
 distinct-at [] j k f g d first second other = absurd (none-some g first)
@@ -147,7 +147,7 @@ with_values r values = record r { values = values }
 abbrev is_proxy : Option Value → Bool
 is_proxy x = is_some (option_and_then text_of x)
 
--- the places of an end
+-- the positions of an end
 abbrev slots : ObjectNo → FeatureNo → ℕ → List ProxySite
 slots o f n = map (site o f) (range_with_len 0 n)
 
@@ -174,7 +174,7 @@ module _ (r : Reading) (values : End → List Value) (o : ObjectNo) (f : Feature
       (λ j p at. alike-at j p at (ap (λ (vs : List Value). is_proxy (slice_get vs j)) (sym same)))
       ∙ sym (of-length (ap (λ (vs : List Value). length vs) same))
 
-  -- a plain value takes the place of a proxy
+  -- a value that is no proxy takes the place of a proxy
   one-at : (i : ℕ) (t : List ℕ) (v : Value) → slice_get (r.values d) i ≡ Some (value.Proxy t) → text_of v ≡ None → values d ≡ slice_set (r.values d) i v
       → length (sites_under r o f) ≡ suc (length (sites_under (with_values r values) o f))
   one-at i t v here plain now =
@@ -227,7 +227,7 @@ module _ (r : Reading) (o : ObjectNo) (f : FeatureNo) (i : ℕ) (t : List ℕ) (
 ---------------------------------------------------------------- none left
 
 module _ (s : Model) (legal : IsLegal s) where
-  -- where a proxy is: at an object that was made, under one of its features
+  -- the location of a proxy: an object that was made, and one of its features
   pub record IsOfFeatures (o : ObjectNo) (f : FeatureNo) : Type 0 where
     pub low : o.0 < length s.values.objects
     pub index : ℕ

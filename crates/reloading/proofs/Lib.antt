@@ -1,5 +1,4 @@
 pub mod Examples
-pub mod PlainLemmas
 pub mod AlikeLemmas
 pub mod MeaningLemmas
 pub mod StoredLemmas

@@ -23,7 +23,7 @@ set-other (w ∷ ws) zero old v z here first second =
     ap (λ (b : Bool). b || has_value ws z) (second ∙ sym (ap (same_value z) (same_Some w old here) ∙ first))
 set-other (w ∷ ws) (suc i) old v z here first second = ap (λ (b : Bool). same_value z w || b) (set-other ws i old v z here first second)
 
--- what a value was written over is no more there, where it was there once
+-- what a value was written over is no longer there, if it was there once
 pub data IsSet (vs : List Value) (i : ℕ) (v x : Value) (k : ℕ) : Type 0 where
   New : x ≡ v → IsSet vs i v x k
   Old : (k ≡ i → ⊥) → slice_get vs k ≡ Some x → IsSet vs i v x k

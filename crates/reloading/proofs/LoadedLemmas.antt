@@ -1,4 +1,4 @@
--- Once all resources of a model without proxies were loaded, what they leave is between that model and itself.
+-- Once all resources of a model without proxies were loaded, they leave that model, partly resolved.
 use Rattle.std.proofs.Common.{◌≡◌, ◌∙◌, ℕ, zero, suc, Bool, true, false, not, List, [], ◌∷◌, Option, Some, None, is_some, length, map, nat_eq, nat_lt, slice_get, unwrap_or, eq-eqb, eqb-true, arith, refl, sym, ap}
 use Rattle.std.specs.Prelude.{Contains, option_and_then, position}
 use Rattle.std.specs.Option.{option_map_or}
@@ -19,6 +19,7 @@ use Rattle.mm_values.specs.Values.{ValuesState}
 use Rattle.links.specs.Holders.{above}
 use Rattle.links.specs.Links.{Links, end, text_of}
 use Rattle.links.proofs.SideLemmas.{both_ends_agree}
+use Rattle.links.proofs.RankLemmas.{same-tests}
 use Rattle.models.specs.Legal.{IsLegal, kinds_of}
 use Rattle.models.specs.Model.{Model, model_of, reading, values_at}
 use Rattle.models.specs.Reading.{Reading, at_end, has_resource, has_uri, is_live, object_of, roots_end}
@@ -56,7 +57,7 @@ use Rattle.reloading.proofs.AddressLemmas.{address-inside}
 use Rattle.reloading.proofs.ContainerLemmas.{Held, IsContainerReference, IsHeldBy, Nobody, container-reference, held-by, who-holds}
 use Rattle.reloading.proofs.DocumentLemmas.{reference-written}
 use Rattle.reloading.proofs.NumberLemmas.{place-in, value-inside}
-use Rattle.reloading.proofs.PlainLemmas.{reference-of}
+use Rattle.doc_writer.proofs.PlainLemmas.{reference-of}
 use Rattle.reloading.proofs.SoFarLemmas.{HasSoFar, among, numbered}
 
 ---------------------------------------------------------------- what was saved
@@ -65,12 +66,6 @@ some-at : {X : Type 0} (xs : List X) (i : ℕ) (d : X) → nat_lt i (length xs) 
 some-at [] i d low = absurd (false≢true (let high : nat_lt i 0 ≡ false = grind (arith, nat_tests) in sym high ∙ low))
 some-at (x ∷ xs) zero d low = refl
 some-at (x ∷ xs) (suc i) d low = some-at xs i d (let less : nat_lt i (length xs) ≡ true = grind (arith, nat_tests, low) in less)
-
-both-ways : (a b : Bool) → (a ≡ true → b ≡ true) → (b ≡ true → a ≡ true) → a ≡ b
-both-ways true true to from = refl
-both-ways true false to from = sym (to refl)
-both-ways false true to from = from refl
-both-ways false false to from = refl
 
 module _ (s : Model) (legal : IsLegal s) (steady : HasSteadyTexts s) (saved : IsSaved (reading s)) where
   abbrev r : Reading
@@ -161,7 +156,7 @@ module _ (s : Model) (legal : IsLegal s) (steady : HasSteadyTexts s) (saved : Is
     at-uri k there = ap (λ (us : List (List ℕ)). slice_get us (number k).0) so_far.uris ∙ at-map (uri_of r) made (number k).0 k (numbered made k there).there
 
     uris-same : (u : List ℕ) → has_uri (reading t) u ≡ has_uri r u
-    uris-same u = both-ways (has_uri (reading t) u) (has_uri r u) to from
+    uris-same u = same-tests (has_uri (reading t) u) (has_uri r u) to from
       where
         to : has_uri (reading t) u ≡ true → has_uri r u ≡ true
         to h =
@@ -290,7 +285,7 @@ module _ (s : Model) (legal : IsLegal s) (steady : HasSteadyTexts s) (saved : Is
     some-position : (k : ResourceNo) (c : ObjectNo) → resource_of (above s.links) c ≡ Some k → position (same_object c) (objects_in r k) ≡ None → ⊥
     some-position k c inside nowhere = let place = place-in s legal k c inside in none-some place.number (sym nowhere ∙ place.found)
 
-    -- an object that refers to another has a proxy of it where that is in another resource
+    -- an object that refers to another has a proxy of it if that is in another resource
     across : (f : FeatureNo) (o c : ObjectNo) (k j : ResourceNo) (y : List ℕ) → Contains (values_at s (at_end (node.Object o) f)) (value.Object c) → resource_of (above s.links) o ≡ Some k → resource_of (above s.links) c ≡ Some j → address r c ≡ Some y
         → has_proxy (reading t) (new k o) f y ≡ not (is_same k j)
     across f o c k j y contains inside far is =

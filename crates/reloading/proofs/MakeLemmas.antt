@@ -1,5 +1,5 @@
 -- A resource that is made anew, while loads go on: nothing refuses it, and all else stays.
-use Rattle.std.proofs.Common.{◌≡◌, ◌∙◌, ℕ, zero, suc, ◌<◌, Bool, true, false, List, [], ◌∷◌, ◌++◌, Option, Some, length, length-append, nat_lt, slice_get, unwrap_or, if◌then◌else◌, arith, refl, sym, ap}
+use Rattle.std.proofs.Common.{◌≡◌, ◌∙◌, ℕ, ◌<◌, Bool, true, false, List, [], ◌∷◌, ◌++◌, Option, Some, length, length-append, nat_lt, slice_get, unwrap_or, if◌then◌else◌, arith, refl, sym, ap}
 use Rattle.std.specs.Prelude.{IsTrue}
 use Rattle.std.specs.List.{IsDistinct}
 use Rattle.std.specs.Str.{bytes_eq}
@@ -33,6 +33,7 @@ use Rattle.fragment_paths.proofs.InsideLemmas.{contents-contains}
 use Rattle.fragment_paths.specs.Fragments.{address}
 use Rattle.doc_loader.proofs.SoundLemmas.{any-at, map-at}
 use Rattle.round_trip.proofs.ValuesListLemmas.{stands}
+use Rattle.mm_meta.proofs.OwnerLemmas.{get_left}
 use Rattle.handshake.specs.Effects.{after}
 use Rattle.handshake.specs.declared.change.Change.TheVariants.{NewResource}
 use Rattle.handshake.proofs.AllLemmas.{change-keeps-legal}
@@ -41,12 +42,6 @@ use Rattle.reloading.proofs.AddressLemmas.{address-inside}
 use Rattle.reloading.proofs.LoadedLemmas.{has-address, uri-at}
 use Rattle.reloading.proofs.OrderLemmas.{Before, IsOneOf, Last, distinct-last, few-resources, has-before, number-last, one-of, position-append}
 use Rattle.reloading.proofs.SoFarLemmas.{HasSoFar, IsCopied, among, numbered}
-
--- a place of a list is one of a longer one
-more-at : {X : Type 0} (xs ys : List X) (i : ℕ) → i < length xs → slice_get (xs ++ ys) i ≡ slice_get xs i
-more-at [] ys i low = absurd (omega (arith, low))
-more-at (x ∷ xs) ys zero low = refl
-more-at (x ∷ xs) ys (suc i) low = more-at xs ys i (omega (arith, low))
 
 module _ (s : Model) (legal : IsLegal s) (steady : HasSteadyTexts s) (saved : IsSaved (reading s)) (w : ValuesState) (b : Links) (made filled : List ResourceNo) (so_far : HasSoFar s w b made filled) (k : ResourceNo) (making : IsMaking (reading s) made k) where
   abbrev r : Reading
@@ -131,7 +126,7 @@ module _ (s : Model) (legal : IsLegal s) (steady : HasSteadyTexts s) (saved : Is
       let at = address-inside t p a is in
       let low : at.0.0 < length w.uris = (let there = (located-object t so_far.legal p at.0 at.1).there in grind (arith, nat_tests, there)) in
       address-image s.metamodel w u.values b b so_far.legal u-legal at.0 at.0 (λ q. q) (λ i c here. here) (λ q f i c within contains here. here) refl
-      (ap (λ (us : List (List ℕ)). slice_get us at.0.0) now-uris ∙ more-at w.uris (uri ∷ []) at.0.0 low) p at.1
+      (ap (λ (us : List (List ℕ)). slice_get us at.0.0) now-uris ∙ get_left w.uris (uri ∷ []) at.0.0 low) p at.1
 
   copied-still : (j : ResourceNo) → has filled j ≡ true → IsCopied r j (number_of more j) (so_far.base j) (reading u)
   copied-still j loaded =

@@ -1,5 +1,5 @@
--- What a proxy finds in a model that is between one without proxies and itself: its object and, where the reference has an opposite, the
--- proxy of the same link. So nothing refuses to resolve it.
+-- What a proxy finds in a model that is one without proxies, partly resolved: its object and, if the reference has an opposite, the proxy
+-- of the same link. So nothing refuses to resolve it.
 use Rattle.std.proofs.Common.{◌≡◌, ◌∙◌, ℕ, zero, suc, Bool, true, false, ◌&&◌, ◌||◌, not, cond, List, [], ◌∷◌, Option, Some, None, is_some, length, nat_lt, slice_get, if◌then◌else◌, arith, refl, sym, ap}
 use Rattle.std.specs.Prelude.{option_and_then, option_map, position}
 use Rattle.std.specs.Option.{option_map_or}
@@ -26,7 +26,7 @@ use Rattle.web_uris.specs.Addresses.{fragment_part, has_mark, uri_part}
 use Rattle.links.specs.Links.{Links, end, far_end, text_of}
 use Rattle.models.specs.Legal.{IsLegal}
 use Rattle.models.specs.Model.{Model, model_of, reading, values_at}
-use Rattle.models.specs.Reading.{Reading, at_end, has_feature, has_uri, is_live, resource_named, takes}
+use Rattle.models.specs.Reading.{at_end, has_feature, has_uri, is_live, resource_named, takes}
 use Rattle.models.proofs.PlaceLemmas.{has-at, index-at}
 use Rattle.models.proofs.ReadLemmas.{resource-there}
 use Rattle.containment.proofs.PartLemmas.{legal-at, takes-same, values-linked}
@@ -35,17 +35,19 @@ use Rattle.fragment_paths.specs.Finding.{at, found_by}
 use Rattle.fragment_paths.specs.Fragments.{address}
 use Rattle.doc_parts.proofs.WayLemmas.{position_cons}
 use Rattle.round_trip.proofs.ValuesListLemmas.{stands}
-use Rattle.handshake.specs.Refusals.{early_refusal, is_mistyped, late_refusal, target_refusal}
-use Rattle.handshake.specs.Resolving.{counterpart, first_to, is_unmatched, leads_to, proxy_at, target, target_at}
+use Rattle.handshake.specs.Refusals.{early_refusal, late_refusal}
+use Rattle.proxies.specs.Refusals.{is_mistyped, target_refusal}
+use Rattle.proxies.specs.Resolving.{counterpart, first_to, is_unmatched, leads_to, proxy_at, target, target_at}
 use Rattle.handshake.specs.declared.change.Change.TheVariants.{At}
 use Rattle.handshake.specs.declared.act.Act.TheVariants.{Resolve}
-use Rattle.handshake.specs.declared.target.Counterpart.{Counterpart}
+use Rattle.proxies.specs.declared.target.Counterpart.{Counterpart}
+use Rattle.proxies.proofs.TargetLemmas.{leads-proxy}
 use Rattle.reloading.specs.Addressed.{By, meant}
 use Rattle.reloading.specs.Alike.{HasSame}
 use Rattle.reloading.specs.Between.{Between}
 use Rattle.reloading.specs.Proxies.{HasNoProxy}
 use Rattle.reloading.proofs.MeaningLemmas.{IsFrom, back-at, found-of, from-of, one-place, owner-live}
-use Rattle.reloading.proofs.PlainLemmas.{reference-of}
+use Rattle.doc_writer.proofs.PlainLemmas.{reference-of}
 
 ---------------------------------------------------------------- the first that passes a test
 
@@ -64,13 +66,9 @@ position-of {X} p (z ∷ zs) k x at passes =
     later zero at no_pass = absurd (true≢false (sym passes ∙ ap p (sym (same_Some z x at)) ∙ no_pass))
     later (suc j) at no_pass = (j, at)
 
-leads-proxy : (r : Reading) (n : Node) (v : Value) → leads_to r n v ≡ true → (t : List ℕ) × (v ≡ value.Proxy t)
-leads-proxy r n (value.Proxy t) h = (t, refl)
-leads-proxy r n _ h = absurd (false≢true h)
-
 ---------------------------------------------------------------- a proxy
 
--- a proxy that is left: s has none, t is between s and itself, and the proxy is in t
+-- a proxy that is left: s has none, t is s partly resolved, and the proxy is in t
 pub record LeftProxy : Type 0 where
   pub s : Model
   pub w : ValuesState

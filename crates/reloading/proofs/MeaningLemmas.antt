@@ -1,5 +1,5 @@
--- If a model is between one without proxies and itself, a text that a value means leads from one to the other: to an object there, and
--- from an object there to a value here, at the same place.
+-- If a model is one without proxies, partly resolved, a text that a value means leads from one to the other: to an object there, and from
+-- an object there to a value here, at the same position.
 use Rattle.std.proofs.Common.{◌≡◌, ◌∙◌, ℕ, zero, suc, Bool, true, false, List, [], ◌∷◌, Option, Some, None, is_some, map, slice_get, refl, sym, ap, subst}
 use Rattle.std.specs.Prelude.{option_map}
 use Rattle.std.specs.Option.{option_map_or}
@@ -57,7 +57,7 @@ means-object r (value.Text x) t h other = absurd (none-some t (ap by_of h))
 means-object r (value.Literal x) t h other = absurd (none-some t (ap by_of h))
 means-object r (value.Adapter x) t h other = absurd (none-some t (ap by_of h))
 
--- an object has a value of a reference, which means a text, at most at one place
+-- an object has a value of a reference, which means a text, at most at one position
 module _ (s : Model) (w : ValuesState) (c : Links) (legal : IsLegal s) (other : IsLegal (model_of s.metamodel w c)) (none : HasNoProxy (reading s)) where
   abbrev t : Model
   t = model_of s.metamodel w c

@@ -35,7 +35,7 @@ turned k j = by k.0 j.0
 pub self : (k : ResourceNo) → is_same k k ≡ true
 self k = eq-eqb k.0 k.0 refl
 
--- what is found among some is found at its place among more
+-- what is found among some is found at its index among more
 pub position-append : {X : Type 0} (p : X → Bool) (xs ys : List X) (i : ℕ) → position p xs ≡ Some i → position p (xs ++ ys) ≡ Some i
 position-append p [] ys i h = absurd (none-some i h)
 position-append {X} p (x ∷ xs) ys i h =

@@ -1,4 +1,4 @@
--- Resolves, one after another, until no proxy is left: none is refused, there are resolves to the end, and what they lead to is alike.
+-- Resolves, one after another, until no proxy is left: none is refused, there are resolves to the end, and what they lead to is isomorphic.
 use Rattle.std.proofs.Common.{◌≡◌, ℕ, zero, suc, ◌+◌, ◌<◌, Bool, true, false, List, [], ◌∷◌, Option, Some, None, is_some, length, map, slice_get, if◌then◌else◌, arith, refl, sym}
 use Rattle.std.specs.List.{range_with_len}
 use Rattle.std.proofs.lemmas.Option.{none-some}
@@ -15,11 +15,11 @@ use Rattle.models.specs.Reading.{Reading, all_features_of, at_end}
 use Rattle.doc_loader.proofs.SoundLemmas.{flat_map-at}
 use Rattle.round_trip.proofs.ValuesListLemmas.{passes-kept, stands}
 use Rattle.handshake.specs.Effects.{after}
-use Rattle.handshake.specs.Proxies.{is_proxy_site, site, sites, sites_of, sites_under}
+use Rattle.proxies.specs.Proxies.{is_proxy_site, site, sites, sites_of, sites_under}
 use Rattle.handshake.specs.declared.change.Change.{Change}
 use Rattle.handshake.specs.declared.change.Change.TheVariants.{At}
 use Rattle.handshake.specs.declared.act.Act.TheVariants.{Resolve}
-use Rattle.handshake.specs.declared.site.ProxySite.{ProxySite}
+use Rattle.proxies.specs.declared.site.ProxySite.{ProxySite}
 use Rattle.reloading.specs.Alike.{Alike}
 use Rattle.reloading.specs.Between.{Between}
 use Rattle.reloading.specs.Orders.{AreAllowed, after_all}
@@ -51,7 +51,7 @@ some-proxy r more = by (slice_get (sites r) 0) refl
 ---------------------------------------------------------------- resolves
 
 module _ (s : Model) (legal : IsLegal s) (none : HasNoProxy (reading s)) where
-  -- what resolves do to a model that is between
+  -- what resolves do to a partly resolved model
   pub record AreDone (t : Model) (cs : List Change) : Type 0 where
     pub allowed : AreAllowed t cs
     pub alike : Alike (reading s) (reading (after_all t cs))

@@ -1,4 +1,4 @@
--- All proxies of a model that is between, resolved in their order: none is left.
+-- All proxies of a partly resolved model, resolved in their order: none is left.
 use Rattle.std.proofs.Common.{◌≡◌, ◌∙◌, ℕ, zero, suc, Bool, true, false, List, [], ◌∷◌, Option, Some, None, is_some, length, map, slice_get, if◌then◌else◌, arith, refl, sym, ap, subst}
 use Rattle.std.specs.Prelude.{Contains, option_and_then}
 use Rattle.std.specs.List.{range_with_len}
@@ -20,10 +20,10 @@ use Rattle.doc_loader.proofs.SoundLemmas.{at-map}
 use Rattle.round_trip.proofs.ValuesListLemmas.{in-all, is-kept, stands}
 use Rattle.handshake.specs.Effects.{after}
 use Rattle.handshake.specs.OneByOne.{after_each, is_refused, resolve}
-use Rattle.handshake.specs.Proxies.{end_of, is_proxy_site, site, sites, sites_of, sites_under}
+use Rattle.proxies.specs.Proxies.{end_of, is_proxy_site, site, sites, sites_of, sites_under}
 use Rattle.handshake.specs.Refusals.{early_refusal, late_refusal}
 use Rattle.handshake.specs.declared.change.Change.TheVariants.{ResolveAll}
-use Rattle.handshake.specs.declared.site.ProxySite.{ProxySite}
+use Rattle.proxies.specs.declared.site.ProxySite.{ProxySite}
 use Rattle.handshake.proofs.EachLemmas.{resolves-each}
 use Rattle.handshake.proofs.KnownLemmas.{none-else_by, resolvable}
 use Rattle.reloading.specs.Between.{Between}
@@ -32,14 +32,14 @@ use Rattle.reloading.specs.Proxies.{HasNoProxy, proxies_len}
 use Rattle.reloading.proofs.AfterLemmas.{now-legal, proxy-was}
 use Rattle.reloading.proofs.AlikeLemmas.{alike-of}
 use Rattle.reloading.proofs.LeftLemmas.{at-range, none-left, of-features}
-use Rattle.reloading.proofs.PlainLemmas.{reference-of}
+use Rattle.doc_writer.proofs.PlainLemmas.{reference-of}
 use Rattle.reloading.proofs.ReloadLemmas.{some-proxy}
 use Rattle.reloading.proofs.ResolveLemmas.{left-at, resolves-between, text-at}
 use Rattle.reloading.proofs.ResolvedLemmas.{target-is}
 
----------------------------------------------------------------- places
+---------------------------------------------------------------- locations
 
--- a proxy of an object of a legal model is at one of its places
+-- a proxy of an object of a legal model is at one of its locations
 all-places : (t : Model) → IsLegal t → (o : ObjectNo) (f : FeatureNo) (i : ℕ) (z : List ℕ) → slice_get (values_at t (at_end (node.Object o) f)) i ≡ Some (value.Proxy z) → Contains (sites (reading t)) (site o f i)
 all-places t legal o f i z at =
     let r = reading t in
@@ -61,12 +61,12 @@ first-or p ps q (suc k, low, at) = Rest (k, omega (arith, low), at)
 
 ---------------------------------------------------------------- one after another
 
--- all proxies of objects are at some places
+-- all proxies of objects are at some locations
 abbrev AreAt : Model → List ProxySite → Type 0
 AreAt t ps = (o : ObjectNo) (f : FeatureNo) (i : ℕ) (z : List ℕ) → slice_get (values_at t (at_end (node.Object o) f)) i ≡ Some (value.Proxy z) → Contains ps (site o f i)
 
 module _ (s : Model) (legal : IsLegal s) (none : HasNoProxy (reading s)) where
-  -- what is left once these places are gone through
+  -- what is left once these locations are gone through
   record IsSolved (t : Model) (ps : List ProxySite) : Type 0 where
     no_proxy : HasNoProxy (reading (after_each t ps))
     between : Between (reading s) (reading (after_each t ps))
@@ -100,7 +100,7 @@ module _ (s : Model) (legal : IsLegal s) (none : HasNoProxy (reading s)) where
       between = subst (λ (c : Bool). Between (reading s) (reading (if c then after_each t ps else after_each u ps))) (sym is) so.between;
     }
 
-    -- a proxy is resolved, and those that are left are at the other places
+    -- a proxy is resolved, and those that are left are at the other locations
     solved : is_proxy_site (reading t) p ≡ true → IsSolved t (p ∷ ps)
     solved there =
         let one = resolves-between s w b legal other none between p.object p.feature p.index there in

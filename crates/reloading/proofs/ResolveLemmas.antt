@@ -1,4 +1,4 @@
--- The law on resolves: in a model between the two, a proxy is resolved, and one or two fewer are left.
+-- The law on resolves: in a partly resolved model a proxy is resolved, and one or two fewer are left.
 use Rattle.std.proofs.Common.{◌≡◌, ◌∙◌, ◌&&◌, ℕ, true, not, List, Option, Some, None, is_some, slice_get, refl, ap, subst, sym}
 use Rattle.std.specs.Prelude.{option_and_then}
 use Rattle.std.proofs.lemmas.Bool.{false≢true}
@@ -14,10 +14,10 @@ use Rattle.links.specs.Links.{Links, end, text_of}
 use Rattle.models.specs.Legal.{IsLegal}
 use Rattle.models.specs.Model.{Model, model_of, reading, values_at}
 use Rattle.models.specs.Reading.{at_end}
-use Rattle.handshake.specs.Resolving.{proxy_at}
+use Rattle.proxies.specs.Resolving.{proxy_at}
 use Rattle.handshake.proofs.KnownLemmas.{resource-shape}
 use Rattle.containment.proofs.PartLemmas.{legal-at, values-linked}
-use Rattle.reloading.proofs.PlainLemmas.{reference-of}
+use Rattle.doc_writer.proofs.PlainLemmas.{reference-of}
 use Rattle.reloading.specs.Between.{Between}
 use Rattle.reloading.specs.Laws.{ResolvesBetween}
 use Rattle.reloading.specs.Proxies.{HasNoProxy}
@@ -28,7 +28,7 @@ text-is : (v : Value) → is_some (text_of v) ≡ true → (t : List ℕ) × (v 
 text-is (value.Proxy t) h = (t, refl)
 text-is _ h = absurd (false≢true h)
 
--- the proxy at a place that has one
+-- the proxy at a position that has one
 pub text-at : (q : Option Value) → is_some (option_and_then text_of q) ≡ true → (t : List ℕ) × (q ≡ Some (value.Proxy t))
 text-at None h = absurd (false≢true h)
 text-at (Some v) h = let is = text-is v h in (is.0, ap (λ (w : Value). Some w) is.1)

@@ -1,5 +1,5 @@
--- What resolving a proxy makes of each end: an object is where the proxy was, at the opposite end too; all else is as it was. It is
--- read off the notices of the change, which replay it.
+-- What resolving a proxy makes of each end: an object is where the proxy was, at the opposite end too; all else is as it was. It is read
+-- off the notifications of the change, which replay it.
 use Rattle.std.proofs.Common.{◌≡◌, ◌∙◌, ℕ, zero, suc, not, Bool, true, false, IsTrue, List, [], ◌∷◌, ◌++◌, Option, Some, None, is_some, length, nat_lt, slice_get, slice_set, if◌then◌else◌, option_to_list, arith, refl, sym, ap, subst}
 use Rattle.std.specs.Prelude.{option_and_then, option_map, position}
 use Rattle.std.specs.List.{AllByRecursion, list_all}
@@ -29,21 +29,21 @@ use Rattle.fragment_paths.specs.Finding.{at}
 use Rattle.fragment_paths.specs.Fragments.{address}
 use Rattle.handshake.specs.Effects.{after}
 use Rattle.handshake.specs.Refusals.{early_refusal, late_refusal}
-use Rattle.handshake.specs.Resolving.{counterpart, first_to, leads_to, target, target_at}
+use Rattle.proxies.specs.Resolving.{counterpart, first_to, leads_to, target, target_at}
 use Rattle.handshake.specs.FeatureChange.{changed, happened_all, feature_change}
 use Rattle.handshake.specs.FeatureChanges.{resolved, feature_changes}
 use Rattle.handshake.specs.declared.change.Change.TheVariants.{At}
 use Rattle.handshake.specs.declared.act.Act.TheVariants.{Resolve}
 use Rattle.handshake.specs.declared.change_kind.ChangeKind.TheVariants.{Resolves}
 use Rattle.handshake.specs.declared.change_kind.FeatureChange.{FeatureChange}
-use Rattle.handshake.specs.declared.target.Counterpart.{Counterpart}
-use Rattle.handshake.specs.declared.target.Target.{Target}
+use Rattle.proxies.specs.declared.target.Counterpart.{Counterpart}
+use Rattle.proxies.specs.declared.target.Target.{Target}
 use Rattle.handshake.proofs.AllLemmas.{chain-replays}
 use Rattle.handshake.proofs.HappenedLemmas.{done, done_at, done-here, done-other, happened_all-at, happened_at}
 use Rattle.handshake.proofs.KnownLemmas.{resolvable}
 use Rattle.handshake.proofs.AllLemmas.{change-keeps-legal}
 use Rattle.handshake.proofs.ReplayLemmas.{replayed_all-told}
-use Rattle.reloading.proofs.PlainLemmas.{reference-of}
+use Rattle.doc_writer.proofs.PlainLemmas.{reference-of}
 
 ---------------------------------------------------------------- what is shown
 
@@ -213,7 +213,7 @@ module _ (s : Model) (legal : IsLegal s) (o : ObjectNo) (f : FeatureNo) (i : ℕ
         written e i x.object (value.Proxy found.text) (reference-of s legal e i (value.Proxy found.text) found.proxy refl) found.proxy
         (now-held e ∙ far-silent x.counterpart e (held_at (reading s) e) far ∙ done-here s.metamodel e own_feature_change (held_at (reading s) e) (same_end-self e))
 
-    -- and the owner where its counterpart stood
+    -- and the owner where its counterpart was
     pub far-values : (c : Counterpart) (p : List ℕ) → x.counterpart ≡ Some c → slice_get (values_at s c.end) c.index ≡ Some (value.Proxy p) → same_end e c.end ≡ false
         → values_at t c.end ≡ slice_set (values_at s c.end) c.index (value.Object o)
     far-values c p there here apart =

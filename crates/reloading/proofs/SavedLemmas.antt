@@ -10,7 +10,7 @@ use Rattle.doc_writer.specs.Document.{document}
 use Rattle.round_trip.specs.Copied.{copied}
 use Rattle.round_trip.specs.Readable.{IsReadable}
 use Rattle.round_trip.proofs.BackLemmas.{value-back}
-use Rattle.handshake.specs.Plans.{IsDocument}
+use Rattle.handshake.specs.Changes.{IsDocument}
 use Rattle.handshake.proofs.LoadedLemmas.{loads-ends}
 use Rattle.reloading.specs.Laws.{LoadsSaved}
 use Rattle.reloading.proofs.ImageLemmas.{load-images}

@@ -46,7 +46,7 @@ numbered made k h =
     let own : at.0 ≡ (number_of made k).0 = sym (ap (λ (x : Option ℕ). unwrap_or x 0) at.1) in
     record { found = at.1 ∙ ap (λ (i : ℕ). Some i) own; there = ap (slice_get made) (sym own) ∙ at.2 }
 
--- what is at a place is among them
+-- what is at an index is among them
 pub among : (made : List ResourceNo) (i : ℕ) (k : ResourceNo) → slice_get made i ≡ Some k → has made k ≡ true
 among [] i k at = absurd (none-some k at)
 among (j ∷ js) zero k at = ap (λ (b : Bool). b || has js k) (eq-eqb k.0 j.0 (ap (λ (x : ResourceNo). x.0) (sym (same_Some j k at))))
@@ -75,7 +75,7 @@ pub record IsImageOf (r : Reading) (filled : List ResourceNo) (base : ResourceNo
   pub inside : resource_of r.above object ≡ Some resource
   pub is : p ≡ image r resource (base resource) object
 
--- where these resources of s were made, in this order, and of them these were loaded, from these numbers on
+-- after these resources of s were made, in this order, and of them these were loaded, from these numbers on
 pub record HasSoFar (s : Model) (w : ValuesState) (b : Links) (made filled : List ResourceNo) : Type 0 where
   pub legal : IsLegal (model_of s.metamodel w b)
   pub uris : w.uris ≡ map (uri_of (reading s)) made

@@ -1,9 +1,8 @@
 -- What the attributes of a legal model keep: one that is set keeps some value, and one that is not shows what it shows without any.
-use Rattle.std.proofs.Common.{◌≡◌, ◌∙◌, ℕ, zero, suc, ◌≤◌, pos, int_le, Bool, true, false, ◌&&◌, not, All, IsTrue, List, [], ◌∷◌, Option, Some, None, length, nat_le, option_map, slice_index_or, unwrap_or, if◌then◌else◌, arith, refl, sym, ap, subst}
+use Rattle.std.proofs.Common.{◌≡◌, ◌∙◌, ℕ, ◌≤◌, pos, int_le, Bool, true, false, ◌&&◌, not, IsTrue, List, [], ◌∷◌, Option, Some, None, length, nat_le, option_map, unwrap_or, if◌then◌else◌, arith, refl, sym, ap, subst}
 use Rattle.std.specs.Option.{option_map_or}
 use Rattle.std.proofs.lemmas.Bool.{and_parts, false≢true, true≢false}
 use Rattle.std.proofs.lemmas.Bool.Decides.{nat_tests}
-use Rattle.std.proofs.lemmas.List.Elements.{All-head, All-tail}
 use Rattle.mm_types.specs.Ends.{shown, value_in}
 use Rattle.mm_types.specs.Ends as ends
 use Rattle.mm_types.specs.Lookups as lookups
@@ -22,13 +21,14 @@ use Rattle.models.specs.Legal.{IsLegal, IsLegalObject, is_legal_list}
 use Rattle.models.specs.Model.{Model, attribute_values, kept_flag, kept_values, reading}
 use Rattle.models.specs.Reading.{has_feature}
 use Rattle.models.proofs.EndLemmas.{upper-single}
+use Rattle.doc_writer.proofs.PlainLemmas.{object-legal}
 
 never : (u s : Bool) → false ≡ (u && (s && false))
 never true true = refl
 never true false = refl
 never false s = refl
 
--- a value at most where it is single, a flag where it is unsettable, single and has one, and nothing under another class's feature
+-- a value at most if it is single, a flag if it is unsettable, single and has one, and nothing under another class's feature
 pub record IsStored (m : Metamodel) (f : FeatureNo) (has : Bool) (vs : List Value) (flag : Bool) : Type 0 where
   pub flagged : flag ≡ ((shape m f).is_unsettable && ((shape m f).is_single && not (is_nil vs)))
   pub one : (shape m f).is_single ≡ true → length vs ≤ 1
@@ -56,11 +56,6 @@ object-stored m f (Some y) legal = record {
   own = list-own m y.class f (stored_under y f).list (legal.1 f).values;
 }
 
-object-legal : (m : Metamodel) (os : List (Option ObjectState)) (i : ℕ) → All (IsLegalObject m) os → IsLegalObject m (slice_index_or os i None)
-object-legal m [] i all = tt
-object-legal m (o ∷ os) zero all = All-head (IsLegalObject m) o os all
-object-legal m (o ∷ os) (suc i) all = object-legal m os i (All-tail (IsLegalObject m) o os all)
-
 pub stored-of : (s : Model) → IsLegal s → (o : ObjectNo) (f : FeatureNo)
     → IsStored s.metamodel f (has_feature (reading s) (node.Object o) f) (kept_values s.values (node.Object o) f) (kept_flag s.values (node.Object o) f)
 stored-of s legal o f = object-stored s.metamodel f (object_at s.values.objects o) (object-legal s.metamodel s.values.objects o.0 legal.objects)
@@ -86,7 +81,7 @@ not-set a (x ∷ y ∷ ys) b set flagged one =
       | false ↦ λ _ h. absurd (true≢false h)
     ] refl set
 
--- one that is set keeps some value, shows what it keeps, and its flag is on where it has one
+-- one that is set keeps some value, shows what it keeps, and its flag is on if it has one
 pub record IsSome (a : Shape) (vs : List Value) (b : Bool) : Type 0 where
   pub some : is_nil vs ≡ false
   pub shows : attribute_values a vs ≡ vs

@@ -1,4 +1,4 @@
--- When two models are alike: they have the same addresses, and the same at each of them.
+-- When two models are isomorphic: they have the same addresses, and the same at each of them.
 use Rattle.std.specs.Prelude.{◌≡◌, ℕ, List, map, slice_get, Some}
 use Rattle.mm_types.specs.declared.numbers.FeatureNo.{FeatureNo}
 use Rattle.mm_types.specs.declared.numbers.ObjectNo.{ObjectNo}
@@ -28,6 +28,6 @@ pub record HaveSame (name : Reading → Value → Named) (s t : Reading) : Type 
   pub there : (o : ObjectNo) (a : List ℕ) → address s o ≡ Some a → IsThere name s t o a
   pub back : (p : ObjectNo) (a : List ℕ) → address t p ≡ Some a → (o : ObjectNo) × (address s o ≡ Some a)
 
--- two models are alike: numbers may differ, and what is in no resource is not looked at
+-- two models are isomorphic: numbers may differ, and what is in no resource is not looked at
 abbrev pub Alike : Reading → Reading → Type 0
 Alike = HaveSame named

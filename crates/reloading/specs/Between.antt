@@ -1,4 +1,5 @@
--- What a model is between a load of all that was saved and the model that it was saved from: some values are still proxies.
+-- What it means that a model is a saved one, partly resolved: it has the same objects at the same addresses, and some values are still
+-- proxies.
 use Rattle.std.specs.Prelude.{◌≡◌, ℕ, Bool, true, List, Contains, Some, is_some}
 use Rattle.mm_types.specs.Ends.{has_value}
 use Rattle.mm_types.specs.Shapes.{shape}
@@ -21,7 +22,7 @@ AreBothOrNone s t =
     (f g : FeatureNo) (o b p q : ObjectNo) (x y : List ℕ) → (shape s.metamodel f).opposite ≡ Some g → Contains (s.values (at_end (node.Object o) f)) (value.Object b)
     → address s o ≡ Some x → address s b ≡ Some y → address t p ≡ Some x → address t q ≡ Some y → has_proxy t p f y ≡ has_proxy t q g x
 
--- t has what s has, where a proxy counts as the object at its address; and each object of t is in a resource
+-- t has what s has, if a proxy counts as the object at its address; and each object of t is in a resource
 pub record Between (s t : Reading) : Type 0 where
   pub same : HaveSame meant s t
   pub pairs : AreBothOrNone s t

@@ -18,10 +18,10 @@ use Rattle.round_trip.specs.Copied.{copied}
 use Rattle.round_trip.specs.Readable.{IsReadable}
 use Rattle.handshake.specs.Effects.{after}
 use Rattle.handshake.specs.Laws.{OfAllowed}
-use Rattle.handshake.specs.Plans.{HasReadDocument}
+use Rattle.handshake.specs.Changes.{HasReadDocument}
 use Rattle.handshake.specs.Refusals.{early_refusal, late_refusal}
-use Rattle.handshake.specs.Resolving.{proxy_at}
-use Rattle.handshake.specs.ResolvingAll as all
+use Rattle.proxies.specs.Resolving.{proxy_at}
+use Rattle.proxies.specs.ResolvingAll as all
 use Rattle.handshake.specs.declared.change.Change.TheVariants.{At, Load, ResolveAll}
 use Rattle.handshake.specs.declared.act.Act.TheVariants.{Resolve}
 use Rattle.reloading.specs.Alike.{Alike}
@@ -55,21 +55,22 @@ LoadsSaved s w b =
 
 ---------------------------------------------------------------- resolves
 
--- nothing refuses to resolve a proxy; the model is between as before, and one proxy fewer is left, or two of a link with an opposite
+-- nothing refuses to resolve a proxy; the model is partly resolved as before, and one proxy fewer is left, or two of a link with an
+-- opposite
 pub record IsResolvedBetween (r : Reading) (t : Model) (o : ObjectNo) (f : FeatureNo) (i : ℕ) : Type 0 where
   pub early : early_refusal (reading t) (At (at_end (node.Object o) f) (Resolve i)) ≡ None
   pub late : late_refusal (reading t) (At (at_end (node.Object o) f) (Resolve i)) ≡ None
   pub between : Between r (reading (after t (At (at_end (node.Object o) f) (Resolve i))))
   pub fewer : proxies_len (reading t) ≡ (if is_some (shape t.metamodel f).opposite then 2 else 1) + proxies_len (reading (after t (At (at_end (node.Object o) f) (Resolve i))))
 
--- so it is of each proxy of a model that is between one without proxies and that
+-- so it is of each proxy of a model that is one without proxies, partly resolved
 abbrev pub ResolvesBetween : Model → ValuesState → Links → Type 0
 ResolvesBetween s w b =
     let t = model_of s.metamodel w b in
     IsLegal s → IsLegal t → HasNoProxy (reading s) → Between (reading s) (reading t) → (o : ObjectNo) (f : FeatureNo) (i : ℕ)
     → is_some (proxy_at (reading t) (at_end (node.Object o) f) i) ≡ true → IsResolvedBetween (reading s) t o f i
 
--- once all proxies of such a model are resolved, none is left, and it is alike to the one that it is between with
+-- once all proxies of such a model are resolved, none is left, and it is isomorphic to the saved one
 pub record IsAllResolved (r : Reading) (t : Model) : Type 0 where
   pub none : HasNoProxy (reading (after t ResolveAll))
   pub left : all.left (reading t) ≡ 0

@@ -78,7 +78,7 @@ pub record IsSaved (r : Reading) : Type 0 where
   pub short : (k : ResourceNo) (o : ObjectNo) → has_resource r k ≡ true → Refers r k o → length (reference_text r k o) ≤ TEXT_BYTES
   pub resolved : HasNoProxy r
 
--- in an empty model of the metamodel nothing refuses the changes, and what they leave is legal, and between what was saved and itself
+-- in an empty model of the metamodel nothing refuses the changes, and what they leave is legal, and what was saved, partly resolved
 pub record AreLoads (s : Model) (ts : List Task) : Type 0 where
   pub allowed : AreAllowed (empty_model s.metamodel) (changes (reading s) [] ts)
   pub legal : IsLegal (after_all (empty_model s.metamodel) (changes (reading s) [] ts))

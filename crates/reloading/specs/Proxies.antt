@@ -3,7 +3,7 @@ use Rattle.std.specs.Prelude.{ℕ, List, Contains, length}
 use Rattle.mm_types.specs.declared.end.End.{End}
 use Rattle.mm_types.specs.declared.value.Value.TheVariants as value
 use Rattle.models.specs.Reading.{Reading}
-use Rattle.handshake.specs.Proxies.{sites}
+use Rattle.proxies.specs.Proxies.{sites}
 
 -- how many are at its objects
 abbrev pub proxies_len : Reading → ℕ

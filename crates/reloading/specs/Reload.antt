@@ -6,7 +6,7 @@ use Rattle.models.specs.Model.{Model, empty_model, reading}
 use Rattle.models.specs.Reading.{at_end}
 use Rattle.models.specs.Steady.{HasSteadyTexts}
 use Rattle.handshake.specs.Effects.{after}
-use Rattle.handshake.specs.Resolving.{proxy_at}
+use Rattle.proxies.specs.Resolving.{proxy_at}
 use Rattle.handshake.specs.declared.change.Change.{Change}
 use Rattle.handshake.specs.declared.change.Change.TheVariants.{At}
 use Rattle.handshake.specs.declared.act.Act.TheVariants.{Resolve}
@@ -25,13 +25,14 @@ AreResolves t (c ∷ cs) = ⊥
 abbrev pub reloaded : Model → List Task → Model
 reloaded s ts = after_all (empty_model s.metamodel) (changes (reading s) [] ts)
 
--- nothing refuses the loads nor the resolves, and what they lead to is alike to what was saved
+-- nothing refuses the loads nor the resolves, and what they lead to is isomorphic to what was saved
 pub record IsHadAgain (s : Model) (ts : List Task) (cs : List Change) : Type 0 where
   pub loads : AreAllowed (empty_model s.metamodel) (changes (reading s) [] ts)
   pub resolves : AreAllowed (reloaded s ts) cs
   pub alike : Alike (reading s) (reading (after_all (reloaded s ts) cs))
 
--- whatever the order of the loads, and of the resolves; there are such resolves; and to resolve all proxies in their order is one way
+-- in any order of the loads, and of resolves until no proxy is left; such resolves exist, and to resolve all proxies in their order is one
+-- way
 pub record IsReloaded (s : Model) (ts : List Task) : Type 0 where
   pub some : (cs : List Change) × AreResolves (reloaded s ts) cs
   pub had : (cs : List Change) → AreResolves (reloaded s ts) cs → IsHadAgain s ts cs

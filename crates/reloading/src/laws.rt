@@ -34,37 +34,38 @@ pub fn what_was_saved_is_loaded_as_it_was()
     ensures { (s : Model) (w : ValuesState) (b : Links) → LoadsSaved s w b }
 {}
 
-/// All that was saved, of a model without proxies in which no text of a reference is longer than 65,535 bytes, loaded into a new model: its
-/// resources are made, and their documents loaded, in any order in which none is loaded before it is made. Nothing but memory refuses any
-/// of these changes, and what they leave is between what was saved and itself.
+/// A model without proxies, in which no text of a reference is longer than 65,535 bytes, is saved and loaded into a new model: its
+/// resources are made there, and their documents loaded, in any order in which none is loaded before it is made. Nothing but memory refuses
+/// any of these changes, and they leave what was saved, partly resolved.
 pub fn loads_in_any_order_give_what_stands_between()
     ensures { (s : Model) → LoadsGiveBetween s }
 {}
 
-/// If a model is between a saved one without proxies and itself, nothing but memory refuses to resolve a proxy. Then it is between still,
-/// and one proxy fewer is left, or two if they were the ends of one link.
+/// If a model is a saved one without proxies, partly resolved, nothing but memory refuses to resolve a proxy. Then it is still partly
+/// resolved, and one proxy fewer is left, or two if they were the ends of one link.
 pub fn resolving_stays_between()
     ensures { (s : Model) (w : ValuesState) (b : Links) → ResolvesBetween s w b }
 {}
 
-/// If all proxies of such a model are resolved, one after another in their order, none is left, and the model is alike to what was saved.
+/// If all proxies of such a model are resolved, one after another in their order, none is left, and the model is isomorphic to what was
+/// saved.
 pub fn resolving_all_leaves_no_proxy()
     ensures { (s : Model) (w : ValuesState) (b : Links) → ResolvesAll s w b }
 {}
 
-/// If no proxy is left in a legal model, none is anywhere.
+/// If a legal model counts no proxy as left, no value of it is a proxy.
 pub fn with_no_proxy_left_none_stands()
     ensures { (s : Model) → IsLegal s → proxies_len (reading s) ≡ 0 → HasNoProxy (reading s) }
 {}
 
-/// A model without proxies that is between another one without proxies and that is alike to it.
+/// A model without proxies that is a saved one without proxies, partly resolved, is isomorphic to that one.
 pub fn without_proxies_models_between_are_alike()
     ensures { (s t : Reading) → HasNoProxy s → HasNoProxy t → Between s t → Alike s t }
 {}
 
-/// All that was saved, of a model without proxies in which no text of a reference is longer than 65,535 bytes, loaded into a new model in
-/// any order, and then proxies resolved in any order until none is left: nothing but memory refuses any of these changes, and what comes
-/// out is alike to what was saved. There are resolves that leave none, and to resolve all proxies in their order is one way.
+/// A model without proxies, in which no text of a reference is longer than 65,535 bytes, is saved and loaded into a new model in any order.
+/// Then proxies are resolved in any order until none is left. Nothing but memory refuses any of these changes, and what comes out is
+/// isomorphic to what was saved. Resolves that leave no proxy exist: to resolve all proxies in their order is one way.
 pub fn what_was_saved_is_had_again_in_any_order()
     ensures { (s : Model) → ReloadsInAnyOrder s }
 {}

@@ -91,7 +91,7 @@ among-turn : (y : ObjectNo) (os : List ObjectNo) → list_any (same_object y) os
 among-turn y [] = refl
 among-turn y (o ∷ os) = λ i. nat_eq-turn y.0 o.0 i || among-turn y os i
 
--- a value goes where it is one of the objects
+-- a value goes if it is one of the objects
 goes-among : (os : List ObjectNo) (v : Value) → goes (is_node_among os) v ≡ list_any (λ x. same_value (value.Object x) v) os
 goes-among os (value.Object y) = among-turn y os
 goes-among os _ = sym (any-none os)
@@ -131,7 +131,7 @@ any-end (e ∷ es) q = λ i. ((eq_by_cmp_equiv rank_cmp-total).symm q e ∙ ties
 link_end-same : (d e : End) → rank_cmp d e ≡ Equal → d ≡ e
 link_end-same d e h = same_end-true d e (sym (ties-same d e) ∙ ap is_eq h)
 
--- ends in order are told by what is among them
+-- ends in order are determined by what is among them
 same-ends : (xs ys : List End) → IsStrictlySortedBy rank_cmp xs → IsStrictlySortedBy rank_cmp ys → ((e : End) → has_end xs e ≡ has_end ys e) → xs ≡ ys
 same-ends xs ys a b same =
     let s : BTreeSet End = record { keys = xs } in

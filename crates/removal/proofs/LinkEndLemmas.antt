@@ -35,7 +35,7 @@ use Rattle.removal.specs.Laws.{names_of}
 use Rattle.removal.specs.TreeLinkEnds.{end_link_ends, is_named_here, node_link_ends, outer_link_ends, references_of, link_end, tree_link_ends}
 use Rattle.removal.specs.declared.link_end.LinkEnd.{LinkEnd}
 
--- the ends of other nodes that hold something that goes, as deletion tells them
+-- the ends of other nodes that hold something that goes, in the order of their notifications
 pub record AreTouched (s : Model) (o : ObjectNo) : Type 0 where
   pub order : AreInOrder (touched_ends (reading s) o)
   pub all : (e : End) → has_end (touched_ends (reading s) o) e ≡ (not (gone (reading s) o e.node) && holds_some (reading s) (gone (reading s) o) e)
@@ -63,7 +63,7 @@ pub goes-node : (s : Model) (o : ObjectNo) (n : Node) → gone (reading s) o n �
 goes-node s o (node.Object x) h = h
 goes-node s o (node.Resource k) h = absurd (false≢true h)
 
--- where both nodes go, the lower feature names
+-- if both nodes go, the lower feature names
 pub lower-named : (s : Model) (o : ObjectNo) (f g : FeatureNo) (v : Value) → (shape s.metamodel f).opposite ≡ Some g → goes (gone (reading s) o) v ≡ true
     → is_named_here (reading s) (gone (reading s) o) f v ≡ nat_lt f.0 g.0
 lower-named s o f g v opposite far =

@@ -28,7 +28,7 @@ use Rattle.removal.specs.Ranks.{HasGone, is_in}
 use Rattle.removal.specs.declared.loss.Loss.{Loss}
 use Rattle.removal.specs.declared.numbers.Numbers.{Numbers}
 
----------------------------------------------------------------- places
+---------------------------------------------------------------- positions
 
 get-at : (vs : List Value) (i : ℕ) (v : Value) → slice_get vs i ≡ Some v → (i < length vs) × (slice_index_or vs i v ≡ v)
 get-at [] i v at = absurd (none-some v at)
@@ -49,7 +49,7 @@ read-of vs i v q at read = read ∙ ap (λ (x : Option Value). option_and_then o
 
 ---------------------------------------------------------------- one end
 
--- a value is lost where the numbers and the holder say so of the object that it is
+-- a value is lost if the numbers and the holder say so of the object that it is
 lost-is : (r : Reading) (o : ObjectNo) (e : End) (v : Value) (q : Option ObjectNo) (numbers : Numbers) (held answer : Bool) → HasGone r o numbers → held ≡ is_held_by r o e → q ≡ object_of v
     → answer ≡ option_map_or (λ x. is_in numbers (node.Object x) && not (held && same_value (value.Object x) (value.Object o))) q false → answer ≡ is_lost r o e v
 lost-is r o e v q numbers held answer has holds read told =
@@ -90,7 +90,7 @@ module _ (e : End) (p : Value → Bool) where
   lost-no : (v : Value) (vs : List Value) (k : ℕ) → p v ≡ false → lost_from p e (v ∷ vs) k ≡ lost_from p e vs (suc k)
   lost-no v vs k h = ap (λ (b : Bool). cond b (loss e v k ∷ lost_from p e vs k) (lost_from p e vs (suc k))) h
 
-  -- one position further, where the value is lost
+  -- one position further, if the value is lost
   pub lost-step : (vs : List Value) (i k : ℕ) (v : Value) (out new all : List Loss) → slice_get vs i ≡ Some v → p v ≡ true
       → new ≡ out ++ loss e v k ∷ [] → out ++ lost_from p e (drop i vs) k ≡ all → new ++ lost_from p e (drop (i + 1) vs) k ≡ all
   lost-step vs i k v out new all at h made whole =
@@ -100,7 +100,7 @@ module _ (e : End) (p : Value → Bool) where
       ∙ ap (λ (ls : List Loss). out ++ ls) (sym (lost-yes v rest k h) ∙ ap (λ (ws : List Value). lost_from p e ws k) (sym (drop-at vs i v at)))
       ∙ whole
 
-  -- one position further, where it stays
+  -- one position further, if it stays
   pub kept-step : (vs : List Value) (i k : ℕ) (v : Value) (out all : List Loss) → slice_get vs i ≡ Some v → p v ≡ false
       → out ++ lost_from p e (drop i vs) k ≡ all → out ++ lost_from p e (drop (i + 1) vs) (k + 1) ≡ all
   kept-step vs i k v out all at h whole =
@@ -156,7 +156,7 @@ module _ (p : Value → Bool) (o : ObjectNo) where
   pub left-end : (vs : List Value) (i k all : ℕ) → length vs ≤ i → k + place_left (drop i vs) ≡ all → k ≡ all
   left-end vs i k all past whole = let none : place_left (drop i vs) ≡ 0 = left-none (drop i vs) (drop_all i vs past) in omega (arith, none, whole)
 
--- an object is a value where it is what is read of it
+-- an object is a value if it is what is read of it
 pub same-read : (o : ObjectNo) (v : Value) (q : Option ObjectNo) → q ≡ object_of v → same_value (value.Object o) v ≡ option_map_or (same_object o) q false
 same-read o v q read = by v ∙ sym (ap (λ (x : Option ObjectNo). option_map_or (same_object o) x false) read)
   where

@@ -59,7 +59,7 @@ any-values q e p vs k v at passes h =
     any-map q (link_end e) (filter p vs) ∙ any-at (λ w. q (link_end e w)) (filter p vs) kept.0 v kept.1 h
 
 module _ (s : Model) (legal : IsLegal s) (o : ObjectNo) (touched : AreTouched s o) (q : LinkEnd → Bool) where
-  -- a link of a node that goes, where its end names it
+  -- a link of a node that goes, if its end names it
   named-inner : (x : ObjectNo) (f : FeatureNo) (v : Value) → list_any (same_object x) (subtree (reading s) o) ≡ true → Has s.links (far_end x f) v → is_named_here (reading s) (gone (reading s) o) f v ≡ true
       → q (link_end (far_end x f) v) ≡ true → list_any q (tree_link_ends (reading s) o) ≡ true
   named-inner x f v among at here h =
@@ -98,7 +98,7 @@ module _ (s : Model) (legal : IsLegal s) (o : ObjectNo) (touched : AreTouched s 
   abbrev IsNamed : End → Value → Type 0
   IsNamed d w = list_any (λ t. names_link_end s t (link_end d w)) (tree_link_ends (reading s) o) ≡ true
 
-  -- the link is named by the far end, which names it where that is for it to do
+  -- the link is named by the far end, which names it if the near end does not
   named-far : (x y : ObjectNo) (f g : FeatureNo) → (shape s.metamodel f).opposite ≡ Some g → list_any (same_object y) (subtree (reading s) o) ≡ true → Has s.links (far_end x f) (value.Object y)
       → is_named_here (reading s) is_gone g (value.Object x) ≡ true → IsNamed (far_end x f) (value.Object y)
   named-far x y f g opposite among at here =

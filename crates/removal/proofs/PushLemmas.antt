@@ -81,7 +81,7 @@ goes-read g x q read = ap (λ (o : Option ObjectNo). filter (goes g) (option_to_
     by None = refl
     by (Some v) = of_value v
 
--- what goes is told by its numbers
+-- what goes is known by its numbers
 pub tree-gone : (r : Reading) (o : ObjectNo) (s : Numbers) (os : List ObjectNo) (es : List End) → HasGone r o s → os ≡ subtree r o → es ≡ touched_ends r o
     → flat_map (node_link_ends r (is_in s)) os ++ flat_map (outer_link_ends r (is_in s)) es ≡ tree_link_ends r o
 tree-gone r o s os es has objects ends =

@@ -26,6 +26,6 @@ HasGone r o s = (n : Node) → is_in s n ≡ gone r o n
 abbrev pub holds : Links → End → ObjectNo → Bool
 holds s e x = has_value (end s e) (value.Object x)
 
--- those of some ends whose nodes are none whose numbers are among some
+-- those of some ends whose nodes are not among those of some numbers
 abbrev pub staying : Numbers → List End → List End
 staying s es = filter (λ e. not (is_in s e.node)) es

@@ -17,7 +17,7 @@ use Rattle.removal.specs.declared.link_end.LinkEnd.{LinkEnd}
 abbrev pub link_end : End → Value → LinkEnd
 link_end e v = record { end = e; value = v }
 
--- a link of a node that goes is named by that node's end; where both nodes go, by the end of the lower feature
+-- a link of a node that goes is named by that node's end; if both nodes go, by the end of the lower feature
 abbrev pub is_named_here : Reading → (Node → Bool) → FeatureNo → Value → Bool
 is_named_here r is_gone f v = not (goes is_gone v) || option_map_or (λ g. nat_lt f.0 g.0) (shape r.metamodel f).opposite true
 
@@ -31,7 +31,7 @@ references_of r n = filter (λ f. (shape r.metamodel f).is_reference) (all_featu
 abbrev pub node_link_ends : Reading → (Node → Bool) → ObjectNo → List LinkEnd
 node_link_ends r is_gone o = flat_map (λ f. end_link_ends r is_gone (at_end (node.Object o) f)) (references_of r (node.Object o))
 
--- the links of the end of a node that stays, where only that end can name them: its feature has no opposite
+-- the links of the end of a node that stays, if only that end can name them: its feature has no opposite
 abbrev pub outer_link_ends : Reading → (Node → Bool) → End → List LinkEnd
 outer_link_ends r is_gone e = if is_some (shape_at r e).opposite then [] else map (link_end e) (filter (goes is_gone) (r.values e))
 

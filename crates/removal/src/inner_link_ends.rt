@@ -1,4 +1,4 @@
-//! The links of nodes that go with an object, told apart by the numbers of what goes.
+//! The links of nodes that go with an object, recognised by the numbers of what goes.
 ghost use Rattle.std.specs.Prelude.{◌≡◌, ◌++◌, [], true, filter, flat_map, map, OnOk, option_map, option_to_list, if◌then◌else◌};
 ghost use Rattle.mm_types.specs.Shapes.{shape};
 ghost use Rattle.mm_types.specs.declared.numbers.Node.TheVariants as node;
@@ -16,7 +16,7 @@ use mm_types::{End, FeatureNo, Node, ObjectNo};
 use models::{Found, ModelRef};
 use std::alloc::AllocError;
 
-/// Adds the links of objects, when those go whose numbers are in a set.
+/// Adds the links of some objects, if the objects go whose numbers are in `numbers`.
 pub(crate) fn push_inner<L: LinkStore>(
     model: &ModelRef<L>,
     objects: &[ObjectNo],

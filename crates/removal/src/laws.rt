@@ -9,7 +9,8 @@ ghost use Rattle.models.specs.Reading.{is_live};
 ghost use Rattle.removal.specs.Laws.{NameTreeLinks};
 ghost use Rattle.removal.specs.Outer.{gone, holds_some, touched_ends};
 
-/// The ends that hold an object that goes are those of nodes that stay, each once, by feature number and then by node.
+/// The ends that are found are those that hold something that goes, at nodes that stay; each is found once, by feature number and then by
+/// node.
 pub fn touched_ends_are_those_that_hold_something()
     ensures order { (s : Model) (o : ObjectNo) → AreInOrder (touched_ends (reading s) o) }
     ensures all { (s : Model) → IsLegal s → (o : ObjectNo) → is_live (reading s) o ≡ true → (e : End) → has_end (touched_ends (reading s) o) e ≡ (not (gone (reading s) o e.node) && holds_some (reading s) (gone (reading s) o) e) }

@@ -6,7 +6,7 @@ use Rattle.notice_chain.specs.declared.notice.Notice.{Notice}
 use Rattle.adapter_list.specs.Hearing.{IsUnheard, is_heard}
 use Rattle.repository.specs.Prepared.{TellsAll}
 
----------------------------------------------------------------- no notices
+---------------------------------------------------------------- no notifications
 
 pub tell_chain-nil : (up : Above) (rs : List Listed) → tell_chain up [] rs ≡ rs
 tell_chain-nil up [] = refl
@@ -37,13 +37,13 @@ heard_where_attached up made chain (r ∷ rs) e =
       full = ap (λ ns. is_chain_full up ns (r ∷ rs)) same;
     }
 
----------------------------------------------------------------- nobody hears
+---------------------------------------------------------------- no adapter is notified
 
 pub neither : (a b : Bool) → (a || b) ≡ false → (a ≡ false) × (b ≡ false)
 neither true b h = absurd (false≢true (sym h))
 neither false b h = (refl, h)
 
--- who doesn't hear a notice is not of its audience
+-- an adapter that doesn't get a notification is not among those that do
 no-audience : (up : Above) (n : Notice) (rs : List Listed) → is_heard up n.notifier rs ≡ false → audience up n rs ≡ []
 no-audience up n [] h = refl
 no-audience up n (r ∷ rs) h =
@@ -54,7 +54,7 @@ told_list-unheard : (up : Above) (ns : List Notice) (rs : List Listed) → IsUnh
 told_list-unheard up [] rs h = refl
 told_list-unheard up (n ∷ ns) rs h = ap (λ qs. map (λ (r : Listed). (r.no, n)) qs ++ told_list up ns rs) (no-audience up n rs h.0) ∙ told_list-unheard up ns rs h.1
 
--- one of the adapters hears nothing of it, and the others hear nothing of it
+-- one of the adapters gets nothing of it, and the others get nothing of it
 heard_of-unheard : (up : Above) (ns : List Notice) (r : Listed) (rs : List Listed) → IsUnheard up ns (r ∷ rs) → (heard_of up ns r ≡ []) × IsUnheard up ns rs
 heard_of-unheard up [] r rs h = (refl, tt)
 heard_of-unheard up (n ∷ ns) r rs h =
@@ -74,7 +74,7 @@ is_chain_full-unheard up ns (r ∷ rs) h =
     let here = heard_of-unheard up ns r rs h in
     ap (λ (qs : List Notice). is_full (length qs) (length r.targets) r.view || is_chain_full up ns rs) here.0 ∙ is_chain_full-unheard up ns rs here.1
 
--- a chain that nobody hears is as good as none
+-- a chain that notifies no adapter is as good as none
 pub unheard-tells : (up : Above) (chain : List Notice) (rs : List Listed) → IsUnheard up chain rs → TellsAll up [] chain rs
 unheard-tells up chain rs h = record {
   told = sym (told_list-unheard up chain rs h);
@@ -82,7 +82,7 @@ unheard-tells up chain rs h = record {
   full = is_chain_full-nil up rs ∙ sym (is_chain_full-unheard up chain rs h);
 }
 
--- the chain itself, where somebody may hear it, and else none
+-- the chain itself, if an adapter may have to get it, and else none
 pub heard-tells : (b : Bool) (up : Above) (made chain : List Notice) (rs : List Listed) → made ≡ (if b then chain else []) → (b ≡ false → IsUnheard up chain rs) → TellsAll up made chain rs
 heard-tells true up made chain rs is unheard = record { told = ap (λ ns. told_list up ns rs) is; adapters = ap (λ ns. tell_chain up ns rs) is; full = ap (λ ns. is_chain_full up ns rs) is }
 heard-tells false up made chain rs is unheard = subst (λ ns. TellsAll up ns chain rs) (sym is) (unheard-tells up chain rs (unheard refl))

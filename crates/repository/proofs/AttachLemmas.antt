@@ -19,7 +19,7 @@ use Rattle.adapter_list.specs.Refusals.{attach_refusal, but_memory, watch_refusa
 use Rattle.models.specs.Model.{Model, reading}
 use Rattle.models.specs.Reading.{is_node_live, is_resource_there}
 use Rattle.models.specs.Existence.{node_refusal}
-use Rattle.handshake.specs.Plans.{is_memory_refusal}
+use Rattle.change_plans.specs.Plans.{is_memory_refusal}
 use Rattle.repository.specs.declared.command.Command.{Command}
 use Rattle.repository.specs.declared.command.Command.TheVariants.{Attach, Detach, Unwatch, Watch}
 use Rattle.repository.specs.declared.reply.Answer.{Answer}
@@ -92,7 +92,7 @@ module _ (s : State) (number : AdapterNo) (target : Node) (deep : Bool) where
 
 ---------------------------------------------------------------- targets that go
 
--- what is done where these targets go, and that is answered
+-- what is done if these targets go, and that is answered
 let_go-done : Answer → List Spot → State → List Listed → Stepped
 let_go-done a ss s rs = record {
   outcome = Ok (released_reply a (released ss rs));
@@ -144,7 +144,7 @@ module _ (s : State) (number : AdapterNo) (target : Node) where
 counted-found : (number : AdapterNo) (rs : List Listed) → is_some (option_map (λ (r : Listed). r.view.told) (adapter number rs)) ≡ is_some (adapter number rs)
 counted-found number rs = elim (adapter number rs) as (λ o. is_some (option_map (λ (r : Listed). r.view.told) o) ≡ is_some o) [ None ↦ refl | Some r ↦ refl ]
 
--- the adapter of a number is attached where its count is known
+-- the adapter of a number is attached if its count is known
 pub known : (rs : List Listed) (number : AdapterNo) (o : Option ℕ) (b : Bool) → o ≡ option_map (λ (r : Listed). r.view.told) (adapter number rs) → is_some o ≡ b → is_some (adapter number rs) ≡ b
 known rs number o b counted is = sym (counted-found number rs) ∙ ap is_some (sym counted) ∙ is
 
@@ -189,7 +189,7 @@ own-spots number (r ∷ rs) a distinct h =
     ] refl h
 
 module _ (s : State) (number : AdapterNo) where
-  -- the targets of the adapter, where it is attached
+  -- the targets of the adapter, if it is attached
   targets_of : Option Listed → Option (List Target)
   targets_of o = option_map (λ (r : Listed). r.targets) o
 

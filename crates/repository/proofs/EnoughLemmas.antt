@@ -1,4 +1,4 @@
--- Notices are enough, command by command.
+-- Notifications are enough, command by command.
 use Rattle.std.proofs.Common.{◌≡◌, true, false, IsTrue, List, [], ◌∷◌, ◌++◌, drop, length, Option, Some, None, is_some, option_map, refl, sym, ap, ◌∙◌, subst}
 use Rattle.std.specs.Option.{option_map_or}
 use Rattle.std.proofs.lemmas.List.{append-nil}
@@ -32,7 +32,7 @@ use Rattle.snapshots.specs.declared.snapshot.NodeState.{NodeState}
 use Rattle.snapshots.proofs.EachLemmas.{state_at-snapshot}
 use Rattle.snapshots.proofs.NodeLemmas.{node_after, state_at-notices}
 
--- what a command that is done leaves is replayed by its notices
+-- what a command that is done leaves is replayed by its notifications
 pub chain-replays-ends : (s : State) (c : Command View) → ChainReplays s c
 chain-replays-ends s c legal none d before later =
     let first = none-else_by _ _ none in
@@ -46,7 +46,7 @@ chain-replays-ends s c legal none d before later =
 abbrev is_there_below : Node → Node → State → Type 0
 is_there_below target n s = IsTrue (is_there (reads s) n) × (is_within (reads s) target n ≡ true)
 
--- the adapter of a number has heard these notices since it had a view, and they make of a node's state what it is now
+-- the adapter of a number got these notifications since it had a view, and they make of a node's state what it is now
 record Heard (s : State) (v : View) (number : AdapterNo) (n : Node) (t : State) (heard : List Notice) : Type 0 where
   b : Listed
   attached : adapter number t.adapters ≡ Some b
@@ -133,7 +133,7 @@ last-along : (P : State → Type 0) (s : State) (cs : List (Command View)) → A
 last-along P s [] h = h
 last-along P s (c ∷ cs) h = last-along P (step s c).after cs h.1
 
--- what was told, and then some of no feature, replays what happened
+-- the notifications, and then some of no feature, replay what happened
 module _ (s : State) (cs : List (Command View)) (number : AdapterNo) (target : Node) (a : Listed) (n : Node) (legal : IsLegal s) (some : adapter number s.adapters ≡ Some a)
     (deep : AllAlong (HasDeepTarget number target) s cs) (below : AllAlong (IsAtOrBelow target n) s cs) where
   abbrev told : List Notice
@@ -155,7 +155,7 @@ module _ (s : State) (cs : List (Command View)) (number : AdapterNo) (target : N
       ∙ ap Some (node_after-append told more (node_state (reads s) n) ∙ ap (node_after more) all.same ∙ node-same (reads t) n more none)
       ∙ sym (state_at-snapshot t.model target n last.0 last.1)
 
-  -- so does what a view has kept that heard both
+  -- so does what a view has kept that got both
   kept-since : (w : View) (more : List Notice) → AreOfNoFeature more → w ≡ hear_all a.view (told ++ more) → KeepsEnough s cs target n a.view w
   kept-since w more none is unbounded =
       let kept : w.kept ≡ a.view.kept ++ (told ++ more) = ap (λ (v : View). v.kept) is ∙ kept-hear_all_unbounded a.view (told ++ more) unbounded in

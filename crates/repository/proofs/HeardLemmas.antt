@@ -1,5 +1,5 @@
--- An adapter that is attached before a command has heard after it what the reply tells it: its notices of the chain, and then those of the
--- targets that it lost.
+-- An adapter that is attached before a command was notified by it of what the reply says: its notifications of the chain, and then those of
+-- the targets that it lost.
 use Rattle.std.proofs.Common.{◌≡◌, ◌⊎◌, inl, inr, ℕ, true, false, cond, IsTrue, nat_eq, not, List, [], ◌∷◌, ◌++◌, map, filter, Option, Some, None, is_some, option_map, if◌then◌else◌, refl, sym, ap, ◌∙◌, subst, arith}
 use Rattle.std.specs.List.{AllByRecursion, find}
 use Rattle.std.specs.Option.{option_map_or}
@@ -66,7 +66,7 @@ none-filtered k (r ∷ rs) h =
       ]
     ] refl h
 
----------------------------------------------------------------- what a list tells an adapter
+---------------------------------------------------------------- what a list has for an adapter
 
 pub told_to-append : (k : AdapterNo) (ts us : List (AdapterNo × Notice)) → told_to k (ts ++ us) ≡ told_to k ts ++ told_to k us
 told_to-append k [] us = refl
@@ -76,14 +76,14 @@ told_to-append k (t ∷ ts) us =
       | false ↦ told_to-append k ts us
     ]
 
--- those that hear a notice, each with the notice
+-- those that get a notification, each with the notification
 abbrev with_notice : Notice → List Listed → List (AdapterNo × Notice)
 with_notice n rs = map (λ (r : Listed). (r.no, n)) rs
 
 abbrev hearing : Above → Notice → List Listed → List Listed
 hearing up n rs = filter (λ (r : Listed). hears up r n) rs
 
--- an adapter that is not among them is not told
+-- an adapter that is not among them is not notified
 told-nobody : (up : Above) (n : Notice) (k : AdapterNo) (rs : List Listed) → found k rs ≡ None → told_to k (with_notice n (hearing up n rs)) ≡ []
 told-nobody up n k [] none = refl
 told-nobody up n k (r ∷ rs) none =
@@ -95,7 +95,7 @@ told-nobody up n k (r ∷ rs) none =
       ]
     ] refl none
 
--- of one notice an adapter is told if it hears it
+-- an adapter is among those of a notification if it gets it
 told-one : (up : Above) (n : Notice) (k : AdapterNo) (rs : List Listed) (a : Listed) → HasDistinctNumbers rs → found k rs ≡ Some a → told_to k (with_notice n (hearing up n rs)) ≡ (if hears up a n then n ∷ [] else [])
 told-one up n k [] a distinct some = absurd (none-some a some)
 told-one up n k (r ∷ rs) a distinct some =
@@ -115,7 +115,7 @@ told-one up n k (r ∷ rs) a distinct some =
           ]
     ] refl some
 
--- of a chain an adapter is told what it hears of it
+-- of a chain an adapter has in the list what it gets of it
 told-chain : (up : Above) (ns : List Notice) (k : AdapterNo) (rs : List Listed) (a : Listed) → HasDistinctNumbers rs → found k rs ≡ Some a → told_to k (told_list up ns rs) ≡ heard_of up ns a
 told-chain up [] k rs a distinct some = refl
 told-chain up (n ∷ ns) k rs a distinct some =
@@ -125,7 +125,7 @@ told-chain up (n ∷ ns) k rs a distinct some =
 
 ---------------------------------------------------------------- once targets have gone
 
--- notices that are of no feature, as the last one from a target
+-- notifications that are of no feature, as the last one from a target
 abbrev pub AreOfNoFeature : List Notice → Type 0
 AreOfNoFeature ns = AllByRecursion (λ (n : Notice). n.feature ≡ None) ns
 
@@ -143,7 +143,7 @@ other-than k j r other mine =
       | false ↦ λ _. refl
     ] refl
 
--- the adapter of a number once the first of a number has heard a last notice
+-- the adapter of a number once the first of a number got a last notification
 found-changed : (k j : AdapterNo) (x : Node) (n : Notice) (rs : List Listed) (a : Listed) → found k rs ≡ Some a
     → (b : Listed) × (found k (with_changed j (losing x n) rs) ≡ Some b) × (b.view ≡ hear_all a.view (if same_no k j then n ∷ [] else []))
 found-changed k j x n [] a some = absurd (none-some a some)
@@ -305,7 +305,7 @@ module _ (r : Reading) (rs : List Listed) (c : Command View) (k : AdapterNo) (a 
   told-there : found k told ≡ Some (told_all a heard)
   told-there = found-told r.above (chain r c) k rs ∙ ap (option_map (λ q. told_all q (heard_of r.above (chain r c) q))) some
 
-  -- what the reply tells it
+  -- what the reply has for it
   pub told-parts : told_to k (reply r rs c).told ≡ heard ++ lost
   told-parts = told_to-append k (told_list r.above (chain r c) rs) (releases r rs c).told ∙ ap (λ (ns : List Notice). ns ++ lost) (told-chain r.above (chain r c) k rs a distinct some)
 
@@ -338,7 +338,7 @@ hears-reply s c k a legal some =
 there : (k : AdapterNo) (qs : List Listed) → IsTrue (is_some (found k qs)) → (q : Listed) × (found k qs ≡ Some q)
 there k qs h = elim (found k qs) as (λ o. IsTrue (is_some o) → (q : Listed) × (o ≡ Some q)) [ None ↦ λ e. absurd (let no : false ≡ true = e in cc) | Some q ↦ λ _. (q, refl) ] h
 
--- an adapter that stays attached has heard what the reply tells it: its notices of the chain, and then some of no feature
+-- an adapter that stays attached was notified of what the reply has for it: its notifications of the chain, and then some of no feature
 pub record Stays (r : Reading) (rs : List Listed) (c : Command View) (k : AdapterNo) (a : Listed) : Type 0 where
   pub b : Listed
   pub attached : adapter k (adapters_after r rs c) ≡ Some b

@@ -10,7 +10,7 @@ use Rattle.models.specs.Model.{Model, model_of, reading}
 use Rattle.models.specs.Steady.{HasSteadyTexts}
 use Rattle.notice_chain.specs.declared.notice.Notice.{Notice}
 use Rattle.handshake.specs.Laws.{BringsSteadyTexts}
-use Rattle.handshake.specs.Plans.{IsPlanOf, of_values}
+use Rattle.change_plans.specs.Plans.{IsPlanOf, of_values}
 use Rattle.handshake.specs.declared.change.Change.{Change}
 use Rattle.handshake.proofs.ProxyLemmas.{change-keeps-steady}
 use Rattle.repository.specs.Repository.{IsLegalInside, KeepsFragments, state}

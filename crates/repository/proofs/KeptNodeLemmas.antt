@@ -1,4 +1,5 @@
--- A node that is there before and after a change has the same class and the same features, and is none that the change destroys or loads.
+-- A node that is there before and after a change has the same class and the same features, and is not one that the change destroys or
+-- loads.
 use Rattle.std.proofs.Common.{◌≡◌, ◌≤◌, ◌<◌, ◌⊎◌, inl, inr, ◌||◌, ℕ, zero, suc, Bool, true, false, IsTrue, nat_eq, nat_le, List, [], ◌∷◌, ◌++◌, map, length, Option, Some, None, is_some, option_map, unwrap_or, if◌then◌else◌, refl, sym, ap, ◌∙◌, arith, length-append}
 use Rattle.std.specs.Prelude.{insert, remove, option_and_then, slice_index_or, slice_set}
 use Rattle.std.specs.List.{list_any}

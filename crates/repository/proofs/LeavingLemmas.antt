@@ -23,14 +23,14 @@ use Rattle.removal.specs.Outer.{gone}
 use Rattle.removal.specs.Ranks.{is_in}
 use Rattle.removal.specs.Removals.{IsRemoval}
 use Rattle.removal.specs.declared.gone.Removal.{Removal}
-use Rattle.handshake.specs.Plans.{IsRemovalOf}
+use Rattle.handshake.specs.Changes.{IsRemovalOf}
 use Rattle.handshake.specs.Refusals.{late_refusal}
 use Rattle.handshake.specs.FeatureChanges.{destroyed_by, resolved_by, target_of}
 use Rattle.handshake.specs.declared.change.Change.{Change}
 use Rattle.handshake.specs.declared.change.Change.TheVariants.{At, Delete, ResolveAll}
 use Rattle.handshake.specs.declared.act.Act.TheVariants.{Resolve}
-use Rattle.handshake.specs.declared.planned.Resolved.{Resolved}
-use Rattle.handshake.specs.declared.target.Target.{Target as Found}
+use Rattle.proxies.specs.declared.resolved.Resolved.{Resolved}
+use Rattle.proxies.specs.declared.target.Target.{Target as Found}
 use Rattle.handshake.proofs.KnownLemmas.{resolvable}
 use Rattle.handshake.proofs.RemovalLemmas.{of-objects}
 use Rattle.repository.specs.Answers.{IsEarlyAnswer, answer_of, is_answered_late, planned_answer}
@@ -44,7 +44,7 @@ spots-from : (goes : AdapterNo → Node → Bool) (k : ℕ) (cs : List (ℕ × N
 spots-from goes k cs [] = refl
 spots-from goes k cs (r ∷ rs) = ap (λ (ss : List Spot). spots_of goes r ++ ss) (spots-from goes (suc k) cs rs)
 
--- no more is told than targets go
+-- there are no more last notifications than targets that go
 told_all-few : (ss : List Spot) (rs : List Listed) → length (told_of_all ss rs) ≤ length ss
 told_all-few [] rs = omega arith
 told_all-few (s ∷ ss) rs =
@@ -82,7 +82,7 @@ untouched os k (t ∷ ts) h =
     let rest : List Target = filter (λ q. is_node_among os q.node) ts in
     ap (λ b. spots_at k (cond b (t ∷ rest) rest)) (none-at os t.node both.0) ∙ untouched os k ts both.1
 
--- those at some places, where the adapters that are not there lose none
+-- those at some indexes, if the adapters that are not there lose none
 module _ (os : List ObjectNo) (all : List Listed) where
   goes : AdapterNo → Node → Bool
   goes k n = is_node_among os n
@@ -109,7 +109,7 @@ gone-spots r x rs is =
     let same : (n : Node) → is_in x.numbers n ≡ is_node_among x.objects.items n = λ n. is.numbers n ∙ ap (λ (os : List ObjectNo). is_node_among os n) (sym is.objects) in
     subst (λ (g : Node → Bool). flat_map (λ k. option_map_or (spots_of (is_gone_at g)) (slice_get rs k) []) (touched x.objects.items rs) ≡ spots (is_gone_at g) rs) (λ i n. sym (same n) i) (at-places x.objects.items rs)
 
--- the adapter at a place, as it was read
+-- the adapter at an index, as it was read
 pub spots-there : (g : Node → Bool) (k : AdapterNo) (ts : List Target) (q : Option Listed) → Some (k, ts) ≡ option_map (λ (r : Listed). let p : AdapterNo × List Target = (r.no, r.targets) in p) q → option_map_or (spots_of (is_gone_at g)) q [] ≡ map (λ t. (k, t.node)) (filter (λ t. g t.node) ts)
 spots-there g k ts None is = absurd (none-some (k, ts) (sym is))
 spots-there g k ts (Some r) is = ap (λ (p : AdapterNo × List Target). map (λ (t : Target). let s : Spot = (p.0, t.node) in s) (filter (λ t. g t.node) p.1)) (sym (same_Some (k, ts) (r.no, r.targets) is))
@@ -118,7 +118,7 @@ pub spots-nowhere : (g : Node → Bool) (q : Option Listed) → None ≡ option_
 spots-nowhere g None is = refl
 spots-nowhere g (Some r) is = absurd (none-some (r.no, r.targets) is)
 
--- one place more
+-- one index more
 pub spots-more : (f : ℕ → List Spot) (ks : List ℕ) (i : ℕ) (out new all : List Spot) → i < length ks → new ≡ out ++ f (get_or ks i 0) → out ++ flat_map f (drop i ks) ≡ all → new ++ flat_map f (drop (i + 1) ks) ≡ all
 spots-more f ks i out new all low made whole =
     ap (λ (ss : List Spot). ss ++ flat_map f (drop (i + 1) ks)) made

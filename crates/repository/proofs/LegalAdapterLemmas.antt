@@ -165,7 +165,7 @@ released-legal r ss rs legal =
       });
     }
 
--- and where those go that are not there later
+-- and if those go that are not there later
 pub gone-legal : (r t : Reading) (gone : Node → Bool) (rs : List Listed) → ((x : Node) → gone x ≡ false → IsTrue (is_there r x) → IsTrue (is_there t x)) → AreLegal r rs → AreLegal t (released (spots (is_gone_at gone) rs) rs).others
 unfolding HasThere
 gone-legal r t gone rs keeps legal =

@@ -182,7 +182,7 @@ model-legal s _ legal early late = legal
 
 ---------------------------------------------------------------- a command that nothing refuses
 
--- of the adapters, once the chain is told
+-- of the adapters, once the chain is delivered
 adapters-legal : (s : State) (c : Command View) (told : List Listed) → told ≡ tell_chain (reads s).above (chain (reads s) c) s.adapters → (r t : Reading) → r ≡ reads s → early_refusal r s.adapters c ≡ None → late_refusal r s.adapters c ≡ None
     → ((x : Node) → is_gone_with r c x ≡ false → IsTrue (is_there r x) → IsTrue (is_there t x)) → AreLegal r told → AreLegal t (joined_by c (released (going r s.adapters c) told).others)
 adapters-legal s (Delete o) told is r t same early late keeps legal = subst (λ (ss : List Spot). AreLegal t (released ss told).others) (ap (spots (is_gone_at (gone r o))) is ∙ spots-told (is_gone_at (gone r o)) (reads s).above (chain (reads s) (Delete o)) s.adapters) (gone-legal r t (gone r o) told keeps legal)

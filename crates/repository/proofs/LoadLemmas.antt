@@ -18,7 +18,8 @@ use Rattle.resource_docs.specs.declared.doc.Doc.{Doc}
 use Rattle.doc_loader.specs.Loading.{is_empty_resource}
 use Rattle.models.specs.Existence.{node_refusal}
 use Rattle.handshake.specs.Laws.{BringsSteadyTexts}
-use Rattle.handshake.specs.Plans.{HasReadDocument, IsDocument, is_memory_refusal}
+use Rattle.handshake.specs.Changes.{HasReadDocument, IsDocument}
+use Rattle.change_plans.specs.Plans.{is_memory_refusal}
 use Rattle.handshake.specs.declared.change.Change.{Change}
 use Rattle.handshake.specs.declared.change.Change.TheVariants.{NewResource, Load}
 use Rattle.repository.specs.Loads.{load_refusal, reads_into, uri_at}
@@ -27,7 +28,7 @@ use Rattle.repository.specs.Run.{Executed, is_plain}
 use Rattle.repository.specs.State.{State, reads}
 use Rattle.repository.specs.Step.{refusal_of, step_unless}
 use Rattle.repository.specs.declared.command.Command.TheVariants as command
-use Rattle.handshake.proofs.RefusalLemmas.{IsNot, later-not, unless-not, where-not}
+use Rattle.change_plans.proofs.RefusalLemmas.{IsNot, later-not, unless-not, where-not}
 use Rattle.repository.proofs.PlanLemmas.{late-not-plain, loaded_as}
 
 -- bytes that are read as a document are those of a JSON value that is
@@ -43,12 +44,12 @@ bytes-read m uri bytes doc is = by (parsed bytes) is
 pub text-read : (r : Reading) (k : ResourceNo) (text : List ℕ) (doc : Doc) → reads_into r k text ≡ Ok doc → IsDocument r.metamodel doc
 text-read r k text doc is = record { uri = uri_at r k; read = bytes-read r.metamodel (uri_at r k) text doc is }
 
--- a proper change brings a document that reading gives
+-- a well-formed change brings a document that reading gives
 pub proper-read : (r : Reading) (text : List ℕ) (c : Change) → IsProper r text c → HasReadDocument r.metamodel c
 proper-read r text (Load k doc) proper = text-read r k text doc proper.0
 proper-read r text _ proper = tt
 
--- joining leaves the texts that a proper change brings as they are
+-- joining leaves the texts that a well-formed change brings as they are
 pub proper-steady : (r : Reading) (text : List ℕ) (c : Change) → IsProper r text c → BringsSteadyTexts c
 proper-steady r text (NewResource u) proper = proper
 proper-steady r text (Load k doc) proper = proper.1

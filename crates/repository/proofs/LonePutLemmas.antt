@@ -1,4 +1,4 @@
--- A change that puts one link, of which nobody hears: its answer, and what is remembered of fragments.
+-- A change that puts one link and notifies no adapter: its answer, and what is remembered of fragments.
 use Rattle.std.proofs.Common.{◌≡◌, ℕ, Bool, true, false, not, ◌&&◌, List, [], ◌∷◌, Option, Some, None, is_some, if◌then◌else◌, refl, sym, ap, subst, ◌∙◌}
 use Rattle.std.proofs.Math.Bool.{or-false}
 use Rattle.std.proofs.lemmas.Option.{none-some}
@@ -16,15 +16,15 @@ use Rattle.notice_chain.specs.Listed.{Listed}
 use Rattle.adapter_list.specs.Hearing.{IsUnheard, is_heard}
 use Rattle.handshake.specs.FeatureChanges.{chain}
 use Rattle.handshake.specs.Displaced.{displaces, is_plain_add}
-use Rattle.handshake.specs.LonePuts.{lone_put, of_put, put_at}
-use Rattle.handshake.specs.Plans.{IsPlanOf}
+use Rattle.change_plans.specs.LonePuts.{lone_put, of_put, put_at}
+use Rattle.change_plans.specs.Plans.{IsPlanOf}
 use Rattle.handshake.specs.Refusals.{early_refusal, late_refusal}
 use Rattle.handshake.specs.declared.change.Change.{Change}
 use Rattle.handshake.specs.declared.change.Change.TheVariants.{At}
 use Rattle.handshake.specs.declared.act.Act.TheVariants.{Add, Set}
 use Rattle.links.specs.declared.link.NewLink.{NewLink}
 use Rattle.handshake.proofs.CutLinkEndLemmas.{plain-not}
-use Rattle.handshake.proofs.LonePutLemmas.{put-notifiers}
+use Rattle.change_plans.proofs.LonePutLemmas.{put-notifiers}
 use Rattle.repository.specs.Answers.{answer_of}
 use Rattle.repository.specs.Puts.{IsPutAlone, is_put_heard}
 use Rattle.repository.specs.State.{State, reads}
@@ -47,14 +47,14 @@ new-added r e _ i p h = absurd (none-some p h)
 pub add-answered : (r : Reading) (rs : List Listed) (e : End) (v : Value) (i : Option ℕ) (p : NewLink) → lone_put r (At e (Add v i)) ≡ Some p → answer.Flag true ≡ answer_of r rs (command_of [] (At e (Add v i)))
 add-answered r rs e v i p h = ap (λ (b : Bool). answer.Flag (not b)) (sym (new-added r e v i p h))
 
--- if nobody hears of the put, nobody hears the chain
+-- if the put notifies no adapter, the chain does not either
 put-unheard : (s : State) (c : Change) (p : NewLink) → lone_put (reads s) c ≡ Some p → is_put_heard s p ≡ false → IsUnheard (reads s).above (chain (reads s) c) s.adapters
 put-unheard s c p lone none =
     let heard_at : Node → Bool = λ x. is_heard (reads s).above x s.adapters in
     let both = neither (heard_at p.end.node) (is_some p.opposite && heard_at (node.Object p.object)) none in
     put-notifiers (λ x. heard_at x ≡ false) (reads s) c p lone both.0 (λ some. sym (ap (λ b. b && heard_at (node.Object p.object)) some) ∙ both.1)
 
--- an addition that is one put, of which nobody hears, by what its parts give
+-- an addition that is one put and notifies no adapter, by what its parts give
 pub add-alone : (s : State) (m : Model) (e : End) (v : Value) (i : Option ℕ) (q : Option NewLink) (p : NewLink) → m ≡ s.model → is_put_heard s p ≡ false → early_refusal (reading m) (At e (Add v i)) ≡ None → q ≡ lone_put (reading m) (At e (Add v i)) → q ≡ Some p
     → IsPlanOf false m (At e (Add v i)) (of_put p) → IsPutAlone s (At e (Add v i)) p (answer.Flag true)
 add-alone s m e v i q p is none early found some plan =
@@ -80,6 +80,6 @@ set-alone s m e v q p is none early found some plan =
       unheard = put-unheard s c p (subst (λ (x : Model). lone_put (reading x) c ≡ Some p) is (sym found ∙ some)) none;
     }
 
--- a put is of a link that contains where it names a container
+-- a put is of a link that contains if it names a container
 pub put-touches : (m : Kinds) (p : NewLink) → IsEditOfKind m (put_edit p) → touches_containment m (put_edit p ∷ []) ≡ is_some p.container
 put-touches m p kind = or-false (is_some (m.container p.end.feature)) ∙ ap is_some (sym kind.1)

@@ -24,7 +24,7 @@ use Rattle.models.specs.Reading.{Reading, has_feature, is_node_live, is_resource
 use Rattle.models.specs.Existence.{end_refusal, node_refusal, value_refusal}
 use Rattle.mm_types.specs.declared.end.End.{End}
 use Rattle.handshake.specs.Effects as effects
-use Rattle.handshake.specs.Plans.{is_memory_refusal, looks_first}
+use Rattle.change_plans.specs.Plans.{is_memory_refusal, looks_first}
 use Rattle.handshake.specs.Refusals.{early_refusal, late_refusal, many_refusal, uri_refusal}
 use Rattle.handshake.specs.FeatureChanges.{chain}
 use Rattle.mm_types.specs.declared.document_fault.DocFault.{DocFault}
@@ -48,10 +48,10 @@ use Rattle.repository.specs.Loads.{load_of, load_refusal, objects_of}
 use Rattle.repository.specs.Proper.{IsProper}
 use Rattle.repository.specs.Refusals.{IsPlanRefusal, resource_refusal}
 use Rattle.handshake.proofs.KnownLemmas.{none-else_by, none-unless}
-use Rattle.handshake.proofs.RefusalLemmas.{IsNot, late-not, late-refused, later-not, unless-not, where-not}
+use Rattle.change_plans.proofs.RefusalLemmas.{IsNot, late-not, late-refused, later-not, unless-not, where-not}
 use Rattle.std.proofs.lemmas.Bool.{and_parts}
 
--- that a change is proper, and not refused early
+-- that a change is well-formed, and not refused early
 pub record IsAsked (s : State) (text : List ℕ) (c : Change) : Type 0 where
   pub early : early_refusal (reads s) c ≡ None
   pub proper : IsProper (reads s) text c
@@ -74,7 +74,7 @@ both-same false = refl
 uri-refused : (r : Reading) (u : List ℕ) → resource_refusal r u (Some u) ≡ uri_refusal r u
 uri-refused r u = rw (both-same (is_short_text u)) refl
 
--- where a text's URI is not refused, it is not refused as a change
+-- if a text's URI is not refused, it is not refused as a change
 pub uri-allowed : (r : Reading) (t u : List ℕ) → resource_refusal r t (Some u) ≡ None → uri_refusal r u ≡ None
 uri-allowed r t u late =
     let of_text = none-else_by (TextLength unless (is_short_text t && is_short_text u)) _ late in
@@ -100,7 +100,7 @@ refusal-planned s text (Load k doc) proper early = ap (loaded_as s k) proper.0 �
 refusal-planned s text ResolveAll brought early = refl
 refusal-planned s text _ brought early = rw early refl
 
--- a condition that is none of these is none of them after another that is none
+-- a condition that is not one of these is not one after another that is not
 ---------------------------------------------------------------- what is found first is not out of memory
 
 abbrev no_memory : Refused → Bool
@@ -211,7 +211,7 @@ chain_err s text c made r brought early late heard (inr h) =
     let found : refusal_of s (command_of text c) ≡ Some AdapterFull = refusal-planned s text c brought early ∙ ap (λ (o : Option Refused). o else_by full s c) late ∙ ap (λ b. AdapterFull where_so b) (sym heard.full ∙ h.1) in
     rw (h.0) (refused_as s text c AdapterFull refl found)
 
--- the reply and the state that a change gives, where these adapters leave
+-- the reply and the state that a change gives, if these adapters leave
 abbrev replied : State → Change → List Notice → Model → Answer → Released → Stepped
 replied s c ns m a x = record {
   outcome = Ok (record { answer = a; told = told_list (reads s).above ns s.adapters ++ x.told; released = x.views });
@@ -227,7 +227,7 @@ done_of s u made =
       after = record { model = option_map_or (effects.after s.model) made s.model; adapters = x.others };
     }
 
--- what is done where a text is read as this
+-- what is done if a text is read as this
 done_loaded : (s : State) (k : ResourceNo) → Result Doc DocFault → Stepped
 done_loaded s k read =
     let ns = option_map_or (chain (reads s)) (load_of k read) [] in
@@ -237,7 +237,7 @@ done_loaded s k read =
       after = record { model = option_map_or (effects.after s.model) (load_of k read) s.model; adapters = x.others };
     }
 
--- who is released by a change that tells these notices
+-- which adapters are released by a change of these notifications
 abbrev pub releases_of : State → Change → List Notice → Released
 releases_of s c ns = released (going_with (reads s) s.adapters c) (tell_chain (reads s).above ns s.adapters)
 
@@ -250,7 +250,7 @@ done_change s text (Load k doc) proper =
     ∙ ap (λ (a : Answer). replied s c (chain (reads s) c) (effects.after s.model c) a (releases_of s c (chain (reads s) c))) (sym (ap (λ (x : Result Doc DocFault). answer.Loaded (objects_of x)) proper.0))
 done_change s text _ brought = refl
 
--- a change that was made, with the notices that somebody may hear
+-- a change that was made, with the notifications that an adapter may have to get
 pub changed : (s : State) (text : List ℕ) (c : Change) (made : List Notice) → IsProper (reads s) text c → early_refusal (reads s) c ≡ None → late_refusal (reads s) c ≡ None → TellsAll (reads s).above made (chain (reads s) c) s.adapters → is_chain_full (reads s).above made s.adapters ≡ false
     → step s (command_of text c) ≡ replied s c made (effects.after s.model c) (answer_of (reads s) s.adapters (command_of text c)) (releases_of s c made)
 unfolding full

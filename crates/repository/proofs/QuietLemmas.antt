@@ -31,7 +31,7 @@ use Rattle.repository.specs.declared.read.Tally.TheVariants.{Kept, Told}
 use Rattle.repository.specs.declared.reply.Answer.{Answer}
 use Rattle.repository.proofs.AdapterLemmas.{is_chain_full-nil, tell_chain-nil}
 
--- what is done by a command that tells nothing and releases nobody, and then does this to the adapters
+-- what is done by a command that notifies and releases no adapter, and then does this to the adapters
 pub done_quiet : (up : Above) (m : Model) (rs : List Listed) (j : List Listed → List Listed) (a : Answer) → (let y : Stepped = record {
   outcome = Ok (record { answer = a; told = []; released = [] });
   after = record { model = m; adapters = j (tell_chain up [] rs) };
@@ -51,7 +51,7 @@ pub done_read : (s : State) (a : Answer) → (let y : Stepped = record {
 } in y) ≡ record { outcome = Ok (record { answer = a; told = []; released = [] }); after = s }
 done_read s a = done_quiet (reads s).above s.model s.adapters (λ rs. rs) a
 
--- no adapter is too full for a chain of no notices
+-- no adapter is too full for a chain of no notifications
 pub refusal_quiet : (up : Above) (o : Option Refused) (rs : List Listed) → (o else_by (AdapterFull where_so is_chain_full up [] rs)) ≡ o
 refusal_quiet up (Some r) rs = refl
 refusal_quiet up None rs = rw (is_chain_full-nil up rs) refl

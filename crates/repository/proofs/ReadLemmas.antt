@@ -9,13 +9,13 @@ use Rattle.mm_types.specs.declared.refused.Refused.TheVariants.{NotSingle, Adapt
 use Rattle.notice_chain.specs.Listed.{is_chain_full}
 use Rattle.models.specs.Existence.{end_refusal}
 use Rattle.models.specs.Reading.{at_end}
-use Rattle.handshake.specs.Plans.{is_memory_refusal}
+use Rattle.change_plans.specs.Plans.{is_memory_refusal}
 use Rattle.repository.specs.Commands.{get}
 use Rattle.repository.specs.Reads.{IsValueRefusal}
 use Rattle.repository.specs.Run.{Executed}
 use Rattle.repository.specs.State.{State, reads}
 use Rattle.repository.specs.Step.{step_unless}
-use Rattle.handshake.proofs.RefusalLemmas.{IsNot}
+use Rattle.change_plans.proofs.RefusalLemmas.{IsNot}
 use Rattle.repository.proofs.PlanLemmas.{end-not-memory}
 
 none-after : (o : Option Refused) → (o else_by None) ≡ o

@@ -23,7 +23,7 @@ use Rattle.round_trip.specs.Copied.{copied}
 use Rattle.round_trip.proofs.BackLemmas.{text-back}
 use Rattle.round_trip.proofs.ValuesListLemmas.{stands}
 use Rattle.handshake.specs.Effects.{after}
-use Rattle.handshake.specs.Resolving.{proxy_at}
+use Rattle.proxies.specs.Resolving.{proxy_at}
 use Rattle.handshake.specs.declared.change.Change.{Change}
 use Rattle.handshake.specs.declared.change.Change.TheVariants.{At, Load, NewResource}
 use Rattle.handshake.specs.declared.act.Act.TheVariants.{Resolve}

@@ -1,4 +1,4 @@
--- What is remembered of fragments, and of who hears a node, stays true if no link that contains is edited.
+-- What is remembered of fragments, and of the adapters that are notified at a node, stays true if no link that contains is edited.
 use Rattle.std.proofs.Common.{◌≡◌, ◌∙◌, ℕ, Bool, true, false, List, Option, Some, None, refl, sym, ap, subst, inl, inr, eqb-true, arith}
 use Rattle.std.specs.Prelude.{◌&&◌, ◌<◌, cond, if◌then◌else◌, is_some, IfSome, [], ◌∷◌, length, not, suc, zero}
 use Rattle.std.specs.Option.{option_map_or}
@@ -49,7 +49,7 @@ none-at X o t h = absurd (none-some t (sym (map.get-empty nat_cmp o.0) ∙ h))
 none-kept : (r : Reading) → KeepsFragments r map.empty
 none-kept r o t h = none-at _ o t h
 
--- where a feature contains, the pair does
+-- if a feature contains, the pair does
 some-feature : (f : FeatureNo) (x : Option FeatureNo) → is_feature f x ≡ true → is_some x ≡ true
 some-feature f (Some g) h = refl
 some-feature f None h = h
@@ -75,7 +75,7 @@ module _ (m : Metamodel) (v w : ValuesState) (a : Links) (plan : List Edit) (leg
         | false ↦ λ h o t there. fragment-stays m v w a (applied a plan) legal after (parts-stay h) o ∙ keeps o t there
       ] refl
 
-  -- who hears a node is who heard it
+  -- the adapters that are notified at a node are as before
   pub hearers-after : (rs : List Listed) (h : Hearers) → AreKnown (above a) rs h → touches_containment (kinds_of m) plan ≡ false → AreKnown (above (applied a plan)) rs h
   hearers-after rs h known out = subst (λ (up : Above). AreKnown up rs h) (λ i n. sym (above-stays m v w a (applied a plan) legal after (parts-stay out) n) i) known
 
@@ -84,7 +84,7 @@ module _ (m : Metamodel) (v w : ValuesState) (a : Links) (plan : List Edit) (leg
 nothing-above : (s : Links) → IsLegalSet s → HasNoCycle s → (n : Node) → holder s n ≡ None → above s n ≡ []
 nothing-above s legal free n none = above_is s legal free n ∙ ap (λ (x : Option End). option_map_or (λ (d : End). d.node ∷ above s d.node) x []) none
 
--- where each node has its holder, the nodes above it are the same
+-- if each node has its holder, the nodes above it are the same
 module _ (a b : Links) (legal : IsLegalSet a) (free : HasNoCycle a) (legal_b : IsLegalSet b) (free_b : HasNoCycle b) (stays : (n : Node) → holder b n ≡ holder a n) where
   above-from : (k : ℕ) (n : Node) → length (above a n) < k → above b n ≡ above a n
   above-from zero n low = absurd (omega (arith, low))
@@ -103,7 +103,7 @@ moved-holders : (a : Links) (plan : List Edit) → IsLegalSet a → is_move plan
 moved-holders a (edit.Shift e to from ∷ []) legal h n = holder-shift a e to from legal.held n
 moved-holders a _ legal h n = absurd (false≢true h)
 
--- who hears a node is who heard it, if no node gets another container
+-- the adapters that are notified at a node are as before, if no node gets another container
 pub hearers-kept : (m : Metamodel) (v w : ValuesState) (a : Links) (plan : List Edit) → IsLegal (model_of m v a) → IsLegal (model_of m w (applied a plan)) → PlanFits a plan → IsPlanOfKind (kinds_of m) plan
     → (rs : List Listed) (h : Hearers) → AreKnown (above a) rs h → may_change_containers (kinds_of m) plan ≡ false → AreKnown (above (applied a plan)) rs h
 hearers-kept m v w a plan legal after fits kind rs h known out =
@@ -118,7 +118,7 @@ hearers-kept m v w a plan legal after fits kind rs h known out =
     turned true h = refl
     turned false h = sym h
 
--- who was notified hears the same as before
+-- the adapters that were notified are notified at the same nodes as before
 places-told : (up : Above) (x : Node) (k j : ℕ) (cs : List (ℕ × Notice)) (rs : List Listed) → ordinals_from (hears_node up x) k (delivered_from j cs rs) ≡ ordinals_from (hears_node up x) k rs
 places-told up x k j cs [] = refl
 places-told up x k j cs (r ∷ rs) =
@@ -134,7 +134,7 @@ known-delivered up cs rs h known =
       | Some x ↦ λ is. is ∙ sym (places-told up x 0 0 cs rs)
     ] known
 
--- a text that is kept, where it is its object's fragment
+-- a text that is kept, if it is its object's fragment
 pub kept-more : (r : Reading) (old new : Kept) (o : ObjectNo) (t : List ℕ) → MayKeep old o t new → fragment r o ≡ Some t → KeepsFragments r old → KeepsFragments r new
 kept-more r old new o t may is keeps = elim may [
   | inl put ↦ subst (KeepsFragments r) (sym put) added

@@ -82,7 +82,7 @@ command-replays s (Load k text) legal early late d before later = load-replays s
 command-replays s ResolveAll legal early late d before later = chain-replays s.model change.ResolveAll legal early late tt d refl refl
 command-replays s _ legal early late d before later = refl
 
----------------------------------------------------------------- what is heard of it
+---------------------------------------------------------------- its notifications
 
 deep-brings : (up : Above) (target x : Node) (ts : List Target) → list_any (λ t. t.deep && same_node t.node target) ts ≡ true → (same_node target x || list_any (same_node target) (up x)) ≡ true → list_any (brings_in up x) ts ≡ true
 deep-brings up target x [] deep within = deep
@@ -99,7 +99,7 @@ deep-brings up target x (t ∷ ts) deep within =
     last true = refl
     last false = refl
 
--- an adapter with a deep target that is above a node, or is the node, hears each notice that names an end of the node
+-- an adapter with a deep target that is above a node, or is the node, gets each notification that names an end of the node
 hears-named : (r : Reading) (a : Listed) (target : Node) (d : End) → is_deep_of target a ≡ true → is_within r target d.node ≡ true → (x : Notice) → names d x ≡ true → hears r.above a x ≡ true
 hears-named r a target d deep within x named =
     let at : x.notifier ≡ d.node = by x.feature named in
@@ -112,7 +112,7 @@ hears-named r a target d deep within x named =
 pub heard-naming : (r : Reading) (a : Listed) (target : Node) (ns : List Notice) (d : End) → is_deep_of target a ≡ true → is_within r target d.node ≡ true → naming d (heard_of r.above ns a) ≡ naming d ns
 heard-naming r a target ns d deep within = filter-filter (names d) (λ n. hears r.above a n) ns (hears-named r a target d deep within)
 
--- a notice of no feature names no end
+-- a notification of no feature names no end
 unnamed : (d : End) (ns : List Notice) → AreOfNoFeature ns → naming d ns ≡ []
 unnamed d [] h = refl
 unnamed d (n ∷ ns) h = ap (λ (o : Option FeatureNo). cond (option_map_or (λ y. same_end y d) (option_map (λ g. let e : End = record { node = n.notifier; feature = g } in e) o) false) (n ∷ naming d ns) (naming d ns)) h.0 ∙ unnamed d ns h.1
@@ -132,7 +132,7 @@ map-step : (g : FeatureState → FeatureState) (a b : FeatureNo → FeatureState
 map-step g a b [] h = refl
 map-step g a b (f ∷ fs) h = λ i. h f i ∷ map-step g a b fs h i
 
--- of a node that is there before and after a command, what is heard of the command makes what the node has before it what it has after it
+-- if a node is there before and after a command, the notifications of the command make of what it has before what it has after
 pub node-step : (s : State) (c : Command View) (a : Listed) (target n : Node) → models.IsLegal s.model → early_refusal (reads s) s.adapters c ≡ None → late_refusal (reads s) s.adapters c ≡ None
     → is_deep_of target a ≡ true → is_within (reads s) target n ≡ true → IsThere s.model n → IsThere (model_after s.model c) n
     → node_after (heard_of (reads s).above (chain (reads s) c) a) (node_state (reads s) n) ≡ node_state (reading (model_after s.model c)) n
@@ -157,7 +157,7 @@ node-step s c a target n legal early late deep within before later =
     node_after-features hs (node_state r n)
     ∙ (λ i. let y : NodeState = record { node = n; class = class i; features = features i } in y)
 
--- and notices of no feature make nothing of it
+-- and notifications of no feature change nothing of it
 pub node-same : (r : Reading) (n : Node) (ns : List Notice) → AreOfNoFeature ns → node_after ns (node_state r n) ≡ node_state r n
 node-same r n ns none =
     let ends : (f : FeatureNo) → feature_after n ns (feature_state r n f) ≡ feature_state r n f =

@@ -13,7 +13,7 @@ use Rattle.web_uris.specs.Joined.{IsWebUri, joined}
 use Rattle.models.specs.Legal.{is_short_text}
 use Rattle.models.specs.Reading.{has_uri}
 use Rattle.handshake.specs.Effects as effects
-use Rattle.handshake.specs.Plans.{is_memory_refusal}
+use Rattle.change_plans.specs.Plans.{is_memory_refusal}
 use Rattle.handshake.specs.FeatureChanges.{chain}
 use Rattle.handshake.specs.declared.change.Change.TheVariants.{NewResource}
 use Rattle.repository.specs.Answers.{answer_of}
@@ -22,14 +22,14 @@ use Rattle.repository.specs.State.{State, reads}
 use Rattle.repository.specs.Step.{Stepped, refusal_of, refused, step, step_unless}
 use Rattle.repository.specs.Views.{Outcome}
 use Rattle.repository.specs.declared.command.Command.TheVariants.{CreateResource}
-use Rattle.handshake.proofs.RefusalLemmas.{IsNot, later-not, unless-not, where-not}
+use Rattle.change_plans.proofs.RefusalLemmas.{IsNot, later-not, unless-not, where-not}
 
 module _ (s : State) where
-  -- an adapter that hears of a resource of this URI can't count on
+  -- an adapter that is notified of a resource of this URI can't count any further
   full_for : Option (List ℕ) → Option Refused
   full_for uri = AdapterFull where_so is_chain_full (reads s).above (option_map_or (chain (reads s)) (option_map NewResource uri) []) s.adapters
 
-  -- why there can be none, where the text is short, or not, and gives this URI
+  -- why there can be none, whether the text is short or not, if it gives this URI
   asked : Bool → Option (List ℕ) → Option Refused
   asked short uri =
       (TextLength unless (short && option_map_or is_short_text uri true) else_by
@@ -76,7 +76,7 @@ module _ (s : State) where
 
   ---------------------------------------------------------------- a text and the URI that it gives
 
-  -- what is done where the URI is this
+  -- what is done if the URI is this
   done_by : Option (List ℕ) → Stepped
   done_by uri =
       let ns = option_map_or (chain (reads s)) (option_map NewResource uri) [] in

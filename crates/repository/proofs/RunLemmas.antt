@@ -13,7 +13,7 @@ use Rattle.notice_chain.specs.View.{View}
 use Rattle.repository.specs.Views.{Outcome, brought}
 use Rattle.repository.specs.declared.reply.Failure.{Failure}
 use Rattle.mm_types.specs.declared.refused.Refused.{Refused}
-use Rattle.handshake.specs.Plans.{is_memory_refusal}
+use Rattle.change_plans.specs.Plans.{is_memory_refusal}
 use Rattle.repository.specs.Step.{Stepped, done, refusal_of, step, step_unless}
 use Rattle.repository.specs.Run.{AllExecuted, Executed, IsRun, IsWanting, Ran, commands_kept, is_memory, outcomes_kept, run}
 use Rattle.handshake.specs.declared.change.Change.TheVariants.{NewResource}

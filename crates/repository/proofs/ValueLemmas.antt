@@ -1,4 +1,4 @@
--- A change that edits values alone, and one that nobody hears: nothing is told, and nothing goes.
+-- A change that edits values alone, and one that notifies no adapter: there are no notifications, and nothing goes.
 use Rattle.std.proofs.Common.{◌≡◌, ◌∙◌, true, ℕ, List, [], Option, None, sym, ap}
 use Rattle.std.specs.Option.{option_map_or}
 use Rattle.std.specs.Prelude.{Ok, unwrap_or}
@@ -12,7 +12,7 @@ use Rattle.adapter_list.specs.Hearing.{IsUnheard}
 use Rattle.notice_chain.specs.View.{View}
 use Rattle.notice_chain.specs.declared.notice.Notice.{Notice}
 use Rattle.handshake.specs.Effects.{after}
-use Rattle.handshake.specs.Plans.{edits_values_alone}
+use Rattle.handshake.specs.Changes.{edits_values_alone}
 use Rattle.handshake.specs.Refusals.{early_refusal, late_refusal}
 use Rattle.handshake.specs.FeatureChanges.{chain, destroyed_by}
 use Rattle.handshake.specs.declared.change.Change.{Change}

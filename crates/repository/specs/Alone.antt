@@ -33,7 +33,7 @@ IsAloneToo s c =
 abbrev pub KeepsModel : State → Command View → Type 0
 KeepsModel s c = is_change c ≡ false → (step s c).after.model ≡ s.model
 
--- a change that was done comes back without adapters: it is done there too, and what it leaves has the same model
+-- a change that was done is done without adapters too, and leaves the same model
 abbrev pub ComesBack : State → Command View → Reply View → State → Type 0
 ComesBack s c r t =
     is_change c ≡ true → Executed s c (Ok r) t

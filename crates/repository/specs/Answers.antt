@@ -33,13 +33,13 @@ use Rattle.fragment_paths.specs.Finding.{at}
 use Rattle.doc_writer.specs.Document.{saved}
 use Rattle.snapshots.specs.Snapshots.{snapshot_of}
 use Rattle.repository.specs.Loads.{objects_of, reads_into}
-use Rattle.handshake.specs.Resolving.{target_at}
-use Rattle.handshake.specs.ResolvingAll.{done, left}
+use Rattle.proxies.specs.Resolving.{target_at}
+use Rattle.proxies.specs.ResolvingAll.{done, left}
 use Rattle.removal.specs.declared.gone.Removal.{Removal}
 use Rattle.handshake.specs.declared.change.Change.{Change}
 use Rattle.handshake.specs.declared.change.Change.TheVariants as change
-use Rattle.handshake.specs.declared.planned.Resolved.{Resolved}
-use Rattle.handshake.specs.declared.target.Target.{Target}
+use Rattle.proxies.specs.declared.resolved.Resolved.{Resolved}
+use Rattle.proxies.specs.declared.target.Target.{Target}
 
 -- what is counted of the adapter of a number
 abbrev pub count_of : List Listed → AdapterNo → (View → ℕ) → ℕ

@@ -1,5 +1,5 @@
--- That notices are enough: an adapter that keeps all that it hears can tell, from a snapshot of a deep target of it, what each node at
--- and below that target has later, without a further look.
+-- That notifications are enough: from a snapshot of a deep target, an adapter that keeps all notifications gives what each node at and
+-- below that target has later, without a further look.
 use Rattle.std.specs.Prelude.{◌≡◌, ◌&&◌, Bool, true, false, IsTrue, List, [], ◌∷◌, drop, length, Some, None}
 use Rattle.std.specs.List.{list_any}
 use Rattle.std.specs.Option.{option_map_or}
@@ -25,7 +25,7 @@ use Rattle.repository.specs.declared.command.Command.TheVariants.{Detach}
 use Rattle.snapshots.specs.Replayed.{replayed_notices, state_at}
 use Rattle.snapshots.specs.Snapshots.{node_state, snapshot_of}
 
--- of a command that is not refused: its notices, replayed on what the ends hold before it, give what each end holds after it, where the
+-- of a command that is not refused: its notifications, replayed on what the ends hold before it, give what each end holds after it, if the
 -- end's node is there before and after
 abbrev pub ChainReplays : State → Command View → Type 0
 ChainReplays s c =
@@ -60,7 +60,7 @@ HasDeepTarget number target s = IsTrue (is_deep_target number target s)
 abbrev pub IsAtOrBelow : Node → Node → State → Type 0
 IsAtOrBelow target n s = is_within (reads s) target n ≡ true
 
--- what notices make of the snapshot of a target, of one node, is what the snapshot at the end of a run has of it
+-- what notifications make of the snapshot of a target, of one node, is what the snapshot at the end of a run has of it
 abbrev pub AreEnough : State → List (Command View) → Node → Node → List Notice → Type 0
 AreEnough s cs target n ns = state_at n (replayed_notices (snapshot_of (reads s) target) ns) ≡ state_at n (snapshot_of (reads (run s cs).after) target)
 
@@ -70,15 +70,15 @@ abbrev pub OfWatched : State → List (Command View) → AdapterNo → Node → 
 OfWatched s cs number target a n Holds =
     IsLegal s → adapter number s.adapters ≡ Some a → AllAlong (HasDeepTarget number target) s cs → AllAlong (IsAtOrBelow target n) s cs → Holds
 
--- what the replies told the adapter is enough, whatever its room
+-- the adapter's notifications in the replies are enough, however many it keeps
 abbrev pub ToldIsEnough : State → List (Command View) → AdapterNo → Node → Listed → Node → Type 0
 ToldIsEnough s cs number target a n = OfWatched s cs number target a n (AreEnough s cs target n (told_to number (told_by_all (run s cs).outcomes)))
 
--- a view without a bound on its room has kept enough since another view, which it was
+-- a view that keeps all has kept enough since another view, which it was
 abbrev pub KeepsEnough : State → List (Command View) → Node → Node → View → View → Type 0
 KeepsEnough s cs target n v w = v.room ≡ None → AreEnough s cs target n (drop (length v.kept) w.kept)
 
--- what the adapter has kept since is enough, if its room has no bound: while it is attached, ..
+-- what the adapter has kept since is enough, if it keeps all: while it is attached, ..
 abbrev pub NoticesAreEnough : State → List (Command View) → AdapterNo → Node → Listed → Listed → Node → Type 0
 NoticesAreEnough s cs number target a b n = OfWatched s cs number target a n (adapter number (run s cs).after.adapters ≡ Some b → KeepsEnough s cs target n a.view b.view)
 

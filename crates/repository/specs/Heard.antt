@@ -1,4 +1,4 @@
--- What an adapter has heard, by what the replies of commands tell.
+-- What an adapter was notified of, by what the replies of commands say.
 use Rattle.std.specs.Prelude.{◌≡◌, List, [], ◌∷◌, ◌++◌, Option, Some, None, Ok, Err, option_map, if◌then◌else◌}
 use Rattle.std.specs.List.{find}
 use Rattle.std.specs.Option.{option_map_or}
@@ -11,7 +11,7 @@ use Rattle.repository.specs.Step.{Stepped, step}
 use Rattle.repository.specs.Views.{Outcome}
 use Rattle.repository.specs.declared.command.Command.{Command}
 
--- the notices of a list that are for the adapter of a number
+-- the notifications of a list that are for the adapter of a number
 abbrev pub told_to : AdapterNo → List (AdapterNo × Notice) → List Notice
 told_to number [] = []
 told_to number (t ∷ ts) = if same_no number t.0 then t.1 ∷ told_to number ts else told_to number ts
@@ -41,7 +41,7 @@ view_among number rs vs = option_map_or (λ (a : Listed). Some a.view) (adapter 
 abbrev pub view_after : AdapterNo → Stepped → Option View
 view_after number t = view_among number t.after.adapters (handed_out_by t.outcome)
 
--- An adapter that is attached before a command has heard after it what the reply tells it, in order, whether it is still attached or handed
+-- An adapter that is attached before a command was notified by it of what the reply says, in order, whether it is still attached or handed
 -- out.
 abbrev pub HearsItsReply : State → Command View → AdapterNo → Listed → Type 0
 HearsItsReply s c number a =

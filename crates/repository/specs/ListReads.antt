@@ -11,7 +11,7 @@ use Rattle.repository.specs.Answers.{got}
 use Rattle.repository.specs.declared.reply.FeatureValue.{FeatureValue}
 use Rattle.repository.specs.declared.reply.FeatureValue.TheVariants as feature_value
 
--- the list that a feature has; one value is none
+-- the list that a feature has; a single value is no list
 abbrev pub list_of : FeatureValue → Result (List Value) Refused
 list_of (feature_value.One v) = Err NotMany
 list_of (feature_value.Many vs) = Ok vs

@@ -3,7 +3,7 @@ use Rattle.std.specs.Prelude.{◌≡◌, ℕ, Bool, List, None}
 use Rattle.notice_chain.specs.Listed.{Above, Listed, is_chain_full, tell_chain, told_list}
 use Rattle.notice_chain.specs.declared.notice.Notice.{Notice}
 use Rattle.handshake.specs.FeatureChanges.{chain}
-use Rattle.handshake.specs.Plans.{IsPlanOf}
+use Rattle.change_plans.specs.Plans.{IsPlanOf}
 use Rattle.handshake.specs.Refusals.{early_refusal}
 use Rattle.handshake.specs.declared.change.Change.{Change}
 use Rattle.repository.specs.Answers.{answer_of}
@@ -13,7 +13,7 @@ use Rattle.repository.specs.State.{State, reads}
 use Rattle.repository.specs.Views.{command_of}
 use Rattle.repository.specs.declared.preparing.Prepared.{Prepared}
 
--- notices that are made only if somebody may hear them tell each adapter what the whole chain tells it
+-- notifications that are made only if an adapter may have to get them are, for each adapter, those of the whole chain
 pub record TellsAll (up : Above) (made chain : List Notice) (rs : List Listed) : Type 0 where
   pub told : told_list up made rs ≡ told_list up chain rs
   pub adapters : tell_chain up made rs ≡ tell_chain up chain rs

@@ -1,11 +1,11 @@
--- A change that puts one link and that nobody hears.
+-- A change that puts one link and notifies no adapter.
 use Rattle.std.specs.Prelude.{◌≡◌, ◌&&◌, ◌||◌, Bool, [], None, false, is_some}
 use Rattle.links.specs.declared.link.NewLink.{NewLink}
 use Rattle.mm_types.specs.declared.numbers.Node.TheVariants as node
 use Rattle.adapter_list.specs.Hearing.{IsUnheard, is_heard}
 use Rattle.handshake.specs.FeatureChanges.{chain}
-use Rattle.handshake.specs.LonePuts.{of_put}
-use Rattle.handshake.specs.Plans.{IsPlanOf}
+use Rattle.change_plans.specs.LonePuts.{of_put}
+use Rattle.change_plans.specs.Plans.{IsPlanOf}
 use Rattle.handshake.specs.Refusals.{early_refusal}
 use Rattle.handshake.specs.declared.change.Change.{Change}
 use Rattle.repository.specs.Answers.{answer_of}
@@ -14,11 +14,11 @@ use Rattle.repository.specs.State.{State, reads}
 use Rattle.repository.specs.Views.{command_of}
 use Rattle.repository.specs.declared.reply.Answer.{Answer}
 
--- an adapter hears of a put: at its end, or at the object if the feature has an opposite
+-- an adapter is notified of a put: at its end, or at the object if the feature has an opposite
 abbrev pub is_put_heard : State → NewLink → Bool
 is_put_heard s p = is_heard (reads s).above p.end.node s.adapters || (is_some p.opposite && is_heard (reads s).above (node.Object p.object) s.adapters)
 
--- the put is all that the change does, nobody hears it, and this is its answer
+-- the put is all that the change does, it notifies no adapter, and this is its answer
 pub record IsPutAlone (s : State) (c : Change) (p : NewLink) (a : Answer) : Type 0 where
   pub asked : early_refusal (reads s) c ≡ None
   pub proper : IsProper (reads s) [] c

@@ -13,7 +13,7 @@ use Rattle.adapter_list.specs.Refusals.{attach_refusal, watch_refusal}
 use Rattle.models.specs.Model.{Model, reading}
 use Rattle.models.specs.Reading.{Reading, has_uri}
 use Rattle.models.specs.Existence.{end_refusal, node_refusal, object_refusal}
-use Rattle.handshake.specs.Plans.{is_memory_refusal}
+use Rattle.change_plans.specs.Plans.{is_memory_refusal}
 use Rattle.handshake.specs.Refusals as planned
 use Rattle.handshake.specs.FeatureChanges as planned_chain
 use Rattle.handshake.specs.declared.change.Change.{Change}
@@ -41,7 +41,7 @@ change_of r (command.Load k text) = load_of k (reads_into r k text)
 change_of r command.ResolveAll = Some change.ResolveAll
 change_of r _ = None
 
--- the notices that its change tells
+-- the notifications of its change
 abbrev pub chain : Reading → Command View → List Notice
 chain r c = option_map_or (planned_chain.chain r) (change_of r c) []
 
@@ -99,7 +99,7 @@ late_refusal r rs (command.Watch number target deep) = watch_refusal rs number t
 late_refusal r rs (command.Read q) = late_read_refusal r q
 late_refusal r rs _ = None
 
--- an adapter that hears of it can't count any further
+-- an adapter that it notifies can't count any further
 abbrev pub full_refusal : Reading → List Listed → Command View → Option Refused
 full_refusal r rs c = AdapterFull where_so is_chain_full r.above (chain r c) rs
 

@@ -15,7 +15,7 @@ use Rattle.models.specs.Reading.{Reading, at_end, has_resource}
 use Rattle.models.specs.Steady.{HasSteadyTexts}
 use Rattle.notice_chain.specs.View.{View}
 use Rattle.doc_writer.specs.Saved.{IsReadAs}
-use Rattle.handshake.specs.Resolving.{proxy_at}
+use Rattle.proxies.specs.Resolving.{proxy_at}
 use Rattle.reloading.specs.Alike.{Alike}
 use Rattle.reloading.specs.Between.{Between}
 use Rattle.reloading.specs.Orders.{Fill, IsOrder, IsSaved, Make, Task, number_of, uri_of}
@@ -62,7 +62,7 @@ AllDone os = AllByRecursion IsDone os
 abbrev pub reloaded : State → (ResourceNo → List ℕ) → List Task → State
 reloaded s texts ts = (run (empty_state s.model.metamodel) (commands (reads s) texts [] ts)).after
 
--- nothing refuses the loads, and what they leave is legal, and between what was saved and itself
+-- nothing refuses the loads, and what they leave is legal, and what was saved, partly resolved
 pub record AreLoads (s : State) (texts : ResourceNo → List ℕ) (ts : List Task) : Type 0 where
   pub done : AllDone (run (empty_state s.model.metamodel) (commands (reads s) texts [] ts)).outcomes
   pub legal : IsLegal (reloaded s texts ts)
@@ -83,7 +83,8 @@ LoadsGiveBetween = OfSaved AreLoads
 abbrev pub bare : Model → State
 bare t = record { model = t; adapters = [] }
 
--- nothing refuses to resolve a proxy; the state is between as before, and one proxy fewer is left, or two of a link with an opposite
+-- nothing refuses to resolve a proxy; the state is partly resolved as before, and one proxy fewer is left, or two of a link with an
+-- opposite
 pub record IsResolvedBetween (r : Reading) (t : State) (o : ObjectNo) (f : FeatureNo) (i : ℕ) : Type 0 where
   pub done : IsDone (step t (resolve o f i)).outcome
   pub between : Between r (reads (step t (resolve o f i)).after)
@@ -98,13 +99,13 @@ abbrev pub LeavesProxies : Outcome → ℕ → Type 0
 LeavesProxies (Ok r) n = CountsLeft r.answer n
 LeavesProxies (Err f) n = ⊥
 
--- nothing refuses to resolve all; it answers that none is left, and so it is; and the state is alike
+-- nothing refuses to resolve all; it answers that none is left, and so it is; and the state is isomorphic
 pub record IsAllResolved (r : Reading) (t : State) : Type 0 where
   pub done : LeavesProxies (step t command.ResolveAll).outcome 0
   pub none : HasNoProxy (reads (step t command.ResolveAll).after)
   pub alike : Alike r (reads (step t command.ResolveAll).after)
 
--- of a state without adapters that is between one without proxies and that
+-- of a state without adapters that is one without proxies, partly resolved
 abbrev pub OfBetween : (Reading → State → Type 0) → State → ValuesState → Links → Type 0
 OfBetween P s w b =
     let t = bare (model_of s.model.metamodel w b) in
@@ -119,7 +120,7 @@ ResolvesAll s w b = OfBetween IsAllResolved s w b
 
 ---------------------------------------------------------------- all of it
 
--- the resolves are done, and what they lead to is alike
+-- the resolves are done, and what they lead to is isomorphic
 pub record IsHadAgain (s : State) (texts : ResourceNo → List ℕ) (ts : List Task) (rs : List (Command View)) : Type 0 where
   pub resolves : AllDone (run (reloaded s texts ts) rs).outcomes
   pub alike : Alike (reads s) (reads (run (reloaded s texts ts) rs).after)

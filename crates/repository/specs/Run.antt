@@ -15,7 +15,7 @@ use Rattle.repository.specs.declared.reply.Reply.{Reply}
 use Rattle.repository.specs.State.{State}
 use Rattle.repository.specs.Views.{Outcome}
 use Rattle.repository.specs.Step.{failure, refusal_of, step}
-use Rattle.handshake.specs.Plans.{is_memory_refusal}
+use Rattle.change_plans.specs.Plans.{is_memory_refusal}
 
 -- an outcome is out of memory
 abbrev pub is_memory : Outcome → Bool
@@ -53,7 +53,7 @@ takes_memory _ = true
 abbrev pub may_want_memory : State → Command View → Bool
 may_want_memory s c = takes_memory c && not (option_map_or is_plain (refusal_of s c) false)
 
--- a command is answered out of memory: then nothing changes, no adapter has heard anything, and what it brought comes back
+-- a command is answered out of memory: then nothing changes, no adapter is notified, and what it brought comes back
 pub record IsWanting (s : State) (c : Command View) (o : Outcome) (t : State) : Type 0 where
   pub may : IsTrue (may_want_memory s c)
   pub outcome : o ≡ Err (failure c Memory)

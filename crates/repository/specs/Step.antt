@@ -49,7 +49,7 @@ joined_by (command.Attach number target deep view) rs = rs ++ joins (command.Att
 joined_by (command.Watch number target deep) rs = if is_target number target rs then rs else watched number (record { node = target; deep = deep }) rs
 joined_by _ rs = rs
 
--- the chain is told to those that hear it by what is above the notifiers before the command, and then the targets go
+-- the chain notifies the adapters that get it by what is above the notifiers before the command, and then the targets go
 abbrev pub releases : Reading → List Listed → Command View → Released
 releases r rs c = released (going r rs c) (tell_chain r.above (chain r c) rs)
 
@@ -85,6 +85,6 @@ step_unless s c None = done s c
 abbrev pub step : State → Command View → Stepped
 step s c = step_unless s c (refusal_of s c)
 
--- closing releases all adapters: each number with its view after its last notice
+-- closing releases all adapters: each number with its view after its last notification
 abbrev pub closed : State → List (AdapterNo × View)
 closed s = (released_where is_any s.adapters).views

@@ -1,4 +1,4 @@
--- Commands and outcomes with views instead of adapters: of an adapter only what it has heard is determined.
+-- Commands and outcomes with views instead of adapters: of an adapter only what it was notified of is determined.
 use Rattle.std.specs.Prelude.{ℕ, List, map, Option, Some, None, Result, Ok, Err, option_map}
 use Rattle.handshake.specs.declared.change.Change.{Change}
 use Rattle.handshake.specs.declared.change.Change.TheVariants as change

@@ -40,7 +40,7 @@ pub enum Command<A = Box<dyn Adapter>> {
         no: AdapterNo,
         target: Node,
     },
-    /// Detaches an adapter from all its targets, and gives it back with its last notices told (EMF:
+    /// Detaches an adapter from all its targets, and gives it back, notified of that (EMF:
     /// Notifier.eAdapters().remove).
     Detach(AdapterNo),
     /// Asks for something, and changes nothing.

@@ -34,8 +34,8 @@ pub fn a_refusal_changes_nothing()
     ensures given_back { (s t : State) (c : Command View) (f : Failure View) → Executed s c (Err f) t → f.given_back ≡ brought c }
 {}
 
-/// The notices of a command, replayed in turn on what the ends hold before it, give what they hold after it. It holds of each end of a
-/// node that is there before and after the command.
+/// The notifications of a command, replayed in turn on what the ends hold before it, give what they hold after it. It holds of each end of
+/// a node that is there before and after the command.
 pub fn the_notices_of_a_command_replay_it()
     ensures { (s : State) (c : Command View) → ChainReplays s c }
 {}
@@ -45,16 +45,16 @@ pub fn a_snapshot_has_each_node()
     ensures { (s : Model) (target n : Node) → HasEachNode s target n }
 {}
 
-/// An adapter that is attached before a command has heard after it what the reply tells it, in order and nothing else: while it is still
+/// An adapter that is attached before a command was notified by it of what the reply says, in order and of nothing else: while it is still
 /// attached, and when the reply hands it out.
 pub fn an_adapter_hears_what_the_reply_tells_it()
     ensures { (s : State) (c : Command View) (number : AdapterNo) (a : Listed) → HearsItsReply s c number a }
 {}
 
-/// Notices are enough. Let a node be a deep target of an adapter from here to now, and take the snapshot of the target from here. For each
-/// node that is the target or below it all along, the snapshot replayed with the notices since has what the snapshot has now. The notices
-/// are those that the replies told the adapter, whatever its room. If its room has no bound, they are also those that it has kept since:
-/// while it is attached, and once `detach` or `close` hands it out.
+/// Notifications are enough. Let a node be a deep target of an adapter from here to now, and take the snapshot of the target from here. For
+/// each node that is the target or below it all along, the snapshot replayed with the notifications since has what the snapshot has now.
+/// The notifications are those that the replies have for the adapter, however many it keeps. If it keeps all, they are also those that it
+/// has kept since: while it is attached, and once `detach` or `close` hands it out.
 pub fn notices_are_enough()
     ensures kept { (s : State) (cs : List (Command View)) (number : AdapterNo) (target : Node) (a b : Listed) (n : Node) → NoticesAreEnough s cs number target a b n }
     ensures told { (s : State) (cs : List (Command View)) (number : AdapterNo) (target : Node) (a : Listed) (n : Node) → ToldIsEnough s cs number target a n }
@@ -62,37 +62,36 @@ pub fn notices_are_enough()
     ensures closed { (s : State) (cs : List (Command View)) (number : AdapterNo) (target : Node) (a : Listed) (w : View) (n : Node) → ClosedKeepsEnough s cs number target a w n }
 {}
 
-/// All that was saved, of a state without proxies, comes back into a new repository over the same metamodel, if the text of no reference is
+/// All that was saved of a state without proxies comes back into a new repository over the same metamodel, if the text of no reference is
 /// longer than 65,535 bytes. Its resources are created and their texts loaded, in any order in which none is loaded before it is created.
-/// The texts are those that `Repository::save` returns. Nothing but memory refuses any of these commands, and the
-/// new state is legal and between what was saved and itself: it has the same objects at the same addresses, and some references are still
-/// proxies.
+/// The texts are those that `Repository::save` returns. Nothing but memory refuses any of these commands, and the new state is legal, and
+/// what was saved, partly resolved: it has the same objects at the same addresses, and some references are still proxies.
 pub fn loads_in_any_order_give_what_stands_between()
     ensures { (s : State) → LoadsGiveBetween s }
 {}
 
-/// If a state is between a saved one without proxies and itself, nothing but memory refuses to resolve a proxy. It is still between
+/// If a state is a saved one without proxies, partly resolved, nothing but memory refuses to resolve a proxy. It is still partly resolved
 /// afterwards, and has one proxy fewer, or two if they were the ends of one link.
 pub fn resolving_stays_between()
     ensures { (s : State) (w : ValuesState) (b : Links) → ResolvesBetween s w b }
 {}
 
-/// Nothing but memory refuses to resolve all proxies of a state that is between. The answer counts none as left, none is left, and the
-/// state is alike to the saved one (EMF: EcoreUtil.resolveAll).
+/// Nothing but memory refuses to resolve all proxies of a partly resolved state. The answer counts none as left, none is left, and the
+/// state is isomorphic to the saved one (EMF: EcoreUtil.resolveAll).
 pub fn resolving_all_leaves_no_proxy()
     ensures { (s : State) (w : ValuesState) (b : Links) → ResolvesAll s w b }
 {}
 
-/// A state without proxies that is between another one without proxies and itself is alike to that one.
+/// A state without proxies that is a saved one without proxies, partly resolved, is isomorphic to that one.
 pub fn without_proxies_what_stands_between_is_alike()
     ensures { (s t : Reading) → HasNoProxy s → HasNoProxy t → Between s t → Alike s t }
 {}
 
 /// What was saved comes back. All resources of a state without proxies were saved, and the text of no reference is longer than 65,535
-/// bytes. In a new repository over the same metamodel they are
-/// created and loaded, both in any order, and then proxies are resolved, all at once or one after another in any order until none is left.
-/// Nothing but memory refuses any of these commands, and the two states are alike: they have the same addresses, and at each address the
-/// same class, values, flags and ends, with objects compared by their addresses.
+/// bytes. In a new repository over the same metamodel they are created and loaded, both in any order, and then proxies are resolved, all at
+/// once or one after another in any order until none is left. Nothing but memory refuses any of these commands, and the two states are
+/// isomorphic: they have the same addresses, and at each address the same class, values, flags and ends, with objects compared by their
+/// addresses.
 pub fn what_was_saved_is_had_again_in_any_order()
     ensures { (s : State) → ReloadsInAnyOrder s }
 {}

@@ -97,17 +97,17 @@ fn add_gone(
     Ok(())
 }
 
-/// Which targets go, and room for all that is told: made before anything changes.
+/// Which targets go, and capacity for all notifications: reserved before anything changes.
 #[derive(Drop)]
 pub(crate) struct Leaving<A> {
     /// The targets that go: the adapters in attach order, the targets of each in the order in which it got them.
     pub release: Release<A>,
-    /// Room for the notices of a chain, and then for the last ones from those targets.
+    /// Capacity for the notifications of a chain, and then for the last ones from those targets.
     pub told: Vec<(AdapterNo, Notice)>,
 }
 
 impl<A: Adapter> Leaving<A> {
-    /// Room for so many notices of a chain, and then for the last notices from targets that go.
+    /// Capacity for so many notifications of a chain, and then for the last notifications from targets that go.
     pub(crate) fn reserve(
         alloc: Global,
         spots: Vec<(AdapterNo, Node)>,
@@ -123,7 +123,7 @@ impl<A: Adapter> Leaving<A> {
     }
 }
 
-/// Room for the targets that go, if any do.
+/// Capacity for the targets that go, if any do.
 pub(crate) fn room_for<A: Adapter>(
     alloc: Global,
     spots: Vec<(AdapterNo, Node)>,
@@ -139,8 +139,8 @@ pub(crate) fn room_for<A: Adapter>(
     Ok(Some(Leaving::reserve(alloc, spots, chain_told)?))
 }
 
-/// Delivers the notices of a round, and then releases the targets for which there is room. Gives who was told of what, and the
-/// adapters that are handed out.
+/// Delivers the notifications of a round, and then releases the targets for which there is capacity. Gives which adapter was notified of
+/// what, and the adapters that are handed out.
 pub(crate) fn notify<A: Adapter>(
     alloc: Global,
     adapters: &mut AdapterList<A>,
@@ -160,7 +160,7 @@ pub(crate) fn notify<A: Adapter>(
     }
 }
 
-/// Releases targets: their last notices are told after those of a chain.
+/// Releases targets: their last notifications come after those of a chain.
 fn let_go<A: Adapter>(
     adapters: &mut AdapterList<A>,
     leaving: Leaving<A>,
@@ -178,7 +178,7 @@ fn let_go<A: Adapter>(
     (told, released)
 }
 
-/// Moves all that was told into a list that has room for it.
+/// Moves all notifications into a list that has capacity for them.
 fn move_all(from: Vec<(AdapterNo, Notice)>, into: &mut Vec<(AdapterNo, Notice)>)
     requires room { vec_len into.old + length from.items ≤ vec_capacity into.old }
     ensures items { into.new.items ≡ into.old.items ++ from.items }

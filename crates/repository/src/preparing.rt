@@ -6,7 +6,8 @@ ghost use Rattle.notice_chain.specs.Listed.{Listed};
 ghost use Rattle.links.specs.Holders.{HasNoCycle, above};
 ghost use Rattle.links.specs.LegalSets.{IsLegalSet, Kinds};
 ghost use Rattle.models.specs.Model.{reading};
-ghost use Rattle.handshake.specs.Plans.{IsPlanOf, edits_values_alone, of_values};
+ghost use Rattle.change_plans.specs.Plans.{IsPlanOf, of_values};
+ghost use Rattle.handshake.specs.Changes.{edits_values_alone};
 ghost use Rattle.handshake.specs.Refusals.{early_refusal as early_refusal_of};
 ghost use Rattle.adapter_list.specs.Hearing.{AreKnown};
 ghost use Rattle.adapter_list.specs.Refusals.{IsChainRefusal};
@@ -24,12 +25,14 @@ use crate::leaving::{Leaving, room_for, spots_gone};
 use crate::reply::Answer;
 use adapter_list::{AdapterList, Hearers, Round};
 use adapters::Adapter;
-use handshake::{Act, Change, Planned, Resolved, Target, plan, plan_values};
+use change_plans::{Planned, plan, plan_values};
+use handshake::{Act, Change};
 use links::LinkStore;
 use mm_types::{AdapterNo, End, Node, ObjectNo, Refused, ResourceNo, Seq};
 use mm_values::{ValuePlan, Values};
 use models::{ModelRef, copied};
 use notice_chain::Chain;
+use proxies::{Resolved, Target};
 use removal::Removal;
 use std::alloc::{AllocError, Global};
 
@@ -42,7 +45,7 @@ pub(crate) struct Prepared {
     pub planned: Planned,
 }
 
-/// Prepares a change, or gives the refusal that planning finds. If no adapter is attached, no notice is made.
+/// Prepares a change, or gives the refusal that planning finds. If no adapter is attached, no notification is made.
 pub(crate) fn prepare<L: LinkStore, A: Adapter>(
     alloc: Global,
     model: &ModelRef<L>,
@@ -70,7 +73,7 @@ pub(crate) fn prepare<L: LinkStore, A: Adapter>(
     })
 }
 
-/// The answer of a change that edits values alone, its edits, and its notices if somebody may hear them.
+/// The answer of a change that edits values alone, its edits, and its notifications if an adapter may have to get them.
 #[derive(Drop)]
 pub(crate) struct PreparedValues {
     pub answer: Answer,
@@ -124,8 +127,8 @@ pub(crate) fn prepare_values<L: LinkStore>(
     })
 }
 
-/// Takes all memory that a plan needs, room for what is told of the targets that go, and at last all places that the adapters need, in
-/// attach order. Nothing changes.
+/// Takes all memory that a plan needs, capacity for the notifications of the targets that go, and at last the capacity that the adapters
+/// need, in attach order. Nothing changes.
 pub(crate) fn reserve<L: LinkStore, A: Adapter>(
     alloc: Global,
     store: &mut L,
@@ -160,8 +163,8 @@ pub(crate) fn reserve<L: LinkStore, A: Adapter>(
     Ok((round, leaving))
 }
 
-/// The answer of a change that is not refused; `None` for a deletion and for proxies, whose answers are what the plan destroys, finds and
-/// resolves. Errs only if memory is refused.
+/// The answer of a change that is not refused; `None` for a deletion and for the resolving of proxies: their plans give the answer. Errs
+/// only if memory is refused.
 fn early_answer<L: LinkStore>(
     alloc: Global,
     model: &ModelRef<L>,

@@ -14,7 +14,7 @@ pub enum Read {
     Save(ResourceNo),
     /// Asks for the object at an address (EMF: ResourceSet.getEObject, without loading).
     ObjectAt(Text),
-    /// Asks how many notices of an adapter there are.
+    /// Asks for a count of an adapter.
     Adapter(AdapterNo, Tally),
 }
 
@@ -51,10 +51,10 @@ pub enum NodeRead {
     Snapshot,
 }
 
-/// Which notices of an adapter are counted.
+/// Which notifications of an adapter are counted.
 #[derive(Clone, Copy, Drop)]
 pub enum Tally {
-    /// All that it was told.
+    /// All that it got.
     Told,
     /// Those that it keeps.
     Kept,

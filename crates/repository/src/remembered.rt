@@ -1,4 +1,4 @@
-//! When the remembered fragments, and who hears a node, are forgotten.
+//! When the remembered fragments, and the adapters that are notified at a node, are forgotten.
 ghost use Rattle.std.specs.FinMap as map;
 ghost use Rattle.std.specs.Prelude.{◌≡◌, false, if◌then◌else◌, is_some, List};
 ghost use Rattle.links.specs.Laws.{contains_by, edit_end, touches_containment as touches};
@@ -33,8 +33,8 @@ fn is_move(edits: &Plan) -> bool
     matches!(edits.as_slice(), [Edit::Shift { .. }])
 }
 
-/// Forgets what is remembered and may be wrong after a change: the fragments if a plan edits a link that contains, and who hears a
-/// node if the plan may give a node another container, or if targets go. Takes no memory.
+/// Forgets what is remembered and may be wrong after a change: the fragments if a plan edits a link that contains, and the adapters that
+/// are notified at a node if the plan may give a node another container, or if targets go. Takes no memory.
 pub(crate) fn forget_touched(
     paths: &mut PathCache,
     hearers: &mut Hearers,

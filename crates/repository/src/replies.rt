@@ -20,7 +20,7 @@ pub(crate) fn reply<A>(alloc: Global, answer: Answer) -> Reply<A>
     }
 }
 
-/// That a command is done which only changes something, as a reply.
+/// The reply of a command that only changes something: `Done`.
 pub(crate) fn replied_done<A>(alloc: Global, done: Result<(), Refused>) -> Result<Reply<A>, Refused>
     ensures { (heard : A → View) → change_outcome (changed_view heard result) ≡ read_outcome (λ u. answer.Done) done }
 {

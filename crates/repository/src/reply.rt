@@ -23,7 +23,7 @@ pub enum Answer {
     Flag(bool),
     /// The class of an object.
     Class(ClassNo),
-    /// How many notices an adapter was told, or keeps.
+    /// How many notifications an adapter got, or keeps.
     Count(u64),
     /// How many objects were destroyed.
     Destroyed(u64),
@@ -86,6 +86,6 @@ pub struct Reply<A = Box<dyn Adapter>> {
 #[derive(Drop)]
 pub struct Failure<A = Box<dyn Adapter>> {
     pub refused: Refused,
-    /// The adapter that the command brought, which has heard what it had heard.
+    /// The adapter that the command brought, as it was.
     pub given_back: Option<A>,
 }

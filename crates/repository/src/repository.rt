@@ -29,9 +29,9 @@ use std::marker::Model;
 /// Objects of a metamodel's classes with what they hold, their links in a store, and the adapters that are notified of their changes (EMF:
 /// Resource with EObjects; MOF 2.5.1: Extent).
 ///
-/// A command that is refused changes nothing and notifies nobody. Contracts see a repository as its `State`, which is always
-/// legal. Code that holds a repository is generic over its store and the kind of its adapters; only the outermost caller picks
-/// them, mostly `Box<dyn Adapter>`. A repository that is dropped drops its adapters without a notice; `close` gives them back.
+/// A command that is refused changes nothing and notifies nobody. Contracts see a repository as its `State`, which is always legal. Code
+/// that holds a repository is generic over its store and the kind of its adapters; only the outermost caller picks them, mostly
+/// `Box<dyn Adapter>`. A repository that is dropped drops its adapters without notifying them; `close` gives them back.
 #[derive(Drop)]
 pub struct Repository<L: LinkStore, A: Adapter = Box<dyn Adapter>> {
     alloc: Global,
@@ -41,7 +41,7 @@ pub struct Repository<L: LinkStore, A: Adapter = Box<dyn Adapter>> {
     adapters: AdapterList<A>,
     /// Fragments that were asked for, until a containing link changes.
     paths: PathCache,
-    /// Who heard the last notice, until a containing link changes, or an adapter gets or loses a target.
+    /// The adapters of the last notification, until a containing link changes, or an adapter gets or loses a target.
     hearers: Hearers,
 }
 

@@ -37,10 +37,11 @@ pub parts_more : (m : Metamodel) (f : FoundParts) (ps : List Part) (i : ℕ) →
 unfolding part_at
 parts_more m f ps i known below = let e = count_known m ps f.parts.items known.parts in sym (take_more ps i no_part (omega (arith, below, e)))
 
-pub row_of_part : (m : Metamodel) (f : FoundParts) (ps : List Part) (i : ℕ) (r : FoundPart) → Knows m f ps → i < length f.parts.items → r ≡ get_or f.parts.items i r → part_seen r ≡ seen m ps (part_at ps i)
+pub row_of_part : (m : Metamodel) (f : FoundParts) (ps : List Part) (i : ℕ) (rs : List FoundPart) (d : FoundPart) → Knows m f ps → i < length f.parts.items → rs ≡ f.parts.items
+    → part_seen (get_or rs i d) ≡ seen m ps (part_at ps i)
 unfolding part_at
-row_of_part m f ps i r known below is =
-    ap part_seen is
-    ∙ sym (get_or-map part_seen f.parts.items i r (part_seen r) below)
-    ∙ ap (λ ss. get_or ss i (part_seen r)) known.parts
-    ∙ (let e = count_known m ps f.parts.items known.parts in get_or-map (seen m ps) ps i no_part (part_seen r) (omega (arith, below, e)))
+row_of_part m f ps i rs d known below same =
+    ap (λ xs. part_seen (get_or xs i d)) same
+    ∙ sym (get_or-map part_seen f.parts.items i d (part_seen d) below)
+    ∙ ap (λ ss. get_or ss i (part_seen d)) known.parts
+    ∙ (let e = count_known m ps f.parts.items known.parts in get_or-map (seen m ps) ps i no_part (part_seen d) (omega (arith, below, e)))

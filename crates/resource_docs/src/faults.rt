@@ -27,14 +27,14 @@ use std::alloc::AllocError;
 
 /// Whether a document has the first format.
 pub(crate) fn has_first_format(top: TopMembers) -> bool
-    ensures { result ≡ first_meant (new_top top.entry.format (items_view top.entry.roots.now.items)) }
+    ensures { result ≡ first_meant (new_top top.entry.format (items_view top.entry.roots.now)) }
 {
     top.format == i64::from(limits::FIRST_DOCUMENT_FORMAT)
 }
 
 /// What is wrong with the shape of what is written, or with its names and types. Takes no memory.
 pub(crate) fn shape_cause(meta: &Meta, top: TopMembers, found: &FoundParts) -> Option<DocFault>
-    ensures { (ps : List Part) → Knows meta.now found.now ps → result ≡ shape_meant meta.now (Some (new_top top.entry.format (items_view top.entry.roots.now.items))) ps }
+    ensures { (ps : List Part) → Knows meta.now found.now ps → result ≡ shape_meant meta.now (Some (new_top top.entry.format (items_view top.entry.roots.now))) ps }
 {
     if has_misshapen(found) {
         return Some(DocFault::Layout);

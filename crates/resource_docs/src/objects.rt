@@ -30,7 +30,7 @@ pub(crate) struct ReadObjects {
     pub is_lost: bool,
 }
 
-/// Nothing yet, with room for the contents of so many features.
+/// Nothing yet, with capacity for the contents of so many features.
 fn no_contents(alloc: Global, room: usize) -> Result<ReadContents, AllocError>
     ensures { IfOk result (λ r. r ≡ record { contents = []; is_lost = false }) }
 {
@@ -63,12 +63,12 @@ fn add_feature(
     read: &mut ReadContents,
     source: &Source,
     number: u32,
-    members: &Members,
+    members: Members,
     feature: FeatureNo,
 ) -> Result<(), AllocError>
     ensures value { OnOk result (Numbered source.now.meta.now source.now.found.now number (λ ps path. (es : List Entry)
         → read.old ≡ contents_so_far source.now.meta.now (base_of source.now.uri.now) ps path es
-        → read.new ≡ contents_so_far source.now.meta.now (base_of source.now.uri.now) ps path (es ++ option_to_list (entry_at source.now.meta.now (members_view members.now.items) feature)))) }
+        → read.new ≡ contents_so_far source.now.meta.now (base_of source.now.uri.now) ps path (es ++ option_to_list (entry_at source.now.meta.now (members_view members.now) feature)))) }
     ensures proxy { OnOk result (All IsProxyContent read.old.contents → All IsProxyContent read.new.contents) }
 {
     match content_at(source.meta, members, feature) {
@@ -83,10 +83,10 @@ fn add_feature(
 fn read_features(
     source: &Source,
     number: u32,
-    members: &Members,
+    members: Members,
     features: &[FeatureNo],
 ) -> Result<ReadContents, AllocError>
-    ensures value { IfOk result (λ r. Numbered source.now.meta.now source.now.found.now number (λ ps path. r ≡ contents_so_far source.now.meta.now (base_of source.now.uri.now) ps path (filter_map (entry_at source.now.meta.now (members_view members.now.items)) features.now))) }
+    ensures value { IfOk result (λ r. Numbered source.now.meta.now source.now.found.now number (λ ps path. r ≡ contents_so_far source.now.meta.now (base_of source.now.uri.now) ps path (filter_map (entry_at source.now.meta.now (members_view members.now)) features.now))) }
     ensures proxy { IfOk result (λ r. All IsProxyContent r.contents) }
 {
     let room = members.len().min(features.len());
@@ -129,8 +129,7 @@ fn add_object(read: &mut ReadObjects, source: &Source, part: &FoundPart) -> Resu
     Ok(())
 }
 
-/// Reads the objects of the parts that were found, in loading order. Errs only if memory is refused, or if a list has
-/// more than 2^32 values.
+/// Reads the objects of the parts that were found, in loading order. Errs only if memory is refused.
 pub(crate) fn read_objects(source: &Source) -> Result<ReadObjects, AllocError>
     ensures value { IfOk result (λ r. (ps : List Part) → Knows source.now.meta.now source.now.found.now ps → r ≡ objects_so_far source.now.meta.now (base_of source.now.uri.now) ps ps) }
     ensures proxy { IfOk result (λ r. All IsProxyObject r.objects) }

@@ -16,6 +16,7 @@ use crate::objects::read_objects;
 use crate::roots::read_roots;
 use crate::source::Source;
 use borrowed_json::{Json, JsonFault, read_json};
+use bumpalo::Bump;
 use doc_parts::{TopMembers, find_parts, top};
 use json::Scratch;
 use mm_meta::Meta;
@@ -55,20 +56,20 @@ fn read_found(source: &Source, has_first_format: bool, roots: &[Json]) -> Result
 
 /// Reads the document whose parts were found.
 fn read_parts(source: &Source, top: TopMembers) -> Result<Doc, Refused>
-    ensures { (d : Data) → Knows source.now.meta.now source.now.found.now (parts source.now.meta.now d) → top_meant d ≡ Some (new_top top.entry.format (items_view top.entry.roots.now.items))
+    ensures { (d : Data) → Knows source.now.meta.now source.now.found.now (parts source.now.meta.now d) → top_meant d ≡ Some (new_top top.entry.format (items_view top.entry.roots.now))
         → Answers result (reads source.now.meta.now (base_of source.now.uri.now) d) }
 {
     match shape_cause(source.meta, top, source.found) {
         Some(fault) => Err(Refused::Document(fault)),
-        None => read_found(source, has_first_format(top), top.roots.as_slice()),
+        None => read_found(source, has_first_format(top), top.roots),
     }
 }
 
 /// Reads the document of a top.
 fn read_top(alloc: Global, meta: &Meta, uri: &str, top: TopMembers) -> Result<Doc, Refused>
-    ensures { (d : Data) → depth d ≤ NESTING → top_meant d ≡ Some (new_top top.entry.format (items_view top.entry.roots.now.items)) → Answers result (reads meta.now (base_of uri.now) d) }
+    ensures { (d : Data) → depth d ≤ NESTING → top_meant d ≡ Some (new_top top.entry.format (items_view top.entry.roots.now)) → Answers result (reads meta.now (base_of uri.now) d) }
 {
-    match find_parts(alloc, meta, NESTING, top.roots.as_slice()) {
+    match find_parts(alloc, meta, NESTING, top.roots) {
         Ok(found) => read_parts(
             &Source {
                 alloc,
@@ -97,8 +98,10 @@ fn read_value(alloc: Global, meta: &Meta, uri: &str, json: &Json) -> Result<Doc,
 fn read_text(alloc: Global, meta: &Meta, uri: &str, text: &str) -> Result<Doc, Refused>
     ensures { Reads result meta.now uri.now text.now }
 {
+    let arena = Bump::new(alloc);
+    let arena = Bump::new(alloc);
     let mut scratch = Scratch::new(alloc);
-    match read_json(alloc, text, &mut scratch) {
+    match read_json(alloc, &arena, text, &mut scratch) {
         Ok(value) => read_value(alloc, meta, uri, &value),
         Err(JsonFault::Memory) => Err(Refused::Memory),
         Err(JsonFault::Syntax) => Err(Refused::Document(DocFault::Syntax)),
@@ -113,7 +116,7 @@ fn read_text(alloc: Global, meta: &Meta, uri: &str, text: &str) -> Result<Doc, R
 /// - `Format` if its format is neither 1 nor 2;
 /// - `Class` if an object names no class, or an abstract one;
 /// - `Feature` if a key is no feature of the object's class, or a container reference;
-/// - `Value` if what is written under a feature is none of its type, or a text has more than 65,535 bytes;
+/// - `Value` if what is written under a feature is not of its type, or a text has more than 65,535 bytes;
 /// - `Reference` if a text is no fragment and no URI with a fragment, or leads to no object of the document that
 ///   conforms;
 /// - `Duplicate` if a unique list repeats a value;
@@ -122,7 +125,7 @@ fn read_text(alloc: Global, meta: &Meta, uri: &str, text: &str) -> Result<Doc, R
 /// - `Cross` if its format is 1, and a reference with an opposite leads to a different resource;
 /// - `Depth` if an object is below level 40.
 ///
-/// `Memory` if memory is refused, or if there are more than 2^32 objects or values, whatever else applies; no other
+/// `Memory` if memory is refused, or if there are more than 2^32 objects, whatever else applies; no other
 /// refusal. References into other resources become proxies, by their joined URIs. The time is linear in the document, for
 /// each metamodel: the members of an object are looked through once for each feature of its class, some four times in all.
 pub fn read_doc(alloc: Global, meta: &Meta, uri: &str, bytes: &[u8]) -> Result<Doc, Refused>

@@ -20,17 +20,14 @@ fn add_root(
 ) -> Result<(), AllocError>
     ensures { OnOk result ((m : Metamodel) (ps : List Part) → Knows m found.now ps → roots.new ≡ roots.old ++ option_to_list (root_number ps (new_path position []))) }
 {
-    if position > u32::MAX as usize {
-        return Err(AllocError);
-    }
-    match found.numbers.at(PartKey::Root(position as u32)) {
+    match found.numbers.at(PartKey::Root(position)) {
         Some(number) => roots.push(ObjectNo(number))?,
         None => {}
     }
     Ok(())
 }
 
-/// The numbers of the roots. Errs only if memory is refused, or if there are more than 2^32 of them.
+/// The numbers of the roots. Errs only if memory is refused.
 pub(crate) fn read_roots(
     alloc: Global,
     found: &FoundParts,

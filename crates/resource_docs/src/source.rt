@@ -5,9 +5,9 @@ use std::alloc::Global;
 
 /// What values are read with: the metamodel, the URI of the document's resource, and the parts that were found in it.
 #[derive(Clone, Copy)]
-pub(crate) struct Source<'r, 'v, 't, 'm> {
+pub(crate) struct Source<'r, 't, 'm> {
     pub alloc: Global,
     pub meta: &'r Meta,
     pub uri: &'r str,
-    pub found: &'r FoundParts<'v, 't, 'm>,
+    pub found: &'r FoundParts<'t, 'm>,
 }

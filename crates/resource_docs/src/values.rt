@@ -24,7 +24,7 @@ pub(crate) struct ReadValues {
 }
 
 /// The object that a step leads to under a part. The part is given by its number.
-fn part_at(source: &Source, number: u32, name: &str, index: Option<u32>) -> Option<Value>
+fn part_at(source: &Source, number: u32, name: &str, index: Option<usize>) -> Option<Value>
     ensures value { Numbered source.now.meta.now source.now.found.now number (λ ps path. result ≡ option_map object_of (number_of ps (with_step path (new_step name.now index)))) }
     ensures proxy { IfSome result IsProxyValue }
 {
@@ -39,7 +39,7 @@ fn part_at(source: &Source, number: u32, name: &str, index: Option<u32>) -> Opti
 }
 
 /// The object at a position under a feature of a part. The part is given by its number.
-fn part_of(source: &Source, number: u32, feature: FeatureNo, position: u32) -> Option<Value>
+fn part_of(source: &Source, number: u32, feature: FeatureNo, position: usize) -> Option<Value>
     ensures value { Numbered source.now.meta.now source.now.found.now number (λ ps path. result ≡ option_map object_of (number_of ps (with_step path (step_to source.now.meta.now feature position)))) }
     ensures proxy { IfSome result IsProxyValue }
 {
@@ -61,7 +61,7 @@ fn value_of(
     number: u32,
     feature: FeatureNo,
     kind: &Kind,
-    position: u32,
+    position: usize,
     json: &Json,
 ) -> Result<Option<Value>, AllocError>
     ensures value { IfOk result (λ v. Numbered source.now.meta.now source.now.found.now number (λ ps path. v ≡ value_meant source.now.meta.now (base_of source.now.uri.now) ps path feature kind.now (position, view json.now))) }
@@ -117,17 +117,14 @@ fn add_value(
         → read.new ≡ values_so_far source.now.meta.now (base_of source.now.uri.now) ps path feature kind.now (ds ++ view json.now ∷ []))) }
     ensures proxy { OnOk result (All IsProxyValue read.old.values → All IsProxyValue read.new.values) }
 {
-    if position > u32::MAX as usize {
-        return Err(AllocError);
-    }
-    match value_of(source, number, feature, kind, position as u32, json)? {
+    match value_of(source, number, feature, kind, position, json)? {
         Some(value) => read.values.push(value)?,
         None => note_lost(read, is_link(kind)),
     }
     Ok(())
 }
 
-/// Nothing yet, with room for so many values.
+/// Nothing yet, with capacity for so many values.
 fn no_values(alloc: Global, room: usize) -> Result<ReadValues, AllocError>
     ensures { IfOk result (λ r. r ≡ new_values [] false) }
 {
@@ -138,7 +135,7 @@ fn no_values(alloc: Global, room: usize) -> Result<ReadValues, AllocError>
     })
 }
 
-/// Reads values under a feature. Errs only if memory is refused, or if there are more than 2^32 of them.
+/// Reads values under a feature. Errs only if memory is refused.
 fn read_values(
     source: &Source,
     number: u32,
@@ -156,13 +153,12 @@ fn read_values(
     Ok(read)
 }
 
-/// Reads what is written under a feature of a part. The part is given by its number. Errs only if memory is refused, or
-/// if there are more than 2^32 values.
-pub(crate) fn read_content(
+/// Reads what is written under a feature of a part. The part is given by its number. Errs only if memory is refused.
+pub(crate) fn read_content<'t>(
     source: &Source,
     number: u32,
     feature: FeatureNo,
-    content: &Json,
+    content: &'t Json<'t>,
 ) -> Result<ReadValues, AllocError>
     ensures value { IfOk result (λ r. Numbered source.now.meta.now source.now.found.now number (λ ps path. r ≡ entry_read source.now.meta.now (base_of source.now.uri.now) ps path (new_entry feature (view content.now)))) }
     ensures proxy { IfOk result (λ r. All IsProxyValue r.values) }

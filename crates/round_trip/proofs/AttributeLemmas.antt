@@ -41,7 +41,7 @@ below-64 : (b : ℕ) → b < 2 ^ 63 → (z : ℤ) → int_le z (pos b) ≡ true 
 below-64 b low (pos n) h = low-number n b low h
 below-64 b low (negsuc n) h = refl
 
--- so is one of so many bits, where they are 64 at most
+-- so is one of so many bits, if they are 64 at most
 int-read : (bits : ℕ) → 2 ^ (bits - 1) - 1 < 2 ^ 63 → (z : ℤ) → is_of_bits bits z ≡ true → (as_i64 (of_integer z) such_that is_of_bits bits) ≡ Some z
 int-read bits low z h =
     let both = and_parts (int_le (neg_ℤ (pos (2 ^ (bits - 1)))) z) (int_le z (pos (2 ^ (bits - 1) - 1))) h in

@@ -67,7 +67,7 @@ not-true : (b : Bool) → (b ≡ true → ⊥) → b ≡ false
 not-true true h = absurd (h refl)
 not-true false h = refl
 
--- a list that has no value at two places repeats none
+-- a list that has no value at two indexes repeats none
 no-repeat : (vs : List Value) → sets.IsDistinct vs → repeats_value vs ≡ false
 no-repeat [] d = refl
 no-repeat (v ∷ vs) d =

@@ -58,7 +58,7 @@ object-is None c h = absurd (none-some c h)
 object-is (Some (value.Object d)) c h = ap (λ (x : ObjectNo). Some (value.Object x)) (same_Some d c h)
 object-is (Some _) c h = absurd (none-some c h)
 
--- the object at a place among objects alone
+-- the object at an index among objects alone
 pub object-at : (vs : List Value) (i : ℕ) (c : ObjectNo) → list_all lookups.is_object vs ≡ true → slice_get (objects_of vs) i ≡ Some c → slice_get vs i ≡ Some (value.Object c)
 object-at vs i c all at = object-is (slice_get vs i) c (objects-get vs i all ∙ at)
 
@@ -120,7 +120,7 @@ module _ (s : Model) (legal : IsLegal s) (k : ResourceNo) (o : ObjectNo) (placed
 
     ---------------------------------------------------------------- one feature
 
-    -- the feature is written where it holds anything
+    -- the feature is written if it holds anything
     written-is : is_written (reading s) o f ≡ not (is_nil (values f))
     written-is =
         let r = reading s in
@@ -155,7 +155,7 @@ module _ (s : Model) (legal : IsLegal s) (k : ResourceNo) (o : ObjectNo) (placed
         let path = path-under i c (object-at (values f) i c all-are there) in
         ap (λ (n : ℕ). at n (data_of r k c)) (sym same) ∙ (λ l. record { path = unwrap_or (sym path l) (new_path 0 []); json = data_of r k c }))
 
-    -- where it is not written it holds no parts
+    -- if it is not written, it holds no parts
     none-under : is_written (reading s) o f ≡ false → objects_of (values f) ≡ []
     none-under none = no-objects (values f) (sym written-is ∙ none)
 

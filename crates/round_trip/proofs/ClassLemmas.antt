@@ -21,7 +21,7 @@ use Rattle.mm_types.specs.declared.meta_fault.Place.TheVariants as place
 use Rattle.mm_types.specs.declared.numbers.ClassNo.{ClassNo}
 use Rattle.mm_types.specs.declared.raw.RawClass.{RawClass}
 
--- if no earlier item has its name, an item is first found at its place
+-- if no earlier item has its name, an item is first found at its index
 name-first : {X : Type 0} (name : X → List ℕ) (xs : List X) (k i : ℕ) (x : X) → slice_get xs i ≡ Some x → list_any (bytes_eq (name x)) (take i (map name xs)) ≡ false
     → position_from (λ y. bytes_eq (name y) (name x)) k xs ≡ Some (k + i)
 name-first name [] k i x at none = absurd (none-some x at)

@@ -1,4 +1,4 @@
--- What is written of a containment reference: the objects that it holds, where it holds any.
+-- What is written of a containment reference: the objects that it holds, if it holds any.
 use Rattle.std.proofs.Common.{◌≡◌, ◌∙◌, Bool, true, false, not, List, [], ◌∷◌, Option, Some, None, map, option_to_list, slice_get, refl, sym, ap, if◌then◌else◌}
 use Rattle.std.specs.Prelude.{option_and_then, unwrap_or}
 use Rattle.std.specs.List.{list_all}
@@ -63,7 +63,7 @@ plain-containment m d f contains =
 
 ---------------------------------------------------------------- when a containment is written
 
--- an end that has objects alone is set where it has any
+-- an end that has objects alone is set if it has any
 pub set-by : (a : Shape) (vs : List Value) (flag : Bool) → a.is_unsettable ≡ false → a.default ≡ value.Null → list_all lookups.is_object vs ≡ true → ends.is_set a (record { values = shown a.is_single vs; flag = flag }) ≡ not (is_nil vs)
 set-by a vs flag fixed null all =
     elim a.is_single as (λ b. (if b then (if a.is_unsettable then flag else not (same_value (value_in (shown b vs) 0) a.default)) else not (is_nil (shown b vs))) ≡ not (is_nil vs)) [

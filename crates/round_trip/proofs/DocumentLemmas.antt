@@ -99,7 +99,7 @@ module _ (s : Model) (legal : IsLegal s) where
     refers : (shape s.metamodel (lookups.contents s.metamodel)).is_reference ≡ true
     refers = let f = lookups.contents s.metamodel in contains-reference s.metamodel f f (contains-itself f (shape s.metamodel f).containing contained)
 
-    -- the path of a root is its place
+    -- the path of a root is its position
     root-path : (i : ℕ) (o : ObjectNo) → slice_get (values_at s (roots_end (reading s) k)) i ≡ Some (value.Object o) → path_of (reading s) o ≡ Some (new_path i [])
     root-path i o at =
         let e = roots_end (reading s) k in

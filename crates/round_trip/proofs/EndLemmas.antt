@@ -1,4 +1,4 @@
--- What is at an end that is written: some values, no more than there may be, and none twice where each is there once.
+-- What is at an end that is written: some values, no more than there may be, and none twice if each is there once.
 use Rattle.std.proofs.Common.{◌≡◌, ◌∙◌, ◌≤◌, ℕ, zero, suc, Bool, true, false, List, [], ◌∷◌, Option, Some, None, ap, arith, if◌then◌else◌, int_le, length, nat_eq, nat_le, option_map, option_to_list, pos, refl, slice_get, sym, subst}
 use Rattle.std.specs.Prelude.{◌&&◌, Contains, IsTrue, not, option_and_then, unwrap_or}
 use Rattle.std.specs.List.{All, IsDistinct, list_any, slice_index_or}
@@ -86,13 +86,13 @@ module _ (s : Model) (legal : IsLegal s) (o : ObjectNo) (f : FeatureNo) where
 
 ---------------------------------------------------------------- what is kept for an attribute
 
--- what holds of each place that may be empty
+-- what holds of each position that may be empty
 pub legal-at : {X : Type 0} (P : Option X → Type 0) (os : List (Option X)) (i : ℕ) → P None → All P os → P (slice_index_or os i None)
 legal-at P [] i none all = none
 legal-at P (x ∷ os) zero none all = All-head P x os all
 legal-at P (x ∷ os) (suc i) none all = legal-at P os i none (All-tail P x os all)
 
--- a list that is kept has no more values than it may, and none twice where each is there once
+-- a list that is kept has no more values than it may, and none twice if each is there once
 record IsKept (a : Shape) (vs : List Value) : Type 0 where
   pub few : is_nil vs ≡ false → is_bounded a (length vs) ≡ true
   pub unique : IsUniqueList a.is_unique vs
@@ -124,7 +124,7 @@ no-two a n one h =
     let few : suc (suc n) ≤ 1 = grind (arith, nat_tests, below) in
     omega (arith, few)
 
--- there is one value where the feature is single, and some value anyhow
+-- there is one value if the feature is single, and some value in any case
 pub record IsSome (a : Shape) (vs : List Value) : Type 0 where
   pub some : is_nil vs ≡ false
   pub one : a.is_single ≡ true → vs ≡ value_in vs 0 ∷ []
@@ -161,7 +161,7 @@ pub end-few : (s : Model) (e : End) (vs : List Value) → IsTrue (is_legal_end (
 end-few s e [] h some = absurd (false≢true (sym some))
 end-few s e (v ∷ vs) h some = (and_parts _ _ (and_parts _ _ h).1).1
 
--- a list that repeats nothing has no value at two places
+-- a list that repeats nothing has no value at two indexes
 distinct-places : (vs : List Value) → IsDistinct same_value vs → sets.IsDistinct vs
 unfolding IsDistinct
 distinct-places [] d j k v at there = absurd (none-some v at)

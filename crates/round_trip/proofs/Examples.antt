@@ -86,7 +86,7 @@ content f vs = record { feature = fid f; values = vs }
 abbrev folder : List Content → DocObject
 folder contents = record { class = record { 0 = 0 }; contents = contents }
 
--- objects are named by their places, the folder of the other resource by its address
+-- objects are named by their positions, the folder of the other resource by its address
 as-document : copied whole (record { 0 = 0 }) ≡ record {
   objects =
       folder (content 0 (value.Text (codes "A") ∷ []) ∷ content 1 (v 1 ∷ []) ∷ [])

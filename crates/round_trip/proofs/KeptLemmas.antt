@@ -36,7 +36,7 @@ list-legal : (m : Metamodel) (c : ClassNo) (f : FeatureNo) (vs : List Value) →
 list-legal m c f [] h = refl
 list-legal m c f (v ∷ vs) h = (and_parts _ _ (and_parts _ _ h).1).0
 
--- values of the attribute, and a flag where it is unsettable, single and has one
+-- values of the attribute, and a flag if it is unsettable, single and has one
 record IsKept (m : Metamodel) (f : FeatureNo) (vs : List Value) (flag : Bool) : Type 0 where
   each : list_all (is_legal_value m f) vs ≡ true
   flagged : flag ≡ ((shape m f).is_unsettable && ((shape m f).is_single && not (is_nil vs)))

@@ -1,4 +1,4 @@
--- What is written of an object does not depend on the levels that are left, where they are enough.
+-- What is written of an object does not depend on the levels that are left, if they are enough.
 use Rattle.std.proofs.Common.{◌≡◌, ◌∙◌, ◌+◌, ◌<◌, ◌≤◌, ℕ, zero, suc, true, false, List, [], ◌∷◌, Some, arith, codes, length, map, slice_get, refl, sym, ap, if◌then◌else◌}
 use Rattle.std.specs.Prelude.{option_and_then}
 use Rattle.serde_json.specs.Data.{Data, array, object, string}
@@ -51,7 +51,7 @@ module _ (r : Reading) (k : ResourceNo) (p q : ObjectNo → Data) where
       let rest = same-values f vs (λ i c contains at. same (suc i) c contains at) in
       λ i. first i ∷ rest i
 
-  -- what a feature holds is written alike
+  -- what a feature holds is written in the same way
   same-content : (o : ObjectNo) (f : FeatureNo) → AgreeOn r f p q (r.values (at_end (node.Object o) f)) → content_data r k p o f ≡ content_data r k q o f
   same-content o f same =
       let vs = r.values (at_end (node.Object o) f) in

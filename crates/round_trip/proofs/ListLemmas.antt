@@ -74,7 +74,7 @@ mapped-in f [] x (k, low, at) = absurd (omega (arith, low))
 mapped-in f (y ∷ ys) x (zero, low, at) = subst (λ z. Contains (map f (y ∷ ys)) (f z)) at (in-front (f y) (map f ys))
 mapped-in f (y ∷ ys) x (suc k, low, at) = behind (f y) (map f ys) (f x) (mapped-in f ys x (k, omega (arith, low), at))
 
--- what is at a place of a list that was made item by item
+-- what is at an index of a list that was made item by item
 pub mapped-at : {X Y : Type 0} (f : X → Y) (xs : List X) (i : ℕ) (y : Y) → slice_get (map f xs) i ≡ Some y → (x : X) × (slice_get xs i ≡ Some x) × (f x ≡ y)
 mapped-at f [] i y at = absurd (none-some y at)
 mapped-at f (x ∷ xs) zero y at = (x, refl, same_Some (f x) y at)
@@ -88,7 +88,7 @@ pub filter_map-each : {X Y : Type 0} (f : X → Option Y) (g : X → Y) (xs : Li
 filter_map-each f g [] all = refl
 filter_map-each f g (x ∷ xs) all = ap (λ o. cons_option o (filter_map f xs)) all.0 ∙ ap (λ ys. g x ∷ ys) (filter_map-each f g xs all.1)
 
--- what is read of each item with its place
+-- what is read of each item with its index
 pub read-each : {X Y Z : Type 0} (f : ℕ × Y → Option Z) (d : X → Y) (g : X → Z) (n : ℕ) (xs : List X) → ((i : ℕ) (x : X) → slice_get xs i ≡ Some x → f (n + i, d x) ≡ Some (g x))
     → filter_map f (enumerate_from n (map d xs)) ≡ map g xs
 read-each f d g n [] h = refl

@@ -1,4 +1,4 @@
--- The objects of a resource are all different, so each one's number is its place among them.
+-- The objects of a resource are all different, so each one's number is its index among them.
 use Rattle.std.proofs.Common.{◌≡◌, ◌∙◌, ℕ, zero, suc, Bool, true, false, cond, List, [], ◌∷◌, Option, Some, None, ap, eq-eqb, inl, inr, option_map, refl, slice_get, sym, subst}
 use Rattle.std.specs.Prelude.{Contains, flat_map, position}
 use Rattle.std.specs.List.{IsDistinct, list_any}
@@ -53,16 +53,16 @@ distinct-flat_map f (x ∷ xs) each d one =
     let same = one x r.from c (in-front x xs) (behind x xs r.from there) h r.gives in
     false≢true (sym (of-each (λ y. same_object x y ≡ false) xs r.from d.0 there) ∙ eq-eqb x.0 r.from.0 (λ i. (same i).0)))
 
----------------------------------------------------------------- places
+---------------------------------------------------------------- positions
 
--- the place of an object after another
+-- the index of an object after another
 position-next : (o x : ObjectNo) (xs : List ObjectNo) → same_object o x ≡ false → position (same_object o) (x ∷ xs) ≡ option_map suc (position (same_object o) xs)
 position-next o x xs other = position_cons (same_object o) x xs ∙ ap (λ (b : Bool). cond b (Some 0) (option_map suc (position (same_object o) xs))) other
 
 position-first : (o x : ObjectNo) (xs : List ObjectNo) → same_object o x ≡ true → position (same_object o) (x ∷ xs) ≡ Some 0
 position-first o x xs same = position_cons (same_object o) x xs ∙ ap (λ (b : Bool). cond b (Some 0) (option_map suc (position (same_object o) xs))) same
 
--- what is found at a place is there
+-- what is found at an index is there
 pub position-there : (os : List ObjectNo) (o : ObjectNo) (n : ℕ) → position (same_object o) os ≡ Some n → slice_get os n ≡ Some o
 position-there [] o n at = absurd (none-some n at)
 position-there (x ∷ xs) o n at =
@@ -75,7 +75,7 @@ position-there (x ∷ xs) o n at =
     by None is h there = absurd (none-some n h)
     by (Some k) is h there = ap (slice_get (x ∷ xs)) (sym (same_Some (suc k) n h)) ∙ there k is
 
--- and what is at a place of different objects is found there
+-- and what is at an index of different objects is found there
 pub there-position : (os : List ObjectNo) (o : ObjectNo) (n : ℕ) → IsDistinct same_object os → slice_get os n ≡ Some o → position (same_object o) os ≡ Some n
 unfolding IsDistinct
 there-position [] o n d at = absurd (none-some o at)
@@ -111,7 +111,7 @@ module _ (s : Model) (legal : IsLegal s) (k : ResourceNo) where
   abbrev end-of : End
   end-of = roots_end (reading s) k
 
-  -- a root is held by the resource, at its place
+  -- a root is held by the resource, at its position
   root-held : (o : ObjectNo) → Contains (roots (reading s) k) o → holder s.links (node.Object o) ≡ Some end-of
   root-held o there =
       of-each (λ x. holder s.links (node.Object x) ≡ Some end-of) (roots (reading s) k) o

@@ -77,7 +77,7 @@ module _ (s : Model) (legal : IsLegal s) (k : ResourceNo) (uri : List ℕ) (back
 
     ---------------------------------------------------------------- objects
 
-    -- an object of the resource is found by its number, where its class conforms
+    -- an object of the resource is found by its number, if its class conforms
     module _ (parts : AreParts (reading s) k) (class : ClassNo) (conforms : option_map_or (λ c. lookups.conforms s.metamodel c class) ((reading s).class b) false ≡ true) where
       led-here : Contains (objects_in (reading s) k) b → led_to s.metamodel (parts_of (reading s) k) class (Here (path_in (reading s) b)) ≡ Some (renamed (reading s) (objects_in (reading s) k) (value.Object b))
       led-here written =

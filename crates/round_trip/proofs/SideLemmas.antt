@@ -142,7 +142,7 @@ module _ (s : Model) (legal : IsLegal s) (k : ResourceNo) (uri : List ℕ) (lead
   abbrev os : List ObjectNo
   os = objects_in (reading s) k
 
-  -- the other end has the object, at some place
+  -- the other end has the object, at some position
   far-has : (o : ObjectNo) (f g : FeatureNo) (b : ObjectNo) (i : ℕ) → (shape m f).opposite ≡ Some g → slice_get (values_at s (at_end (node.Object o) f)) i ≡ Some (value.Object b)
       → Has s.links (at_end (node.Object b) g) (value.Object o)
   far-has o f g b i opposite at =

@@ -1,4 +1,4 @@
--- Elements of lists, as tests and places find them.
+-- Elements of lists, as tests and indexes find them.
 use Rattle.std.proofs.Common.{◌≡◌, ℕ, zero, suc, Bool, true, false, cond, Contains, List, [], ◌∷◌, map, filter, flat_map, position, slice_get, Some, None, option_map, arith, eq-eqb, inl, inr, refl, sym, ap, ◌∙◌, subst}
 use Rattle.std.specs.List.{list_any}
 use Rattle.std.proofs.lemmas.Bool.{false_from_ne_true, false≢true, or_cases, or_parts, true≢false}
@@ -13,10 +13,10 @@ use Rattle.models.specs.Reading.{objects_of}
 use Rattle.containment.proofs.MemberLemmas.{same-object}
 use Rattle.doc_parts.proofs.WayLemmas.{position_cons}
 
----------------------------------------------------------------- elements and places
+---------------------------------------------------------------- elements and indexes
 
 module _ {X : Type 0} where
-  -- what is at a place is an element, and an element is at a place
+  -- what is at an index is an element, and an element is at an index
   pub stands : (xs : List X) (k : ℕ) (x : X) → slice_get xs k ≡ Some x → Contains xs x
   stands xs k x at = (k, slice_get_within xs k x at, get_or_from_slice_get xs k x x at)
 
@@ -57,7 +57,7 @@ module _ {X Y : Type 0} where
   in-all f (z ∷ zs) zero x y at c = Contains-append_left (f z) (flat_map f zs) y (subst (λ (w : X). Contains (f w) y) (sym (same_Some z x at)) c)
   in-all f (z ∷ zs) (suc k) x y at c = Contains-append_right (f z) (flat_map f zs) y (in-all f zs k x y at c)
 
-  -- two tests that agree at each element find the same first place
+  -- two tests that agree at each element find the same first index
   pub position-map : (p : Y → Bool) (q : X → Bool) (f : X → Y) (xs : List X) → ((x : X) → Contains xs x → p (f x) ≡ q x) → position p (map f xs) ≡ position q xs
   position-map p q f [] same = refl
   position-map p q f (x ∷ xs) same =
@@ -77,7 +77,7 @@ among-found (p ∷ ps) o h = elim (or_cases (same_object o p) (list_any (same_ob
   | inr later ↦ behind p ps o (among-found ps o later)
 ]
 
--- the object at a place is among the objects
+-- the object at an index is among the objects
 pub object-among : (vs : List Value) (k : ℕ) (o : ObjectNo) → slice_get vs k ≡ Some (value.Object o) → Contains (objects_of vs) o
 object-among [] k o at = absurd (none-some (value.Object o) at)
 object-among (v ∷ vs) zero o at = subst (λ (w : Value). Contains (objects_of (w ∷ vs)) o) (sym (same_Some v (value.Object o) at)) (in-front o (objects_of vs))

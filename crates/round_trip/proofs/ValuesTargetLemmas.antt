@@ -1,4 +1,4 @@
--- What is at a reference: an object whose class conforms, or a proxy where the reference takes proxies. And the text of a proxy there.
+-- What is at a reference: an object whose class conforms, or a proxy if the reference takes proxies. And the text of a proxy there.
 use Rattle.std.proofs.Common.{◌≡◌, ◌∙◌, ℕ, Bool, true, false, List, slice_get, Option, Some, None, if◌then◌else◌, eq-eqb, refl, sym, ap}
 use Rattle.std.specs.Option.{option_map_or}
 use Rattle.std.proofs.lemmas.Bool.{false≢true}
@@ -92,7 +92,7 @@ module _ (s : Model) (legal : IsLegal s) (o : ObjectNo) (f : FeatureNo) (g : Fea
       sym (ap (λ (x : Option Feature). option_map_or (λ y. lookups.is_of_kind s.metamodel class (lookups.is_single y) y.kind (value.Object b)) x (lookups.is_live_object class (value.Object b))) known
       ∙ ap (λ (x : Kind). lookups.is_of_kind s.metamodel class (lookups.is_single g) x (value.Object b)) kind) ∙ taken
 
-  -- what holds of each object that conforms, and of each proxy where they are taken, holds of what is there
+  -- what holds of each object that conforms, and of each proxy if they are taken, holds of what is there
   pub each-target : (P : Value → Type 0) → ((b : ObjectNo) → v ≡ value.Object b → option_map_or (λ c. lookups.conforms s.metamodel c target) ((reading s).class b) false ≡ true → P (value.Object b))
       → ((t : List ℕ) → v ≡ value.Proxy t → takes_proxies (shape s.metamodel f) ≡ true → P (value.Proxy t)) → P v
   each-target P object proxy = by v refl legal-target

@@ -1,4 +1,4 @@
--- A resource as a document: its objects named by their places in loading order, those of other resources by their addresses.
+-- A resource as a document: its objects named by their positions in loading order, those of other resources by their addresses.
 use Rattle.std.specs.Prelude.{List, [], map, position, unwrap_or}
 use Rattle.std.specs.Option.{option_map_or}
 use Rattle.mm_types.specs.Same.{same_object}

@@ -16,7 +16,7 @@ use Rattle.resource_docs.specs.declared.target.Target.TheVariants.{Here, Elsewhe
 abbrev pub target_of : Reading → ResourceNo → ObjectNo → Target
 target_of r k o = if is_in r k o then Here (unwrap_or (path_of r o) (new_path 0 [])) else Elsewhere (unwrap_or (address r o) [])
 
--- in a resource of this URI each text of a reference leads where it was written for; and no two objects have one address
+-- in a resource of this URI each text of a reference leads to what it was written for; and no two objects have one address
 pub record LeadsBack (r : Reading) (k : ResourceNo) (uri : List ℕ) : Type 0 where
   pub object : (o : ObjectNo) (j : ResourceNo) → resource_of r.above o ≡ Some j → target (base_of uri) (reference_text r k o) ≡ Some (target_of r k o)
   pub proxy : (t : List ℕ) → IsSteadyProxy t → (uri_part t ≡ uri → ⊥) → target (base_of uri) t ≡ Some (Elsewhere t)

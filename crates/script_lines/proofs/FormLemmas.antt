@@ -19,7 +19,7 @@ many_words (v ∷ a ∷ b ∷ c ∷ []) many = absurd (omega arith)
 many_words (v ∷ a ∷ b ∷ c ∷ d ∷ []) many = absurd (omega arith)
 many_words (v ∷ a ∷ b ∷ c ∷ d ∷ e ∷ ws) many = refl
 
--- the first words tell the form
+-- the first words determine the form
 pub first_words : (ws : List (List ℕ)) → line_of (take 6 ws) ≡ line_of ws
 first_words [] = refl
 first_words (v ∷ []) = refl

@@ -19,7 +19,7 @@ verb_text verb.Get = codes "get "
 verb_text verb.Set = codes "set "
 verb_text verb.Add = codes "add "
 
--- what a line asks for: it is bad where its last word writes no value
+-- what a line asks for: it is bad if its last word writes no value
 abbrev pub frequent_line : Frequent → Line
 frequent_line (frequent.New c) = line.Form (asks.New c)
 frequent_line (frequent.Get o f) = line.Form (asks.Get (node.Object o) f)

@@ -21,26 +21,26 @@ pub enum Form<'a> {
         node: Node,
         feature: Name<'a>,
     },
-    /// A value put into the list of a feature: at a position counted from 0, or at the end (EMF: EList.add).
+    /// A value put into the list of a feature: at an index counted from 0, or at the end (EMF: EList.add).
     Add {
         node: Node,
         feature: Name<'a>,
         value: WrittenValue<'a>,
         index: Option<u32>,
     },
-    /// The value at a position of a list, counted from 0, taken out (EMF: EList.remove of an index).
+    /// The value at an index of a list, counted from 0, taken out (EMF: EList.remove of an index).
     Remove {
         node: Node,
         feature: Name<'a>,
         index: u32,
     },
-    /// The first occurrence of a value in a list taken out (EMF: EList.remove of an object).
+    /// A value taken out of a list, at its first occurrence (EMF: EList.remove of an object).
     RemoveValue {
         node: Node,
         feature: Name<'a>,
         value: WrittenValue<'a>,
     },
-    /// A value of a list moved to a position, from another; both are counted from 0 (EMF: EList.move).
+    /// A value of a list moved to an index, from another; both are counted from 0 (EMF: EList.move).
     Move {
         node: Node,
         feature: Name<'a>,
@@ -109,6 +109,6 @@ pub enum Form<'a> {
         node: Node,
         feature: Name<'a>,
     },
-    /// How many notices an adapter was told, and how many of them it keeps.
+    /// How many notifications an adapter got, and how many of them it keeps.
     Seen(AdapterNo),
 }

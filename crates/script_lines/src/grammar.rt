@@ -1,15 +1,15 @@
 //! The bytes that the language of scripts gives a meaning.
 
-/// Comes before the number of an object: `#3`.
+/// The mark before the number of an object: `#3`.
 pub const OBJECT_MARK: u8 = b'#';
 
-/// Comes before the number of a resource: `r0`.
+/// The mark before the number of a resource: `r0`.
 pub const RESOURCE_MARK: u8 = b'r';
 
-/// Comes before the number of an adapter: `A7`.
+/// The mark before the number of an adapter: `A7`.
 pub const ADAPTER_MARK: u8 = b'A';
 
-/// Comes before the name of a literal: `:NOVEL`.
+/// The mark before the name of a literal: `:NOVEL`.
 pub const LITERAL_MARK: u8 = b':';
 
 /// Begins and ends a text: `"Emma"`.
@@ -18,7 +18,7 @@ pub const QUOTE: u8 = b'"';
 /// Escapes the byte after it in a text.
 pub const BACKSLASH: u8 = b'\\';
 
-/// Comes before the digits of a number below 0: `-12`.
+/// The mark before the digits of a number below 0: `-12`.
 pub const MINUS: u8 = b'-';
 
 /// Separates words.

@@ -37,7 +37,7 @@ fn verb_of(line: &str) -> (&str, &str)
     cut_at_space(after_spaces_of(line))
 }
 
-/// What follows the verb of a `load` line; `None` for a line with a different verb. Most lines are told by their first byte.
+/// What follows the verb of a `load` line; `None` for a line with a different verb. Most lines are recognised by their first byte.
 pub fn loaded_of(line: &str) -> Option<&str>
     ensures { MatchOption result (is_load line.now ≡ false) (λ rest. (is_load line.now ≡ true) × (rest.now ≡ behind_verb line.now)) }
 {

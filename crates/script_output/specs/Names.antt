@@ -30,7 +30,7 @@ enum_of_kind (Reference target containment opposite) = None
 abbrev pub enum_of : Metamodel → FeatureNo → Option ℕ
 enum_of m f = option_and_then (λ g. enum_of_kind g.kind) (lookups.feature m f)
 
--- the name of a literal that is a feature's value; no name where the value is no literal
+-- the name of a literal that is a feature's value; no name if the value is no literal
 abbrev pub literal_name : Metamodel → FeatureNo → Value → List ℕ
 literal_name m f value.Null = []
 literal_name m f (value.Bool b) = []

@@ -1,4 +1,4 @@
--- What is printed of adapters: the notices that they are told, and how many.
+-- What is printed of adapters: their notifications, and how many.
 use Rattle.std.specs.Prelude.{ℕ, List, [], ◌∷◌, ◌++◌, codes}
 use Rattle.std.specs.Fmt.{decimal, signed_decimal}
 use Rattle.std.specs.Option.{option_map_or}
@@ -12,11 +12,11 @@ use Rattle.script_output.specs.Names.{feature_name, literal_name}
 use Rattle.script_output.specs.Printed.{adapter_text, node_text, value_text}
 use Rattle.script_output.specs.declared.output.told.TheConstants.{FEATURE_MARK}
 
--- where the change was made, as `#0.pages`; `#0` where the notice has no feature
+-- the end at which the change was made, as `#0.pages`; `#0` if the notification has no feature
 abbrev pub end_text : Metamodel → Notice → List ℕ
 end_text m n = node_text n.notifier ++ option_map_or (λ f. FEATURE_MARK ∷ feature_name m f) n.feature []
 
--- a value that a notice tells of; a literal has no name where the notice has no feature
+-- a value of a notification; a literal has no name if the notification has no feature
 abbrev pub told_value_text : Metamodel → Notice → Value → List ℕ
 told_value_text m n v = value_text (option_map_or (λ f. literal_name m f v) n.feature []) v
 
@@ -28,15 +28,15 @@ values_text m n = told_value_text m n n.old_value ++ SPACE ∷ told_value_text m
 abbrev pub change_text : Metamodel → Notice → List ℕ
 change_text m n = end_text m n ++ SPACE ∷ values_text m n
 
--- what a notice reports, as `SET #0.pages 100 1 -1`
+-- what a notification reports, as `SET #0.pages 100 1 -1`
 abbrev pub report_text : Metamodel → Notice → List ℕ
 report_text m n = kind_name n.kind ++ SPACE ∷ change_text m n
 
--- a notice that an adapter is told, as `told A1 SET #0.pages 100 1 -1`
+-- a notification of an adapter, as `told A1 SET #0.pages 100 1 -1`
 abbrev pub notice_text : Metamodel → AdapterNo → Notice → List ℕ
 notice_text m number n = codes "told " ++ adapter_text number ++ SPACE ∷ report_text m n
 
--- how many notices were told and how many are kept, as `3 kept 2`
+-- how many notifications there were and how many are kept, as `3 kept 2`
 abbrev pub counts_text : ℕ → ℕ → List ℕ
 counts_text told kept = decimal told ++ codes " kept " ++ decimal kept
 
@@ -44,6 +44,6 @@ counts_text told kept = decimal told ++ codes " kept " ++ decimal kept
 abbrev pub released_text : AdapterNo → ℕ → ℕ → List ℕ
 released_text number told kept = codes "released " ++ adapter_text number ++ codes " told " ++ counts_text told kept
 
--- what an adapter has heard, as `seen 3 kept 2`
+-- how often an adapter was notified, as `seen 3 kept 2`
 abbrev pub seen_text : ℕ → ℕ → List ℕ
 seen_text told kept = codes "seen " ++ counts_text told kept

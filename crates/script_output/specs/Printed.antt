@@ -37,7 +37,7 @@ adapter_text a = ADAPTER_MARK ∷ decimal a.0
 abbrev pub proxy_text : List ℕ → List ℕ
 proxy_text t = codes "proxy " ++ json_text t
 
--- a value; where it is a literal, `literal` is its name
+-- a value; if it is a literal, `literal` is its name
 abbrev pub value_text : List ℕ → Value → List ℕ
 value_text literal value.Null = codes "null"
 value_text literal (value.Bool true) = codes "true"

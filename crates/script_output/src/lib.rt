@@ -1,4 +1,4 @@
-//! What a script prints: values, answers, refusals, and the notices that adapters are told.
+//! What a script prints: values, answers, refusals, and the notifications of adapters.
 #![tactic(auto)]
 
 mod names;

@@ -33,7 +33,7 @@ map_length : (xs : List Arg) → length (map rule_of xs) ≡ length xs
 map_length [] = refl
 map_length (x ∷ xs) = ap suc (map_length xs)
 
-only_meta : (j : ℕ) (r : Rule) → j < 9 → bytes_eq (slice_index_or options j r).id (codes "meta") ≡ true → j ≡ 0
+only_meta : (j : ℕ) (r : Rule) → j < 11 → bytes_eq (slice_index_or options j r).id (codes "meta") ≡ true → j ≡ 0
 only_meta zero r low same = refl
 only_meta (suc zero) r low same = let bad : false ≡ true = same in cc
 only_meta (suc (suc zero)) r low same = let bad : false ≡ true = same in cc
@@ -43,11 +43,13 @@ only_meta (suc (suc (suc (suc (suc zero))))) r low same = let bad : false ≡ tr
 only_meta (suc (suc (suc (suc (suc (suc zero)))))) r low same = let bad : false ≡ true = same in cc
 only_meta (suc (suc (suc (suc (suc (suc (suc zero))))))) r low same = let bad : false ≡ true = same in cc
 only_meta (suc (suc (suc (suc (suc (suc (suc (suc zero)))))))) r low same = let bad : false ≡ true = same in cc
-only_meta (suc (suc (suc (suc (suc (suc (suc (suc (suc j))))))))) r low same = absurd (omega (arith, low))
+only_meta (suc (suc (suc (suc (suc (suc (suc (suc (suc zero))))))))) r low same = let bad : false ≡ true = same in cc
+only_meta (suc (suc (suc (suc (suc (suc (suc (suc (suc (suc zero)))))))))) r low same = let bad : false ≡ true = same in cc
+only_meta (suc (suc (suc (suc (suc (suc (suc (suc (suc (suc (suc j))))))))))) r low same = absurd (omega (arith, low))
 
-an_arg : (xs : List Arg) → length xs ≡ 9 → Arg
-an_arg [] nine = absurd (omega (arith, nine))
-an_arg (x ∷ xs) nine = x
+an_arg : (xs : List Arg) → length xs ≡ 11 → Arg
+an_arg [] eleven = absurd (omega (arith, eleven))
+an_arg (x ∷ xs) eleven = x
 
 ready : is_ready program.top ≡ true
 unfolding clap_on_literals
@@ -60,9 +62,9 @@ arg_is_plain a s free groups = let f = free_arg a s free in (f.exclusive, f.conf
 pub meta_given : (c : Command) (m : ArgMatches) → app_of c ≡ program → IsParsedFrom c m → is_some (first_value (found_of m) (codes "meta")) ≡ true
 meta_given c m is parsed =
     let rules : map rule_of (args_of c) ≡ options = rules_are c is in
-    let nine : length (args_of c) ≡ 9 = sym (map_length (args_of c)) ∙ ap length rules in
-    let d = an_arg (args_of c) nine in
-    let first : 0 < length (args_of c) = omega (arith, nine) in
+    let eleven : length (args_of c) ≡ 11 = sym (map_length (args_of c)) ∙ ap length rules in
+    let d = an_arg (args_of c) eleven in
+    let first : 0 < length (args_of c) = omega (arith, eleven) in
     let a = slice_index_or (args_of c) 0 d in
     let rule : rule_of a ≡ meta = rule_at (args_of c) 0 d first ∙ ap (λ rs. slice_index_or rs 0 (rule_of d)) rules in
     let id : a.id.now ≡ codes "meta" = ap (λ (r : Rule). r.id) rule in
@@ -76,7 +78,7 @@ meta_given c m is parsed =
     let x = slice_index_or (args_of c) j e in
     let at : rule_of x ≡ slice_index_or options j (rule_of e) = rule_at (args_of c) j e low ∙ ap (λ rs. slice_index_or rs j (rule_of e)) rules in
     let named : x.id.now ≡ (slice_index_or options j (rule_of e)).id = ap (λ (r : Rule). r.id) at in
-    only_meta j (rule_of e) (omega (arith, low, nine))
+    only_meta j (rule_of e) (omega (arith, low, eleven))
     (ap (λ t. bytes_eq t (codes "meta")) (sym named) ∙ (ap (λ t. bytes_eq x.id.now t) (sym id) ∙ same)) in
     let has : is_some (first_value (found_of m) a.id.now) ≡ true =
     required_has_value c m parsed plain facts.globals (ap (λ (x : App). x.top.subcommand_negates_reqs) is) 0 d first

@@ -1,4 +1,4 @@
--- Answers that are dressed plainly are the text, and what a run writes is made of the whole script.
+-- Answers without output options are the text, and what a run writes is made of the whole script.
 use Rattle.std.proofs.Common.{◌∙◌, ◌≡◌, ◌⊎◌, ◌++◌, ℕ, true, false, inl, inr, List, [], Option, None, Some, ap, append-nil, subst, sym}
 use Rattle.std.specs.Prelude.{IfSome}
 use Rattle.std.specs.Io.KnownBytes.{Appends}
@@ -18,7 +18,7 @@ no_rest : (rest : List (List ℕ)) → ((rest ≡ []) ⊎ (false ≡ true)) → 
 no_rest rest (inl e) = e
 no_rest rest (inr e) = cc
 
--- a run whose answers are dressed plainly runs all lines, and writes their text
+-- a run without output options runs all lines, and writes their text
 pub plain_run : (s : Session) (old new : Option (List ℕ)) (bytes : List ℕ) (summary : Summary) → PrintsDressed plain s EndsAnywhere old new bytes summary → Prints s old new bytes summary
 plain_run s old new bytes summary h =
     let all : lines bytes ≡ h.first = h.ran.runs.lines_are ∙ (ap (λ r. h.first ++ r) (no_rest h.ran.rest h.ran.ends) ∙ append-nil h.first) in

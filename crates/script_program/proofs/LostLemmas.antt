@@ -12,7 +12,7 @@ use Rattle.repository.specs.State.{State}
 use Rattle.repository.specs.Step.{Stepped}
 use Rattle.repository.specs.Views.{Outcome}
 use Rattle.repository.specs.declared.reply.Failure.{Failure}
-use Rattle.handshake.specs.Plans.{is_memory_refusal}
+use Rattle.change_plans.specs.Plans.{is_memory_refusal}
 use Rattle.repository.specs.Run.{Executed, IsWanting}
 use Rattle.repository.specs.declared.command.Command.{Command}
 use Rattle.script_lines.specs.Forms.{form}

@@ -73,7 +73,7 @@ module _ (z : Session) (bytes : List ℕ) (old : Option (List ℕ)) where
         (subst (AppendsFront old now) (sym (line_behind plain z bytes rest s w.number w.printed summary line p w.so_far)) (front_more old now _ (dressed_line plain (w.number + 1) line p) front_waits))
         one.3
 
-    -- a front of the block is written
+    -- a prefix of the block is written
     pub broken : (after : Option (List ℕ)) → AppendsFront now after block → PrintsDressedFront plain z (EndsIn s.state) old after bytes
     broken after wrote =
         front_of plain z bytes (EndsIn s.state) rest s w.number w.printed summary old after w.so_far (subst (AppendsFront old after) (sym w.answers) (front_after old now after w.front block w.written wrote)) refl

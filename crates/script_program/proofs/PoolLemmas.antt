@@ -1,4 +1,4 @@
--- Boxes that are put in places, and taken out.
+-- Adapters that are put into the pool, and taken out.
 use Rattle.std.proofs.Common.{◌≡◌, ◌∙◌, ℕ, zero, suc, List, [], ◌∷◌, map, slice_get, slice_set, Option, Some, None, option_map, option_and_then, Ok, refl, sym, ap}
 use Rattle.std.specs.Option.{option_map_or}
 use Rattle.std.specs.Result.{result_ok}
@@ -45,7 +45,7 @@ nowhere-to-put o pool number = at (index number)
     at None h = refl
     at (Some i) h = set-past pool i o h
 
--- a box that is taken out and put back is where it was
+-- an adapter that is taken out and put back is where it was
 pub put-back : (pool : Pool) (number : AdapterNo) (v : View) → box_of pool number ≡ Ok v → with_box (without pool number) (number, v) ≡ pool
 put-back pool number v = at (index number)
   where

@@ -1,4 +1,4 @@
--- What it is to run a script whose answers are dressed.
+-- What it is to run a script with output options.
 use Rattle.std.specs.Prelude.{◌≡◌, ◌≤◌, ◌⊎◌, ℕ, true, List, [], ◌++◌, length, Option, IfSome}
 use Rattle.std.specs.Io.KnownBytes.{Appends}
 use Rattle.mm_types.specs.declared.limits.TheConstants.{INPUT_BYTES}
@@ -20,14 +20,14 @@ pub record RunsFirst (d : Dress) (s : Session) (bytes : List ℕ) (first rest : 
   pub ran : RunsLines s first printed t
   pub none_behind : kept d printed ≡ printed
 
--- A line was run, and what it prints was written as it is dressed.
+-- A line was run, and what it prints was written, by the output options.
 pub record AnswersLine (d : Dress) (number : ℕ) (line : List ℕ) (s : Session) (old new : Option (List ℕ)) (turn : Turn) (t : Session) : Type 0 where
   pub printed : Printed
   pub ran : RunsLine s (form line) printed t
   pub counted : printed.turn ≡ turn
   pub written : Appends old new (dressed_line d number line printed)
 
--- A line was run, a front of what it prints was written, and something holds of the session that is left.
+-- A line was run, a prefix of what it prints was written, and something holds of the session that is left.
 pub record AnswersFront (d : Dress) (number : ℕ) (line : List ℕ) (s : Session) (Left : Session → Type 0) (old new : Option (List ℕ)) : Type 0 where
   pub printed : Printed
   pub after : Session
@@ -48,7 +48,7 @@ EndsIn q t = t.state ≡ q
 abbrev pub EndsAnywhere : Session → Type 0
 EndsAnywhere t = Unit {0}
 
--- A script was run to the end of its run, its answers were written as they are dressed, the counts are theirs, and something holds of the
+-- A script was run to the end of its run, its answers were written by the output options, the counts are theirs, and something holds of the
 -- session that is left.
 pub record PrintsDressed (d : Dress) (s : Session) (Left : Session → Type 0) (old new : Option (List ℕ)) (bytes : List ℕ) (summary : Summary) : Type 0 where
   pub first : List (List ℕ)
@@ -59,7 +59,8 @@ pub record PrintsDressed (d : Dress) (s : Session) (Left : Session → Type 0) (
   pub counted : summary_of printed ≡ summary
   pub written : Appends old new (dressed d first printed)
 
--- The first lines of a script were run, a front of their dressed answers was written, and something holds of the session that is left.
+-- The first lines of a script were run, a prefix of their answers was written, by the output options, and something holds of the session
+-- that is left.
 pub record PrintsDressedFront (d : Dress) (s : Session) (Left : Session → Type 0) (old new : Option (List ℕ)) (bytes : List ℕ) : Type 0 where
   pub first : List (List ℕ)
   pub rest : List (List ℕ)

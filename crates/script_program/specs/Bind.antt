@@ -1,4 +1,4 @@
--- What a form asks for: the names in it are looked up in the metamodel, and the box in the pool.
+-- What a form asks for: the names in it are looked up in the metamodel, and the adapter in the pool.
 use Rattle.std.specs.Prelude.{ℕ, Bool, List, Option, option_and_then, unwrap_or, codes, Result, Ok, Err, if◌then◌else◌}
 use Rattle.std.specs.Str.{bytes_eq}
 use Rattle.mm_types.specs.Lookups as lookups

@@ -1,4 +1,4 @@
--- How the answers of lines are dressed, and where a run ends.
+-- The output options of answers, and where a run ends.
 use Rattle.std.specs.Prelude.{◌&&◌, ℕ, suc, Bool, true, false, not, List, [], ◌∷◌, ◌++◌, codes, if◌then◌else◌}
 use Rattle.std.specs.Fmt.{decimal}
 use Rattle.std.specs.List.{flat_map, list_any}

@@ -85,14 +85,14 @@ abbrev pub journal_printed : List ℕ → Printed → durable.Printed
 journal_printed l p = record { text = p.text; turn = journal_turn (line_asks (form l)) p.turn }
 
 -- the session of an interpreter
-abbrev pub session_of : {L A : Type 0} → Journaled L A → Session
+abbrev pub session_of : {L A H : Type 0} → Journaled L A H → Session
 session_of j = session j.interpreter.repository j.interpreter.pool
 
 -- how many lines an interpreter has run, and whether one of them was refused, or bad
-abbrev pub lines_run : {L A : Type 0} → Journaled L A → ℕ
+abbrev pub lines_run : {L A H : Type 0} → Journaled L A H → ℕ
 lines_run j = j.lines
 
-abbrev pub has_fault : {L A : Type 0} → Journaled L A → Bool
+abbrev pub has_fault : {L A H : Type 0} → Journaled L A H → Bool
 has_fault j = j.is_faulty
 
 -- A line was run.

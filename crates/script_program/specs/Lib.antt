@@ -8,6 +8,7 @@ pub mod Dressed
 pub mod Edits
 pub mod Script
 pub mod Lists
+pub mod Loading
 pub mod Batch
 pub mod Live
 pub mod Lost

@@ -32,7 +32,7 @@ pub record AnswersLive (line : List ℕ) (s : Session) (old new : Option (List �
   pub counted : printed.turn ≡ turn
   pub written : Appends old new (live_answer printed)
 
--- A line was run, and a front of that was written.
+-- A line was run, and a prefix of that was written.
 pub record AnswersLiveFront (line : List ℕ) (s : Session) (old new : Option (List ℕ)) : Type 0 where
   pub printed : Printed
   pub after : Session
@@ -43,7 +43,7 @@ pub record AnswersLiveFront (line : List ℕ) (s : Session) (old new : Option (L
 abbrev pub PrintsLive : Session → Option (List ℕ) → Option (List ℕ) → List ℕ → Summary → Type 0
 PrintsLive = PrintsAs live_text
 
--- The first lines of a script were run, and a front of what is written for them was written.
+-- The first lines of a script were run, and a prefix of what is written for them was written.
 abbrev pub PrintsLiveFront : Session → Option (List ℕ) → Option (List ℕ) → List ℕ → Type 0
 PrintsLiveFront = PrintsFrontAs live_text
 

@@ -43,7 +43,7 @@ bad_printed = record { text = codes "bad line" ++ NEWLINE ∷ []; turn = turned.
 abbrev pub refused_printed : Refused → Printed
 refused_printed r = record { text = refusal_line r; turn = turned.Refused }
 
--- what an adapter has heard, where it is attached
+-- how often an adapter was notified, if it is attached
 abbrev pub seen_printed : State → AdapterNo → Printed
 seen_printed s number =
     option_map_or (λ a. record { text = seen_text a.view.told (length a.view.kept) ++ NEWLINE ∷ []; turn = turned.Done }) (adapter number s.adapters) (refused_printed NoAdapter)
@@ -92,7 +92,7 @@ pub record PrintsAs (shown : List Printed → List ℕ) (s : Session) (old new :
   pub counted : summary_of printed ≡ summary
   pub written : Appends old new (shown printed)
 
--- The first lines of a script were run, and a front of `shown` of what they printed was written.
+-- The first lines of a script were run, and a prefix of `shown` of what they printed was written.
 pub record PrintsFrontAs (shown : List Printed → List ℕ) (s : Session) (old new : Option (List ℕ)) (bytes : List ℕ) : Type 0 where
   pub first : List (List ℕ)
   pub rest : List (List ℕ)
@@ -106,7 +106,7 @@ pub record PrintsFrontAs (shown : List Printed → List ℕ) (s : Session) (old 
 abbrev pub Prints : Session → Option (List ℕ) → Option (List ℕ) → List ℕ → Summary → Type 0
 Prints = PrintsAs texts
 
--- The first lines of a script were run, and a front of what they printed was written.
+-- The first lines of a script were run, and a prefix of what they printed was written.
 abbrev pub PrintsFront : Session → Option (List ℕ) → Option (List ℕ) → List ℕ → Type 0
 PrintsFront = PrintsFrontAs texts
 

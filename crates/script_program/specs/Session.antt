@@ -1,4 +1,4 @@
--- A session: a repository, and the pool of boxes that its script can attach.
+-- A session: a repository, and the pool of adapters that its script can attach.
 use Rattle.std.specs.Prelude.{◌≡◌, List, slice_get, Option, Ok, Err, option_map, fold, map, Some}
 use Rattle.std.specs.Option.{option_map_or, option_zip}
 use Rattle.std.specs.List.{All}
@@ -18,11 +18,11 @@ pub record Session : Type 0 where
 abbrev pub session : State → Pool → Session
 session s pool = record { state = s; pool = pool }
 
--- a repository, and all boxes in the pool
+-- a repository, and all adapters in the pool
 abbrev pub session_with : {A : Type 0} → (A → View) → State → List A → Session
 session_with heard s boxes = session s (map (λ a. Some (heard a)) boxes)
 
--- an empty repository, and all boxes in the pool
+-- an empty repository, and all adapters in the pool
 abbrev pub first_session : {A : Type 0} → (A → View) → Metamodel → List A → Session
 first_session heard m boxes = session_with heard (empty_state m) boxes
 

@@ -131,7 +131,7 @@ pub(crate) fn print_refusal(output: &mut Output, refused: Refused) -> Result<(),
     output.line_end()
 }
 
-/// Adds a line for each notice that an adapter was told.
+/// Adds a line for each notification of an adapter.
 fn print_told(
     output: &mut Output,
     meta: &Meta,

@@ -1,4 +1,4 @@
-//! How the answers of a script are dressed.
+//! The output options of a script.
 ghost use Rattle.std.specs.Prelude.{◌≡◌, ◌&&◌, IsTrue};
 ghost use Rattle.script_program.specs.Dressed.{is_fault, plain};
 

@@ -1,4 +1,4 @@
-//! The answer of a line is written as it is dressed.
+//! The answer of a line is written by the output options.
 ghost use Rattle.std.specs.Prelude.{◌≡◌, IfErr, OnErr, OnOk};
 ghost use Rattle.std.specs.Io.KnownBytes.{Appends};
 ghost use Rattle.script_program.specs.Dressed.{dressed_answer, dressed_line, each_behind, echoed, numbered};
@@ -71,9 +71,9 @@ fn write_answer<W: Write>(
     }
 }
 
-/// Writes what a line of the script prints as it is dressed.
+/// Writes what a line of the script prints, by the output options.
 ///
-/// Errs with `Write` as `write_all` does; what was written by then is a front of it.
+/// Errs with `Write` as `write_all` does; what was written by then is a prefix of it.
 pub(crate) fn write_dressed<W: Write>(
     writer: &mut W,
     dress: Dress,

@@ -1,5 +1,5 @@
-//! Lines of the most frequent forms are run. They call the repository themselves, and a change that nobody can hear is printed without a
-//! reply: to bind a line to a command and to take its reply apart takes longer than the change.
+//! Lines of the most frequent forms are run. They call the repository themselves, and a change that notifies no adapter is printed without
+//! a reply: to bind a line to a command and to take its reply apart takes longer than the change.
 ghost use Rattle.std.specs.Prelude.{◌≡◌, Err, IfOk, MatchOption, None, Ok, OnErr, Some};
 ghost use Rattle.mm_types.specs.Resolved.{Metamodel};
 ghost use Rattle.mm_types.specs.declared.numbers.Node.TheVariants as node;
@@ -164,7 +164,8 @@ fn bound<L: LinkStore, A: Adapter>(
     (feature, value_in(repository.meta(), feature, asked.value))
 }
 
-/// Prints what became of a change that nobody heard, whose answer prints as `done`. Errs only if memory is refused for what is printed.
+/// Prints the outcome of a change that notified no adapter, whose answer prints as `done`. Errs only if memory is refused for what is
+/// printed.
 #[inline(always)]
 fn print_change(
     output: &mut Output,

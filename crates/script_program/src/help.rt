@@ -10,6 +10,13 @@ pub(crate) const ABOUT: &str =
 /// What `--help` says of `--script`.
 pub(crate) const SCRIPT: &str = "The script, instead of standard input";
 
+/// What `--help` says of `--load`.
+pub(crate) const LOAD: &str =
+    "Makes a resource of a URI before the script, and loads the document of a file";
+
+/// What `--help` says of `--save`.
+pub(crate) const SAVE: &str = "Writes the document of a resource into a file after the script";
+
 /// What `--help` says of `--echo`.
 pub(crate) const ECHO: &str = "Writes each line before its answer, as `> LINE`";
 
@@ -18,21 +25,21 @@ pub(crate) const NUMBER: &str =
     "Begins each line of an answer with the number of its line, as `7: ok`";
 
 /// What `--help` says of `--stop`.
-pub(crate) const STOP: &str = "Ends the run behind the first line that is refused or bad";
+pub(crate) const STOP: &str = "Ends the run after the first line that is refused or bad";
 
 /// What `--help` says of `--strict`.
 pub(crate) const STRICT: &str = "Exits with status 4 if a line was refused or bad";
 
 /// What `--help` says of `--live`.
 pub(crate) const LIVE: &str =
-    "Answers each line before it reads the next, with an empty line behind";
+    "Answers each line before it reads the next, with an empty line after it";
 
 /// What `--help` says of `--journal`.
 pub(crate) const JOURNAL: &str =
     "Keeps the lines that change the model in a file, and begins with those kept (with --live)";
 
 /// What `--help` says of `--explain`.
-pub(crate) const EXPLAIN: &str = "Says on standard error what to mend";
+pub(crate) const EXPLAIN: &str = "Says on standard error what to fix";
 
 /// What `--help` says after the options.
 pub(crate) const EXPLAINED: &str = "\
@@ -60,24 +67,24 @@ The metamodel is a JSON document. What each line of the script answers is printe
   at \"http://m.example/a#/\"  the object at an address: #0, or null
   save r0                  the document of a resource, in one line
   load r0 {\"format\":2,\"roots\":[]}  makes what a document says in an empty resource: loaded 0
-  resolve #2 likes 0       puts the object that a proxy finds instead of it: #1
+  resolve #2 likes 0       replaces a proxy by the object that it finds: #1
   resolveall               does so with every proxy that finds one: resolved 3 left 0
-  attach A1 #0 flat        attaches an adapter, A1 to A8 (--live: A1000), to be told of changes: ok
+  attach A1 #0 flat        attaches an adapter, A1 to A8 (--live: A1000), to be notified of changes: ok
   watch A1 r0 deep         gives it one target more, here with all that is below it: true
   unwatch A1 #0            takes a target from it; with its last one it is released: true
-  detach A1                takes all its targets: ok, its last notices, and what it has heard
-  seen A1                  how many notices an adapter was told and keeps: seen 3 kept 3
+  detach A1                takes all its targets: ok, its last notifications, and how many it got
+  seen A1                  how many notifications an adapter got and keeps: seen 3 kept 3
 
 Instead of an object, contents, attach, watch, unwatch and the lines of a feature, but resolve,
 take a resource too, as r0, whose one feature is contents. A value is null, true, false, a number,
 a JSON string, :LITERAL or #N; a proxy, which a load leaves for an object of another resource, is
 printed as `proxy \"http://m.example/b#/\"`.
 
-Behind an answer stands a line for each notice that an adapter was told, and then one for each
+After an answer comes a line for each notification of an adapter, and then one for each
 adapter that was released. A line that can't be done prints why, as `refused 8 TYPE`, and changes
 nothing; a line that does not parse prints `bad line`; an empty line prints nothing.
 
 Example: printf 'new Book\\nset #0 name \"Emma\"\\nget #0 name\\n' | mmrepo --meta library.json
 Exit status: 0 the script was run, 1 the metamodel or the journal is refused, 2 wrong arguments,
 3 the run stopped because a stream or the journal failed, the input is too long or memory was
-refused, 4 as --strict says.";
+refused, 4 as --strict says, 5 a resource is not loaded or not saved.";

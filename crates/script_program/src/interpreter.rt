@@ -18,7 +18,7 @@ use script_lines::Source;
 use script_output::Output;
 use std::alloc::{AllocError, Global};
 
-/// A repository and the boxes that its lines can attach, and what the last line printed.
+/// A repository and the adapters that its lines can attach, and what the last line printed.
 #[derive(Drop)]
 pub struct Interpreter<L: LinkStore, A: Adapter> {
     alloc: Global,
@@ -28,8 +28,8 @@ pub struct Interpreter<L: LinkStore, A: Adapter> {
 }
 
 impl<L: LinkStore, A: Adapter> Interpreter<L, A> {
-    /// An interpreter over an empty repository of a metamodel, which has printed nothing. The n-th of the boxes, from 1 on, is An.
-    /// Errs only if memory is refused.
+    /// An interpreter over an empty repository of a metamodel, which has printed nothing. The n-th of the adapters, from 1 on, is An. Errs
+    /// only if memory is refused.
     pub fn new(alloc: Global, meta: Meta, boxes: Vec<A>) -> Result<Self, AllocError>
         ensures begin { IfOk result (λ i. session i.repository i.pool ≡ first_session A.heard meta boxes.items) }
         ensures text { IfOk result (λ i. i.output ≡ []) }
@@ -59,6 +59,13 @@ impl<L: LinkStore, A: Adapter> Interpreter<L, A> {
             &mut self.output,
             Source::Bytes(line),
         )
+    }
+
+    /// The repository.
+    pub fn repository(&self) -> &Repository<L, A>
+        ensures { result.now ≡ self.now.repository }
+    {
+        &self.repository
     }
 
     /// What the last line printed.

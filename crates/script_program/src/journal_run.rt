@@ -10,6 +10,7 @@ ghost use Rattle.script_program.specs.Live.{IsTooLong};
 ghost use Rattle.script_program.specs.Kept.{EndsJournaled, LeavesJournaled, StopsJournaled, model_of, session_of};
 
 use crate::journaled::Journaled;
+use crate::listener::Listener;
 use adapters::Adapter;
 use durable::{Outbox, run_dialogue};
 use journal::Disk;
@@ -26,10 +27,10 @@ use std::io::{BufReader, Read, Write};
 /// Errs with `Read` if a read errs, with `TooLong` if a line has more than `INPUT_BYTES` bytes or the script more than
 /// `u64::MAX - 1` lines, with `Journal` if the disk fails or the journal is full, with `Write` if a write or a flush errs or a write
 /// takes no byte, and with `Memory` if memory is refused to the run itself.
-pub fn run_journal<R: Read, D: Disk, W: Write, L: LinkStore, A: Adapter>(
+pub fn run_journal<R: Read, D: Disk, W: Write, L: LinkStore, A: Adapter, H: Listener>(
     alloc: Global,
     reader: &mut BufReader<R>,
-    session: &mut Journaled<L, A>,
+    session: &mut Journaled<L, A, H>,
     outbox: &mut Outbox<D, W>,
 ) -> Result<(), RunFault>
     requires at_rest { IsAtRest D.seen D.may_leave outbox.old }

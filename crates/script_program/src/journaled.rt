@@ -5,19 +5,23 @@ ghost use Rattle.script_program.specs.Kept.{asks_change, has_fault, journal_turn
 ghost use Rattle.script_program.specs.Session.{first_session};
 
 use crate::interpreter::Interpreter;
+use crate::listener::Listener;
 use crate::turn::Turn;
 use adapters::Adapter;
 use durable::Session;
 use links::LinkStore;
 use mm_meta::Meta;
+use repository::Repository;
 use script_lines::{Form, Line, parse_line};
 use std::alloc::{AllocError, Global};
 
 /// An interpreter whose lines are counted by what a journal keeps of them: those that asked for a change of the model, which was done.
 #[derive(Drop)]
-pub struct Journaled<L: LinkStore, A: Adapter> {
+pub struct Journaled<L: LinkStore, A: Adapter, H: Listener> {
     alloc: Global,
     interpreter: Interpreter<L, A>,
+    /// The listener that is called with each line.
+    listener: H,
     /// How many lines it has run.
     lines: u64,
     /// Whether one of them was refused, or bad.
@@ -72,9 +76,21 @@ fn turn_of(alloc: Global, line: &[u8], turn: Turn) -> Result<durable::Turn, Allo
     }
 }
 
-impl<L: LinkStore, A: Adapter> Journaled<L, A> {
-    /// An interpreter over an empty repository of a metamodel. The n-th of the boxes, from 1 on, is An. Errs only if memory is refused.
-    pub fn new(alloc: Global, meta: Meta, boxes: Vec<A>) -> Result<Self, AllocError>
+/// Calls a listener with the line that an interpreter ran last.
+fn tell<L: LinkStore, A: Adapter, H: Listener>(
+    listener: &mut H,
+    interpreter: &Interpreter<L, A>,
+    line: &[u8],
+) {
+    if listener.is_listening() {
+        listener.line_was_run(interpreter.repository(), line, interpreter.text());
+    }
+}
+
+impl<L: LinkStore, A: Adapter, H: Listener> Journaled<L, A, H> {
+    /// An interpreter over an empty repository of a metamodel. The n-th of the adapters, from 1 on, is An. The listener is called with each
+    /// line. Errs only if memory is refused.
+    pub fn new(alloc: Global, meta: Meta, boxes: Vec<A>, listener: H) -> Result<Self, AllocError>
         ensures begin { IfOk result (λ j. session_of j ≡ first_session A.heard meta boxes.items) }
         ensures lines { IfOk result (λ j. lines_run j ≡ 0) }
         ensures faulty { IfOk result (λ j. has_fault j ≡ false) }
@@ -82,9 +98,24 @@ impl<L: LinkStore, A: Adapter> Journaled<L, A> {
         Ok(Journaled {
             alloc,
             interpreter: Interpreter::new(alloc, meta, boxes)?,
+            listener,
             lines: 0,
             is_faulty: false,
         })
+    }
+
+    /// Calls the listener when the lines of a journal were run, and those of a script begin.
+    pub(crate) fn begin_script(&mut self)
+        ensures { session_of self.new ≡ session_of self.old }
+    {
+        self.listener.script_begins();
+    }
+
+    /// The repository.
+    pub fn repository(&self) -> &Repository<L, A>
+        ensures { result.now ≡ (session_of self.now).state }
+    {
+        self.interpreter.repository()
     }
 
     /// How many lines it has run.
@@ -102,13 +133,14 @@ impl<L: LinkStore, A: Adapter> Journaled<L, A> {
     }
 }
 
-impl<L: LinkStore, A: Adapter> Session for Journaled<L, A> {
+impl<L: LinkStore, A: Adapter, H: Listener> Session for Journaled<L, A, H> {
     ghost use Rattle.script_program.specs.Kept.{RunsJournaled};
 
     ghost runs = { λ j l p k. RunsJournaled (session_of j) l p (session_of k) };
 
     fn answer(&mut self, line: &[u8], text: &mut Vec<u8>) -> Result<durable::Turn, AllocError> {
         let turn = self.interpreter.answer(line)?;
+        tell(&mut self.listener, &self.interpreter, line);
         text.extend_from_slice(self.interpreter.text())?;
         self.lines = self.lines.saturating_add(1);
         self.is_faulty = self.is_faulty || turn.is_fault();

@@ -14,6 +14,7 @@ ghost use Rattle.script_streams.specs.declared.run_fault.RunFault.{RunFault};
 
 use crate::journal_run::run_journal;
 use crate::journaled::Journaled;
+use crate::listener::Listener;
 use crate::recovery::{JournalFault, open_journal, run_again};
 use adapters::Adapter;
 use durable::Outbox;
@@ -54,9 +55,9 @@ fn stopped_by(outcome: Result<(), RunFault>) -> Result<(), KeptFault>
 }
 
 /// Runs the lines of a file again, and opens the journal in it.
-fn opened<D: Disk + Drop, L: LinkStore, A: Adapter>(
+fn opened<D: Disk + Drop, L: LinkStore, A: Adapter, H: Listener>(
     alloc: Global,
-    session: &mut Journaled<L, A>,
+    session: &mut Journaled<L, A, H>,
     disk: D,
     bytes: Vec<u8>,
     head: &[u8],
@@ -75,17 +76,20 @@ fn opened<D: Disk + Drop, L: LinkStore, A: Adapter>(
 {
     // A file that is refused is left as it is.
     match run_again(alloc, session, bytes.as_slice(), head) {
-        Ok(()) => open_journal(alloc, disk, bytes.as_slice(), head),
+        Ok(()) => {
+            session.begin_script();
+            open_journal(alloc, disk, bytes.as_slice(), head)
+        }
         Err(fault) => Err((fault, disk)),
     }
 }
 
 /// Runs a script live whose changes a journal keeps, and takes the journal apart afterwards.
-fn run_opened<R: Read, D: Disk, W: Write, L: LinkStore, A: Adapter>(
+fn run_opened<R: Read, D: Disk, W: Write, L: LinkStore, A: Adapter, H: Listener>(
     alloc: Global,
     reader: &mut BufReader<R>,
     writer: W,
-    session: &mut Journaled<L, A>,
+    session: &mut Journaled<L, A, H>,
     journal: Journal<D>,
 ) -> KeptRun<D, W>
     requires settled { IsSettled D.seen D.may_leave journal }
@@ -121,11 +125,11 @@ fn run_opened<R: Read, D: Disk, W: Write, L: LinkStore, A: Adapter>(
 /// lines that were answered, and perhaps of some that followed them and were not. A call that opens that file begins with that model.
 ///
 /// Stops as `run_again` and `open_journal` do before the script is read, and then as `run_journal` does.
-pub fn run_kept<R: Read, D: Disk + Drop, W: Write, L: LinkStore, A: Adapter>(
+pub fn run_kept<R: Read, D: Disk + Drop, W: Write, L: LinkStore, A: Adapter, H: Listener>(
     alloc: Global,
     reader: &mut BufReader<R>,
     writer: W,
-    session: &mut Journaled<L, A>,
+    session: &mut Journaled<L, A, H>,
     disk: D,
     bytes: Vec<u8>,
     head: &[u8],

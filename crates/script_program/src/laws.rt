@@ -12,9 +12,9 @@ ghost use Rattle.script_program.specs.Script.{RunsLines};
 ghost use Rattle.script_program.specs.Turns.{Printed, summary_of, texts};
 ghost use Rattle.script_program.specs.declared.dress.Dress.{Dress};
 
-/// What the lines of a script print is the text that is defined for the numbers of its lost lines. Each of these numbers is
-/// there once and is that of a line that asks for a command, and there are as many as `no_memory` counts. What the first lines
-/// print is a front of such a text.
+/// What the lines of a script print is the text that is defined for the numbers of its lost lines. Each of these numbers is there once and
+/// is that of a line that asks for a command, and there are as many as `no_memory` counts. What the first lines print is a prefix of such
+/// a text.
 pub fn what_lines_print_is_the_script()
     ensures whole { (s t : Session) (bytes : List ℕ) (printed : List Printed) → RunsLines s (lines bytes) printed t
         → script s bytes (lost_lines printed) ≡ printed }
@@ -32,14 +32,15 @@ pub fn with_no_line_lost_the_script_is_a_function()
         → (summary_of printed).no_memory ≡ 0 → printed ≡ script s bytes [] }
 {}
 
-/// What is written for a run is the dressed script: that of all lines, whose texts are defined for the numbers of the lost ones.
+/// What is written for a run is the script's text by the output options: that of all lines, whose texts are defined for the numbers of the
+/// lost ones.
 pub fn a_run_writes_the_dressed_script()
     ensures { (d : Dress) (s t : Session) (bytes : List ℕ) (first : List (List ℕ)) (printed : List Printed) → RunsBatch d s bytes first printed t
         → dressed d (lines bytes) (script s bytes (lost_lines printed)) ≡ dressed d first printed }
 {}
 
-/// Without options a dressed script is its text. If only the end of the run is asked for, it is the text of the lines up to and
-/// including the first that is refused or bad.
+/// Without options it is the text of the script. If only the end of the run is asked for, it is the text of the lines up to and including
+/// the first that is refused or bad.
 pub fn a_plain_script_is_its_text()
     ensures whole { (ls : List (List ℕ)) (printed : List Printed) → length ls ≡ length printed → dressed plain ls printed ≡ texts printed }
     ensures stop { (ls : List (List ℕ)) (printed : List Printed) → length ls ≡ length printed

@@ -82,7 +82,7 @@ pub(crate) fn run_get<L: LinkStore, A: Adapter>(
     }
 }
 
-/// Prints what an adapter has heard. Errs only if memory is refused for what is printed.
+/// Prints how often an adapter was notified. Errs only if memory is refused for what is printed.
 fn run_seen<L: LinkStore, A: Adapter>(
     repository: &Repository<L, A>,
     output: &mut Output,

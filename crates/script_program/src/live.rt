@@ -4,9 +4,10 @@ ghost use Rattle.std.specs.Io.Buffered.{reader_remaining};
 ghost use Rattle.std.specs.Io.KnownBytes.{IsAtEnd};
 ghost use Rattle.script_streams.specs.Faults.{IsWriteOrMemory};
 ghost use Rattle.script_program.specs.Live.{AnswersLive, AnswersLiveFront, IsTooLong, PrintsInputLive, PrintsInputLiveFront};
-ghost use Rattle.script_program.specs.Session.{first_session, session};
+ghost use Rattle.script_program.specs.Session.{first_session, session, session_with};
 
 use crate::dress::Dress;
+use crate::listener::{Listener, NoListener};
 use crate::pool::Pool;
 use crate::script::answer_line;
 use crate::summary::Summary;
@@ -24,15 +25,16 @@ use std::io::{BufReader, Read, Write};
 /// What comes after an answer.
 const BEHIND: &[u8] = b"\n";
 
-/// Runs a line, and writes what it prints with an empty line after it; the output is room for that.
+/// Runs a line, and writes what it prints with an empty line after it; the output is a buffer for that.
 ///
 /// Errs with `Memory` if memory is refused to the run itself, and with `Write` if a write errs or takes no byte.
-fn answer_live<W: Write, L: LinkStore, A: Adapter>(
+fn answer_live<W: Write, L: LinkStore, A: Adapter, H: Listener>(
     alloc: Global,
     writer: &mut W,
     repository: &mut Repository<L, A>,
     pool: &mut Pool<A>,
     output: &mut Output,
+    listener: &mut H,
     line: &[u8],
 ) -> Result<Turn, RunFault>
     ensures ok { IfOk result (λ t. AnswersLive line.now (session repository.old pool.old) (W.contents writer.old) (W.contents writer.new) t
@@ -41,13 +43,14 @@ fn answer_live<W: Write, L: LinkStore, A: Adapter>(
         ⊎ AnswersLiveFront line.now (session repository.old pool.old) (W.contents writer.old) (W.contents writer.new)) }
     ensures kind { IfErr result (λ e. IsWriteOrMemory e) }
 {
-    // A plain answer shows no number.
+    // An answer without options shows no number.
     let turn = answer_line(
         alloc,
         writer,
         repository,
         pool,
         output,
+        listener,
         Dress::plain(),
         0,
         Source::Bytes(line),
@@ -57,12 +60,13 @@ fn answer_live<W: Write, L: LinkStore, A: Adapter>(
 }
 
 /// Reads the lines of a script in turn, and answers each before it reads the next.
-fn answer_lines<R: Read, W: Write, L: LinkStore, A: Adapter>(
+fn answer_lines<R: Read, W: Write, L: LinkStore, A: Adapter, H: Listener>(
     alloc: Global,
     reader: &mut BufReader<R>,
     writer: &mut W,
     repository: &mut Repository<L, A>,
     pool: &mut Pool<A>,
+    listener: &mut H,
 ) -> Result<Summary, RunFault>
     ensures ok { IfOk result (λ s. PrintsInputLive (reader_remaining R.remaining reader.old) (session repository.old pool.old) (W.contents writer.old) (W.contents writer.new) s) }
     ensures end { OnOk result (OnSome (reader_remaining R.remaining reader.old) (IsAtEnd (reader_remaining R.remaining reader.new))) }
@@ -83,6 +87,7 @@ fn answer_lines<R: Read, W: Write, L: LinkStore, A: Adapter>(
             repository,
             pool,
             &mut output,
+            listener,
             line.as_slice(),
         )?;
         summary = summary.with(turn);
@@ -94,14 +99,39 @@ fn answer_lines<R: Read, W: Write, L: LinkStore, A: Adapter>(
     Err(RunFault::TooLong)
 }
 
+/// Runs a script as `run_live` does, over a repository that its caller has, and goes on to have. The listener is called with each line.
+///
+/// Errs as `run_live` does.
+pub fn live_over<R: Read, W: Write, L: LinkStore, A: Adapter, H: Listener>(
+    alloc: Global,
+    reader: &mut BufReader<R>,
+    writer: &mut W,
+    repository: &mut Repository<L, A>,
+    boxes: Vec<A>,
+    listener: &mut H,
+) -> Result<Summary, RunFault>
+    // All the input was read, and what was written is what its lines print, with an empty line after each.
+    ensures ok { IfOk result (λ s. PrintsInputLive (reader_remaining R.remaining reader.old) (session_with A.heard repository.old boxes.items) (W.contents writer.old) (W.contents writer.new) s) }
+    ensures end { OnOk result (OnSome (reader_remaining R.remaining reader.old) (IsAtEnd (reader_remaining R.remaining reader.new))) }
+    // Whatever stops the run, what was written is a prefix of what the first lines print.
+    ensures stopped { OnErr result (PrintsInputLiveFront (reader_remaining R.remaining reader.old) (session_with A.heard repository.old boxes.items) (W.contents writer.old) (W.contents writer.new)) }
+    // `TooLong` is returned only if a line is too long, or there are too many.
+    ensures long { IsErrOf result RunFault.TooLong → IfSome (reader_remaining R.remaining reader.old) IsTooLong }
+{
+    let Ok(mut pool) = Pool::new(alloc, boxes) else {
+        return Err(RunFault::Memory);
+    };
+    answer_lines(alloc, reader, writer, repository, &mut pool, listener)
+}
+
 /// Runs a script as `run` does, but answers each line before it reads the next: what a line prints is written with an empty
 /// line after it, and a line that is passed over has an empty line alone. If the next line may have to be waited for, the
 /// writer is flushed before.
 ///
-/// Errs with `Read` if a read errs, with `TooLong` if a line has more than `INPUT_BYTES` bytes or the script more than
-/// `u64::MAX - 1` lines, with `Write` if a write or a flush errs or a write takes no byte, and with `Memory` if memory is
-/// refused to the run itself: then what was written is a front of what the first lines print. If memory is refused to the
-/// repository, the line prints `refused 28 MEMORY`, and the run goes on.
+/// Errs with `Read` if a read errs, with `TooLong` if a line has more than `INPUT_BYTES` bytes or the script more than `u64::MAX - 1`
+/// lines, with `Write` if a write or a flush errs or a write takes no byte, and with `Memory` if memory is refused to the run itself:
+/// then what was written is a prefix of what the first lines print. If memory is refused to the repository, the line prints
+/// `refused 28 MEMORY`, and the run goes on.
 pub fn run_live<R: Read, W: Write, L: LinkStore, A: Adapter>(
     alloc: Global,
     reader: &mut BufReader<R>,
@@ -112,16 +142,20 @@ pub fn run_live<R: Read, W: Write, L: LinkStore, A: Adapter>(
     // All the input was read, and what was written is what its lines print, with an empty line after each.
     ensures ok { IfOk result (λ s. PrintsInputLive (reader_remaining R.remaining reader.old) (first_session A.heard meta boxes.items) (W.contents writer.old) (W.contents writer.new) s) }
     ensures end { OnOk result (OnSome (reader_remaining R.remaining reader.old) (IsAtEnd (reader_remaining R.remaining reader.new))) }
-    // Whatever stops the run, what was written is a front of what the first lines print.
+    // Whatever stops the run, what was written is a prefix of what the first lines print.
     ensures stopped { OnErr result (PrintsInputLiveFront (reader_remaining R.remaining reader.old) (first_session A.heard meta boxes.items) (W.contents writer.old) (W.contents writer.new)) }
     // `TooLong` is returned only if a line is too long, or there are too many.
     ensures long { IsErrOf result RunFault.TooLong → IfSome (reader_remaining R.remaining reader.old) IsTooLong }
 {
-    let Ok(mut pool) = Pool::new(alloc, boxes) else {
-        return Err(RunFault::Memory);
-    };
     let mut repository: Repository<L, A> = Repository::new(alloc, meta);
-    let outcome = answer_lines(alloc, reader, writer, &mut repository, &mut pool);
+    let outcome = live_over(
+        alloc,
+        reader,
+        writer,
+        &mut repository,
+        boxes,
+        &mut NoListener,
+    );
     let _ = repository.close();
     outcome
 }

@@ -1,4 +1,4 @@
-//! The boxes that a script can attach.
+//! The adapters that a script can attach.
 ghost use Rattle.std.specs.Prelude.{◌≡◌, fold, map, slice_get, Some, Ok, Err, option_and_then, option_map, IfOk, IfErr, OnOk, OnErr};
 ghost use Rattle.repository.specs.Views.{outcome_view};
 ghost use Rattle.script_program.specs.Pool as p;
@@ -11,7 +11,7 @@ use std::alloc::{AllocError, Global};
 use std::marker::Model;
 use std::mem;
 
-/// The boxes that a script can attach: the n-th, from 1 on, is An. A box that is attached is out of the pool.
+/// The adapters that a script can attach: the n-th, from 1 on, is An. An adapter that is attached is out of the pool.
 #[derive(Drop)]
 pub(crate) struct Pool<A: Adapter> {
     boxes: Vec<Option<A>>,
@@ -26,7 +26,7 @@ impl<A: Adapter> Model for Pool<A> {
     ghost view = { λ p. map (λ o. option_map A.heard o) p.boxes.items };
 }
 
-/// The position of the box of a number. A0 has none.
+/// The index of the adapter of a number. A0 has none.
 fn index(no: AdapterNo) -> Option<usize>
     ensures { result ≡ p.index no }
 {
@@ -38,7 +38,7 @@ fn index(no: AdapterNo) -> Option<usize>
 }
 
 impl<A: Adapter> Pool<A> {
-    /// A pool that has all boxes. Errs only if memory is refused.
+    /// A pool that has all adapters. Errs only if memory is refused.
     pub(crate) fn new(alloc: Global, boxes: Vec<A>) -> Result<Self, AllocError>
         ensures { IfOk result (λ p. p ≡ map (λ a. Some (A.heard a)) boxes.items) }
     {
@@ -49,7 +49,7 @@ impl<A: Adapter> Pool<A> {
         Ok(Pool { boxes: slots })
     }
 
-    /// Puts a box, or none, where the box of a number is, and gives what was there; None if there is no such index.
+    /// Puts an adapter, or none, where the adapter of a number is, and gives what was there; None if there is no such index.
     fn replaced(&mut self, no: AdapterNo, entry: Option<A>) -> Option<Option<A>>
         ensures before { option_map (λ o. option_map A.heard o) result ≡ option_and_then (slice_get self.old) (p.index no) }
         ensures after { self.new ≡ p.with_entry (option_map A.heard entry) self.old no }
@@ -61,7 +61,7 @@ impl<A: Adapter> Pool<A> {
         Some(mem::replace(&mut self.boxes[index], entry))
     }
 
-    /// Takes the box of a number out. Refused with `NoAdapter` if there is none, and with `AdapterTaken` if it is out.
+    /// Takes the adapter of a number out. Refused with `NoAdapter` if there is none, and with `AdapterTaken` if it is out.
     pub(crate) fn take(&mut self, no: AdapterNo) -> Result<A, Refused>
         ensures ok { IfOk result (λ a. p.box_of self.old no ≡ Ok (A.heard a)) }
         ensures err { IfErr result (λ r. p.box_of self.old no ≡ Err r) }
@@ -75,14 +75,14 @@ impl<A: Adapter> Pool<A> {
         }
     }
 
-    /// Puts a box back.
+    /// Puts an adapter back.
     fn put(&mut self, no: AdapterNo, adapter: A)
         ensures { self.new ≡ p.with_box self.old (no, A.heard adapter) }
     {
         let _ = self.replaced(no, Some(adapter));
     }
 
-    /// Puts back what comes back of an outcome: what was released, or the box of the number that was not attached.
+    /// Puts back what comes back of an outcome: what was released, or the adapter of the number that was not attached.
     pub(crate) fn give_back(&mut self, no: Option<AdapterNo>, outcome: Result<Reply<A>, Failure<A>>)
         ensures { self.new ≡ returned self.old no (outcome_view A.heard outcome) }
     {
@@ -96,7 +96,7 @@ impl<A: Adapter> Pool<A> {
         }
     }
 
-    /// Puts boxes that were released back in their places.
+    /// Puts adapters that were released back under their numbers.
     pub(crate) fn put_all(&mut self, released: Vec<(AdapterNo, A)>)
         ensures { self.new ≡ fold p.with_box self.old (map (λ b. (b.0, A.heard b.1)) released.items) }
     {

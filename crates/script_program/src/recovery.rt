@@ -10,6 +10,7 @@ ghost use Rattle.models.specs.Model.{Model};
 ghost use Rattle.script_program.specs.Kept.{FindsLines, IsBegunOrNot, IsJournalOf, IsOfHead, begun, model_of, session_of};
 
 use crate::journaled::Journaled;
+use crate::listener::Listener;
 use adapters::Adapter;
 use durable::{ReplayFault, replay};
 use journal::{Disk, DiskFault, Journal, next_entry};
@@ -102,9 +103,9 @@ fn behind_head<'a>(bytes: &'a [u8], head: &[u8]) -> Result<Option<&'a [u8]>, Jou
 ///
 /// Errs with `NoJournal` or `OtherMetamodel` if the file does not begin with the head, with `Line` if a line is not done again, and
 /// with `Memory` if memory is refused.
-pub fn run_again<L: LinkStore, A: Adapter>(
+pub fn run_again<L: LinkStore, A: Adapter, H: Listener>(
     alloc: Global,
-    session: &mut Journaled<L, A>,
+    session: &mut Journaled<L, A, H>,
     bytes: &[u8],
     head: &[u8],
 ) -> Result<(), JournalFault>

@@ -7,8 +7,8 @@ use repository::Command;
 pub(crate) enum Request<A> {
     /// A command of the repository.
     Execute(Command<A>),
-    /// What an adapter has heard.
+    /// How often an adapter was notified, and how many notifications it keeps.
     Seen(AdapterNo),
-    /// Nothing: the box that is to be attached is not in the pool.
+    /// Nothing: the adapter that is to be attached is not in the pool.
     Refuse(Refused),
 }

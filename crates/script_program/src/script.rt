@@ -10,6 +10,7 @@ ghost use Rattle.script_program.specs.Session.{first_session, session, session_w
 use crate::dress::Dress;
 use crate::dressing::write_dressed;
 use crate::line::run_line;
+use crate::listener::{Listener, NoListener};
 use crate::plain::run_plain;
 use crate::pool::Pool;
 use crate::summary::Summary;
@@ -25,15 +26,29 @@ use script_streams::{RunFault, read_all};
 use std::alloc::Global;
 use std::io::{Read, Write};
 
-/// Runs a line of a script, and writes what it prints as it is dressed; the output is room for that.
+/// Calls a listener with a line that was run.
+fn tell<L: LinkStore, A: Adapter, H: Listener>(
+    listener: &mut H,
+    repository: &Repository<L, A>,
+    line: Source<'_>,
+    output: &Output,
+) {
+    if listener.is_listening() {
+        listener.line_was_run(repository, line.as_bytes(), output.as_bytes());
+    }
+}
+
+/// Runs a line of a script, writes what it prints by the output options, and calls the listener; the output is a buffer for what is
+/// printed.
 ///
 /// Errs with `Memory` if memory is refused to the run itself, and with `Write` if a write errs or takes no byte.
-pub(crate) fn answer_line<W: Write, L: LinkStore, A: Adapter>(
+pub(crate) fn answer_line<W: Write, L: LinkStore, A: Adapter, H: Listener>(
     alloc: Global,
     writer: &mut W,
     repository: &mut Repository<L, A>,
     pool: &mut Pool<A>,
     output: &mut Output,
+    listener: &mut H,
     dress: Dress,
     number: u64,
     source: Source<'_>,
@@ -50,15 +65,17 @@ pub(crate) fn answer_line<W: Write, L: LinkStore, A: Adapter>(
     };
     let line = source.as_bytes();
     write_dressed(writer, dress, number, line, turn, output.as_bytes())?;
+    tell(listener, repository, source, output);
     Ok(turn)
 }
 
-/// Runs the lines of a script in turn, and writes what each prints as it is dressed.
-fn run_lines<W: Write, L: LinkStore, A: Adapter>(
+/// Runs the lines of a script in turn, and writes what each prints, by the output options.
+fn run_lines<W: Write, L: LinkStore, A: Adapter, H: Listener>(
     alloc: Global,
     writer: &mut W,
     repository: &mut Repository<L, A>,
     pool: &mut Pool<A>,
+    listener: &mut H,
     dress: Dress,
     input: &[u8],
 ) -> Result<Summary, RunFault>
@@ -79,6 +96,7 @@ fn run_lines<W: Write, L: LinkStore, A: Adapter>(
             repository,
             pool,
             &mut output,
+            listener,
             dress,
             number,
             line,
@@ -92,12 +110,13 @@ fn run_lines<W: Write, L: LinkStore, A: Adapter>(
     Ok(summary)
 }
 
-/// Runs a script over a repository, and writes what each line prints as it is dressed.
-fn run_input<W: Write, L: LinkStore, A: Adapter>(
+/// Runs a script over a repository, and writes what each line prints, by the output options.
+fn run_input<W: Write, L: LinkStore, A: Adapter, H: Listener>(
     alloc: Global,
     writer: &mut W,
     repository: &mut Repository<L, A>,
     boxes: Vec<A>,
+    listener: &mut H,
     dress: Dress,
     input: &[u8],
 ) -> Result<Summary, RunFault>
@@ -109,28 +128,29 @@ fn run_input<W: Write, L: LinkStore, A: Adapter>(
     let Ok(mut pool) = Pool::new(alloc, boxes) else {
         return Err(RunFault::Memory);
     };
-    if dress.is_plain() {
+    if dress.is_plain() && !listener.is_listening() {
         return run_plain(alloc, writer, repository, &mut pool, input);
     }
-    run_lines(alloc, writer, repository, &mut pool, dress, input)
+    run_lines(alloc, writer, repository, &mut pool, listener, dress, input)
 }
 
-/// Runs a script as `run_dressed` does, over a repository that its caller has, and goes on to have.
+/// Runs a script as `run_dressed` does, over a repository that its caller has, and goes on to have. The listener is called with each line.
 ///
 /// Errs as `run` does. The script is read to its end before its first line is run, even if the run ends earlier.
-pub fn run_over<R: Read, W: Write, L: LinkStore, A: Adapter>(
+pub fn run_over<R: Read, W: Write, L: LinkStore, A: Adapter, H: Listener>(
     alloc: Global,
     reader: &mut R,
     writer: &mut W,
     repository: &mut Repository<L, A>,
     boxes: Vec<A>,
+    listener: &mut H,
     dress: Dress,
 ) -> Result<Summary, RunFault>
-    // All the input was read, what was written is what its lines print, as it is dressed, and the repository is left as they leave it.
+    // All the input was read, what was written is what its lines print, by the output options, and the repository is left as they leave it.
     ensures ok { IfOk result (PrintsInputDressed dress (R.remaining reader.old) (session_with A.heard repository.old boxes.items) (EndsIn repository.new) (W.contents writer.old) (W.contents writer.new)) }
     ensures end { OnOk result (IsAtEnd (R.remaining reader.new)) }
-    // If a write fails or the run is out of memory, what was written is a front of what the first lines print, and the repository is left as
-    // they leave it.
+    // If a write fails or the run is out of memory, what was written is a prefix of what the first lines print, and the repository is left
+    // as they leave it.
     ensures stopped { IfErr result (λ e. IsWriteOrMemory e
         → PrintsInputDressedFront dress (R.remaining reader.old) (session_with A.heard repository.old boxes.items) (EndsIn repository.new)
         (W.contents writer.old) (W.contents writer.new)) }
@@ -141,12 +161,20 @@ pub fn run_over<R: Read, W: Write, L: LinkStore, A: Adapter>(
     ensures long { IsErrOf result RunFault.TooLong → IfSome (R.remaining reader.old) (λ input. INPUT_BYTES < length input) }
 {
     match read_all(alloc, reader) {
-        Ok(input) => run_input(alloc, writer, repository, boxes, dress, input.as_slice()),
+        Ok(input) => run_input(
+            alloc,
+            writer,
+            repository,
+            boxes,
+            listener,
+            dress,
+            input.as_slice(),
+        ),
         Err(fault) => Err(fault),
     }
 }
 
-/// Runs a script as `run` does, and writes what its lines print as it is dressed; if the dress says so, the run ends after the first line
+/// Runs a script as `run` does, and writes what its lines print, by the output options; if they say so, the run ends after the first line
 /// that is refused or bad.
 ///
 /// Errs as `run` does. The script is read to its end before its first line is run, even if the run ends earlier.
@@ -158,10 +186,10 @@ pub fn run_dressed<R: Read, W: Write, L: LinkStore, A: Adapter>(
     boxes: Vec<A>,
     dress: Dress,
 ) -> Result<Summary, RunFault>
-    // All the input was read, and what was written is what its lines print, as it is dressed.
+    // All the input was read, and what was written is what its lines print, by the output options.
     ensures ok { IfOk result (PrintsInputDressed dress (R.remaining reader.old) (first_session A.heard meta boxes.items) EndsAnywhere (W.contents writer.old) (W.contents writer.new)) }
     ensures end { OnOk result (IsAtEnd (R.remaining reader.new)) }
-    // If a write fails or the run is out of memory, what was written is a front of what the first lines print.
+    // If a write fails or the run is out of memory, what was written is a prefix of what the first lines print.
     ensures stopped { IfErr result (λ e. IsWriteOrMemory e
         → PrintsInputDressedFront dress (R.remaining reader.old) (first_session A.heard meta boxes.items) EndsAnywhere (W.contents writer.old) (W.contents writer.new)) }
     // After a fault in reading nothing was written.
@@ -170,17 +198,25 @@ pub fn run_dressed<R: Read, W: Write, L: LinkStore, A: Adapter>(
     ensures long { IsErrOf result RunFault.TooLong → IfSome (R.remaining reader.old) (λ input. INPUT_BYTES < length input) }
 {
     let mut repository: Repository<L, A> = Repository::new(alloc, meta);
-    let outcome = run_over(alloc, reader, writer, &mut repository, boxes, dress);
+    let outcome = run_over(
+        alloc,
+        reader,
+        writer,
+        &mut repository,
+        boxes,
+        &mut NoListener,
+        dress,
+    );
     let _ = repository.close();
     outcome
 }
 
-/// Reads a whole script, runs it over an empty repository of a metamodel, and writes what its lines print. The n-th of the boxes, from 1
+/// Reads a whole script, runs it over an empty repository of a metamodel, and writes what its lines print. The n-th of the adapters, from 1
 /// on, is An. The repository keeps its links in a store of the kind `L`. At the end the repository is closed, and nothing is printed for
 /// that.
 ///
 /// Errs with `Read` if a read errs and with `TooLong` if the script has more than `INPUT_BYTES` bytes: then no line was run. Errs with
-/// `Write` if a write errs or takes no byte, and with `Memory` if memory is refused to the run itself: then what was written is a front of
+/// `Write` if a write errs or takes no byte, and with `Memory` if memory is refused to the run itself: then what was written is a prefix of
 /// what the first lines print. If memory is refused to the repository, the line prints `refused 28 MEMORY`, and the run goes on.
 pub fn run<R: Read, W: Write, L: LinkStore, A: Adapter>(
     alloc: Global,
@@ -192,7 +228,7 @@ pub fn run<R: Read, W: Write, L: LinkStore, A: Adapter>(
     // All the input was read, and what was written is what its lines print.
     ensures ok { IfOk result (PrintsInput (R.remaining reader.old) (first_session A.heard meta boxes.items) (W.contents writer.old) (W.contents writer.new)) }
     ensures end { OnOk result (IsAtEnd (R.remaining reader.new)) }
-    // If a write fails or the run is out of memory, what was written is a front of what the first lines print.
+    // If a write fails or the run is out of memory, what was written is a prefix of what the first lines print.
     ensures stopped { IfErr result (λ e. IsWriteOrMemory e
         → PrintsInputFront (R.remaining reader.old) (first_session A.heard meta boxes.items) (W.contents writer.old) (W.contents writer.new)) }
     // After a fault in reading nothing was written.

@@ -1,4 +1,4 @@
--- How far a free place has come on its way through a row of pieces.
+-- How far a free slot has come on its way through a row of pieces.
 use Rattle.std.proofs.Common.{◌≡◌, ℕ, ◌+◌, ◌<◌, ◌≢◌, inl, inr, List, [], ◌∷◌, ◌++◌, length, get_or, set, sym, ◌∙◌, ap, subst, arith, add-one, length-set}
 use Rattle.std.proofs.lemmas.List.{get_or-set_same, get_or-set_other, get_or_default, length_push}
 use Rattle.std.proofs.lemmas.Bool.{cases_eq}
@@ -23,7 +23,7 @@ hole-moved {T} n i j cs ps qs ne li lj m lp lq =
       ];
     }
 
--- the first value of the next piece comes into the free place
+-- the first value of the next piece comes into the free slot
 pub hole-raised : {T : Type 0} (n h : ℕ) (old cs : List (List T)) (d e : List T) (y : T) (ys ps : List T) → h + 1 < length cs → HoleAt n h old cs → get_or cs (h + 1) d ≡ y ∷ ys → ps ≡ get_or (set cs (h + 1) ys) h e ++ y ∷ [] → HoleAt n (h + 1) old (set (set cs (h + 1) ys) h ps)
 hole-raised {T} n h old cs d e y ys ps lt m eq is =
     let next : get_or cs (h + 1) [] ≡ y ∷ ys = get_or_default cs (h + 1) [] d lt ∙ eq in
@@ -36,7 +36,7 @@ hole-raised {T} n h old cs d e y ys ps lt m eq is =
       hole = hole-moved n h (h + 1) cs ps ys ne in_h lt m.hole (ap length here ∙ length_push (get_or cs h []) y) (add-one (length ys) ∙ sym (ap length next));
     }
 
--- the last value of the piece before comes into the free place
+-- the last value of the piece before comes into the free slot
 pub hole-lowered : {T : Type 0} (n h : ℕ) (old cs : List (List T)) (d e : List T) (y : T) (ys ps : List T) → h + 1 < length cs → HoleAt n (h + 1) old cs → get_or cs h d ≡ ys ++ y ∷ [] → ps ≡ y ∷ get_or (set cs h ys) (h + 1) e → HoleAt n h old (set (set cs h ys) (h + 1) ps)
 hole-lowered {T} n h old cs d e y ys ps lt m eq is =
     let in_h : h < length cs = omega arith in
@@ -49,7 +49,7 @@ hole-lowered {T} n h old cs d e y ys ps lt m eq is =
       hole = hole-moved n (h + 1) h cs ps ys ne lt in_h m.hole (ap length here ∙ sym (add-one (length (get_or cs (h + 1) [])))) (sym (length_push ys y) ∙ sym (ap length before));
     }
 
--- the same, where the free place is named by itself
+-- the same, if the free slot is named by itself
 pub hole-lowered_from : {T : Type 0} (n h k : ℕ) (old cs : List (List T)) (d e : List T) (y : T) (ys ps : List T) → h + 1 ≡ k → k < length cs → HoleAt n k old cs → get_or cs h d ≡ ys ++ y ∷ [] → ps ≡ y ∷ get_or (set cs h ys) k e → HoleAt n h old (set (set cs h ys) k ps)
 hole-lowered_from {T} n h k old cs d e y ys ps at lt m eq is =
     let P : ℕ → Type 0 = λ j. j < length cs → HoleAt n j old cs → ps ≡ y ∷ get_or (set cs h ys) j e → HoleAt n h old (set (set cs h ys) j ps) in

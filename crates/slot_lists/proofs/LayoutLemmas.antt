@@ -16,7 +16,7 @@ len-view cs n v l e = sym (ap (λ w. length w.items) e) ∙ length-joined n cs l
 pub spare-view : {T : Type 0} (cs : List (List T)) (n : ℕ) (v : Places T) → places_in cs n ≡ v → v.spare ≡ 1024 * length cs - n
 spare-view cs n v e = sym (ap (λ w. w.spare) e)
 
--- the value at p has a piece and a place in it
+-- the value at p has a piece and an index in it
 pub record InPiece {T : Type 0} (cs : List (List T)) (p : ℕ) : Type 0 where
   pub piece : p / 1024 < length cs
   pub place : p % 1024 < length (get_or cs (p / 1024) [])
@@ -59,7 +59,7 @@ pub record Put {T : Type 0} (n p : ℕ) (v : T) (cs new : List (List T)) : Type 
   pub values : joined new ≡ insert (joined cs) p v
   pub count : length new ≡ length cs
 
--- there is a place in the piece that lacks a value
+-- there is a free slot in the piece that lacks a value
 pub record HasPlace {T : Type 0} (p : ℕ) (x : List T) : Type 0 where
   pub place : p % 1024 ≤ length x
   pub room : length x < 1024

@@ -1,4 +1,4 @@
--- What a move makes of a list, where the place that it moves to is cut at the end.
+-- What a move makes of a list, if the index that it moves to is cut at the end.
 use Rattle.std.proofs.Common.{◌≡◌, ℕ, zero, suc, ◌-◌, ◌<◌, ◌≤◌, min, List, [], length, Option, Some, None, refl, sym, ap, ◌∙◌, arith, unwrap_or, inl, inr}
 use Rattle.std.specs.Option.{option_map}
 use Rattle.std.specs.List.{insert, remove, slice_get}

@@ -6,13 +6,13 @@ use Rattle.slot_lists.specs.declared.slot_list.SlotList.{SlotList}
 use Rattle.slot_lists.specs.Moved.{moved}
 use Rattle.slot_lists.specs.ShortList.{short_places}
 
--- a value that is alone has no other place
+-- a value that is alone has no other index
 moved_one : {T : Type 0} (v : T) (to from : ℕ) → to < 1 → from < 1 → v ∷ [] ≡ moved (v ∷ []) to from
 moved_one v zero zero to_lt from_lt = refl
 moved_one v zero (suc from) to_lt from_lt = absurd (omega (arith, from_lt))
 moved_one v (suc to) from to_lt from_lt = absurd (omega (arith, to_lt))
 
--- so a list without a box is as it was after each move
+-- so a list without a `Box` is as it was after each move
 pub lone-moved : {T : Type 0} (l : Layout T) (xs : List T) (to from : ℕ) → ((b : Box (SlotList T) Global) → l ≡ Many b → ⊥) → (short_places l).items ≡ xs → to < length xs → from < length xs → (short_places l).items ≡ moved xs to from
 lone-moved Empty xs to from none is to_lt from_lt =
     let long = ap length is in

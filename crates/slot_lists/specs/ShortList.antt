@@ -1,4 +1,4 @@
--- How a list of which most have one value lies in memory.
+-- The layout of a list that mostly has one value.
 use Rattle.std.specs.Prelude.{[], ◌∷◌}
 use Rattle.slot_lists.specs.declared.short_list.Layout.{Layout}
 use Rattle.slot_lists.specs.declared.short_list.Layout.TheVariants.{Empty, One, Many}

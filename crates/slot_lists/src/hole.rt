@@ -4,7 +4,7 @@ ghost use Rattle.slot_lists.specs.Pieces.{joined, HasHole};
 
 use crate::piece::Piece;
 
-/// Moves the hole among `len` places from one piece to another, and keeps the values in their order.
+/// Moves the hole among `len` slots from one piece to another, and keeps the values in their order.
 pub(crate) fn move_hole<T: Drop>(pieces: &mut Vec<Piece<T>>, len: usize, from: usize, to: usize)
     requires from { HasHole len from pieces.old.items }
     requires to { 1024 * to < len }

@@ -6,10 +6,10 @@ use std::alloc::{AllocError, Global};
 use std::collections::VecDeque;
 use std::marker::Model;
 
-/// How many values a piece has places for.
+/// How many values a piece can hold.
 pub(crate) const PLACES: usize = 1024;
 
-/// A ring of at most `PLACES` values, with room for so many.
+/// A ring of at most `PLACES` values, with capacity for so many.
 #[derive(Drop)]
 pub(crate) struct Piece<T> {
     ring: VecDeque<T>,
@@ -27,7 +27,7 @@ impl<T> Model for Piece<T> {
 }
 
 impl<T: Drop> Piece<T> {
-    /// No values, and room for each. Errs only if memory is refused.
+    /// No values, and capacity for all. Errs only if memory is refused.
     pub fn new(alloc: Global) -> Result<Self, AllocError>
         ensures { IfOk result (λ c. c ≡ []) }
     {

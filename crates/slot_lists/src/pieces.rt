@@ -11,7 +11,7 @@ use std::marker::Model;
 /// No list has more pieces than this.
 const MOST_PIECES: usize = 1 << 32;
 
-/// The values in order, a piece after the other. The pieces after the last that holds any are spare.
+/// The values in order, a piece after the other. The pieces after the last that holds any are empty.
 #[derive(Drop)]
 pub(crate) struct Pieces<T> {
     pieces: Vec<Piece<T>>,
@@ -33,7 +33,7 @@ impl<T> Model for Pieces<T> {
 }
 
 impl<T: Drop> Pieces<T> {
-    /// No values, and no room. Takes no memory.
+    /// No values, and no capacity. Takes no memory.
     pub fn new(alloc: Global) -> Self
         ensures { result.items ≡ [] }
     {
@@ -57,7 +57,7 @@ impl<T: Drop> Pieces<T> {
         PLACES * self.pieces.len() - self.len
     }
 
-    /// Adds a spare piece. Errs only if memory is refused.
+    /// Adds an empty piece. Errs only if memory is refused.
     fn add_piece(&mut self) -> Result<(), AllocError>
         ensures items { self.new.items ≡ self.old.items }
         ensures ok { OnOk result (self.new.spare ≡ self.old.spare + 1024) }
@@ -71,7 +71,7 @@ impl<T: Drop> Pieces<T> {
         Ok(())
     }
 
-    /// Makes places for more values. Errs only if memory is refused.
+    /// Reserves capacity for more values. Errs only if memory is refused.
     pub fn reserve(&mut self, additional: usize) -> Result<(), AllocError>
         ensures items { self.new.items ≡ self.old.items }
         ensures spare { self.old.spare ≤ self.new.spare }
@@ -84,7 +84,7 @@ impl<T: Drop> Pieces<T> {
         Ok(())
     }
 
-    /// Puts values after the others, in their places. Takes no memory.
+    /// Puts values after the others. Takes no memory.
     pub fn append(&mut self, values: Vec<T>)
         requires { vec_len values ≤ self.old.spare }
         ensures items { self.new.items ≡ self.old.items ++ values.items }
@@ -95,7 +95,7 @@ impl<T: Drop> Pieces<T> {
         }
     }
 
-    /// Puts a value before the one at an index, or last, for which there is room. Takes no memory.
+    /// Puts a value before the one at an index, or last, for which there is capacity. Takes no memory.
     pub fn insert(&mut self, index: usize, value: T)
         requires room { 0 < self.old.spare }
         requires in_range { index ≤ length self.old.items }

@@ -8,7 +8,7 @@ use std::alloc::{AllocError, Global};
 use std::marker::Model;
 use std::mem;
 
-/// How a list lies in memory. More than one value are in a box, so that a list of none or one is small.
+/// How a list lies in memory. More than one value are in a `Box`, so that a list of none or one is small.
 #[derive(Drop)]
 enum Layout<T> {
     Empty,
@@ -16,7 +16,7 @@ enum Layout<T> {
     Many(Box<SlotList<T>>),
 }
 
-/// A list, and places for more values. One value is in the list itself, and takes no block of memory.
+/// A list, and capacity for more values. One value is in the list itself, and takes no block of memory.
 #[derive(Drop)]
 pub struct ShortList<T> {
     layout: Layout<T>,
@@ -92,7 +92,7 @@ impl<T: Drop> ShortList<T> {
         }
     }
 
-    /// Makes places for more values. Errs only if memory is refused, and then the values stay and no room is lost.
+    /// Reserves capacity for more values. Errs only if memory is refused, and then the values stay and no capacity is lost.
     pub fn reserve(&mut self, alloc: Global, additional: usize) -> Result<(), AllocError>
         ensures items { self.new.items ≡ self.old.items }
         ensures ok { OnOk result (additional ≤ self.new.spare) }
@@ -117,7 +117,7 @@ impl<T: Drop> ShortList<T> {
         }
     }
 
-    /// Inserts a value before the one at an index, or at the end, for which there is room. Takes no memory.
+    /// Inserts a value before the one at an index, or at the end, for which there is capacity. Takes no memory.
     pub fn insert(&mut self, index: usize, value: T)
         requires room { 0 < self.old.spare }
         requires in_range { index ≤ length self.old.items }
@@ -163,7 +163,7 @@ impl<T: Drop> ShortList<T> {
     }
 }
 
-/// A box with a list of no values, with places for some. Errs only if memory is refused.
+/// A `Box` with a list of no values, with capacity for some. Errs only if memory is refused.
 fn in_box<T: Drop>(alloc: Global, places: usize) -> Result<Box<SlotList<T>>, AllocError>
     ensures items { IfOk result (λ b. b.value.items ≡ []) }
     ensures spare { IfOk result (λ b. places ≤ b.value.spare) }

@@ -16,8 +16,8 @@ enum Layout<T> {
     Long(Box<Pieces<T>>),
 }
 
-/// A list, and places for more values. An insert or a removal anywhere takes at most about as many steps
-/// as a piece has places, and one for each piece that the list has.
+/// A list, and capacity for more values. An insert or a removal anywhere takes at most about as many steps as a
+/// piece can hold values, and one for each piece that the list has.
 #[derive(Drop)]
 pub struct SlotList<T> {
     layout: Layout<T>,
@@ -104,8 +104,8 @@ impl<T: Drop> SlotList<T> {
         }
     }
 
-    /// Makes places for more values, and puts a list into pieces that is longer than a piece. Errs only if memory is
-    /// refused, and then the values stay and no room is lost.
+    /// Reserves capacity for more values, and puts a list into pieces that is longer than a piece. Errs only if memory is
+    /// refused, and then the values stay and no capacity is lost.
     pub fn reserve(&mut self, additional: usize) -> Result<(), AllocError>
         ensures items { self.new.items ≡ self.old.items }
         ensures ok { OnOk result (additional ≤ self.new.spare) }
@@ -172,7 +172,7 @@ impl<T: Drop> SlotList<T> {
         }
     }
 
-    /// Replaces the values by those of a `Vec`, of any length. The places stay if they are more than the new values.
+    /// Replaces the values by those of a `Vec`, of any length. The capacity stays if it is greater than the new values need.
     /// Takes no memory.
     pub fn replace(&mut self, values: Vec<T>)
         ensures items { self.new.items ≡ values.items }
@@ -196,7 +196,7 @@ impl<T: Drop> SlotList<T> {
         }
     }
 
-    /// Puts values after the others, in their places. Takes no memory.
+    /// Puts values after the others. Takes no memory.
     fn append(&mut self, values: Vec<T>)
         requires { vec_len values ≤ self.old.spare }
         ensures items { self.new.items ≡ self.old.items ++ values.items }
@@ -211,7 +211,7 @@ impl<T: Drop> SlotList<T> {
     }
 }
 
-/// Makes places in the block of a short list, by a half more at least.
+/// Reserves capacity in the block of a short list, by a half more at least.
 fn reserve_in_block<T: Drop>(values: &mut Vec<T>, additional: usize) -> Result<(), AllocError>
     requires { vec_len values.old + additional ≤ 1024 }
     ensures items { values.new.items ≡ values.old.items }
@@ -226,7 +226,7 @@ fn reserve_in_block<T: Drop>(values: &mut Vec<T>, additional: usize) -> Result<(
     values.reserve_exact(additional.max(values.len() / 2 + 1).min(free))
 }
 
-/// Moves the values of a block into pieces, with places for more. If memory is refused, they stay.
+/// Moves the values of a block into pieces, with capacity for more. If memory is refused, they stay.
 fn in_pieces<T: Drop>(values: &mut Vec<T>, additional: usize) -> Result<Box<Pieces<T>>, AllocError>
     ensures items { IfOk result (λ p. p.value.items ≡ values.old.items) }
     ensures spare { IfOk result (λ p. additional ≤ p.value.spare) }

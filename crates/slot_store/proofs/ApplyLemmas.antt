@@ -20,9 +20,9 @@ use Rattle.slot_store.specs.EditedCells.{TakesAtMost, cells_after}
 use Rattle.slot_store.proofs.KeptEditLemmas.{kept_edit}
 use Rattle.slot_store.proofs.StoreLemmas.{grown_kept, grown_links}
 
----------------------------------------------------------------- room
+---------------------------------------------------------------- capacity
 
--- room for a plan is room for its first edit, and then for the rest
+-- capacity for a plan is capacity for its first edit, and then for the rest
 gains_split : (x : Edit) (xs : List Edit) (e : End) → gains (x ∷ xs) e ≡ gains (x ∷ []) e + gains xs e
 gains_split x xs e = sum_by-append (gain e) (x ∷ []) xs
 

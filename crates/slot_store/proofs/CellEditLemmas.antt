@@ -1,4 +1,5 @@
--- What each part of an edit makes of the cells: of the values of an end, of what is told of it, of the holders and of what holds a node.
+-- What each part of an edit makes of the cells: of the values of an end, of what is known of its feature, of the holders and of what holds
+-- a node.
 use Rattle.std.proofs.Common.{◌≡◌, ◌≢◌, ℕ, Bool, true, false, ◌&&◌, Option, Some, None, if◌then◌else◌, refl, sym, ap, ◌∙◌, subst, inl, inr}
 use Rattle.std.specs.Prelude.{◌⊎◌}
 use Rattle.std.specs.List.{position, remove}
@@ -51,7 +52,7 @@ if_node n m y z is = ap (λ (b : Bool). if b then y else z) (same_node_if n m is
 pub else_node : {X : Type 0} (n m : Node) (y z : X) → n ≢ m → (if same_node n m then y else z) ≡ z
 else_node n m y z ne = ap (λ (b : Bool). if b then y else z) (no_node n m ne)
 
----------------------------------------------------------------- a holder told
+---------------------------------------------------------------- a holder recorded
 
 pub holds-vals : (o : Option (Node × End)) (c : Cells) (x : End) → (holds o c).vals x ≡ c.vals x
 holds-vals None c x = refl

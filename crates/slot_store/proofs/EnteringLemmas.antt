@@ -171,6 +171,6 @@ module _ (t : NodeSlots) (kept : ∥ IsStore t ∥₁) (o : ObjectNo) where
       by None q = λ k h. position_lacks ((cells t).vals e) (value.Object o) k q (sym (same k) ∙ h)
       by (Some i) q = same i ∙ position_at ((cells t).vals e) (value.Object o) i q
 
-  -- all places of the object, in the ends that have it in order
+  -- all positions of the object, in the ends that have it in order
   pub entering_places : IsLegalSet (store_links t) → (es : List End) → AreInOrder es → ((e : End) → has_end es e ≡ has_end all e) → (let is = entries_by (found_in (cells t) (value.Object o)) es in AreEntriesOf (store_links t) o is × AreInOrder (map incoming_end is))
   entering_places legal es order same = entries_all (store_links t) legal.placed.distinct o (found_in (cells t) (value.Object o)) search_law es (incoming-same (store_links t) o all es same entering_is) order

@@ -32,7 +32,7 @@ use Rattle.slot_store.proofs.LinkLemmas.{end-lists, lists_placed}
 use Rattle.slot_store.proofs.RebuiltLemmas.{rebuilt, rebuilt_links}
 use Rattle.slot_store.proofs.TellingLemmas.{IsTold, told_cut, told_lists, told_proxy, told_put, told_shift, told_without}
 
--- where an object is, what is told of the end is the metamodel's
+-- if an object is at an end, what is known of its feature is the metamodel's
 module _ (m : Kinds) (c : Cells) (told : IsTold m c) (o : ObjectNo) (x : End) where
   opposite_told : Stands (c.vals x) (value.Object o) → (c.pairing x).opposite ≡ m.opposite x.feature
   opposite_told at = λ i. (told x at.0 (value.Object o) at.1 i).opposite

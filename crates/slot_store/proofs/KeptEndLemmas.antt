@@ -43,7 +43,7 @@ either_first true false y z w apart = refl
 either_first false true y z w apart = refl
 either_first false false y z w apart = refl
 
--- where the list is known to have the value, the value is taken out of its place
+-- if the list is known to have the value, the value is taken out of its position
 pub without_is : (c : Cells) (e : End) (v : Value) (k : ℕ) (xs : List Value) → IsDistinct xs → slice_get xs k ≡ Some v → c.vals e ≡ xs → without_value e v c ≡ cell_edit e.node (Change e.feature (Remove k)) c
 without_is c e v k xs distinct at same =
     ap (λ (o : Option ℕ). option_map_or (λ (i : ℕ). cell_edit e.node (Change e.feature (Remove i)) c) o c) (ap (position (same_value v)) same ∙ position_is xs v k distinct at)
@@ -135,7 +135,7 @@ module _ (c : Cells) (es : List End) (ok : AreLists c es) where
     abbrev v : Value
     v = value.Object o
 
-    -- the far side of the cut, where the feature has an opposite
+    -- the far side of the cut, if the feature has an opposite
     module _ (g : FeatureNo) (q : (c.pairing e).opposite ≡ Some g) where
       abbrev y : End
       y = far_end o g

@@ -82,7 +82,7 @@ cut_far-distinct e o (Some g) c once x =
     ]
 
 module _ (m : Kinds) (meta : AreKinds m) (c : Cells) (entered : AreEntered m c) where
-  -- where lists with no opposite keep their objects, and the entries stay
+  -- if lists with no opposite keep their objects, and the entries stay
   carry : (d : Cells) → ((n : Node) → d.entered n ≡ c.entered n) → ((x : End) (o : ObjectNo) → m.opposite x.feature ≡ None → Stands (c.vals x) (value.Object o) → Stands (d.vals x) (value.Object o)) → ((x : End) (o : ObjectNo) → m.opposite x.feature ≡ None → Stands (d.vals x) (value.Object o) → Stands (c.vals x) (value.Object o)) → AreEntered m d
   carry d same to from o x = (
     λ h. (let old = (entered o x).0 (sym (ap (λ (ds : List End). has_end ds x) (same (node.Object o))) ∙ h) in (old.0, to x o old.0 old.1)),

@@ -1,4 +1,4 @@
--- The holders that are told after an edit are those of the edited set.
+-- The recorded holders after an edit are those of the edited set.
 use Rattle.std.proofs.Common.{◌≡◌, ℕ, true, false, ltb, ◌&&◌, length, Option, Some, None, if◌then◌else◌, refl, sym, ap, ◌∙◌}
 use Rattle.std.specs.List.{position}
 use Rattle.std.specs.Option.{option_map_or, option_or}
@@ -74,7 +74,7 @@ pub new_holding : (s : Links) (e : End) (i : ℕ) (o : ObjectNo) (g h : Option F
 new_holding s e i o None h two m = alone_holding h e i o m
 new_holding s e i o (Some g) h two m = joined_holding e i o g (length (end s (far_end o g))) m h two
 
--- and so does the link of a place
+-- and so does the link of a position
 pub link_holding : (c : Cells) (e : End) (k : ℕ) (o : ObjectNo) (g : Option FeatureNo) → AreTwo e g → (m : Node) → holding (link_to c e k o g) m ≡ pair_holding (held e o g (c.pairing e).container) m
 link_holding c e k o None two m = alone_holding (c.pairing e).container e k o m
 link_holding c e k o (Some g) two m = joined_holding e k o g (index_in (c.vals (far_end o g)) (node_value e.node)) m (c.pairing e).container two

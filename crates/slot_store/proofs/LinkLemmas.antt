@@ -105,9 +105,9 @@ module _ (c : Cells) where
     apart : (e : End) (k : ℕ) (o : ObjectNo) (g : FeatureNo) → (c.pairing e).opposite ≡ Some g → slice_get (c.vals e) k ≡ Some (value.Object o) → e ≢ far_end o g
     apart e k o g q h s = (ok.mutual_ e k o g h q).apart (λ i. (sym s i).feature.0)
 
-    ---------------------------------------------------------------- places
+    ---------------------------------------------------------------- positions
 
-    -- the link of a place is there
+    -- the link of a position is there
     place_to : (e : End) (k : ℕ) (o : ObjectNo) (g : Option FeatureNo) → (c.pairing e).opposite ≡ g → slice_get (c.vals e) k ≡ Some (value.Object o) → indexed (link_to c e k o g) e ≡ Some (k, value.Object o)
     place_to e k o None q h = rw (same_end-self e) refl
     place_to e k o (Some g) q h = indexed-joined_near e k (far_end o g) (index_in (c.vals (far_end o g)) (node_value e.node)) (c.pairing e).container (apart e k o g q h)
@@ -117,7 +117,7 @@ module _ (c : Cells) where
     place_from e k (value.Proxy t) h = rw (same_end-self e) refl
     place_from e k v h = absurd (ok.references e k v h)
 
-    -- the link of a place is the link of the place on its far side
+    -- the link of a position is the link of the position on its far side
     module _ (p : ObjectNo) (f : FeatureNo) (k : ℕ) (o : ObjectNo) (g : FeatureNo) (q : (c.pairing (far_end p f)).opposite ≡ Some g) (h : slice_get (c.vals (far_end p f)) k ≡ Some (value.Object o)) where
       abbrev d : End
       d = far_end p f
@@ -141,7 +141,7 @@ module _ (c : Cells) where
           ∙ (λ i. joined far back d (sym there_again i) (sym m.container i))
           ∙ ap (λ (x : Option FeatureNo). link_to c far back p x) (sym m.opposite)
 
-    -- and a link that is at a place is the link of that place
+    -- and a link that is at a position is the link of that position
     object_far : (p : ObjectNo) (f : FeatureNo) (k : ℕ) (o : ObjectNo) (g : FeatureNo) → (c.pairing (far_end p f)).opposite ≡ Some g → slice_get (c.vals (far_end p f)) k ≡ Some (value.Object o) → (e : End) (i : ℕ) (v : Value) → far_end p f ≢ e → indexed (link_to c (far_end p f) k o (Some g)) e ≡ Some (i, v) → (slice_get (c.vals e) i ≡ Some v) × (link_to c (far_end p f) k o (Some g) ≡ link_from c e i v)
     object_far p f k o g q h e i v ne at =
         let d = far_end p f in
@@ -180,7 +180,7 @@ module _ (c : Cells) where
       | inr ne ↦ far_from d k w h e i v ne at
     ]
 
-    -- a member that is at a place is the link of that place
+    -- a member that is at a position is the link of that position
     pub stands_from : (l : Link) → In l (cell_links c es) → (e : End) (i : ℕ) (v : Value) → indexed l e ≡ Some (i, v) → (slice_get (c.vals e) i ≡ Some v) × (l ≡ link_from c e i v)
     stands_from l h e i v at =
         let b = all_back es l ((from_list_HasLinks (all_links c es)).has l h) in

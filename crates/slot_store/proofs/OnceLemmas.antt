@@ -28,7 +28,7 @@ at_has_end (x ∷ ds) d (suc k) h = or_right (same_end x d) _ (at_has_end ds d k
 
 ---------------------------------------------------------------- one less
 
--- what is left of a list stood there in the whole
+-- what is left of a list was in the whole list
 removed_from : (ds : List End) (i j : ℕ) → slice_get (remove ds i) j ≡ slice_get ds (raise i j)
 removed_from ds i j = elim (cases_lt j i) [
   | inl lt ↦ slice_get-remove_below ds i j lt ∙ ap (λ (k : ℕ). slice_get ds k) (sym (raise_below i j lt))
@@ -49,7 +49,7 @@ remove_at ds i k d ne h = elim (cases_order k i) [
     above zero gt h = absurd (omega (arith, gt))
     above (suc k) gt h = at_has_end (remove ds i) d k (slice_get-remove_above ds i k (omega (arith, gt)) ∙ h)
 
--- the list without an end, where it has it
+-- the list without an end, if it has it
 abbrev pub without_end : End → List End → List End
 without_end e ds = option_map_or (λ (i : ℕ). remove ds i) (position (same_end e) ds) ds
 

@@ -19,7 +19,7 @@ use Rattle.slot_store.specs.CellLinks.{IsOnce}
 past_all : {X : Type 0} (p : X → Bool) (xs : List X) → position p xs ≡ None → length xs ≤ position_or_len p xs
 past_all p xs e = grind (arith, common_steps, nat_tests)
 
--- a search by a test that tells equals
+-- a search by a test that finds equals
 module _ {X : Type 0} (same : X → X → Bool) (self : (x : X) → same x x ≡ true) (equal : (x y : X) → same x y ≡ true → x ≡ y) where
   item_at : (xs : List X) (v : X) (i : ℕ) → position (same v) xs ≡ Some i → slice_get xs i ≡ Some v
   item_at xs v i h =
@@ -45,7 +45,7 @@ position_at = item_at same_value same_value-self same_value-true
 pub position_lacks : (xs : List Value) (v : Value) (k : ℕ) → position (same_value v) xs ≡ None → slice_get xs k ≡ Some v → ⊥
 position_lacks = item_lacks same_value same_value-self same_value-true
 
--- a value that is told to be at an index is there
+-- a value that is found at an index is there
 pub value_at : (v : Value) (xs : List Value) (i : ℕ) → is_value v (slice_get xs i) ≡ true → slice_get xs i ≡ Some v
 value_at v xs i = at (slice_get xs i)
   where

@@ -50,7 +50,7 @@ there_reference e (At d j) two y k v =
 there_reference e (Alone o) two y k v = λ at. absurd (let w : ℕ × Value = (k, v) in none-some w at)
 there_reference e (Proxy t) two y k v = λ at. absurd (let w : ℕ × Value = (k, v) in none-some w at)
 
--- only objects and proxies are at the places of a link
+-- only objects and proxies are at the positions of a link
 place_reference : (l : Link) → HasTwoSides l.end l.far → (y : End) (k : ℕ) (v : Value) → indexed l y ≡ Some (k, v) → IsReference v
 place_reference l two y k v =
     elim (same_end l.end y) as (λ b. let p : Option (ℕ × Value) = (if b then Some (l.index, far_value l.far) else far_indexed l.far (node_value l.end.node) y) in p ≡ Some (k, v) → IsReference v) [

@@ -1,4 +1,4 @@
--- What has room for a put has the rows that the put names.
+-- What has capacity for a put has the rows that the put names.
 use Rattle.std.proofs.Common.{◌≡◌, ℕ, Bool, true, false, IfSome, List, [], ◌∷◌, Option, Some, None, if◌then◌else◌, sym, ap, subst, arith}
 use Rattle.mm_types.specs.Same.{node_value, same_end, same_feature}
 use Rattle.mm_types.specs.declared.numbers.FeatureNo.{FeatureNo}
@@ -73,7 +73,7 @@ held_row t x e i o g h is has = row h (subst (λ (y : Edit). HasRoom (room t) (y
       | false ↦ row_far g f has
     ]
 
--- what is contained has its row at the place that is looked up
+-- what is contained has its row at the index that is looked up
 pub held_at : (t : NodeSlots) (p : PutPlaces) (e : End) (o : ObjectNo) (g h : Option FeatureNo) → row_index_of t e.node ≡ Some p.near → row_index_of t (node.Object o) ≡ Some p.far → IfSome {T = Node × End} (held e o g h) (λ q. row_index_of t q.0 ≡ Some (held_row_index p e h))
 held_at t p e o g None near far = tt
 held_at t p e o g (Some f) near far = elim (same_feature e.feature f) as (λ b. IfSome {T = Node × End} (if b then Some (node.Object o, e) else held_far e o g f) (λ q. row_index_of t q.0 ≡ Some (if b then p.far else p.near))) [

@@ -1,4 +1,4 @@
--- What is told of each feature is what a metamodel says of it, before and after each part of an edit.
+-- What is known of each feature is what a metamodel says of it, before and after each part of an edit.
 use Rattle.std.proofs.Common.{◌≡◌, ℕ, ◌<◌, ◌≤◌, true, false, ltb, List, length, Option, Some, None, if◌then◌else◌, refl, sym, ap, ◌∙◌, subst, inl, inr}
 use Rattle.std.specs.List.{position, slice_get}
 use Rattle.std.specs.Option.{option_map_or}
@@ -30,7 +30,7 @@ use Rattle.slot_store.proofs.StandLemmas.{Stands-insert, Stands-push, Stands-rem
 abbrev pub kind_pairing : Kinds → FeatureNo → Pairing
 kind_pairing m f = record { opposite = m.opposite f; container = m.container f }
 
--- where an object is, the pairing is the metamodel's; where a proxy is, nothing is contained
+-- of an object the pairing is the metamodel's; of a proxy nothing is contained
 abbrev pub ToldAs : Kinds → FeatureNo → Pairing → Value → Type 0
 ToldAs m f p (value.Object o) = p ≡ kind_pairing m f
 ToldAs m f p (value.Proxy t) = m.container f ≡ None
@@ -64,7 +64,7 @@ module _ (m : Kinds) (meta : AreKinds m) where
 
 ---------------------------------------------------------------- parts of edits
 
--- a pairing that is the metamodel's tells of all that is there
+-- a pairing that is the metamodel's covers all that is there
 told_of : (m : Kinds) (f : FeatureNo) (p q : Pairing) → q ≡ kind_pairing m f → (w : Value) → ToldAs m f p w → ToldAs m f q w
 told_of m f p q is (value.Object o) h = is
 told_of m f p q is (value.Proxy t) h = h

@@ -1,4 +1,4 @@
--- The links that lists at both ends stand for, and when lists, holders and entries tie up.
+-- The links that lists at both ends stand for, and when lists, holders and entries agree.
 use Rattle.std.specs.Prelude.{◌≡◌, ◌↔◌, ℕ, zero, suc, ◌≤◌, true, List, [], ◌∷◌, ◌++◌, length, slice_get, Option, Some, None}
 use Rattle.std.specs.FinSet as set
 use Rattle.mm_types.specs.Ends.{index_in}
@@ -83,7 +83,7 @@ pub record RepeatNothing (c : Cells) : Type 0 where
   pub values : (e : End) → IsDistinct (c.vals e)
   pub entries : (o : ObjectNo) → IsOnce (c.entered (node.Object o))
 
--- lists, the holders that the links tell, and for each object the ends with no opposite that have it
+-- lists, the holders that the links give, and for each object the ends with no opposite that have it
 pub record IsKept (c : Cells) (es : List End) : Type 0 where
   pub lists : AreLists c es
   pub held : IsHeldOnce (cell_links c es)

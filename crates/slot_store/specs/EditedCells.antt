@@ -57,11 +57,11 @@ put_cells e i o g h c = holds (held e o g h) (put_far e o g h (put_near e i (val
 
 ---------------------------------------------------------------- cuts
 
--- the first of a value is taken out of an end, where it is there
+-- the first of a value is taken out of an end, if it is there
 abbrev pub without_value : End → Value → Cells → Cells
 without_value e v c = option_map_or (λ (i : ℕ). cell_edit e.node (Change e.feature (Remove i)) c) (position (same_value v) (c.vals e)) c
 
--- the end is taken out of those that hold the object, where it is there
+-- the end is taken out of those that hold the object, if it is there
 abbrev pub without_entry : End → ObjectNo → Cells → Cells
 without_entry e o c = option_map_or (λ (i : ℕ). cell_edit (node.Object o) (Leave i) c) (position (same_end e) (c.entered (node.Object o))) c
 
@@ -81,7 +81,7 @@ cells_after (edit.Shift e to from) c = cell_edit e.node (Change e.feature (Move 
 cells_after (edit.PutProxy e i t) c = put_near e i (value.Proxy t) None c
 cells_after (edit.CutProxy e t) c = without_value e (value.Proxy t) c
 
--- no room is lost but so many for values, and so many for ends that hold a node
+-- no capacity is lost but so much for values, and so much for ends that hold a node
 pub record TakesAtMost (values : End → ℕ) (ends : Node → ℕ) (old new : Room) : Type 0 where
   pub places : (e : End) → old.places e ≤ new.places e + values e
   pub mixed : (e : End) → new.mixed e ≡ old.mixed e
@@ -100,7 +100,7 @@ PutsObject (edit.Shift e to from) = Unit {0}
 PutsObject (edit.PutProxy e i t) = Unit {0}
 PutsObject (edit.CutProxy e t) = Unit {0}
 
--- the far side has room
+-- the far side has capacity
 abbrev pub FarHasRoom : ObjectNo → Option FeatureNo → Room → Type 0
 FarHasRoom o None r = 1 ≤ r.entries (node.Object o)
 FarHasRoom o (Some g) r = 1 ≤ r.places (far_end o g)

@@ -1,4 +1,4 @@
--- The ends that have an object, as its own lists and the entries tell them, and where it is in each.
+-- The ends that have an object, as its own lists and the entries give them, and where it is in each.
 use Rattle.std.specs.Prelude.{ℕ, ◌≤◌, List, [], ◌∷◌, ◌++◌, length, position, Option, Some, None}
 use Rattle.mm_types.specs.Same.{same_value}
 use Rattle.mm_types.specs.declared.numbers.FeatureNo.{FeatureNo}
@@ -24,7 +24,7 @@ abbrev pub far_ends_of : Option FeatureNo → List Value → List End
 far_ends_of None vs = []
 far_ends_of (Some f) vs = far_ends f vs
 
--- the far ends of the links of an end, where its feature has an opposite
+-- the far ends of the links of an end, if its feature has an opposite
 abbrev pub ends_at : Cells → End → List End
 ends_at c e = far_ends_of (c.pairing e).opposite (c.vals e)
 

@@ -103,7 +103,7 @@ fn take_out_far(
     }
 }
 
-/// Tells a node that nothing contains it.
+/// Records that nothing contains a node.
 fn release(rows: &mut NodeSlots, pair: Option<(Node, End)>)
     ensures cells { cells rows.new ≡ released pair (cells rows.old) }
     ensures room { TakesAtMost no_values no_ends (room rows.old) (room rows.new) }
@@ -135,7 +135,7 @@ fn held_row_index(places: PutPlaces, end: End, container: Option<FeatureNo>) -> 
     }
 }
 
-/// Tells a node, whose row is at an index, the end that contains it.
+/// Records the end that contains a node, whose row is at an index.
 fn hold(rows: &mut NodeSlots, row_index: usize, pair: Option<(Node, End)>)
     requires row { HasHeldRow pair (room rows.old) }
     requires at { IfSome pair (λ p. row_index_of rows.old p.0 ≡ Some row_index) }
@@ -174,7 +174,8 @@ fn put_in_far(rows: &mut NodeSlots, row_index: usize, link: NewLink)
     }
 }
 
-/// Puts a value in at an index of an end, whose row is at an index; a put of an object tells of the feature.
+/// Puts a value in at `index` of an end; `row_index` is the index of the row of the end's node. Of an object `pairing` has the feature's
+/// opposite, and which of the two contains.
 fn put_in(
     rows: &mut NodeSlots,
     row_index: usize,
@@ -229,7 +230,7 @@ fn put(rows: &mut NodeSlots, places: PutPlaces, link: NewLink)
     );
 }
 
-/// The indexes of the rows of the nodes of a put for which there is room.
+/// The indexes of the rows of the nodes of a put for which there is capacity.
 fn places_of(rows: &NodeSlots, end: End, object: ObjectNo) -> PutPlaces
     requires near { (room rows.now).rows end.node ≡ true }
     requires far { (room rows.now).rows (node.Object object) ≡ true }
@@ -242,7 +243,7 @@ fn places_of(rows: &NodeSlots, end: End, object: ObjectNo) -> PutPlaces
     }
 }
 
-/// Makes room for a link, and puts it in. Errs only if memory is refused; no value changes then.
+/// Reserves capacity for a link, and puts it in. Errs only if memory is refused; no value changes then.
 pub(crate) fn put_with_room(rows: &mut NodeSlots, link: NewLink) -> Result<(), AllocError>
     requires { PairsObject link.end link.opposite }
     ensures { cells rows.new ≡ (if is_ok result then cells_after (put_edit link) (cells rows.old) else cells rows.old) }
@@ -264,8 +265,8 @@ fn shift(rows: &mut NodeSlots, end: End, to: u32, from: u32)
     rows.edit(end.node, RowEdit::Change(end.feature, edit));
 }
 
-/// Makes one edit, for which there is room. An end that it takes out of those that hold an object is looked for at a guess first.
-/// Takes no memory.
+/// Makes one edit, for which there is capacity. An end that it takes out of those that hold an object is looked for at a guess first. Takes
+/// no memory.
 pub(crate) fn edit_rows(rows: &mut NodeSlots, edit: Edit, guess: usize)
     requires object { PutsObject edit }
     requires room { HasRoom (room rows.old) (edit ∷ []) }

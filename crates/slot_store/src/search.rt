@@ -123,8 +123,8 @@ pub(crate) fn entry_found(rows: &NodeSlots, object: ObjectNo, end: End) -> Optio
     entry_from(rows, object, end, entry_guess(rows, object, end))
 }
 
-/// A guess at the position of an end among those with no opposite that hold an object. If it is not there, they are put in order,
-/// and it is guessed again: each end is moved once, and so many cuts take no longer than sorting. Takes no memory.
+/// A guess at the position of an end among those with no opposite that hold an object. If the end is not there, these ends are put in
+/// order, and the position is guessed again. Each end is moved once, so many cuts together take no longer than a sort. Takes no memory.
 pub(crate) fn ordered_guess(rows: &mut NodeSlots, object: ObjectNo, end: End) -> usize
     ensures cells { AreReordered (cells rows.old) (cells rows.new) }
     ensures room { room rows.new ≡ room rows.old }

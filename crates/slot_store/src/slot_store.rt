@@ -85,7 +85,7 @@ impl LinkStore for SlotStore {
     }
 }
 
-/// Whether the far side, if it is the shorter list, tells that an object is not in an end.
+/// Whether the far side, if it is the shorter list, shows that an object is not in an end.
 fn far_lacks(rows: &NodeSlots, end: End, object: ObjectNo) -> bool
     requires { ∥ IsStore rows.now ∥₁ }
     ensures { result ≡ true → Stands ((cells rows.now).vals end) (value.Object object) → ⊥ }

@@ -47,7 +47,7 @@ snapshot_of r target = map (node_state r) (filter (is_taken r target) (nodes r))
 
 ---------------------------------------------------------------- as it is taken
 
--- the target itself, where it is a resource
+-- the target itself, if it is a resource
 abbrev pub own_resource : Reading → Node → List Node
 own_resource r (node.Object o) = []
 own_resource r (node.Resource k) = if has_resource r k then node.Resource k ∷ [] else []

@@ -95,7 +95,7 @@ impl PartialEq for Snapshot {
 }
 
 impl NodeState {
-    /// What the node had under a feature; `None` if it is none of its features. Takes no memory.
+    /// What the node had under a feature; `None` if it is not one of its features. Takes no memory.
     pub fn under(&self, feature: FeatureNo) -> Option<&FeatureState>
         ensures { option_copied result ≡ find (λ x. same_feature x.feature feature) self.now.features }
     {

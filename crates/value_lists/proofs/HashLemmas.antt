@@ -94,7 +94,7 @@ any-slice_get p (x ∷ vs) (suc i) v is same = ap (λ b. p x || b) (any-slice_ge
 pub count_fits : (t : HashCounts) (vs : List Value) (k n : ℕ) → Counts t vs → length vs + 1 ≤ n → count_in t k + 1 ≤ n
 count_fits t vs k n counts le = omega (arith, counts k, count_by-le-length (has_hash k) vs)
 
--- a value has a place where it is there
+-- a value has an index if it is there
 position_before : (p : Value → Bool) (vs : List Value) → nat_lt (position_or_len p vs) (length vs) ≡ list_any p vs
 position_before p [] = refl
 position_before p (x ∷ vs) = elim (p x) as (λ b. nat_lt (cond (not b) (1 + position_or_len p vs) 0) (length (x ∷ vs)) ≡ (b || list_any p vs)) [

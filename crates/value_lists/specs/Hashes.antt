@@ -38,10 +38,10 @@ count_in t h = count_of (get nat_eq t.counts h)
 abbrev pub Counts : HashCounts → List Value → Type 0
 Counts t vs = (h : ℕ) → count_in t h ≡ count_by (has_hash h) vs
 
--- a list of values with its places
+-- a list of values with its capacity
 abbrev pub ValuePlaces : Type 0
 ValuePlaces = Places Value
 
--- what a contract sees of a list and its table: each insert needs room in both
+-- what a contract sees of a list and its table: each insert needs capacity in both
 abbrev pub places_in_both : ValuePlaces → HashCounts → ValuePlaces
 places_in_both p t = record { items = p.items; spare = min p.spare (spare t.counts) }

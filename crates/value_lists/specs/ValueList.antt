@@ -4,7 +4,7 @@ use Rattle.value_lists.specs.declared.value_list.Layout.{Layout}
 use Rattle.value_lists.specs.declared.value_list.Layout.TheVariants.{Empty, One, Plain, Counted}
 use Rattle.value_lists.specs.Hashes.{ValuePlaces}
 
--- the list, with a table or without one; the one value that a list may keep in itself has room without a block
+-- the list, with a table or without one; there is capacity, without a block, for the one value that a list may keep in itself
 abbrev pub places_of : Layout → ValuePlaces
 places_of Empty = record { items = []; spare = 1 }
 places_of (One v) = record { items = v ∷ []; spare = 0 }

@@ -13,7 +13,7 @@ use std::alloc::{AllocError, Global};
 use std::marker::Model;
 use std::mem;
 
-/// A list, and how many of its values have each hash. Contracts see it as the list, and how many places both have for values more.
+/// A list, and how many of its values have each hash. Contracts see it as the list, and the capacity that both have for more values.
 #[derive(Drop)]
 pub(crate) struct CountedList {
     list: SlotList<Value>,
@@ -37,7 +37,7 @@ impl Model for CountedList {
 }
 
 impl CountedList {
-    /// No values, and no room. Takes no memory.
+    /// No values, and no capacity. Takes no memory.
     fn new(alloc: Global) -> Self
         ensures { result.items ≡ [] }
     {
@@ -47,8 +47,8 @@ impl CountedList {
         }
     }
 
-    /// Moves a list into a box, with its hashes counted. Errs only if memory is refused, and then the list stays where it is: the box and
-    /// the table are there before it is moved.
+    /// Moves a list into a `Box`, with its hashes counted. Errs only if memory is refused, and then the list stays where it is: the `Box`
+    /// and the table are there before it is moved.
     pub fn of(alloc: Global, list: &mut SlotList<Value>) -> Result<Box<CountedList>, AllocError>
         ensures items { IfOk result (λ c. c.value.items ≡ list.old.items) }
         ensures spare { IfOk result (λ c. list.old.spare ≤ c.value.spare) }
@@ -121,8 +121,8 @@ impl CountedList {
         }
     }
 
-    /// Makes places for more values, in the list and in the table. Errs only if memory is refused, and then the values stay and no room is
-    /// lost.
+    /// Reserves capacity for more values, in the list and in the table. Errs only if memory is refused, and then the values stay and no
+    /// capacity is lost.
     pub fn reserve(&mut self, additional: usize) -> Result<(), AllocError>
         ensures items { self.new.items ≡ self.old.items }
         ensures ok { OnOk result (additional ≤ self.new.spare) }
@@ -132,7 +132,7 @@ impl CountedList {
         self.hashes.reserve(additional)
     }
 
-    /// Inserts a value before the one at an index, or at the end, for which there is room. Takes no memory.
+    /// Inserts a value before the one at an index, or at the end, for which there is capacity. Takes no memory.
     pub fn insert(&mut self, index: usize, value: Value)
         requires room { 0 < self.old.spare }
         requires in_range { index ≤ length self.old.items }
@@ -169,7 +169,7 @@ impl CountedList {
         self.list.move_to(to, from);
     }
 
-    /// Takes the list away from its table, with all its places. An empty list stays. Takes no memory.
+    /// Takes the list away from its table, with all its capacity. An empty list stays. Takes no memory.
     pub fn take_list(&mut self, alloc: Global) -> SlotList<Value>
         ensures items { result.items ≡ self.old.items }
         ensures spare { self.old.spare ≤ result.spare }
@@ -179,7 +179,7 @@ impl CountedList {
     }
 }
 
-/// Counts the hashes of a list, with room for as many more as the list has places. Errs only if memory is refused.
+/// Counts the hashes of a list, with capacity for as many more as the list. Errs only if memory is refused.
 fn counted(alloc: Global, list: &SlotList<Value>) -> Result<HashCounts, AllocError>
     ensures counts { IfOk result (λ t. Counts t list.now.items) }
     ensures room { IfOk result (λ t. list.now.spare ≤ room_of t.counts) }

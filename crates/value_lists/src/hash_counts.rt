@@ -26,7 +26,7 @@ pub(crate) struct HashCounts {
 }
 
 impl HashCounts {
-    /// No values, and no room. Takes no memory.
+    /// No values, and no capacity. Takes no memory.
     pub fn new(alloc: Global) -> Self
         ensures { (h : ℕ) → count_in result h ≡ 0 }
     {
@@ -35,7 +35,7 @@ impl HashCounts {
         }
     }
 
-    /// No values, with room for some. Errs only if memory is refused.
+    /// No values, with capacity for some. Errs only if memory is refused.
     pub fn with_capacity(alloc: Global, capacity: usize) -> Result<Self, AllocError>
         ensures none { IfOk result (λ t. (h : ℕ) → count_in t h ≡ 0) }
         ensures spare { IfOk result (λ t. capacity ≤ spare t.counts) }
@@ -62,7 +62,7 @@ impl HashCounts {
         }
     }
 
-    /// Makes room for more values. Errs only if memory is refused.
+    /// Reserves capacity for more values. Errs only if memory is refused.
     pub fn reserve(&mut self, additional: usize) -> Result<(), AllocError>
         ensures counts { (h : ℕ) → count_in self.new h ≡ count_in self.old h }
         ensures spare { spare self.old.counts ≤ spare self.new.counts }

@@ -15,8 +15,8 @@ use std::{mem, slice};
 /// A list of more values than this has its hashes counted, if it is looked up by value.
 const SHORT: usize = 64;
 
-/// A list has a table of its hashes if it is long and is looked up by value. It then lies in a box with its table, so that a list without
-/// one keeps no room for it. Most lists are those of single features: one value is in the list itself, and takes no block of memory.
+/// A list has a table of its hashes if it is long and is looked up by value. It then is in a `Box` with its table, so that a list without
+/// one needs no bytes for it. Most lists are those of single features: one value is in the list itself, and takes no block of memory.
 #[derive(Drop)]
 enum Layout {
     Empty,
@@ -25,8 +25,8 @@ enum Layout {
     Counted(Box<CountedList>),
 }
 
-/// A list, and if it is long and is looked up by value, how many of its values have each hash. Contracts see it as the list, and how many
-/// places it has for values more.
+/// A list, and if it is long and is looked up by value, how many of its values have each hash. Contracts see it as the list, and its
+/// capacity for more values.
 #[derive(Drop)]
 pub struct ValueList {
     layout: Layout,
@@ -124,8 +124,8 @@ impl ValueList {
         }
     }
 
-    /// Makes places for more values of a list. The list may be one that is looked up by value, or not. Errs only if memory is refused, and
-    /// then the values stay and no room is lost.
+    /// Reserves capacity for more values of a list. The list may be one that is looked up by value, or not. Errs only if memory is refused,
+    /// and then the values stay and no capacity is lost.
     pub fn reserve(
         &mut self,
         alloc: Global,
@@ -166,7 +166,7 @@ impl ValueList {
         Ok(())
     }
 
-    /// Inserts a value before the one at an index, or at the end, for which there is room. Takes no memory.
+    /// Inserts a value before the one at an index, or at the end, for which there is capacity. Takes no memory.
     pub fn insert(&mut self, index: usize, value: Value)
         requires room { 0 < self.old.spare }
         requires in_range { index ≤ length self.old.items }
@@ -263,7 +263,7 @@ fn layout_of(mut values: Vec<Value>) -> Layout
     }
 }
 
-/// One value instead of those of a list, which keeps its block if it has places for more.
+/// One value instead of those of a list, which keeps its block if that has capacity for more.
 fn layout_of_one(alloc: Global, mut list: SlotList<Value>, value: Value) -> Layout
     ensures items { (places_of result).items ≡ value ∷ [] }
     ensures spare { list.spare ≤ (places_of result).spare + 1 }
@@ -278,7 +278,7 @@ fn layout_of_one(alloc: Global, mut list: SlotList<Value>, value: Value) -> Layo
     }
 }
 
-/// A list of no values, with places for some. Errs only if memory is refused.
+/// A list of no values, with capacity for some. Errs only if memory is refused.
 fn with_places(alloc: Global, places: usize) -> Result<SlotList<Value>, AllocError>
     ensures items { IfOk result (λ l. l.items ≡ []) }
     ensures spare { IfOk result (λ l. places ≤ l.spare) }
@@ -288,7 +288,7 @@ fn with_places(alloc: Global, places: usize) -> Result<SlotList<Value>, AllocErr
     Ok(list)
 }
 
-/// Moves a value into a list with places for more. Errs only if memory is refused, and then the value stays where it is.
+/// Moves a value into a list with capacity for more. Errs only if memory is refused, and then the value stays where it is.
 fn in_block(
     alloc: Global,
     value: &mut Value,

@@ -41,7 +41,7 @@ proxy_text uri rest p is parsed =
     let read : is_some (parse (fragment_part (address_text uri rest))) ≡ true = ap (λ t. is_some (parse t)) after ∙ ap is_some parsed in
     record { mark = marked; uri = subst IsJoined (sym (uri-of_address uri rest is)) is; fragment = read }
 
--- and joining leaves the URI in it as it is, where it leaves the URI
+-- and joining leaves the URI in it as it is, if it leaves the URI
 pub steady_proxy : (uri rest : List ℕ) (p : Path) → IsWebUri uri → parse rest ≡ Some p → IsSteadyProxy (address_text uri rest)
 steady_proxy uri rest p web parsed =
     let is = web_joined uri web in

@@ -27,7 +27,7 @@ is_web u = bytes_eq u.scheme (codes "http") || bytes_eq u.scheme (codes "https")
 abbrev pub is_mark : ℕ → Bool
 is_mark c = c == 35
 
--- its text, where the scheme is http or https and there is no fragment
+-- its text, if the scheme is http or https and there is no fragment
 abbrev pub web_text : Parts → Option (List ℕ)
 web_text u = if is_web u then (if list_any is_mark (serialize u) then None else Some (serialize u)) else None
 

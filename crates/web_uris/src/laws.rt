@@ -17,7 +17,7 @@ pub fn urls_of_the_web_are_web_uris()
     ensures { (url : Parts) → IsValid url → kind_of url ≡ SpecialNotFile → web_text url ≡ Some (serialize url) → IsWebUri (serialize url) }
 {}
 
-/// Reading a fragment is the grammar: it finds the path that a text writes, and only that one.
+/// A fragment is read as the grammar says: reading finds the path that a text writes, and only that one.
 pub fn fragments_are_read_as_written()
     ensures finds { (text : List ℕ) (path : Path) → Writes text path → parse text ≡ Some path }
     ensures only { (text : List ℕ) (path : Path) → parse text ≡ Some path → Writes text path }

@@ -14,11 +14,11 @@ use notice_chain::Target;
 use std::collections::VecDeque;
 
 impl<A: Adapter> AdapterList<A> {
-    /// Attaches an adapter last in attach order, and reserves one of its places for its last notice (EMF: `eAdapters().add`).
+    /// Attaches an adapter last in attach order, and reserves capacity for its last notification (EMF: `eAdapters().add`).
     ///
-    /// Refused, in this order, with Limit if there are 100,000 targets, AdapterTaken if the number is attached and
-    /// AdapterFull if the adapter can't count its last notice; or with Memory if memory is refused. The adapter comes back
-    /// with what it has heard, and the list is unchanged.
+    /// Refused, in this order, with Limit if there are 100,000 targets, AdapterTaken if the number is attached and AdapterFull if the
+    /// adapter can't count its last notification; or with Memory if memory is refused. The adapter comes back with what it was
+    /// notified of, and the list is unchanged.
     pub fn attach(
         &mut self,
         no: AdapterNo,

@@ -18,9 +18,9 @@ use std::collections::VecDeque;
 use std::mem;
 
 impl<A: Adapter> AdapterList<A> {
-    /// Takes one target from an adapter: it is notified of that, its last notice from there, and no longer has it. Gives that
-    /// notice, and the adapter if that was its last target; `None`, and nothing changes, places included, if the node is no target of
-    /// it. Takes no memory (EMF: `eAdapters().remove`).
+    /// Takes one target from an adapter: it is notified of that, its last notification from there, and no longer has it. Gives that
+    /// notification, and the adapter if that was its last target; `None`, and nothing changes, its capacity included, if the node is no
+    /// target of it. Takes no memory (EMF: `eAdapters().remove`).
     pub fn detach(&mut self, no: AdapterNo, target: Node) -> Option<Detached<A>>
         ensures some { is_some result ≡ is_target no target self.old.0 }
         ensures none { result ≡ None → self.new ≡ self.old }
@@ -38,9 +38,9 @@ impl<A: Adapter> AdapterList<A> {
         detached
     }
 
-    /// Releases targets, one after another: the adapter of each is notified of that, its last notice from that target, and no
-    /// longer has it when the next one is released. What is no target is passed over. The adapters whose last target has gone are
-    /// then handed out, in attach order. Gives who was notified of what, and the adapters that are handed out. Takes no memory.
+    /// Releases targets, one after another: the adapter of each is notified of that, its last notification from that target, and no longer
+    /// has it when the next one is released. What is no target is passed over. The adapters whose last target has gone are then handed out,
+    /// in attach order. Gives who was notified of what, and the adapters that are handed out. Takes no memory.
     pub fn release(
         &mut self,
         release: Release<A>,
@@ -56,7 +56,7 @@ impl<A: Adapter> AdapterList<A> {
         (told, released)
     }
 
-    /// The parts of the list, which is empty until they are put back, and its room for handing out all of its adapters.
+    /// The parts of the list, which is empty until they are put back, and its capacity for handing out all of its adapters.
     fn take_apart(&mut self) -> (Going<A>, Vec<(AdapterNo, A)>)
         ensures now { result.0 ≡ self.old.0 }
         ensures some { HaveTargets self.old.0 }

@@ -10,8 +10,8 @@ use adapters::{Adapter, NoRoom};
 use notice_chain::Notice;
 
 impl<A: Adapter> AdapterList<A> {
-    /// Makes sure that each adapter has places for the copies that it gets, and one more for each of its targets. Each that
-    /// gets some is asked once, in attach order, and the first that refuses decides. None loses places.
+    /// Makes sure that each adapter has capacity for the copies that it gets, and for one more for each of its targets. Each that gets
+    /// some is asked once, in attach order, and the first that refuses decides. None loses capacity.
     pub(super) fn reserve_places(&mut self, copies: &[(usize, Notice)]) -> Result<(), NoRoom>
         requires within { AllByRecursion (λ c. c.0 < length self.old.1) copies.now }
         ensures kept { self.new.0 ≡ self.old.0 }
@@ -58,7 +58,7 @@ impl<A: Adapter> AdapterList<A> {
         Ok(())
     }
 
-    /// Makes sure that the adapter at `ordinal` has places for as many copies, and one more for each of its targets.
+    /// Makes sure that the adapter at `ordinal` has capacity for as many copies, and for one more for each of its targets.
     fn reserve_for(&mut self, ordinal: usize, count: usize) -> Result<(), NoRoom>
         requires within { ordinal < length self.old.1 }
         requires fits { count < 2 ^ 63 }
@@ -81,7 +81,7 @@ impl<A: Adapter> AdapterList<A> {
         self.attached[ordinal].targets.len()
     }
 
-    /// Makes sure that the adapter at `ordinal` has `n` places.
+    /// Makes sure that the adapter at `ordinal` has a capacity of `n`.
     pub(super) fn reserve_at(&mut self, ordinal: usize, n: u64) -> Result<(), NoRoom>
         requires within { ordinal < length self.old.1 }
         ensures kept { self.new.0 ≡ self.old.0 }

@@ -1,4 +1,4 @@
-//! Which adapters hear a notice, what is reserved for a chain, and its delivery.
+//! Which adapters get a notification, what is reserved for a chain, and its delivery.
 ghost use Rattle.std.specs.Prelude.{◌≡◌, ◌<◌, ◌++◌, List, length, slice_index, All, OnOk, IfOk};
 ghost use Rattle.links.specs.Holders.{HasNoCycle, above};
 ghost use Rattle.links.specs.LegalSets.{IsLegalSet};
@@ -20,8 +20,8 @@ use notice_chain::{Chain, Notice};
 use std::alloc::AllocError;
 
 impl<A: Adapter> AdapterList<A> {
-    /// The numbers of the adapters that hear a notice, in attach order, by the containers that `store` has now. Errs only if memory
-    /// is refused.
+    /// The numbers of the adapters that get a notification, in attach order, by the containers that `store` has now. Errs only if memory is
+    /// refused.
     pub fn audience<L: LinkStore>(
         &self,
         store: &L,
@@ -39,13 +39,13 @@ impl<A: Adapter> AdapterList<A> {
         Ok(numbers)
     }
 
-    /// Reserves all that a chain needs: for each adapter places for the notices of it that it hears, and one more for each of its
-    /// targets; and the copies of the notices. Who hears them goes by the containers that `store` has now, so it is called before the
-    /// change. Whatever it returns, the adapters have heard and keep what they did, and none has fewer places: a round that fitted
-    /// them still does.
+    /// Reserves all that a chain needs: for each adapter capacity for the notifications of it that it gets, and for one more for each of
+    /// its targets; and the copies of the notifications. Which adapters get them is decided by the containers that `store` has now, so it
+    /// is called before the change. Whatever it returns, what the adapters were notified of and keep is as before, and none has less
+    /// capacity: a round that fitted them still does.
     ///
-    /// Refused with AdapterFull if an adapter can't count the notices that it hears, or with Memory if memory is refused. The first
-    /// that refuses decides, in attach order: with AdapterFull each one before it has the places that it needs.
+    /// Refused with AdapterFull if an adapter can't count the notifications that it gets, or with Memory if memory is refused. The first
+    /// that refuses decides, in attach order: with AdapterFull each one before it has the capacity that it needs.
     pub fn reserve_all<L: LinkStore>(&mut self, store: &L, chain: &Chain) -> Result<Round, Refused>
         requires legal { IsLegalSet (L.links store.now) }
         requires no_cycle { HasNoCycle (L.links store.now) }
@@ -61,8 +61,8 @@ impl<A: Adapter> AdapterList<A> {
         }
     }
 
-    /// Reserves for each adapter places for the copies of a round that it gets, and one more for each of its targets. The round is that of
-    /// a chain (`round`), and nothing is allocated but what the adapters reserve, in attach order. Refused as `reserve_all`.
+    /// Reserves for each adapter capacity for the copies of a round that it gets, and for one more for each of its targets. The round is
+    /// that of a chain (`round`), and nothing is allocated but what the adapters reserve, in attach order. Refused as `reserve_all`.
     pub fn reserve_round(&mut self, round: &Round) -> Result<(), Refused>
         requires round { (up : Above) × (chain : List Notice) × (round.now ≡ round_of up chain self.old.0) }
         ensures { (up : Above) (chain : List Notice) → round.now ≡ round_of up chain self.old.0 → IsReserved up chain self.old self.new (reserved_round round.now result) }
@@ -74,11 +74,11 @@ impl<A: Adapter> AdapterList<A> {
         }
     }
 
-    /// Notifies the adapters of a round that fits them, each of its own notices in turn, and gives the list of who was notified
-    /// of what: the notices in the order of the chain, each with its audience in attach order. It takes no memory.
+    /// Notifies the adapters of a round that fits them, each of its own notifications in turn, and gives the list of which adapter was
+    /// notified of what: the notifications in the order of the chain, each with its adapters in attach order. It takes no memory.
     ///
-    /// A round fits the adapters for which it was reserved. After an adapter was attached or detached it need not fit: the
-    /// places count the adapters, and the round names them.
+    /// A round fits the adapters for which it was reserved. After an adapter was attached or detached it need not fit: it names the
+    /// adapters by number and by index in attach order.
     pub fn deliver(&mut self, round: Round) -> Vec<(AdapterNo, Notice)>
         requires reserved { RoundFits self.old.0 self.old.1 round }
         ensures heard { self.new.0 ≡ delivered round.copies self.old.0 }
@@ -103,9 +103,9 @@ impl<A: Adapter> AdapterList<A> {
         one.adapter.notify_changed(notice);
     }
 
-    /// The copies of the notices of a chain for the adapters that hear them. Notices of one notifier that follow each other have their
-    /// hearers found once, and those of the node in `hearers` are not looked for again. In `hearers` is remembered who hears the node of the
-    /// last notice. Errs only if memory is refused.
+    /// The copies of the notifications of a chain for the adapters that get them. The adapters of successive notifications of one notifier
+    /// are found once, and those of the node in `hearers` are not looked for again. `hearers` then has the adapters of the node of the last
+    /// notification. Errs only if memory is refused.
     pub fn round<L: LinkStore>(
         &self,
         store: &L,
@@ -126,7 +126,7 @@ impl<A: Adapter> AdapterList<A> {
         Ok(round)
     }
 
-    /// Adds the copies of a notice for the adapters at some ordinals to a round.
+    /// Adds the copies of a notification for the adapters at some indexes to a round.
     fn add_copies(
         &self,
         ordinals: &[usize],

@@ -15,8 +15,8 @@ use std::alloc::AllocError;
 use std::collections::BTreeSet;
 
 impl<A: Adapter> AdapterList<A> {
-    /// The ordinals, in attach order, of the adapters that have one of some objects as a target. Only the adapters of those objects
-    /// are looked at. Errs only if memory is refused.
+    /// The indexes, in attach order, of the adapters that have one of some objects as a target. Only the adapters of those objects are
+    /// looked at. Errs only if memory is refused.
     pub fn touched(&self, objects: &[ObjectNo]) -> Result<Vec<usize>, AllocError>
         ensures { IfOk result (λ v. v.items ≡ touched_by objects.now self.now.0) }
     {
@@ -26,7 +26,7 @@ impl<A: Adapter> AdapterList<A> {
         Ok(found)
     }
 
-    /// Adds the ordinals of the adapters that have one of some objects as a target.
+    /// Adds the indexes of the adapters that have one of some objects as a target.
     fn add_objects(
         &self,
         objects: &[ObjectNo],

@@ -16,12 +16,12 @@ use notice_chain::Target;
 use std::alloc::AllocError;
 
 impl<A: Adapter> AdapterList<A> {
-    /// Gives an adapter a target, the last of its targets, and reserves one of its places for its last notice from it. False, and nothing
+    /// Gives an adapter a target, the last of its targets, and reserves capacity for its last notification from it. False, and nothing
     /// changes, if the node is a target of it; whether that target is deep stays as it is.
     ///
-    /// Refused, in this order, with Limit if there are 100,000 targets, NoAdapter if the number is not attached and AdapterFull
-    /// if the adapter can't count a last notice from each target; or with Memory if memory is refused. After a refusal the adapters
-    /// have heard and keep what they did, and no adapter has fewer places.
+    /// Refused, in this order, with Limit if there are 100,000 targets, NoAdapter if the number is not attached and AdapterFull if the
+    /// adapter can't count a last notification from each target; or with Memory if memory is refused. After a refusal what the adapters
+    /// were notified of and keep is as before, and no adapter has less capacity.
     pub fn watch(&mut self, no: AdapterNo, node: Node, deep: bool) -> Result<bool, Refused>
         ensures added { IfOk result (λ added. added ≡ not (is_target no node self.old.0)) }
         ensures ok { OnOk result (self.new.0 ≡ (if is_target no node self.old.0 then self.old.0 else watched no (record { node = node; deep = deep }) self.old.0)) }
@@ -82,7 +82,7 @@ impl<A: Adapter> AdapterList<A> {
         Ok(())
     }
 
-    /// Gives the adapter at `ordinal`, which has the number `no` and places in reserve for it, a target that it has not.
+    /// Gives the adapter at `ordinal`, which has the number `no` and capacity reserved for it, a target that it has not.
     fn put_target(
         &mut self,
         ordinal: usize,

@@ -1,4 +1,4 @@
-//! Room for edits, which is made before they are.
+//! Capacity for edits, which is reserved before they are made.
 ghost use Rattle.std.specs.Prelude.{◌≡◌, true, ℕ, [], ◌∷◌, IfOk, OnOk, Some};
 ghost use Rattle.mm_types.specs.Same.{same_end};
 ghost use Rattle.mm_types.specs.declared.numbers.Node.{Node};
@@ -46,7 +46,7 @@ impl NodeSlots {
         }
     }
 
-    /// Takes back what an end was promised.
+    /// Takes back the capacity that is reserved for an end.
     fn forget(&mut self, end: End)
         ensures { cells self.new ≡ cells self.old }
     {
@@ -57,7 +57,7 @@ impl NodeSlots {
         );
     }
 
-    /// Takes back what the far side of a put was promised.
+    /// Takes back the capacity that is reserved for the far side of a put.
     fn forget_far(&mut self, object: ObjectNo, opposite: Option<FeatureNo>)
         ensures { cells self.new ≡ cells self.old }
     {
@@ -71,7 +71,7 @@ impl NodeSlots {
         }
     }
 
-    /// Takes back what was promised wherever an edit adds something.
+    /// Takes back the capacity that is reserved at each end to which an edit adds something.
     fn forget_edit(&mut self, edit: &Edit)
         ensures { cells self.new ≡ cells self.old }
     {
@@ -90,7 +90,7 @@ impl NodeSlots {
         }
     }
 
-    /// Takes back what was promised wherever a plan adds something.
+    /// Takes back the capacity that is reserved at each end to which a plan adds something.
     fn forget_plan(&mut self, plan: &[Edit])
         ensures { cells self.new ≡ cells self.old }
     {
@@ -113,7 +113,7 @@ impl NodeSlots {
         }
     }
 
-    /// Promises room for one more value of an end, for an object or for any value, in the row of the end's node.
+    /// Reserves capacity for one more value of an end, for an object or for any value, in the row of the end's node.
     fn promise_at(&mut self, end: End, row_index: usize, is_mixed: bool) -> Result<(), AllocError>
         requires at { row_index_of self.old end.node ≡ Some row_index }
         ensures cells { cells self.new ≡ cells self.old }
@@ -133,7 +133,7 @@ impl NodeSlots {
         }
     }
 
-    /// Promises room for the far side of a put, in the row of the object.
+    /// Reserves capacity for the far side of a put, in the row of the object.
     fn promise_far_at(
         &mut self,
         object: ObjectNo,
@@ -152,7 +152,7 @@ impl NodeSlots {
         }
     }
 
-    /// Promises room for one more value of an end, for an object or for any value.
+    /// Reserves capacity for one more value of an end, for an object or for any value.
     fn promise(&mut self, end: End, is_mixed: bool) -> Result<(), AllocError>
         ensures cells { cells self.new ≡ cells self.old }
         ensures ok { OnOk result (HasGained (λ e. one_if (same_end end e)) no_ends (room self.old) (room self.new)) }
@@ -162,7 +162,7 @@ impl NodeSlots {
         self.promise_at(end, row_index, is_mixed)
     }
 
-    /// Promises room for the far side of a put.
+    /// Reserves capacity for the far side of a put.
     fn promise_far(
         &mut self,
         object: ObjectNo,
@@ -175,7 +175,7 @@ impl NodeSlots {
         self.promise_far_at(object, row_index, opposite)
     }
 
-    /// Promises room for an edit wherever it adds something.
+    /// Reserves capacity for an edit at each end to which it adds something.
     fn promise_edit(&mut self, edit: &Edit) -> Result<(), AllocError>
         ensures cells { cells self.new ≡ cells self.old }
         ensures ok { OnOk result (HasGained (λ e. gain e edit.now) (λ n. entry n edit.now) (room self.old) (room self.new)) }
@@ -196,8 +196,8 @@ impl NodeSlots {
         }
     }
 
-    /// Makes room for a plan, instead of what was made for an earlier one wherever this one adds something. Errs only
-    /// if memory is refused; no value changes.
+    /// Reserves capacity for a plan, in place of what was reserved for an earlier one at the same ends. Errs only if memory is
+    /// refused; no value changes.
     pub fn reserve_for(&mut self, plan: &Plan) -> Result<(), AllocError>
         ensures cells { cells self.new ≡ cells self.old }
         ensures ok { OnOk result (HasRoom (room self.new) plan.now) }
@@ -210,8 +210,8 @@ impl NodeSlots {
         Ok(())
     }
 
-    /// Makes room for one link, beside what was made before, and returns the indexes of the rows of both nodes. Errs only if memory is
-    /// refused; no value changes.
+    /// Reserves capacity for one link, beside what was reserved before, and returns the indexes of the rows of both nodes. Errs only if
+    /// memory is refused; no value changes.
     pub fn reserve_put(&mut self, link: NewLink) -> Result<PutPlaces, AllocError>
         ensures cells { cells self.new ≡ cells self.old }
         ensures near { IfOk result (λ p. row_index_of self.new link.end.node ≡ Some p.near) }

@@ -25,8 +25,8 @@ impl<L: LinkStore, A: Adapter> Repository<L, A> {
     /// Attaches an adapter to a node, its first target, last in attach order (EMF: Notifier.eAdapters().add). A deep one is also
     /// notified of what happens below the node.
     ///
-    /// Refused, the first that applies: `NoObject`, `NoResource`, `Limit` if there are 100,000 targets, `AdapterTaken` if the number
-    /// is attached, `AdapterFull` if it can't count its last notice, `Memory`. A refused adapter comes back with what it has heard.
+    /// Refused, the first that applies: `NoObject`, `NoResource`, `Limit` if there are 100,000 targets, `AdapterTaken` if the number is
+    /// attached, `AdapterFull` if it can't count its last notification, `Memory`. A refused adapter comes back as it was.
     pub fn attach(
         &mut self,
         no: AdapterNo,
@@ -49,13 +49,13 @@ impl<L: LinkStore, A: Adapter> Repository<L, A> {
         Ok(reply(self.alloc, Answer::Done))
     }
 
-    /// Gives an adapter one target more, flat or deep (EMF: Notifier.eAdapters().add of an adapter that is attached elsewhere).
-    /// Whatever brings a notice to it, it hears each once. Returns false, and nothing changes, if the node is a target of it already;
-    /// whether that one is deep stays as it is.
+    /// Gives an adapter one target more, flat or deep (EMF: Notifier.eAdapters().add of an adapter that is attached elsewhere). However
+    /// many of its targets bring a notification in, it gets it once. Returns false, and nothing changes, if the node is a target of it
+    /// already; whether that one is deep stays as it is.
     ///
-    /// Refused, the first that applies: `NoObject`, `NoResource`, `Limit` if there are 100,000 targets, `NoAdapter` if the number is
-    /// not attached, `AdapterFull` if it can't count a last notice from each target, `Memory`. At a node that is a target of it only
-    /// the first two apply.
+    /// Refused, the first that applies: `NoObject`, `NoResource`, `Limit` if there are 100,000 targets, `NoAdapter` if the number is not
+    /// attached, `AdapterFull` if it can't count a last notification from each target, `Memory`. At a node that is a target of it only the
+    /// first two apply.
     pub fn watch(&mut self, no: AdapterNo, target: Node, deep: bool) -> Result<Reply<A>, Refused>
         ensures { Executed self.old (Watch no target deep) (change_outcome (changed_view A.heard result)) self.new }
     {
@@ -70,7 +70,7 @@ impl<L: LinkStore, A: Adapter> Repository<L, A> {
         Ok(reply(self.alloc, Answer::Flag(added)))
     }
 
-    /// Takes one target from an adapter: it is notified of REMOVING_ADAPTER, its last notice from there, and comes back if that was
+    /// Takes one target from an adapter: it is notified of REMOVING_ADAPTER, its last notification from there, and comes back if that was
     /// its last target (EMF: Notifier.eAdapters().remove). Returns false, and nobody is notified, if the node is no target of it.
     ///
     /// Refused, the first that applies: `NoObject`, `NoResource`, `NoAdapter` if the number is not attached, `Memory`.
@@ -126,7 +126,7 @@ impl<L: LinkStore, A: Adapter> Repository<L, A> {
         })
     }
 
-    /// How many notices an adapter was told. Takes no memory. Refused with `NoAdapter` if the number is not attached.
+    /// How many notifications an adapter got. Takes no memory. Refused with `NoAdapter` if the number is not attached.
     #[tactic(auto, using(crate::proofs::QuietLemmas::told_done))]
     pub fn adapter_told(&self, no: AdapterNo) -> Result<u64, Refused>
         ensures read { Executed self.now (commands.adapter_told no) (read_outcome answer.Count result) self.now }
@@ -138,7 +138,7 @@ impl<L: LinkStore, A: Adapter> Repository<L, A> {
         }
     }
 
-    /// How many notices an adapter keeps. Takes no memory. Refused with `NoAdapter` if the number is not attached.
+    /// How many notifications an adapter keeps. Takes no memory. Refused with `NoAdapter` if the number is not attached.
     #[tactic(auto, using(crate::proofs::QuietLemmas::kept_done))]
     pub fn adapter_kept(&self, no: AdapterNo) -> Result<u64, Refused>
         ensures read { Executed self.now (commands.adapter_kept no) (read_outcome answer.Count result) self.now }

@@ -3,7 +3,7 @@ ghost use Rattle.std.specs.Prelude.{◌≡◌, ℕ, List, [], None, Some, false,
 ghost use Rattle.mm_types.specs.Shapes.{shape};
 ghost use Rattle.adapter_list.specs.Hearing.{IsUnheard};
 ghost use Rattle.handshake.specs.FeatureChanges.{chain};
-ghost use Rattle.handshake.specs.Plans.{edits_values_alone};
+ghost use Rattle.handshake.specs.Changes.{edits_values_alone};
 ghost use Rattle.handshake.specs.declared.change.Change.{Change};
 ghost use Rattle.handshake.specs.Refusals.{early_refusal as early_refusal_of};
 ghost use Rattle.repository.specs.Run.{Executed, change_outcome};
@@ -44,7 +44,7 @@ impl<L: LinkStore, A: Adapter> Repository<L, A> {
     /// Refused, the first that applies: `NoObject` if the node or the value is an object that does not live, `NoResource`, `NoFeature`,
     /// `NotSingle` if the feature has a list, `WrongType`, `TextLength` above 65,535 bytes, `Bound` if the opposite list has as many values
     /// as its upper bound, `Recursive` if an object would contain itself, through however many others, `Limit` if the opposite list has
-    /// 1,000,000 values, `AdapterFull` if an adapter can't count the notices and its last one, `Memory`.
+    /// 1,000,000 values, `AdapterFull` if an adapter can't count its notifications and its last one, `Memory`.
     pub fn e_set(
         &mut self,
         node: Node,
@@ -100,8 +100,8 @@ impl<L: LinkStore, A: Adapter> Repository<L, A> {
         self.carry_out(change)
     }
 
-    /// A change that edits values alone. Attributes are what most commands change: if nobody hears of it, the edits are made as their
-    /// memory is taken, and no reply is made ready.
+    /// A change that edits values alone. Attributes are what most commands change: if it notifies no adapter, the edits are made as their
+    /// memory is taken, and no reply is prepared.
     fn change_values(&mut self, change: Change) -> Result<Reply<A>, Refused>
         requires proper { IsProper (reads self.old) [] change }
         requires asked { early_refusal_of (reads self.old) change ≡ None }
@@ -125,7 +125,7 @@ impl<L: LinkStore, A: Adapter> Repository<L, A> {
         Ok(reply(self.alloc, prepared.answer))
     }
 
-    /// Whether an adapter hears of a change that edits values alone: of an object that is made nobody hears.
+    /// Whether an adapter is notified of a change that edits values alone: a new object notifies none.
     fn hears_values(&self, change: &Change) -> bool
         requires values { edits_values_alone self.now.model.metamodel change.now ≡ true }
         ensures { result ≡ false → IsUnheard (reads self.now).above (chain (reads self.now) change.now) self.now.adapters }
@@ -162,8 +162,8 @@ impl<L: LinkStore, A: Adapter> Repository<L, A> {
         self.finish(prepared)
     }
 
-    /// Makes a change that is ready: takes all memory and all places at adapters that it needs, and then edits and notifies, which can't
-    /// fail.
+    /// Makes a change that is ready: takes all memory, and all capacity at adapters, that it needs, and then edits and notifies, which
+    /// can't fail.
     fn finish(&mut self, prepared: Prepared) -> Result<Reply<A>, Refused>
         requires ready { (text : List ℕ) × (change : Change) × IsPrepared self.old text change prepared }
         ensures { (text : List ℕ) (change : Change) → IsPrepared self.old text change prepared → Executed self.old (command_of text change) (change_outcome (changed_view A.heard result)) self.new }
@@ -195,7 +195,7 @@ impl<L: LinkStore, A: Adapter> Repository<L, A> {
         // The edits.
         self.store.apply(planned.edits);
         self.values.apply(planned.values);
-        // The notices, and then the last ones from the targets that go.
+        // The notifications, and then the last ones from the targets that go.
         let (told, released) = notify(self.alloc, &mut self.adapters, round, leaving);
         Ok(Reply {
             answer,

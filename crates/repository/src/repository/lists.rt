@@ -16,8 +16,8 @@ use mm_types::{End, FeatureNo, Node, Refused, Value};
 impl<L: LinkStore, A: Adapter> Repository<L, A> {
     /// Adds a value to a list, before the one at an index, or at the end (EMF: EList.add). A reference's opposite follows, what the new
     /// link displaces is cut at both ends, and an object that is put into a container leaves the one that it was in. Returns whether the
-    /// list changed: adding a value at the end that a unique list has already changes and tells nothing. Notifies as `e_set` does, at the
-    /// feature itself with ADD.
+    /// list changed: adding a value at the end that a unique list has already changes nothing and notifies nobody. Notifies as `e_set`
+    /// does, at the feature itself with ADD.
     ///
     /// Refused, the first that applies: `NoObject` if the node or the value is an object that does not live, `NoResource`, `NoFeature`,
     /// `NotMany` if the feature has one value, `WrongType`, `TextLength` above 65,535 bytes, `Index` above the length, `Duplicate` if a
@@ -72,9 +72,9 @@ impl<L: LinkStore, A: Adapter> Repository<L, A> {
     }
 
     /// Moves the value at `from` of a list, so that it is then at `to`, and returns it (EMF: EList.move). Notifies the adapters at the list
-    /// with MOVE, even if both places are the same; the opposite ends stay as they are.
+    /// with MOVE, even if both indexes are the same; the opposite ends stay as they are.
     ///
-    /// Refused, the first that applies: `NoObject`, `NoResource`, `NoFeature`, `NotMany`, `Index` if nothing is at one of the two places,
+    /// Refused, the first that applies: `NoObject`, `NoResource`, `NoFeature`, `NotMany`, `Index` if nothing is at one of the two indexes,
     /// `AdapterFull`, `Memory`.
     pub fn move_to(
         &mut self,

@@ -1,6 +1,6 @@
 //! Reads of objects and their values.
 ghost use Rattle.std.specs.Prelude.{◌≡◌, false, unwrap_or, ok_or, option_map, Ok, IfOk, IfErr};
-ghost use Rattle.handshake.specs.Plans.{is_memory_refusal};
+ghost use Rattle.change_plans.specs.Plans.{is_memory_refusal};
 ghost use Rattle.mm_types.specs.declared.refused.Refused.TheVariants.{NoObject};
 ghost use Rattle.mm_types.specs.declared.value.Value.TheVariants.{Null};
 ghost use Rattle.models.specs.Found.{found_value};
@@ -122,8 +122,8 @@ impl<L: LinkStore, A: Adapter> Repository<L, A> {
         Ok(Seq::from_vec(objects))
     }
 
-    /// What a node and each node below it have: the class, the values of each feature, and the set flag of each unsettable one. Takes
-    /// time in proportion to that.
+    /// What a node and each node below it have: the class, the values of each feature, and the set flag of each unsettable one. Takes time
+    /// in proportion to what it returns.
     ///
     /// Refused, the first that applies: `NoObject`, `NoResource`, `Memory`.
     #[tactic(auto, using(crate::proofs::QuietLemmas::snapshot_done))]

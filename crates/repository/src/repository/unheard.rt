@@ -1,5 +1,5 @@
-//! Changes that nobody can hear. Most commands of a script are such changes, and to make a reply with lists of who was notified takes longer
-//! than the change itself. Each call here does what the call of its name does that has a reply.
+//! Changes that notify no adapter. Most commands of a script are such changes, and to make a reply with lists of who was notified takes
+//! longer than the change itself. Each call here does what the call of its name does that has a reply.
 ghost use Rattle.std.specs.Prelude.{◌≡◌, ◌&&◌, ◌||◌, [], None, false, true, IfErr, IfOk, MatchOption, is_some};
 ghost use Rattle.mm_types.specs.Shapes.{shape};
 ghost use Rattle.handshake.specs.Refusals.{early_refusal as early_refusal_of};
@@ -20,14 +20,13 @@ use super::Repository;
 use crate::lone_puts::{forget_put, put_value};
 use crate::preparing::next_object;
 use adapters::Adapter;
-use handshake::{
-    attribute_refusal, create_refusal, list_early_refusal, lone_add, lone_set, set_early_refusal,
-};
+use change_plans::{attribute_refusal, create_refusal, lone_add, lone_set};
+use handshake::{list_early_refusal, set_early_refusal};
 use links::{LinkStore, NewLink};
 use mm_types::{ClassNo, End, FeatureNo, Node, ObjectNo, Refused, Value};
 
 impl<L: LinkStore, A: Adapter> Repository<L, A> {
-    /// Makes an object as `create` does, of which nobody hears, and returns it, or the refusal.
+    /// Makes an object as `create` does, which notifies no adapter, and returns it, or the refusal.
     #[inline(always)]
     pub fn create_object(&mut self, class: ClassNo) -> Result<ObjectNo, Refused>
         ensures { Executed self.old (Create class) (read_outcome answer.Object result) self.new }
@@ -44,7 +43,7 @@ impl<L: LinkStore, A: Adapter> Repository<L, A> {
         Ok(object)
     }
 
-    /// Sets a single feature as `e_set` does, or returns the refusal. Gives the value back if an adapter hears of it, or if the new link
+    /// Sets a single feature as `e_set` does, or returns the refusal. Gives the value back if an adapter is notified, or if the new link
     /// displaces another; then nothing was done, and `e_set` is to be called.
     #[inline(always)]
     pub fn set_unheard(
@@ -70,7 +69,7 @@ impl<L: LinkStore, A: Adapter> Repository<L, A> {
     }
 
     /// Adds an object to a list as `add` does, which then returns that the list changed, or returns the refusal. Gives the value back if an
-    /// adapter hears of it, if the new link displaces another, if the list has the object, or if the feature is an attribute; then nothing
+    /// adapter is notified, if the new link displaces another, if the list has the object, or if the feature is an attribute; then nothing
     /// was done, and `add` is to be called.
     #[inline(always)]
     pub fn add_unheard(
@@ -92,7 +91,7 @@ impl<L: LinkStore, A: Adapter> Repository<L, A> {
         }
     }
 
-    /// Whether an adapter hears the notices of a node. Takes no memory.
+    /// Whether an adapter gets the notifications of a node. Takes no memory.
     #[inline(always)]
     pub(super) fn is_heard(&self, node: Node) -> bool
         ensures { result ≡ is_heard_by (reads self.now).above node self.now.adapters }
@@ -103,7 +102,7 @@ impl<L: LinkStore, A: Adapter> Repository<L, A> {
         self.adapters.is_heard(&self.store, node, &self.hearers)
     }
 
-    /// Whether an adapter hears of a link that is put: at its end, or at the object if the feature has an opposite. Takes no memory.
+    /// Whether an adapter is notified of a link that is put: at its end, or at the object if the feature has an opposite. Takes no memory.
     #[inline(always)]
     fn is_put_heard(&self, put: NewLink) -> bool
         ensures { result ≡ is_put_heard self.now put }
@@ -112,7 +111,7 @@ impl<L: LinkStore, A: Adapter> Repository<L, A> {
             || (put.opposite.is_some() && self.is_heard(Node::Object(put.object)))
     }
 
-    /// `e_set` of an attribute that nobody hears.
+    /// `e_set` of an attribute that notifies no adapter.
     #[inline(always)]
     pub(super) fn set_value(&mut self, end: End, value: Value) -> Result<(), Refused>
         requires attribute { (shape self.old.model.metamodel end.feature).is_reference ≡ false }
@@ -131,8 +130,8 @@ impl<L: LinkStore, A: Adapter> Repository<L, A> {
         Ok(())
     }
 
-    /// `e_set` of a reference, if that is to put one link of which nobody hears. `None` if it is more; then nothing was done, and no refusal
-    /// applies that needs no memory.
+    /// `e_set` of a reference, if that is to put one link and notifies no adapter. `None` if it is more; then nothing was done, and no
+    /// refusal applies that needs no memory.
     #[inline(always)]
     pub(super) fn set_lone_link(&mut self, end: End, value: &Value) -> Option<Result<(), Refused>>
         ensures { MatchOption result
@@ -150,8 +149,8 @@ impl<L: LinkStore, A: Adapter> Repository<L, A> {
         Some(self.put_alone(put))
     }
 
-    /// `add` to a reference, if that is to put one link of which nobody hears. `None` if it is more; then nothing was done, and no refusal
-    /// applies that needs no memory.
+    /// `add` to a reference, if that is to put one link and notifies no adapter. `None` if it is more; then nothing was done, and no
+    /// refusal applies that needs no memory.
     #[inline(always)]
     pub(super) fn add_lone_link(
         &mut self,
@@ -174,8 +173,8 @@ impl<L: LinkStore, A: Adapter> Repository<L, A> {
         Some(self.put_alone(put))
     }
 
-    /// A change whose plan is one put, of which nobody hears: the store makes room for the link and puts it in one step, and no plan is
-    /// made. Most links that are made displace none.
+    /// A change whose plan is one put, and that notifies no adapter: the store takes the memory and puts the link in one step, and no plan
+    /// is made. Most links that are made displace none.
     #[inline(always)]
     fn put_alone(&mut self, put: NewLink) -> Result<(), Refused>
         requires alone { (c : Change) × (a : Answer) × IsPutAlone self.old c put a }

@@ -1,4 +1,4 @@
-//! What is printed of adapters: the notices that they are told, and how many.
+//! What is printed of adapters: their notifications, and how many.
 ghost use Rattle.std.specs.Prelude.{◌≡◌, ◌++◌, ◌∷◌, [], OnOk};
 ghost use Rattle.script_lines.specs.declared.grammar.TheConstants.{NEWLINE};
 ghost use Rattle.script_output.specs.Notified.{change_text, counts_text, notice_text, end_text, released_text, report_text, seen_text, told_value_text, values_text};
@@ -63,8 +63,8 @@ impl Output {
         self.change(meta, notice)
     }
 
-    /// Adds the line of a notice that an adapter is told, with its newline: `told A1 SET #0.pages 100 1 -1`. The words are
-    /// the adapter, the kind, the notifier with the feature, if there is one, the old and the new value, and the position.
+    /// Adds the line of a notification of an adapter, with its newline: `told A1 SET #0.pages 100 1 -1`. The words are the adapter,
+    /// the kind, the notifier with the feature, if there is one, the old and the new value, and the position.
     pub fn notified(
         &mut self,
         meta: &Meta,
@@ -89,7 +89,7 @@ impl Output {
     }
 
     /// Adds the line of a released adapter, with its newline: `released A1 told 1 kept 1`. The numbers are how many
-    /// notices it was told, and how many it keeps.
+    /// notifications it got, and how many it keeps.
     pub fn released(&mut self, no: AdapterNo, told: u64, kept: u64) -> Result<(), AllocError>
         ensures ok { OnOk result (self.new ≡ self.old ++ released_text no told kept ++ NEWLINE ∷ []) }
     {
@@ -100,7 +100,7 @@ impl Output {
         self.byte(NEWLINE)
     }
 
-    /// Adds how many notices an adapter was told, and how many it keeps: `seen 3 kept 2`.
+    /// Adds how many notifications an adapter got, and how many it keeps: `seen 3 kept 2`.
     pub fn seen(&mut self, told: u64, kept: u64) -> Result<(), AllocError>
         ensures ok { OnOk result (self.new ≡ self.old ++ seen_text told kept) }
     {

@@ -4,7 +4,7 @@ use Rattle.borrowed_json.specs.View.{members_view}
 use Rattle.borrowed_json.proofs.members.find.Given as goal
 
 abbrev pub invariant-loop-left : goal.invariant-loop-left
-invariant-loop-left l = (get_member l.key (members_view l.members.items) ≡ get_member l.key (members_view (take l.left l.members.items))) × (l.left ≤ length l.members.items)
+invariant-loop-left l = (get_member l.key (members_view l.members) ≡ get_member l.key (members_view (take l.left l.members))) × (l.left ≤ length l.members)
 
 abbrev pub decreases-loop-left : goal.decreases-loop-left
 decreases-loop-left l = l.left

@@ -5,7 +5,7 @@ use Rattle.json.specs.Reads.{token_of}
 use Rattle.json.proofs.Grammar.{value_is, value-begin_array, value-begin_object, read_key-shorter}
 use Rattle.serde_json.specs.Data.{null, boolean, number, string, array, object, put}
 use Rattle.serde_json.specs.Read.{of_json, of_items, of_members, converted}
-use Rattle.borrowed_json.specs.View.{view, number_view, members_view}
+use Rattle.borrowed_json.specs.View.{items_view, members_view, number_view, view}
 use Rattle.borrowed_json.specs.declared.value.Json.{String, Number, Bool, Null, the_lemmas}
 use Rattle.borrowed_json.proofs.ViewLemmas.{items_before, items_before-no_items, one_more_item, view-Array, view-Object}
 use Rattle.borrowed_json.proofs.ReadingLemmas.{converted-array, converted-object, item_read, item_refused, items_over, member_read, member_refused, key_refused, members_over, none_before}
@@ -134,6 +134,7 @@ read_items-returns-clause-value t c =
     let n = l.invariant.0 in
     let r = c.take_end_array.new.self in
     l.invariant.2 ∙ ap (parse_map (items_before l.found.items)) (items_over p n l.reader r l.invariant.1 (grind arith)) ∙ ap (λ ds. Some (ds, r)) (items_before-no_items l.found.items)
+    ∙ ap (λ vs. Some (items_view vs, r)) (sym (c.in_ok-try_alloc_slice_copy.ensures ∙ c.as_slice.ensures.value))
 
 pub read_members-members-init : goal.read_members-members-init
 read_members-members-init t c =
@@ -188,3 +189,4 @@ read_members-returns-clause-value t c =
     let n = l.invariant.0 in
     let old = members_view l.found.items in
     l.invariant.2 ∙ members_over p old n l.reader c.next_key.new.self l.invariant.1 (grind arith)
+    ∙ ap (λ ms. Some (members_view ms, c.next_key.new.self)) (sym (c.in_ok-try_alloc_slice_copy.ensures ∙ c.as_slice.ensures.value))

@@ -18,7 +18,7 @@ decreases-walk_values l = 4 * l.levels + 1
 
 abbrev pub invariant-walk_features-features : goal.invariant-walk_features-features
 invariant-walk_features-features l =
-    FindsBelow l.meta l.initial.found l.found l.below.part l.below.level (λ path. flat_map (parts_from l.meta l.levels) (flat_map (parts_at l.meta path (members_view l.members.items)) (take l.feature-index l.features)))
+    FindsBelow l.meta l.initial.found l.found l.below.part l.below.level (λ path. flat_map (parts_from l.meta l.levels) (flat_map (parts_at l.meta path (members_view l.members)) (take l.feature-index l.features)))
 
 abbrev pub invariant-walk_values-values : goal.invariant-walk_values-values
 invariant-walk_values-values l =

@@ -1,5 +1,12 @@
-use Rattle.std.proofs.Common.{◌≡◌}
+use Rattle.std.proofs.Common.{◌≡◌, false, take}
+use Rattle.std.specs.List.{list_any}
+use Rattle.models.specs.Model.{reading}
+use Rattle.doc_writer.specs.Saved.{has_dangling}
 use Rattle.doc_writer.proofs.ways.note_ways.Given as goal
 
 abbrev pub invariant-objects : goal.invariant-objects
-invariant-objects g l = l.positions ≡ l.fn.positions
+invariant-objects g l =
+    record {
+      same : l.positions ≡ l.fn.positions;
+      none : list_any (has_dangling (reading l.fn.positions)) (take l.object-index l.objects) ≡ false;
+    }

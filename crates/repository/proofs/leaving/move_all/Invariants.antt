@@ -2,7 +2,7 @@ use Rattle.std.proofs.Common.{◌≡◌, ◌+◌, ◌++◌, length, vec_capacity
 use Rattle.std.specs.Vec.Iter.{into_iter_items}
 use Rattle.repository.proofs.leaving.move_all.Given as goal
 
--- what was moved, and then what is left to move, for which there is room
+-- what was moved, and then what is left to move, for which there is capacity
 abbrev pub invariant-loop-one : goal.invariant-loop-one
 invariant-loop-one l = record {
   can : (goal.iterator-loop-one).can_next l.one-iterator;

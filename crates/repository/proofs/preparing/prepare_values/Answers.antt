@@ -1,7 +1,7 @@
 use Rattle.std.proofs.Common.{◌∙◌}
 use Rattle.std.proofs.lemmas.Result.{err_from_is_err_and}
 use Rattle.models.specs.Model.{reading}
-use Rattle.handshake.proofs.ValueLemmas.{values-planned}
+use Rattle.change_plans.proofs.ValueLemmas.{values-planned}
 use Rattle.repository.specs.declared.reply.Answer.TheVariants as answer
 use Rattle.repository.proofs.PlanLemmas.{plan_refusal}
 use Rattle.repository.proofs.ValueLemmas.{early-whole}

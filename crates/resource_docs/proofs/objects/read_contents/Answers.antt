@@ -15,6 +15,6 @@ returns-in-Some-features-clause-value c =
     (λ r read ps p knows part.
     read ps p.path knows (sym (ap (λ s. s.number) part))
     ∙ ap (contents_so_far m (base_of c.args.source.now.uri.now) ps p.path)
-    (entries_of_known m (known m p.json) c.in-Some.class (members_view c.in-Some.members.now.items) c.in-Some-features.features.now
-    (ap (option_map (λ k. (k.0, members_view k.1.now.items))) (sym c.in-Some.is) ∙ ap (λ s. s.known) part) c.in-Some-features.ensures))
+    (entries_of_known m (known m p.json) c.in-Some.class (members_view c.in-Some.members.now) c.in-Some-features.features.now
+    (ap (option_map (λ k. (k.0, members_view k.1.now))) (sym c.in-Some.is) ∙ ap (λ s. s.known) part) c.in-Some-features.ensures))
     c.read_features.ensures.value

@@ -11,8 +11,8 @@ pub features-preserved : goal.features-preserved
 features-preserved c =
     record {
       value = λ ps path known first.
-          c.in_ok-add_feature.ensures.value ps path known first (filter_map (entry_at c.args.source.now.meta.now (members_view c.args.members.now.items)) (take c.features.feature-index c.args.features.now)) (c.features.invariant.value ps path known first)
+          c.in_ok-add_feature.ensures.value ps path known first (filter_map (entry_at c.args.source.now.meta.now (members_view c.args.members.now)) (take c.features.feature-index c.args.features.now)) (c.features.invariant.value ps path known first)
           ∙ ap (contents_so_far c.args.source.now.meta.now (base_of c.args.source.now.uri.now) ps path)
-          (entries_more c.args.source.now.meta.now (members_view c.args.members.now.items) c.args.features.now c.features.feature-index _ c.features-test.true);
+          (entries_more c.args.source.now.meta.now (members_view c.args.members.now) c.args.features.now c.features.feature-index _ c.features-test.true);
       proxy = c.in_ok-add_feature.ensures.proxy c.features.invariant.proxy;
     }

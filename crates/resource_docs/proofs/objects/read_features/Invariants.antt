@@ -9,6 +9,6 @@ use Rattle.resource_docs.proofs.objects.read_features.Given as goal
 abbrev pub invariant-features : goal.invariant-features
 invariant-features l =
     record {
-      value : Numbered l.source.meta.now l.source.found.now l.number (λ ps path. l.read ≡ contents_so_far l.source.meta.now (base_of l.source.uri.now) ps path (filter_map (entry_at l.source.meta.now (members_view l.members.items)) (take l.feature-index l.features)));
+      value : Numbered l.source.meta.now l.source.found.now l.number (λ ps path. l.read ≡ contents_so_far l.source.meta.now (base_of l.source.uri.now) ps path (filter_map (entry_at l.source.meta.now (members_view l.members)) (take l.feature-index l.features)));
       proxy : All IsProxyContent l.read.contents;
     }

@@ -1,4 +1,4 @@
-use Rattle.std.proofs.Common.{◌∙◌, ◌<◌, ap, arith, get_or, length, take}
+use Rattle.std.proofs.Common.{◌∙◌, ◌<◌, ap, arith, length, take}
 use Rattle.resource_docs.specs.Reading.{objects_so_far}
 use Rattle.resource_docs.specs.Texts.{base_of}
 use Rattle.resource_docs.proofs.ObjectLemmas.{part_at, parts_more, row_of_part}
@@ -12,7 +12,7 @@ parts-preserved c =
     record {
       value = λ ps known.
           c.in_ok-add_object.ensures.value ps (take c.parts.part-index ps) (part_at ps c.parts.part-index) known
-          (row_of_part c.args.source.now.meta.now c.args.source.now.found.now ps c.parts.part-index c.part-item.result known below (c.part-item.is ∙ ap (λ xs. get_or xs c.parts.part-index c.part-item.result) same))
+          (row_of_part c.args.source.now.meta.now c.args.source.now.found.now ps c.parts.part-index c.as_slice-part-items.result.now _ known below same)
           (c.parts.invariant.value ps known)
           ∙ ap (objects_so_far c.args.source.now.meta.now (base_of c.args.source.now.uri.now) ps) (parts_more c.args.source.now.meta.now c.args.source.now.found.now ps c.parts.part-index known below);
       proxy = c.in_ok-add_object.ensures.proxy c.parts.invariant.proxy;

@@ -3,7 +3,7 @@ use Rattle.std.proofs.lemmas.Result.{err_from_is_err_and}
 use Rattle.clap.specs.Words.{App, app_of, first_of, found_of, is_simple, matches_of, rows_of, takes}
 use Rattle.clap.proofs.CallerLemmas.{some_of_text}
 use Rattle.clap.proofs.WalkLemmas.{first_value-rows}
-use Rattle.script_program.specs.CommandLine.{is_set, program, texts}
+use Rattle.script_program.specs.CommandLine.{is_set, program, texts, values}
 use Rattle.script_program.proofs.ArgumentLemmas.{meta_given, simple}
 use Rattle.script_program.proofs.arguments.options_of.Goals as goal
 
@@ -28,6 +28,8 @@ returns-clause-value c =
     record {
       meta = ap (first_of (codes "meta")) (sym rows) ∙ (sym (first_value-rows found (codes "meta")) ∙ (sym c.get_str.ensures ∙ ap (option_map (λ s. s.now)) c.unwrap.ensures));
       script = ap (first_of (codes "script")) (sym rows) ∙ (sym (first_value-rows found (codes "script")) ∙ sym c.get_str-2.ensures);
+      load = c.in_ok-load.ensures ∙ ap (values (codes "load")) rows;
+      save = c.in_ok-save.ensures ∙ ap (values (codes "save")) rows;
       echo = c.is_set.ensures ∙ ap (is_set (codes "echo")) rows;
       number = c.is_set-2.ensures ∙ ap (is_set (codes "number")) rows;
       stop = c.is_set-3.ensures ∙ ap (is_set (codes "stop")) rows;

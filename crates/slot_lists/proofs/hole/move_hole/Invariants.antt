@@ -1,4 +1,4 @@
--- The values stay in their order, and the free place is where `hole` says.
+-- The values stay in their order, and the free slot is where `hole` says.
 use Rattle.std.proofs.Common.{◌-◌, ◌≤◌}
 use Rattle.slot_lists.proofs.HoleLemmas.{HoleAt}
 use Rattle.slot_lists.proofs.hole.move_hole.Given as goal

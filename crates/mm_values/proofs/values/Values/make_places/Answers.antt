@@ -5,7 +5,7 @@ use Rattle.mm_values.specs.Room.{HasPlaceFor, HasPlacesIn}
 use Rattle.mm_values.proofs.RoomLemmas.{kept_for, made_before, made_for, place_for_same}
 use Rattle.mm_values.proofs.values.Values.make_places.Goals as goal
 
--- the list has its places
+-- the list has its capacity
 pub loop-edit-preserved-then-is_insert_in : goal.loop-edit-preserved-then-is_insert_in
 loop-edit-preserved-then-is_insert_in c =
     let v = c.loop-edit.self.objects in
@@ -15,7 +15,7 @@ loop-edit-preserved-then-is_insert_in c =
     let here : HasPlaceFor v plan (get_or edits c.loop-edit.edit-index c.edit-item.result) = subst (HasPlaceFor v plan) c.edit-item.is has in
     (c.loop-edit.invariant.0, c.loop-edit.invariant.1, c.loop-edit.invariant.2, All-more (HasPlaceFor v plan) edits c.loop-edit.edit-index c.edit-item.result c.loop-edit-test.true c.loop-edit.invariant.3 here, c.loop-edit.invariant.4)
 
--- the places are made
+-- the capacity is reserved
 pub loop-edit-preserved : goal.loop-edit-preserved
 loop-edit-preserved c =
     let v = c.loop-edit.self.objects in

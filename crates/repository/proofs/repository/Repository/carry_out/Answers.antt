@@ -1,7 +1,7 @@
 use Rattle.std.proofs.Common.{◌≡◌, ◌∙◌, ℕ, List, None, ap, nat_lt, length, sym, subst}
 use Rattle.models.specs.Model.{Model, reading}
 use Rattle.notice_chain.specs.Listed.{Listed}
-use Rattle.handshake.specs.Plans.{IsPlanOf}
+use Rattle.change_plans.specs.Plans.{IsPlanOf}
 use Rattle.handshake.specs.Refusals.{early_refusal}
 use Rattle.handshake.specs.declared.change.Change.{Change}
 use Rattle.repository.specs.Answers.{answer_of}

@@ -8,9 +8,10 @@ use Rattle.notice_chain.specs.Released.{spots as spots_at}
 use Rattle.removal.specs.Outer.{gone}
 use Rattle.adapter_list.specs.Hearing.{IsUnheard}
 use Rattle.handshake.specs.FeatureChanges.{chain}
-use Rattle.handshake.specs.Plans.{IsPlanOf, edits_values_alone, of_values}
+use Rattle.change_plans.specs.Plans.{IsPlanOf, of_values}
+use Rattle.handshake.specs.Changes.{edits_values_alone}
 use Rattle.handshake.specs.declared.change.Change.{Change}
-use Rattle.handshake.proofs.ValueLemmas.{is-plain}
+use Rattle.change_plans.proofs.ValueLemmas.{is-plain}
 use Rattle.handshake.specs.Refusals.{early_refusal}
 use Rattle.repository.specs.Answers.{answer_of}
 use Rattle.repository.specs.Prepared.{IsPrepared}

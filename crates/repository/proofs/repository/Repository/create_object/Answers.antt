@@ -4,7 +4,7 @@ use Rattle.mm_values.specs.declared.edit.ValueEdit.TheVariants as edit
 use Rattle.models.specs.Model.{Model, model_of, reading}
 use Rattle.handshake.specs.declared.change.Change.{Change}
 use Rattle.handshake.specs.declared.change.Change.TheVariants.{Create}
-use Rattle.handshake.proofs.ValueLemmas.{values-planned}
+use Rattle.change_plans.proofs.ValueLemmas.{values-planned}
 use Rattle.repository.specs.Repository.{state}
 use Rattle.repository.specs.State.{IsLegal, State, reads}
 use Rattle.repository.specs.Views.{command_of}

@@ -79,7 +79,7 @@ returns g c =
     (changed_to s t text change ns c.args.prepared.answer c.from_vec.result (views_of g.A.Adapter.heard c.from_vec-2.result) p.proper p.asked plan.allowed p.tells c.in-Ok.ensures.counted answered told views
     (λ i. model_of c.self.inside.meta (values i) (made_links i)) adapters)
 
--- where places are refused, nothing that is seen has changed
+-- if capacity is refused, nothing that is seen has changed
 pub invariant_of-self : goal.invariant_of-self
 invariant_of-self g c =
     let m = c.self.inside.meta in

@@ -5,7 +5,7 @@ use Rattle.adapter_list.specs.Hearing.{is_heard}
 use Rattle.handshake.specs.declared.act.Act.{Act}
 use Rattle.handshake.specs.declared.change.Change.{Change}
 use Rattle.handshake.specs.declared.change.Change.TheVariants.{At}
-use Rattle.handshake.proofs.ValueLemmas.{near-notifiers, near_at}
+use Rattle.change_plans.proofs.ValueLemmas.{near-notifiers, near_at}
 use Rattle.repository.specs.State.{reads}
 use Rattle.repository.proofs.repository.Repository.hears_values.Goals as goal
 

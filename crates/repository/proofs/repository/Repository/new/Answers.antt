@@ -2,7 +2,7 @@ use Rattle.std.proofs.Common.{arith, rules}
 use Rattle.std.specs.List.{IsDistinct}
 use Rattle.models.specs.Legal.{kinds_of}
 use Rattle.models.proofs.EmptyLemmas.{empty-legal, empty-steady}
-use Rattle.handshake.proofs.KnownLemmas.{kinds-are}
+use Rattle.containment.proofs.PartLemmas.{kinds-are}
 use Rattle.repository.proofs.RememberedLemmas.{none-at}
 use Rattle.repository.proofs.repository.Repository.new.Goals as goal
 

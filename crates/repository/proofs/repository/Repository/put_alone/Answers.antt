@@ -14,8 +14,8 @@ use Rattle.models.specs.Steady.{HasSteadyTexts}
 use Rattle.fragment_paths.specs.Kept.{Kept}
 use Rattle.handshake.specs.Effects.{after}
 use Rattle.handshake.specs.FeatureChanges.{destroyed_by}
-use Rattle.handshake.specs.LonePuts.{of_put}
-use Rattle.handshake.specs.Plans.{IsPlanOf}
+use Rattle.change_plans.specs.LonePuts.{of_put}
+use Rattle.change_plans.specs.Plans.{IsPlanOf}
 use Rattle.handshake.specs.declared.change.Change.{Change}
 use Rattle.links.specs.declared.link.NewLink.{NewLink}
 use Rattle.handshake.proofs.ProxyLemmas.{change-keeps-steady}

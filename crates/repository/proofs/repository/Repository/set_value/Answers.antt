@@ -7,12 +7,12 @@ use Rattle.mm_types.specs.declared.value.Value.{Value}
 use Rattle.mm_values.specs.Room.{values_of}
 use Rattle.models.specs.Model.{Model, model_of}
 use Rattle.handshake.specs.Effects.{put_values}
-use Rattle.handshake.specs.Plans.{IsPlanOf, of_values}
+use Rattle.change_plans.specs.Plans.{IsPlanOf, of_values}
 use Rattle.handshake.specs.declared.change.Change.{Change}
 use Rattle.handshake.specs.declared.change.Change.TheVariants.{At}
 use Rattle.handshake.specs.declared.act.Act.TheVariants.{Set}
 use Rattle.adapter_list.specs.Hearing.{is_heard}
-use Rattle.handshake.proofs.ValueLemmas.{near-notifiers, values-planned}
+use Rattle.change_plans.proofs.ValueLemmas.{near-notifiers, values-planned}
 use Rattle.repository.specs.Repository.{state}
 use Rattle.repository.specs.State.{IsLegal, State, reads}
 use Rattle.repository.specs.Views.{command_of}

@@ -1,4 +1,4 @@
--- The values stay, and there are never fewer spare places.
+-- The values stay, and the capacity is never less.
 use Rattle.std.proofs.Common.{◌≡◌, ◌-◌, ◌≤◌}
 use Rattle.slot_lists.proofs.pieces.Pieces.reserve.Given as goal
 

@@ -1,4 +1,4 @@
--- The values and those to come are the old ones and the new, and each that came has taken a place at most.
+-- The values and those to come are the old ones and the new, and each that came has used up a capacity of one at most.
 use Rattle.std.proofs.Common.{◌≡◌, ◌+◌, ◌≤◌, ◌++◌, length}
 use Rattle.std.specs.Vec.Iter.{into_iter_items}
 use Rattle.slot_lists.proofs.slot_list.SlotList.append.Given as goal

@@ -1,4 +1,4 @@
--- No place is lost.
+-- No capacity is lost.
 use Rattle.std.proofs.Common.{◌≤◌, length}
 use Rattle.slot_lists.proofs.slot_list.SlotList.clear.Given as goal
 

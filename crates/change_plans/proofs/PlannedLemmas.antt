@@ -1,0 +1,40 @@
+-- What planning gives, by its parts.
+use Rattle.std.proofs.Common.{◌≡◌, Bool, false, [], None, if◌then◌else◌, refl, sym, ap, subst}
+use Rattle.std.proofs.lemmas.Bool.{true≢false}
+use Rattle.links.specs.Plans.{applied}
+use Rattle.mm_values.specs.Values as values
+use Rattle.models.specs.Legal.{IsLegal}
+use Rattle.models.specs.Model.{Model, reading}
+use Rattle.models.specs.Reading.{Reading}
+use Rattle.handshake.specs.declared.change.Change.{Change}
+use Rattle.handshake.specs.declared.change.Change.TheVariants.{ResolveAll}
+use Rattle.change_plans.specs.declared.planned.Planned.{Planned}
+use Rattle.handshake.specs.FeatureChanges.{chain, resolved_by, resolves_all, target_of}
+use Rattle.handshake.specs.Edits.{link_edits}
+use Rattle.handshake.specs.Effects.{value_edits}
+use Rattle.handshake.specs.Changes.{HasReadDocument, IsRemovalOf}
+use Rattle.change_plans.specs.Plans.{IsPlanOf}
+use Rattle.handshake.specs.Refusals.{early_refusal, late_refusal}
+use Rattle.handshake.proofs.PlanLemmas.{IsPlanFor, plan-for}
+
+-- nothing is resolved by a change that doesn't resolve all proxies
+pub none-counted : (r : Reading) (c : Change) → resolves_all c ≡ false → None ≡ resolved_by r c
+none-counted r ResolveAll one = absurd (true≢false one)
+none-counted r _ one = refl
+
+-- what planning gives, by its parts
+pub planned : (is_heard : Bool) (s : Model) (c : Change) (p : Planned) → resolves_all c ≡ false → IsLegal s → early_refusal (reading s) c ≡ None → late_refusal (reading s) c ≡ None → HasReadDocument s.metamodel c → IsRemovalOf (reading s) c p.removal → p.target ≡ target_of (reading s) c → p.resolved ≡ resolved_by (reading s) c
+    → p.edits ≡ link_edits (reading s) c → p.values ≡ value_edits (reading s) c → p.chain ≡ (if is_heard then chain (reading s) c else []) → IsPlanOf is_heard s c p
+planned is_heard s c p one legal early late read removed found resolved edits lists tells =
+    let plan = subst (IsPlanFor s c) (sym edits) (plan-for s c one legal early late read) in
+    record {
+      allowed = late;
+      removed = removed;
+      found = found;
+      resolved = resolved;
+      fits = plan.fits;
+      of_kind = plan.of_kind;
+      links_made = plan.makes;
+      values_made = ap (values.applied s.values) lists;
+      tells = tells;
+    }

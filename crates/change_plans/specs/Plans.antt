@@ -1,0 +1,49 @@
+-- What planning a change gives.
+use Rattle.std.specs.Prelude.{◌≡◌, ◌&&◌, Bool, true, false, IsFalse, List, [], Some, None, Result, Ok, Err, if◌then◌else◌}
+use Rattle.mm_types.specs.declared.refused.Refused.{Refused}
+use Rattle.mm_types.specs.declared.refused.Refused.TheVariants.{Memory}
+use Rattle.mm_values.specs.Values as values
+use Rattle.mm_values.specs.declared.edit.ValueEdit.{ValueEdit}
+use Rattle.links.specs.Plans as links
+use Rattle.models.specs.Legal.{kinds_of}
+use Rattle.models.specs.Model.{Model, reading}
+use Rattle.notice_chain.specs.declared.notice.Notice.{Notice}
+use Rattle.handshake.specs.declared.change.Change.{Change}
+use Rattle.handshake.specs.declared.change.Change.TheVariants.{At}
+use Rattle.handshake.specs.declared.act.Act.TheVariants.{Resolve}
+use Rattle.handshake.specs.Changes.{IsRemovalOf}
+use Rattle.handshake.specs.Effects.{after}
+use Rattle.handshake.specs.Refusals.{late_refusal}
+use Rattle.handshake.specs.FeatureChanges.{chain, resolved_by, target_of}
+use Rattle.change_plans.specs.declared.planned.Planned.{Planned}
+
+abbrev pub is_memory_refusal : Refused → Bool
+is_memory_refusal Memory = true
+is_memory_refusal _ = false
+
+-- what a change destroys or finds, which nothing refuses, what it resolves, the edits that make it, and its chain, if an adapter may have
+-- to get it
+pub record IsPlanOf (is_heard : Bool) (s : Model) (c : Change) (p : Planned) : Type 0 where
+  pub allowed : late_refusal (reading s) c ≡ None
+  pub removed : IsRemovalOf (reading s) c p.removal
+  pub found : p.target ≡ target_of (reading s) c
+  pub resolved : p.resolved ≡ resolved_by (reading s) c
+  pub fits : links.PlanFits s.links p.edits
+  pub of_kind : links.IsPlanOfKind (kinds_of s.metamodel) p.edits
+  pub links_made : links.applied s.links p.edits ≡ (after s c).links
+  pub values_made : values.applied s.values p.values ≡ (after s c).values
+  pub tells : p.chain ≡ (if is_heard then chain (reading s) c else [])
+
+-- the plan that edits values alone, with the notifications that an adapter may have to get
+abbrev pub of_values : List ValueEdit → List Notice → Planned
+of_values vs ns = record { removal = None; target = None; resolved = None; edits = []; values = vs; chain = ns }
+
+-- what a proxy finds is looked for with memory, and before all that refuses it
+abbrev pub looks_first : Change → Bool
+looks_first (At e (Resolve i)) = true
+looks_first _ = false
+
+-- the plan, or the refusal that planning finds; out of memory where it finds none, or while it looks first
+abbrev pub Plans : Bool → Result Planned Refused → Model → Change → Type 0
+Plans is_heard (Ok p) s c = IsPlanOf is_heard s c p
+Plans is_heard (Err r) s c = IsFalse (is_memory_refusal r && looks_first c) → late_refusal (reading s) c ≡ (if is_memory_refusal r then None else Some r)

@@ -1,0 +1,160 @@
+//! The proxies of a model are resolved one after another, without a change of the model.
+ghost use Rattle.std.specs.Prelude.{◌≡◌, IfOk};
+ghost use Rattle.models.specs.Model.{reading};
+ghost use Rattle.change_plans.specs.Joining as spec;
+ghost use Rattle.proxies.specs.Leads.{leads as leads_of};
+
+use links::LinkStore;
+use mm_types::ObjectNo;
+use models::ModelRef;
+use proxies::{
+    Counterpart, FirstLeads, Key, Keys, Lead, ProxySite, Target, far_end, is_mistyped,
+    is_there_already, is_unmatched, opposite_end,
+};
+use std::alloc::{AllocError, Global};
+
+/// A proxy that is resolved: its location, and what it finds.
+#[derive(Clone, Copy)]
+pub(crate) struct Joint {
+    pub site: ProxySite,
+    pub target: Target,
+}
+
+/// What was resolved so far: the proxies in order, all locations whose proxies are gone, and the objects that came to be at ends.
+#[derive(Drop)]
+pub(crate) struct Progress {
+    pub joints: Vec<Joint>,
+    pub gone: Keys,
+    linked: Keys,
+}
+
+/// What is resolved of all proxies of a model. Errs only if memory is refused.
+pub(crate) fn resolve_all<L: LinkStore>(
+    alloc: Global,
+    model: &ModelRef<L>,
+    leads: &[Lead],
+) -> Result<Progress, AllocError>
+    requires all { leads.now ≡ leads_of (reading model.now) }
+    ensures { IfOk result (spec.IsDone (reading model.now)) }
+{
+    model.lemma_is_legal();
+    let first = FirstLeads::of(alloc, leads)?;
+    let mut progress = Progress::new(alloc);
+    'leads: for lead in leads {
+        progress.resolve(model, &first, *lead)?;
+    }
+    Ok(progress)
+}
+
+impl Progress {
+    ghost use Rattle.std.specs.Prelude.{◌||◌, Option, OnOk};
+    ghost use Rattle.proxies.specs.Keys.{has};
+    ghost use Rattle.proxies.specs.declared.keys.Key.{Key};
+
+    /// Nothing. Takes no memory.
+    fn new(alloc: Global) -> Self
+        ensures { spec.IsNothing result }
+    {
+        Progress {
+            joints: Vec::new(alloc),
+            gone: Keys::new(alloc),
+            linked: Keys::new(alloc),
+        }
+    }
+
+    /// Resolves a proxy, unless that is refused.
+    fn resolve<L: LinkStore>(
+        &mut self,
+        model: &ModelRef<L>,
+        first: &FirstLeads,
+        lead: Lead,
+    ) -> Result<(), AllocError>
+        ensures { OnOk result (spec.Resolves self.old self.new lead.site (spec.target_by (reading model.now) self.old first.now lead)) }
+    {
+        match self.target(model, first, lead) {
+            Some(target) => self.add(lead.site, target),
+            None => Ok(()),
+        }
+    }
+
+    /// What a proxy is resolved to, unless that is refused. Takes no memory.
+    fn target<L: LinkStore>(
+        &self,
+        model: &ModelRef<L>,
+        first: &FirstLeads,
+        lead: Lead,
+    ) -> Option<Target>
+        ensures { result ≡ spec.target_by (reading model.now) self.now first.now lead }
+    {
+        let object = lead.object?;
+        let target = Target {
+            object,
+            counterpart: counterpart(model, first, lead.site, object),
+        };
+        if self.is_refused(model, lead.site, target) {
+            None
+        } else {
+            Some(target)
+        }
+    }
+
+    /// Whether a proxy can't be resolved to what it finds. Takes no memory.
+    fn is_refused<L: LinkStore>(&self, model: &ModelRef<L>, site: ProxySite, target: Target) -> bool
+        ensures { result ≡ spec.is_refused (reading model.now) self.now site target }
+    {
+        let end = far_end(site.object, site.feature);
+        self.gone.contains(Key::of_site(site))
+            || is_mistyped(model, end, Some(target))
+            || is_there_already(model, end, Some(target))
+            || self
+                .linked
+                .contains(Key::of(site.object, site.feature, target.object.0))
+            || is_unmatched(model, end, target)
+    }
+
+    /// Adds a proxy that is resolved.
+    fn add(&mut self, site: ProxySite, target: Target) -> Result<(), AllocError>
+        ensures { OnOk result (spec.Adds self.old self.new site target) }
+    {
+        self.joints.push(Joint { site, target })?;
+        self.gone.insert(Key::of_site(site))?;
+        self.linked
+            .insert(Key::of(site.object, site.feature, target.object.0))?;
+        match target.counterpart {
+            Some(other) => self.add_far(site, target, other),
+            None => Ok(()),
+        }
+    }
+
+    /// Adds its counterpart.
+    fn add_far(
+        &mut self,
+        site: ProxySite,
+        target: Target,
+        other: Counterpart,
+    ) -> Result<(), AllocError>
+        ensures joints { OnOk result (self.new.joints.items ≡ self.old.joints.items) }
+        ensures gone { OnOk result ((k : Key) → has self.new.gone k ≡ has self.old.gone k || spec.is_far_site target other k) }
+        ensures linked { OnOk result ((k : Key) → has self.new.linked k ≡ has self.old.linked k || spec.is_far_link site target other k) }
+    {
+        let feature = other.end.feature;
+        self.gone
+            .insert(Key::of(target.object, feature, other.index))?;
+        self.linked
+            .insert(Key::of(target.object, feature, site.object.0))
+    }
+}
+
+/// The proxy of the same link at the opposite end, if there is one. Takes no memory.
+fn counterpart<L: LinkStore>(
+    model: &ModelRef<L>,
+    first: &FirstLeads,
+    site: ProxySite,
+    object: ObjectNo,
+) -> Option<Counterpart>
+    ensures { result ≡ spec.counterpart_by (reading model.now) first.now site object }
+{
+    let end = opposite_end(model, far_end(site.object, site.feature), object)?;
+    let index = first.index(Key::of(object, end.feature, site.object.0))?;
+    Some(Counterpart { end, index })
+}

@@ -1,0 +1,69 @@
+//! What loading a document into a resource makes, its notifications, and why it can't be loaded.
+ghost use Rattle.std.specs.Prelude.{◌≡◌, ◌≤◌, length, map, IfOk};
+ghost use Rattle.std.specs.List.{All, enumerate_from};
+ghost use Rattle.mm_types.specs.declared.limits.TheConstants.{LIST_VALUES};
+ghost use Rattle.models.specs.Model.{reading};
+ghost use Rattle.doc_loader.specs.Fits.{IsNumbered};
+ghost use Rattle.handshake.specs.Refusals as refusals;
+ghost use Rattle.handshake.specs.Reports.{root_notice as root_notice_of};
+
+use doc_loader::loaded;
+use links::LinkStore;
+use mm_types::{End, ObjectNo, Refused, ResourceNo, Value, limits};
+use models::{ModelRef, contents_end};
+use notice_chain::{Chain, Notice, NoticeKind};
+use resource_docs::Doc;
+use std::alloc::{AllocError, Global};
+
+/// Why a document can't be loaded into a resource: `Limit` or `NotEmpty`. Takes no memory.
+pub(crate) fn load_refusal<L: LinkStore>(
+    model: &ModelRef<L>,
+    resource: ResourceNo,
+    doc: &Doc,
+) -> Option<Refused>
+    ensures { result ≡ refusals.load_refusal (reading model.now) resource doc.now }
+{
+    match model.next().checked_add(doc.objects.len()) {
+        Some(count) if count <= limits::OBJECTS => {}
+        _ => return Some(Refused::Limit),
+    }
+    if model.len(contents_end(model.meta(), resource)) > 0 {
+        return Some(Refused::NotEmpty);
+    }
+    None
+}
+
+/// The notifications that an end gains the roots of a document, in their order, if it has none and the first object gets the number
+/// `next`.
+pub(crate) fn root_notices(
+    alloc: Global,
+    next: usize,
+    end: End,
+    roots: &[ObjectNo],
+) -> Result<Chain, AllocError>
+    requires few { length roots.now ≤ LIST_VALUES }
+    requires fits { All (IsNumbered next) roots.now }
+    ensures { IfOk result (λ c. c ≡ map (root_notice_of next end) (enumerate_from 0 roots.now)) }
+{
+    let mut chain = Chain::new(alloc);
+    'roots: for (i, root) in roots.iter().enumerate() {
+        chain.push(root_notice(next, end, i as u32, *root))?;
+    }
+    Ok(chain)
+}
+
+/// The notification that an end gains a root of a document after so many others.
+fn root_notice(next: usize, end: End, position: u32, root: ObjectNo) -> Notice
+    requires fits { IsNumbered next root }
+    ensures { result ≡ root_notice_of next end (position, root) }
+{
+    Notice {
+        notifier: end.node,
+        feature: Some(end.feature),
+        kind: NoticeKind::Add,
+        old_value: Value::Null,
+        new_value: Value::Object(loaded(next, root)),
+        position: i64::from(position),
+        was_set: position > 0,
+    }
+}

@@ -1,0 +1,353 @@
+//! The plan of a change: its edits, and its notifications.
+ghost use Rattle.std.specs.Prelude.{◌≡◌, [], true, false, not, nat_le, nat_lt, None, IfOk, if◌then◌else◌};
+ghost use Rattle.mm_types.specs.Conditions.{◌unless◌, ◌else_by◌};
+ghost use Rattle.mm_types.specs.declared.limits.TheConstants.{OBJECTS};
+ghost use Rattle.mm_types.specs.declared.refused.Refused.TheVariants.{Index, Limit};
+ghost use Rattle.models.specs.Model.{reading};
+ghost use Rattle.models.specs.Reading.{is_repeat, position_for, takes};
+ghost use Rattle.handshake.specs.Displaced as d;
+ghost use Rattle.handshake.specs.Edits as e;
+ghost use Rattle.handshake.specs.Effects.{value_edits as value_edits_of};
+ghost use Rattle.handshake.specs.Changes.{HasFittingDocument, HasReadDocument, IsRemovalOf};
+ghost use Rattle.change_plans.specs.Plans.{IsPlanOf, Plans};
+ghost use Rattle.handshake.specs.Refusals as refusals;
+ghost use Rattle.handshake.specs.FeatureChanges as t;
+ghost use Rattle.handshake.specs.declared.act.Act.TheVariants.{Add};
+ghost use Rattle.handshake.specs.declared.change.Change.TheVariants.{At};
+
+use crate::destroyed::removal_of;
+use crate::edits::{link_edits, value_edits};
+use crate::loads::{load_refusal, root_notices};
+use crate::planned::Planned;
+use crate::resolving_all::all_resolved;
+use crate::target::target_of;
+use handshake::{
+    Act, Change, cut_link_ends, feature_changes, gain_refusal, has_already, link_refusal,
+    lost_notices, notices,
+};
+use links::{LinkStore, Plan};
+use mm_types::{End, FeatureNo, ObjectNo, Refused, Text, Value, limits};
+use mm_values::ValuePlan;
+use models::{ModelRef, contents_end, is_short, is_short_text};
+use notice_chain::Chain;
+use proxies::{Target, resolve_refusal};
+use removal::{LinkEnd, Removal};
+use std::alloc::{AllocError, Global};
+
+/// The plan of a change whose class, nodes and features are there, or the first refusal that planning finds. The notifications are made
+/// only if an adapter may have to get them.
+///
+/// `WrongType` if the value is not one of the feature's type, `TextLength` above 65,535 bytes, `Index` if nothing is at an index, or
+/// if there would be a gap before a value that is put in, `Duplicate` if a unique list has the value that is added at an index,
+/// `Bound` if an end that has to gain is full, `Recursive` if an object would become a part of itself, `Limit` if 1,000,000 objects or
+/// 100,000 resources were made, or 1,000,000 values are at an end, `ResourceExists` if a resource has the URI; and of a proxy to be
+/// resolved `NotProxy` if something else is there, `Unloaded` if no resource has its URI, `Unresolved` if nothing is at its address,
+/// `Unmatched` if the reference has an opposite and no proxy there has the address of the object that refers; and of a document
+/// `Limit` if its objects would be more than 1,000,000 with those that were made, `NotEmpty` if the resource has roots. `Memory` if
+/// none of these applies; of a proxy, whose target is looked for first, `Memory` may come before.
+pub fn plan<L: LinkStore>(
+    alloc: Global,
+    model: &ModelRef<L>,
+    change: Change,
+    is_heard: bool,
+) -> Result<Planned, Refused>
+    requires asked { refusals.early_refusal (reading model.now) change ≡ None }
+    requires read { HasReadDocument model.now.metamodel change }
+    ensures { Plans is_heard result model.now change }
+{
+    let target = target_of(alloc, model, &change)?;
+    if let Some(refused) = late_refusal(model, &change, target) {
+        return Err(refused);
+    }
+    Ok(made(alloc, model, change, target, is_heard)?)
+}
+
+/// What a change destroys that nothing refuses, its edits, and its notifications. Errs only if memory is refused.
+fn made<L: LinkStore>(
+    alloc: Global,
+    model: &ModelRef<L>,
+    change: Change,
+    target: Option<Target>,
+    is_heard: bool,
+) -> Result<Planned, AllocError>
+    requires found { target ≡ t.target_of (reading model.now) change }
+    requires asked { refusals.early_refusal (reading model.now) change ≡ None }
+    requires allowed { refusals.late_refusal (reading model.now) change ≡ None }
+    requires read { HasReadDocument model.now.metamodel change }
+    ensures { IfOk result (IsPlanOf is_heard model.now change) }
+{
+    model.lemma_is_legal();
+    if let Change::ResolveAll = &change {
+        return all_resolved(alloc, model, is_heard);
+    }
+    let removal = removal_of(alloc, model, &change)?;
+    let (edits, values, chain) = edits_and_notices(
+        alloc, model, change, &removal, target, is_heard,
+    )?;
+    Ok(Planned {
+        removal,
+        target,
+        resolved: None,
+        edits,
+        values,
+        chain,
+    })
+}
+
+/// The edits of a change that nothing refuses and that doesn't resolve all proxies, of links and of values, and its notifications. Errs
+/// only if memory is refused.
+fn edits_and_notices<L: LinkStore>(
+    alloc: Global,
+    model: &ModelRef<L>,
+    change: Change,
+    removal: &Option<Removal>,
+    target: Option<Target>,
+    is_heard: bool,
+) -> Result<(Plan, ValuePlan, Chain), AllocError>
+    requires asked { refusals.early_refusal (reading model.now) change ≡ None }
+    requires allowed { refusals.late_refusal (reading model.now) change ≡ None }
+    requires removal { IsRemovalOf (reading model.now) change removal.now }
+    requires found { target ≡ t.target_of (reading model.now) change }
+    requires read { HasReadDocument model.now.metamodel change }
+    requires one { t.resolves_all change ≡ false }
+    ensures edits { IfOk result (λ p. p.0 ≡ e.link_edits (reading model.now) change) }
+    ensures values { IfOk result (λ p. p.1 ≡ value_edits_of (reading model.now) change) }
+    ensures chain { IfOk result (λ p. p.2 ≡ (if is_heard then t.chain (reading model.now) change else [])) }
+{
+    model.lemma_is_legal();
+    let (edits, chain) = links_and_notices(alloc, model, &change, removal, target, is_heard)?;
+    let values = value_edits(alloc, model, change, removal)?;
+    Ok((edits, values, chain))
+}
+
+/// The edits of links that make a change, and its notifications; none if no adapter may have to get them.
+fn links_and_notices<L: LinkStore>(
+    alloc: Global,
+    model: &ModelRef<L>,
+    change: &Change,
+    removal: &Option<Removal>,
+    target: Option<Target>,
+    is_heard: bool,
+) -> Result<(Plan, Chain), AllocError>
+    requires asked { refusals.early_refusal (reading model.now) change.now ≡ None }
+    requires allowed { refusals.late_refusal (reading model.now) change.now ≡ None }
+    requires removal { IsRemovalOf (reading model.now) change.now removal.now }
+    requires found { target ≡ t.target_of (reading model.now) change.now }
+    requires fits { HasFittingDocument (reading model.now).next change.now }
+    requires one { t.resolves_all change.now ≡ false }
+    ensures edits { IfOk result (λ p. p.0 ≡ e.link_edits (reading model.now) change.now) }
+    ensures chain { IfOk result (λ p. p.1 ≡ (if is_heard then t.chain (reading model.now) change.now else [])) }
+{
+    let link_ends = cut_link_ends(alloc, model, change, removal, target)?;
+    let chain = heard_chain(alloc, model, change, removal, target, &link_ends, is_heard)?;
+    let edits = link_edits(alloc, model, link_ends, change, target)?;
+    Ok((edits, chain))
+}
+
+/// The first refusal that planning finds. Takes no memory.
+pub(crate) fn late_refusal<L: LinkStore>(
+    model: &ModelRef<L>,
+    change: &Change,
+    target: Option<Target>,
+) -> Option<Refused>
+    requires found { target ≡ t.target_of (reading model.now) change.now }
+    ensures { result ≡ refusals.late_refusal (reading model.now) change.now }
+{
+    match change {
+        Change::At(end, act) => act_late_refusal(model, *end, act, target),
+        Change::Create(_) => create_late_refusal(model),
+        Change::NewResource(uri) => uri_refusal(model, uri),
+        Change::Load(resource, doc) => load_refusal(model, *resource, doc),
+        Change::Delete(_) | Change::ResolveAll => None,
+    }
+}
+
+/// `late_refusal` of what is done at an end.
+fn act_late_refusal<L: LinkStore>(
+    model: &ModelRef<L>,
+    end: End,
+    act: &Act,
+    target: Option<Target>,
+) -> Option<Refused>
+    requires found { target ≡ t.target_of (reading model.now) (At end act.now) }
+    ensures { result ≡ refusals.late_refusal (reading model.now) (At end act.now) }
+{
+    match act {
+        Act::Set(value) => set_late_refusal(model, end, value),
+        Act::Unset => None,
+        Act::Add(value, index) => {
+            add_late_refusal(model, end, value, *index, model.is_repeat(end, value))
+        }
+        Act::Remove(index) => index_refusal(*index < model.len(end)),
+        Act::RemoveValue(value) => type_refusal(model, end.feature, value),
+        Act::Move { to, from } => {
+            let len = model.len(end);
+            index_refusal(*to < len && *from < len)
+        }
+        Act::Resolve(index) => resolve_refusal(model, end, *index, target),
+    }
+}
+
+pub(crate) fn create_late_refusal<L: LinkStore>(model: &ModelRef<L>) -> Option<Refused>
+    ensures { result ≡ (Limit unless nat_lt (reading model.now).next OBJECTS) }
+{
+    if model.next() < limits::OBJECTS {
+        None
+    } else {
+        Some(Refused::Limit)
+    }
+}
+
+#[inline(always)]
+pub(crate) fn set_late_refusal<L: LinkStore>(
+    model: &ModelRef<L>,
+    end: End,
+    value: &Value,
+) -> Option<Refused>
+    ensures { result ≡ (refusals.type_refusal (reading model.now) end.feature value.now else_by refusals.set_refusal (reading model.now) end value.now) }
+{
+    if let Some(refused) = type_refusal(model, end.feature, value) {
+        return Some(refused);
+    }
+    set_refusal(model, end, value)
+}
+
+/// `set_late_refusal` of a value that the end does not have already.
+pub(crate) fn new_set_refusal<L: LinkStore>(
+    model: &ModelRef<L>,
+    end: End,
+    value: &Value,
+) -> Option<Refused>
+    requires new { d.has_already (reading model.now) end value.now ≡ false }
+    ensures { result ≡ (refusals.type_refusal (reading model.now) end.feature value.now else_by refusals.set_refusal (reading model.now) end value.now) }
+{
+    if let Some(refused) = type_refusal(model, end.feature, value) {
+        return Some(refused);
+    }
+    match value {
+        Value::Object(object) => link_refusal(model, end, *object),
+        _ => None,
+    }
+}
+
+/// `late_refusal` of an addition, of which it is known whether a unique list has the value.
+pub(crate) fn add_late_refusal<L: LinkStore>(
+    model: &ModelRef<L>,
+    end: End,
+    value: &Value,
+    index: Option<u32>,
+    repeats: bool,
+) -> Option<Refused>
+    requires repeats { repeats ≡ is_repeat (reading model.now) end value.now }
+    ensures { result ≡ refusals.late_refusal (reading model.now) (At end (Add value.now index)) }
+{
+    if let Some(refused) = type_refusal(model, end.feature, value) {
+        return Some(refused);
+    }
+    if is_past(model, end, index) {
+        return Some(Refused::Index);
+    }
+    if !repeats {
+        return gain_refusal(model, end, value);
+    }
+    match index {
+        Some(_) => Some(Refused::Duplicate),
+        None => None,
+    }
+}
+
+/// Whether an index is past the position after the last value of an end; none is, if none is named.
+fn is_past<L: LinkStore>(model: &ModelRef<L>, end: End, index: Option<u32>) -> bool
+    ensures { result ≡ not (nat_le (position_for (reading model.now) end index) (refusals.count_at (reading model.now) end)) }
+{
+    match index {
+        Some(index) => index > model.len(end),
+        None => false,
+    }
+}
+
+/// Why there can be no resource more of a URI: `TextLength`, `Limit` or `ResourceExists`.
+fn uri_refusal<L: LinkStore>(model: &ModelRef<L>, uri: &Text) -> Option<Refused>
+    ensures { result ≡ refusals.uri_refusal (reading model.now) uri.now }
+{
+    if !is_short_text(uri.as_str()) {
+        return Some(Refused::TextLength);
+    }
+    if model.resources() >= limits::RESOURCES {
+        return Some(Refused::Limit);
+    }
+    if model.has_uri(uri.as_str()) {
+        return Some(Refused::ResourceExists);
+    }
+    None
+}
+
+/// Why a value is not one of a feature: `WrongType` or `TextLength`.
+fn type_refusal<L: LinkStore>(
+    model: &ModelRef<L>,
+    feature: FeatureNo,
+    value: &Value,
+) -> Option<Refused>
+    ensures { result ≡ refusals.type_refusal (reading model.now) feature value.now }
+{
+    if !model.takes(feature, value) {
+        return Some(Refused::WrongType);
+    }
+    if !is_short(value) {
+        return Some(Refused::TextLength);
+    }
+    None
+}
+
+fn index_refusal(is_there: bool) -> Option<Refused>
+    ensures { result ≡ (Index unless is_there) }
+{
+    if is_there { None } else { Some(Refused::Index) }
+}
+
+/// Why a single end can't have a value of its type.
+fn set_refusal<L: LinkStore>(model: &ModelRef<L>, end: End, value: &Value) -> Option<Refused>
+    requires taken { takes (reading model.now) end.feature value.now ≡ true }
+    ensures { result ≡ refusals.set_refusal (reading model.now) end value.now }
+{
+    match value {
+        Value::Object(object) if !has_already(model, end, value) => {
+            link_refusal(model, end, *object)
+        }
+        _ => None,
+    }
+}
+
+/// The notifications of a change that cuts these links; none if no adapter may have to get them.
+pub(crate) fn heard_chain<L: LinkStore>(
+    alloc: Global,
+    model: &ModelRef<L>,
+    change: &Change,
+    removal: &Option<Removal>,
+    target: Option<Target>,
+    link_ends: &[LinkEnd],
+    is_heard: bool,
+) -> Result<Chain, AllocError>
+    requires asked { refusals.early_refusal (reading model.now) change.now ≡ None }
+    requires allowed { refusals.late_refusal (reading model.now) change.now ≡ None }
+    requires removal { IsRemovalOf (reading model.now) change.now removal.now }
+    requires found { target ≡ t.target_of (reading model.now) change.now }
+    requires cut { link_ends.now ≡ d.cut_link_ends (reading model.now) change.now }
+    requires fits { HasFittingDocument (reading model.now).next change.now }
+    requires one { t.resolves_all change.now ≡ false }
+    ensures { IfOk result (λ c. c ≡ (if is_heard then t.chain (reading model.now) change.now else [])) }
+{
+    if !is_heard {
+        return Ok(Chain::new(alloc));
+    }
+    model.lemma_is_legal();
+    if let Some(removal) = removal {
+        return lost_notices(alloc, model, removal);
+    }
+    if let Change::Load(resource, doc) = change {
+        let roots = contents_end(model.meta(), *resource);
+        return root_notices(alloc, model.next(), roots, doc.roots.as_slice());
+    }
+    let feature_changes = feature_changes(alloc, model, change, link_ends, target)?;
+    notices(alloc, model, feature_changes)
+}

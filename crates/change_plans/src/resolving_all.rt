@@ -1,0 +1,145 @@
+//! The plan that resolves all proxies.
+ghost use Rattle.std.specs.Prelude.{◌≡◌, ◌++◌, filter, flat_map, length, map, not, IfOk, OnOk};
+ghost use Rattle.models.specs.Model.{reading};
+ghost use Rattle.change_plans.specs.Joining as spec;
+ghost use Rattle.proxies.specs.Keys.{has, key_of};
+ghost use Rattle.proxies.specs.Leads.{leads as leads_of};
+ghost use Rattle.change_plans.specs.Plans.{IsPlanOf};
+ghost use Rattle.handshake.specs.FeatureChange.{notice_at};
+ghost use Rattle.handshake.specs.declared.change.Change.TheVariants.{ResolveAll};
+
+use crate::cuts::push_cuts;
+use crate::edits::push_joining;
+use crate::joining::{Joint, Progress, resolve_all};
+use crate::planned::Planned;
+use handshake::{FeatureChange, add_counterpart, notices, push_link_end, push_resolved};
+use links::{Edit, LinkStore};
+use mm_types::Seq;
+use mm_values::ValuePlan;
+use models::ModelRef;
+use notice_chain::Chain;
+use proxies::{Key, Keys, Lead, Resolved, far_end, leads};
+use std::alloc::{AllocError, Global};
+
+/// The plan that resolves all proxies; the notifications are made only if an adapter may have to get them. Errs only if memory is refused.
+pub(crate) fn all_resolved<L: LinkStore>(
+    alloc: Global,
+    model: &ModelRef<L>,
+    is_heard: bool,
+) -> Result<Planned, AllocError>
+    ensures { IfOk result (IsPlanOf is_heard model.now ResolveAll) }
+{
+    let leads = leads(alloc, model)?;
+    let progress = resolve_all(alloc, model, leads.as_slice())?;
+    planned(alloc, model, leads.as_slice(), &progress, is_heard)
+}
+
+/// The plan of what is resolved.
+fn planned<L: LinkStore>(
+    alloc: Global,
+    model: &ModelRef<L>,
+    leads: &[Lead],
+    progress: &Progress,
+    is_heard: bool,
+) -> Result<Planned, AllocError>
+    requires all { leads.now ≡ leads_of (reading model.now) }
+    requires done { spec.IsDone (reading model.now) progress.now }
+    ensures { IfOk result (IsPlanOf is_heard model.now ResolveAll) }
+{
+    model.lemma_is_legal();
+    let joints = progress.joints.as_slice();
+    let edits = edits(alloc, model, joints)?;
+    let chain = if is_heard {
+        joint_notices(alloc, model, joints)?
+    } else {
+        Chain::new(alloc)
+    };
+    Ok(Planned {
+        removal: None,
+        target: None,
+        resolved: Some(Resolved {
+            done: joints.len(),
+            left: left(leads, &progress.gone),
+        }),
+        edits: Seq::from_vec(edits),
+        values: ValuePlan::none(alloc),
+        chain,
+    })
+}
+
+/// The edits that resolve proxies, one after another.
+fn edits<L: LinkStore>(
+    alloc: Global,
+    model: &ModelRef<L>,
+    joints: &[Joint],
+) -> Result<Vec<Edit>, AllocError>
+    ensures { IfOk result (λ es. es.items ≡ flat_map (spec.edits_by (reading model.now)) joints.now) }
+{
+    let mut edits = Vec::new(alloc);
+    'joints: for joint in joints {
+        push_edits(alloc, model, *joint, &mut edits)?;
+    }
+    Ok(edits)
+}
+
+/// Adds the edits that resolve a proxy.
+fn push_edits<L: LinkStore>(
+    alloc: Global,
+    model: &ModelRef<L>,
+    joint: Joint,
+    edits: &mut Vec<Edit>,
+) -> Result<(), AllocError>
+    ensures { OnOk result (edits.new.items ≡ edits.old.items ++ spec.edits_by (reading model.now) joint) }
+{
+    let Joint { site, target } = joint;
+    let end = far_end(site.object, site.feature);
+    let mut link_ends = Vec::new(alloc);
+    push_link_end(alloc, end, model.value_in(end, site.index), &mut link_ends)?;
+    add_counterpart(alloc, model, Some(target), &mut link_ends)?;
+    push_cuts(alloc, link_ends, edits)?;
+    push_joining(model, end, site.index, Some(target), edits)
+}
+
+/// The notifications that proxies are resolved, each read in the model as it is.
+fn joint_notices<L: LinkStore>(
+    alloc: Global,
+    model: &ModelRef<L>,
+    joints: &[Joint],
+) -> Result<Chain, AllocError>
+    ensures { IfOk result (λ c. c ≡ map (notice_at (reading model.now)) (flat_map spec.told_by joints.now)) }
+{
+    let feature_changes = feature_changes(alloc, joints)?;
+    notices(alloc, model, feature_changes)
+}
+
+/// What happens when proxies are resolved.
+fn feature_changes(alloc: Global, joints: &[Joint]) -> Result<Vec<FeatureChange>, AllocError>
+    ensures { IfOk result (λ ts. ts.items ≡ flat_map spec.told_by joints.now) }
+{
+    let mut out = Vec::new(alloc);
+    'joints: for joint in joints {
+        push_told(*joint, &mut out)?;
+    }
+    Ok(out)
+}
+
+/// Adds what happens when a proxy is resolved.
+fn push_told(joint: Joint, out: &mut Vec<FeatureChange>) -> Result<(), AllocError>
+    ensures { OnOk result (out.new.items ≡ out.old.items ++ spec.told_by joint) }
+{
+    let end = far_end(joint.site.object, joint.site.feature);
+    push_resolved(end, joint.site.index, Some(joint.target), out)
+}
+
+/// How many proxies are not gone.
+fn left(leads: &[Lead], gone: &Keys) -> usize
+    ensures { result ≡ length (filter (λ x. not (has gone.now (key_of x.site))) leads.now) }
+{
+    let mut left = 0;
+    'leads: for lead in leads {
+        if !gone.contains(Key::of_site(lead.site)) {
+            left += 1;
+        }
+    }
+    left
+}

@@ -1,0 +1,67 @@
+//! What a change makes of values alone.
+ghost use Rattle.std.specs.Prelude.{◌≡◌, [], true, None, Some, IfErr, IfOk, OnOk, if◌then◌else◌};
+ghost use Rattle.mm_types.specs.Conditions.{◌else_by◌};
+ghost use Rattle.models.specs.Model.{reading};
+ghost use Rattle.handshake.specs.Effects.{value_edits as value_edits_of};
+ghost use Rattle.handshake.specs.FeatureChanges.{chain};
+ghost use Rattle.handshake.specs.Changes.{edits_values_alone};
+ghost use Rattle.change_plans.specs.Plans.{is_memory_refusal};
+ghost use Rattle.handshake.specs.Refusals as refusals;
+ghost use Rattle.handshake.specs.declared.act.Act.TheVariants.{Set};
+ghost use Rattle.handshake.specs.declared.change.Change.TheVariants.{At, Create};
+
+use crate::edits::value_edits;
+use crate::planning::{create_late_refusal, heard_chain, late_refusal, set_late_refusal};
+use handshake::{Change, set_early_refusal};
+use links::LinkStore;
+use mm_types::{ClassNo, End, Refused, Value};
+use mm_values::ValuePlan;
+use models::{ModelRef, class_refusal};
+use notice_chain::Chain;
+use std::alloc::Global;
+
+/// The edits of values that a change makes, and its notifications if an adapter may have to get them; or the first refusal that planning
+/// finds. This is `plan` for a change that edits no link.
+pub fn plan_values<L: LinkStore>(
+    alloc: Global,
+    model: &ModelRef<L>,
+    change: Change,
+    is_heard: bool,
+) -> Result<(ValuePlan, Chain), Refused>
+    requires asked { refusals.early_refusal (reading model.now) change ≡ None }
+    requires values { edits_values_alone model.now.metamodel change ≡ true }
+    ensures values { IfOk result (λ p. p.0 ≡ value_edits_of (reading model.now) change) }
+    ensures chain { IfOk result (λ p. p.1 ≡ (if is_heard then chain (reading model.now) change else [])) }
+    ensures allowed { OnOk result (refusals.late_refusal (reading model.now) change ≡ None) }
+    ensures refused { IfErr result (λ r. refusals.late_refusal (reading model.now) change ≡ (if is_memory_refusal r then None else Some r)) }
+{
+    if let Some(refused) = late_refusal(model, &change, None) {
+        return Err(refused);
+    }
+    let chain = heard_chain(alloc, model, &change, &None, None, &[], is_heard)?;
+    let values = value_edits(alloc, model, change, &None)?;
+    Ok((values, chain))
+}
+
+/// Why a value of an attribute can't be set, if not for memory: the first refusal of a set of it. Takes no memory.
+#[inline(always)]
+pub fn attribute_refusal<L: LinkStore>(
+    model: &ModelRef<L>,
+    end: End,
+    value: &Value,
+) -> Option<Refused>
+    ensures { result ≡ (refusals.early_refusal (reading model.now) (At end (Set value.now)) else_by refusals.late_refusal (reading model.now) (At end (Set value.now))) }
+{
+    if let Some(refused) = set_early_refusal(model, end, value) {
+        return Some(refused);
+    }
+    set_late_refusal(model, end, value)
+}
+
+/// Why an object of a class can't be made, if not for memory: `NoClass`, `Abstract`, or `Limit` if 1,000,000 objects were made. Takes no
+/// memory.
+pub fn create_refusal<L: LinkStore>(model: &ModelRef<L>, class: ClassNo) -> Option<Refused>
+    ensures { result ≡ (refusals.early_refusal (reading model.now) (Create class) else_by refusals.late_refusal (reading model.now) (Create class)) }
+{
+    class_refusal(model.meta(), class).or(create_late_refusal(model))
+}

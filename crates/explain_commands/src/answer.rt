@@ -1,0 +1,128 @@
+//! What the first line of an answer is.
+use mm_types::integers::natural_of;
+use mm_types::{DocFault, Refused};
+use std::str;
+
+/// What the first line of an answer is.
+#[derive(Drop)]
+pub(crate) enum Printed {
+    /// The answer of a bad line.
+    Bad,
+    /// Why the command was refused.
+    Refused(Refused),
+    /// A resource by its number.
+    Resource(u32),
+    /// An object by its number.
+    Object(u32),
+    /// How many objects a document made.
+    Loaded(u32),
+    /// Any other answer, or none.
+    Other,
+}
+
+/// The causes for which a document is refused.
+const CAUSES: [DocFault; 12] = [
+    DocFault::Syntax,
+    DocFault::Layout,
+    DocFault::Format,
+    DocFault::Class,
+    DocFault::Feature,
+    DocFault::Value,
+    DocFault::Reference,
+    DocFault::Duplicate,
+    DocFault::Bound,
+    DocFault::OneSided,
+    DocFault::Cross,
+    DocFault::Depth,
+];
+
+/// The refusals, but for that of a document.
+const REFUSALS: [Refused; 27] = [
+    Refused::NoObject,
+    Refused::NoResource,
+    Refused::NoClass,
+    Refused::Abstract,
+    Refused::NoFeature,
+    Refused::NotSingle,
+    Refused::NotMany,
+    Refused::WrongType,
+    Refused::TextLength,
+    Refused::Index,
+    Refused::Duplicate,
+    Refused::Bound,
+    Refused::Recursive,
+    Refused::Limit,
+    Refused::BadUri,
+    Refused::ResourceExists,
+    Refused::NotEmpty,
+    Refused::Dangling,
+    Refused::TooDeep,
+    Refused::NotProxy,
+    Refused::Unloaded,
+    Refused::Unresolved,
+    Refused::NoAdapter,
+    Refused::AdapterTaken,
+    Refused::AdapterFull,
+    Refused::Memory,
+    Refused::Unmatched,
+];
+
+/// The cause of a name.
+fn cause_named(name: &str) -> Option<DocFault> {
+    for cause in CAUSES.iter() {
+        if cause.name() == name {
+            return Some(*cause);
+        }
+    }
+    None
+}
+
+/// The refusal of a name.
+fn refusal_named(name: &str) -> Option<Refused> {
+    for refused in REFUSALS.iter() {
+        if refused.name() == name {
+            return Some(*refused);
+        }
+    }
+    None
+}
+
+/// The refusal that a line prints after its first word: its last word is the name, or that of the document's cause.
+fn refusal_in(words: &str) -> Option<Refused> {
+    let (front, name) = words.rsplit_once(' ')?;
+    if front.starts_with("18 ") {
+        Some(Refused::Document(cause_named(name)?))
+    } else {
+        refusal_named(name)
+    }
+}
+
+/// What a line is that begins with a word and goes on with a number or a refusal.
+fn worded(line: &str) -> Option<Printed> {
+    let (word, rest) = line.split_once(' ')?;
+    match word {
+        "refused" => Some(Printed::Refused(refusal_in(rest)?)),
+        "loaded" => Some(Printed::Loaded(natural_of(rest)?)),
+        _ => None,
+    }
+}
+
+/// What a line is that has a mark and a number, as `#0`.
+fn marked(line: &str) -> Option<Printed> {
+    if let Some(number) = line.strip_prefix('#') {
+        return Some(Printed::Object(natural_of(number)?));
+    }
+    Some(Printed::Resource(natural_of(line.strip_prefix('r')?)?))
+}
+
+/// What the first line of an answer is.
+pub(crate) fn printed_as(text: &[u8]) -> Printed {
+    let Ok(text) = str::from_utf8(text) else {
+        return Printed::Other;
+    };
+    let line = text.split('\n').next().unwrap_or("");
+    if line == "bad line" {
+        return Printed::Bad;
+    }
+    marked(line).or(worded(line)).unwrap_or(Printed::Other)
+}

@@ -1,0 +1,23 @@
+//! Why a command of a script is refused, in words for a reader.
+//!
+//! `Watch` is called with each line after it was run, with the repository as the line left it. A refused command changes nothing, so the
+//! repository still has all that caused the refusal. No contract says what a text is. The functions are proved safe and ending; cases of
+//! the program show their texts.
+#![tactic(auto)]
+
+mod answer;
+mod attached;
+mod called;
+mod existence;
+mod lists;
+mod named;
+mod names;
+mod refusal;
+mod resources;
+mod scene;
+mod trees;
+mod types;
+mod unresolved;
+mod watch;
+
+pub use watch::{Talk, Watch};

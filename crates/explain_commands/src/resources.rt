@@ -1,0 +1,143 @@
+//! URIs that no resource can have, and resources that are not empty.
+use crate::called::{URI_BYTES, object_called};
+use crate::scene::Scene;
+use adapters::Adapter;
+use explain::front_of;
+use links::LinkStore;
+use mm_types::{Node, ResourceNo};
+use models::Found;
+use script_lines::Form;
+use std::alloc::AllocError;
+use web_uris::{UriFault, joined};
+
+/// Whether the scheme of a URI may have a byte.
+fn is_scheme_byte(byte: u8) -> bool {
+    byte.is_ascii_alphanumeric() || matches!(byte, b'+' | b'-' | b'.')
+}
+
+/// The scheme of a URI; a relative reference has none.
+fn scheme_of(text: &str) -> Option<&str> {
+    let (scheme, _) = text.split_once(':')?;
+    let bytes = scheme.as_bytes();
+    let begins = bytes.first().is_some_and(|byte| byte.is_ascii_alphabetic());
+    if begins && bytes.iter().all(|byte| is_scheme_byte(*byte)) {
+        Some(scheme)
+    } else {
+        None
+    }
+}
+
+/// Whether a scheme is one that a resource can have.
+fn is_of_the_web(scheme: &str) -> bool {
+    scheme.eq_ignore_ascii_case("http") || scheme.eq_ignore_ascii_case("https")
+}
+
+/// A text that is no URI of a resource.
+fn explain_uri<L: LinkStore, A: Adapter>(
+    scene: &Scene<'_, L, A>,
+    out: &mut String,
+    text: &str,
+) -> Result<(), AllocError> {
+    let prefix = scene.prefix;
+    let shown = front_of(text, URI_BYTES);
+    match scheme_of(text.trim_start()) {
+        None => writeln!(
+            out,
+            "{prefix}: {shown:?} is relative, and has to begin with http:// or https://"
+        ),
+        Some(scheme) if !is_of_the_web(scheme) => {
+            let scheme = front_of(scheme, URI_BYTES);
+            writeln!(
+                out,
+                "{prefix}: the scheme of {shown:?} is {scheme:?}, and has to be http or https"
+            )
+        }
+        Some(_) if text.contains('#') => writeln!(
+            out,
+            "{prefix}: {shown:?} has a fragment; leave out the # and what follows it"
+        ),
+        Some(_) => writeln!(out, "{prefix}: {shown:?} is no URI of http or https"),
+    }
+}
+
+/// A text that is no URI, or no address.
+pub(crate) fn explain_bad_uri<L: LinkStore, A: Adapter>(
+    scene: &Scene<'_, L, A>,
+    out: &mut String,
+    form: &Form<'_>,
+) -> Result<(), AllocError> {
+    let prefix = scene.prefix;
+    match form {
+        Form::Resource(text) => explain_uri(scene, out, text.as_str()),
+        Form::At(text) => {
+            let shown = front_of(text.as_str(), URI_BYTES);
+            writeln!(
+                out,
+                "{prefix}: {shown:?} has no fragment; an address is a URI, # and a fragment, as \"http://m.example/a#/\""
+            )
+        }
+        _ => Ok(()),
+    }
+}
+
+/// The resource of a URI, among those of URIs in the order of their numbers.
+pub(crate) fn resource_of(uris: &[String], uri: &str) -> Option<ResourceNo> {
+    for (number, other) in uris.iter().enumerate() {
+        if other.as_str() == uri {
+            return u32::try_from(number).ok().map(ResourceNo);
+        }
+    }
+    None
+}
+
+/// A URI that a resource has already.
+pub(crate) fn explain_exists<L: LinkStore, A: Adapter>(
+    scene: &Scene<'_, L, A>,
+    out: &mut String,
+    form: &Form<'_>,
+) -> Result<(), AllocError> {
+    let prefix = scene.prefix;
+    let Form::Resource(text) = form else {
+        return Ok(());
+    };
+    let uri = match joined(scene.alloc, "", text.as_str()) {
+        Ok(uri) => uri,
+        Err(UriFault::Memory) => return Err(AllocError),
+        Err(UriFault::Bad) => return Ok(()),
+    };
+    match resource_of(scene.uris, uri.as_str()) {
+        Some(resource) => {
+            let shown = front_of(uri.as_str(), URI_BYTES);
+            writeln!(
+                out,
+                "{prefix}: r{} has the URI {shown:?} already",
+                resource.0
+            )
+        }
+        None => Ok(()),
+    }
+}
+
+/// A resource that is not empty.
+pub(crate) fn explain_not_empty<L: LinkStore, A: Adapter>(
+    scene: &Scene<'_, L, A>,
+    out: &mut String,
+    resource: ResourceNo,
+) -> Result<(), AllocError> {
+    let prefix = scene.prefix;
+    let number = resource.0;
+    let contents = scene.repository.meta().contents();
+    match scene
+        .repository
+        .list_value(Node::Resource(resource), contents, 0)
+    {
+        Ok(Found::Object(root)) => {
+            let root = object_called(scene, root)?;
+            writeln!(
+                out,
+                "{prefix}: r{number} has a root, {root}, and load takes an empty resource"
+            )
+        }
+        _ => Ok(()),
+    }
+}

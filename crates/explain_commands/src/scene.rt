@@ -1,0 +1,41 @@
+//! What is asked, after a command was refused.
+use adapters::Adapter;
+use links::LinkStore;
+use mm_types::{FeatureNo, Node};
+use repository::Repository;
+use std::alloc::Global;
+
+/// What the explanation of a refusal asks, and what its line begins with.
+#[derive(Drop)]
+pub(crate) struct Scene<'s, L: LinkStore, A: Adapter> {
+    pub(crate) alloc: Global,
+    /// What the line begins with, as `line 12`.
+    pub(crate) prefix: &'s str,
+    pub(crate) repository: &'s Repository<L, A>,
+    /// The URIs of the resources.
+    pub(crate) uris: &'s [String],
+    /// How many objects were made.
+    pub(crate) objects: u64,
+    /// The number of the last adapter that a script can attach.
+    pub(crate) adapters: u32,
+}
+
+impl<L: LinkStore, A: Adapter> Scene<'_, L, A> {
+    /// The feature of a name among all features of a node's class.
+    pub(crate) fn feature(&self, node: Node, name: &str) -> Option<FeatureNo> {
+        let meta = self.repository.meta();
+        match node {
+            Node::Object(object) => {
+                let class = self.repository.e_class(object).ok()?;
+                meta.feature_by_name(class, name)
+            }
+            Node::Resource(_) if name == "contents" => Some(meta.contents()),
+            Node::Resource(_) => None,
+        }
+    }
+
+    /// How many values a list has; none if there is no such list.
+    pub(crate) fn len(&self, node: Node, feature: FeatureNo) -> u32 {
+        self.repository.list_len(node, feature).unwrap_or(0)
+    }
+}

@@ -1,7 +1,0 @@
-use Rattle.models.specs.Model.{reading}
-use Rattle.handshake.proofs.LeadLemmas.{indices-step}
-use Rattle.handshake.proofs.leads.push_under.Goals as goal
-
--- src/leads.rt:66:5
-pub indices-preserved : goal.indices-preserved
-indices-preserved g c = indices-step (reading c.args.model.now) c.args.object c.args.feature c.indices.index _ _ _ c.in_ok-push_lead.ensures c.indices.invariant

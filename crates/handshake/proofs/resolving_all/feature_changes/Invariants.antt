@@ -1,7 +1,0 @@
-use Rattle.std.proofs.Common.{◌≡◌, flat_map, take}
-use Rattle.handshake.specs.Joining.{told_by}
-use Rattle.handshake.proofs.resolving_all.feature_changes.Given as goal
-
--- those of the proxies so far
-abbrev pub invariant-joints : goal.invariant-joints
-invariant-joints l = l.out.items ≡ flat_map told_by (take l.joint-index l.joints)

@@ -1,0 +1,60 @@
+//! Options that don't go together.
+use script_program::Options;
+use std::fmt;
+
+/// Why options that are good by themselves are refused.
+#[derive(Clone, Copy)]
+pub(crate) enum Misuse {
+    /// The first can't be used with the second.
+    Together(&'static str, &'static str),
+    /// The first can't be used without the second.
+    Without(&'static str, &'static str),
+    /// The value of an option is not of the form URI=FILE.
+    NoFile(&'static str),
+}
+
+impl fmt::Display for Misuse {
+    fn fmt<W: fmt::Write>(&self, f: &mut fmt::Formatter<W>) -> fmt::Result {
+        match self {
+            Misuse::Together(one, other) => write!(f, "{one} can't be used with {other}"),
+            Misuse::Without(one, other) => write!(f, "{one} can't be used without {other}"),
+            Misuse::NoFile(option) => write!(f, "{option} takes URI=FILE"),
+        }
+    }
+}
+
+/// The first of the rules on options that is broken. A live run takes its script from what comes in, and its answers are bare; a journal
+/// keeps lines, and no document that was loaded by an option.
+pub(crate) fn misuse_of(options: &Options<'_>) -> Option<Misuse> {
+    let is_live = options.live;
+    let is_kept = options.journal.is_some();
+    let rules = [
+        (
+            is_live && options.script.is_some(),
+            Misuse::Together("--live", "--script"),
+        ),
+        (
+            is_live && options.dress.echo,
+            Misuse::Together("--live", "--echo"),
+        ),
+        (
+            is_live && options.dress.number,
+            Misuse::Together("--live", "--number"),
+        ),
+        (
+            is_live && options.dress.stop,
+            Misuse::Together("--live", "--stop"),
+        ),
+        (is_kept && !is_live, Misuse::Without("--journal", "--live")),
+        (
+            is_kept && !options.load.is_empty(),
+            Misuse::Together("--load", "--journal"),
+        ),
+    ];
+    for (is_broken, misuse) in rules {
+        if is_broken {
+            return Some(misuse);
+        }
+    }
+    None
+}

@@ -1,0 +1,4 @@
+pub mod PositionLemmas
+pub mod TargetLemmas
+pub mod LeadLemmas
+pub mod ReplacedLemmas

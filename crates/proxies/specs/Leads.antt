@@ -1,0 +1,32 @@
+-- The proxies of a model, and what is at their addresses.
+use Rattle.std.specs.Prelude.{ℕ, Bool, false, List, [], ◌∷◌, map, Option, Some, None, option_and_then, if◌then◌else◌}
+use Rattle.std.specs.Option.{option_map_or}
+use Rattle.indexmap.specs.IndexMap.{get}
+use Rattle.models.specs.Reading.{Reading}
+use Rattle.fragment_paths.specs.Finding.{at}
+use Rattle.proxies.specs.Keys.{key}
+pub use Rattle.proxies.specs.Keys.{same_key}
+use Rattle.proxies.specs.Proxies.{end_of, sites}
+use Rattle.proxies.specs.Resolving.{proxy_at}
+use Rattle.proxies.specs.declared.keys.Key.{Key}
+use Rattle.proxies.specs.declared.lead.FirstLeads.{FirstLeads}
+use Rattle.proxies.specs.declared.lead.Lead.{Lead}
+use Rattle.proxies.specs.declared.site.ProxySite.{ProxySite}
+
+abbrev pub lead : Reading → ProxySite → Lead
+lead r p = record { site = p; object = option_and_then (at r) (proxy_at r (end_of p) p.index) }
+
+abbrev pub leads : Reading → List Lead
+leads r = map (lead r) (sites r)
+
+-- a proxy at the reference of the key leads to the object of its number
+abbrev pub is_by : Key → Lead → Bool
+is_by k x = option_map_or (λ o. same_key (key x.site.object x.site.feature o.0) k) x.object false
+
+-- the index of the first of them
+abbrev pub first_index : List Lead → Key → Option ℕ
+first_index [] k = None
+first_index (x ∷ xs) k = if is_by k x then Some x.site.index else first_index xs k
+
+abbrev pub index_at : FirstLeads → Key → Option ℕ
+index_at t k = get same_key t.indices k

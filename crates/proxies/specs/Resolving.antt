@@ -1,0 +1,45 @@
+-- What resolving a proxy finds: the object at its address and, at the opposite end of that object, the proxy of the same link.
+use Rattle.std.specs.Prelude.{ℕ, ◌&&◌, Bool, false, not, List, Option, is_some, option_and_then, option_map, position, slice_get}
+use Rattle.std.specs.Option.{option_map_or}
+use Rattle.mm_types.specs.Same.{same_node}
+use Rattle.mm_types.specs.declared.end.End.{End}
+use Rattle.mm_types.specs.declared.numbers.Node.{Node}
+use Rattle.mm_types.specs.declared.numbers.Node.TheVariants as node
+use Rattle.mm_types.specs.declared.numbers.ObjectNo.{ObjectNo}
+use Rattle.mm_types.specs.declared.value.Value.{Value}
+use Rattle.links.specs.Links.{far_end, text_of}
+use Rattle.models.specs.Reading.{Reading, shape_at}
+use Rattle.fragment_paths.specs.Finding.{at}
+use Rattle.proxies.specs.declared.target.Counterpart.{Counterpart}
+use Rattle.proxies.specs.declared.target.Target.{Target}
+
+-- the opposite end of a link between e and an object
+abbrev pub opposite_end : Reading → End → ObjectNo → Option End
+opposite_end r e o = option_map (far_end o) (shape_at r e).opposite
+
+-- the text of the proxy at an index, if one is there
+abbrev pub proxy_at : Reading → End → ℕ → Option (List ℕ)
+proxy_at r e i = option_and_then text_of (slice_get (r.values e) i)
+
+-- a value is a proxy with the address of a node
+abbrev pub leads_to : Reading → Node → Value → Bool
+leads_to r n v = option_map_or (λ o. same_node (node.Object o) n) (option_and_then (at r) (text_of v)) false
+
+-- the first proxy at an end that has the address of a node
+abbrev pub first_to : Reading → Node → End → Option Counterpart
+first_to r n d = option_map (λ j. record { end = d; index = j }) (position (leads_to r n) (r.values d))
+
+-- the proxy that a link between e and an object has at the opposite end
+abbrev pub counterpart : Reading → End → ObjectNo → Option Counterpart
+counterpart r e o = option_and_then (first_to r e.node) (opposite_end r e o)
+
+abbrev pub target : Reading → End → ObjectNo → Target
+target r e o = record { object = o; counterpart = counterpart r e o }
+
+-- the object at the address of the proxy at an index, if there are both
+abbrev pub target_at : Reading → End → ℕ → Option Target
+target_at r e i = option_map (target r e) (option_and_then (at r) (proxy_at r e i))
+
+-- the reference has an opposite, and no proxy there has the address of the object that refers
+abbrev pub is_unmatched : Reading → End → Target → Bool
+is_unmatched r e x = is_some (shape_at r e).opposite && not (is_some x.counterpart)

@@ -1,0 +1,24 @@
+//! The proxies of a model: which object is at the address of each, which proxy of the same link is at the opposite end, and why one can't
+//! be resolved.
+//!
+//! `specs/Resolving.antt` says what a proxy finds, `specs/Refusals.antt` why it can't be resolved, and `specs/ResolvingAll.antt` which
+//! proxies are resolved if all are, one after another.
+#![tactic(auto)]
+
+mod ends;
+mod keys;
+mod lead;
+mod resolved;
+mod resolving;
+mod site;
+mod target;
+
+pub use ends::{far_end, opposite_end};
+pub use keys::{Key, Keys};
+pub use lead::{FirstLeads, Lead, leads};
+pub use resolved::Resolved;
+pub use resolving::{
+    is_mistyped, is_there_already, is_unmatched, proxy_at, resolve_refusal, target_at,
+};
+pub use site::ProxySite;
+pub use target::{Counterpart, Target};

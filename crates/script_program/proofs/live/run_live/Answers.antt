@@ -1,8 +1,0 @@
-use Rattle.std.specs.Io.Buffered.{reader_remaining}
-use Rattle.script_program.specs.Session.{first_session}
-use Rattle.script_program.proofs.LiveLemmas.{silent}
-use Rattle.script_program.proofs.live.run_live.Goals as goal
-
-pub returns-in_default-clause-stopped : goal.returns-in_default-clause-stopped
-returns-in_default-clause-stopped g c =
-    silent (first_session g.A.Adapter.heard c.args.meta c.args.boxes.items) (reader_remaining g.R.Read.remaining c.args.reader.now) (g.W.Write.contents c.args.writer.now)

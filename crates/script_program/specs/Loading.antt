@@ -1,0 +1,32 @@
+-- A resource is made of a URI, and a document is loaded into it.
+use Rattle.std.specs.Prelude.{◌≡◌, ℕ, List, Option, Some, None, Ok, Err}
+use Rattle.mm_types.specs.declared.numbers.ResourceNo.{ResourceNo}
+use Rattle.mm_types.specs.declared.refused.Refused.TheVariants.{NoResource}
+use Rattle.repository.specs.Run.{Executed, change_outcome}
+use Rattle.repository.specs.State.{State}
+use Rattle.repository.specs.Views.{Outcome}
+use Rattle.repository.specs.declared.command.Command.TheVariants.{CreateResource, Load}
+use Rattle.repository.specs.declared.reply.Answer.{Answer}
+use Rattle.repository.specs.declared.reply.Answer.TheVariants as answer
+
+-- the resource that an answer names; that of a command which makes a resource always does
+abbrev pub made_resource : Answer → Option ResourceNo
+made_resource (answer.Resource k) = Some k
+made_resource _ = None
+
+-- a document was loaded into a resource, if there is one
+abbrev pub LoadsInto : Option ResourceNo → State → List ℕ → Outcome → State → Type 0
+LoadsInto (Some k) s document o t = Executed s (Load k document) o t
+LoadsInto None s document o t = (o ≡ change_outcome (Err NoResource)) × (t ≡ s)
+
+-- a document was loaded if the resource was made, and otherwise the refusal is that of the first command
+abbrev pub LoadsIfMade : Outcome → State → List ℕ → Outcome → State → Type 0
+LoadsIfMade (Ok r) s document o t = LoadsInto (made_resource r.answer) s document o t
+LoadsIfMade (Err f) s document o t = (o ≡ Err f) × (t ≡ s)
+
+-- A resource was made of a URI, and a document was loaded into it: two commands, the second if the first was done.
+pub record MakesAndLoads (s : State) (uri document : List ℕ) (o : Outcome) (t : State) : Type 0 where
+  pub made : Outcome
+  pub between : State
+  pub makes : Executed s (CreateResource uri) made between
+  pub loads : LoadsIfMade made between document o t

@@ -1,0 +1,51 @@
+//! A resource is made and loaded, as two lines of a script do it.
+ghost use Rattle.std.specs.Prelude.{◌≡◌};
+ghost use Rattle.repository.specs.Run.{change_outcome};
+ghost use Rattle.repository.specs.Views.{changed_view};
+ghost use Rattle.script_program.specs.Loading.{LoadsInto, MakesAndLoads, made_resource};
+
+use adapters::Adapter;
+use links::LinkStore;
+use mm_types::{Refused, ResourceNo};
+use repository::{Answer, Reply, Repository};
+
+/// The resource that an answer names.
+fn resource_in(answer: &Answer) -> Option<ResourceNo>
+    ensures { result ≡ made_resource answer.now }
+{
+    match answer {
+        Answer::Resource(resource) => Some(*resource),
+        _ => None,
+    }
+}
+
+/// Loads a document into a resource, if there is one.
+fn load_into<L: LinkStore, A: Adapter>(
+    repository: &mut Repository<L, A>,
+    resource: Option<ResourceNo>,
+    document: &[u8],
+) -> Result<Reply<A>, Refused>
+    ensures { LoadsInto resource repository.old document.now (change_outcome (changed_view A.heard result)) repository.new }
+{
+    match resource {
+        Some(resource) => repository.load(resource, document),
+        None => Err(Refused::NoResource),
+    }
+}
+
+/// Makes a resource of the URI that a text gives, and loads a document into it, as the lines `resource` and `load` do. The document has
+/// any length, and may have newlines. Returns the reply of the load.
+///
+/// Refused as the first of the two calls that is refused: then, if it is the load, the resource was made, and is empty.
+pub fn load_resource<L: LinkStore, A: Adapter>(
+    repository: &mut Repository<L, A>,
+    uri: &str,
+    document: &[u8],
+) -> Result<Reply<A>, Refused>
+    ensures { MakesAndLoads repository.old uri.now document.now (change_outcome (changed_view A.heard result)) repository.new }
+{
+    match repository.create_resource(uri) {
+        Ok(made) => load_into(repository, resource_in(&made.answer), document),
+        Err(refused) => Err(refused),
+    }
+}
