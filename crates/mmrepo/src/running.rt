@@ -168,9 +168,29 @@ fn last_box(asked: &Asked) -> u32 {
     if asked.live { LIVE_BOXES } else { BOXES }
 }
 
-/// Runs the script with its adapters: A1 to A4, which keep every notification, A5 and A6, which keep the last 2 and the last 100, A7, which
-/// counts, and A8, which can count two more. A live run has more that count, so that a long one keeps no notifications. Returns whether a
-/// line was refused or bad.
+/// The adapter of a number: A1 to A4 keep every notification, A5 and A6 keep the last 2 and the last 100, and A8 can count two more. All
+/// others count.
+fn box_of(rt: &HostRuntime, no: u32) -> Result<Box<dyn Adapter>, Stop> {
+    let adapter: Box<dyn Adapter> = match no {
+        1..=4 => Box::new(rt.alloc(), Recorder::new(rt.alloc()))?,
+        5 => Box::new(rt.alloc(), Window::new(rt.alloc(), 2)?)?,
+        6 => Box::new(rt.alloc(), Window::new(rt.alloc(), 100)?)?,
+        8 => Box::new(rt.alloc(), Counter::starting_at(u64::MAX - LEFT))?,
+        _ => Box::new(rt.alloc(), Counter::new())?,
+    };
+    Ok(adapter)
+}
+
+/// The adapters of a run. A live run has more that count, so that a long one keeps no notifications.
+fn boxes_of(rt: &HostRuntime, last: u32) -> Result<Vec<Box<dyn Adapter>>, Stop> {
+    let mut boxes = Vec::new(rt.alloc());
+    for no in 1..=last {
+        boxes.push(box_of(rt, no)?)?;
+    }
+    Ok(boxes)
+}
+
+/// Runs the script with its adapters. Returns whether a line was refused or bad.
 fn run_with_boxes(
     rt: &HostRuntime,
     asked: &Asked,
@@ -178,16 +198,7 @@ fn run_with_boxes(
     meta: Box<Meta>,
     watch: Watching<'_>,
 ) -> Result<bool, Stop> {
-    let mut boxes: Vec<Box<dyn Adapter>> = Vec::new(rt.alloc());
-    for no in 1..=last_box(asked) {
-        match no {
-            1..=4 => boxes.push(Box::new(rt.alloc(), Recorder::new(rt.alloc()))?)?,
-            5 => boxes.push(Box::new(rt.alloc(), Window::new(rt.alloc(), 2)?)?)?,
-            6 => boxes.push(Box::new(rt.alloc(), Window::new(rt.alloc(), 100)?)?)?,
-            8 => boxes.push(Box::new(rt.alloc(), Counter::starting_at(u64::MAX - LEFT))?)?,
-            _ => boxes.push(Box::new(rt.alloc(), Counter::new())?)?,
-        }
-    }
+    let boxes = boxes_of(rt, last_box(asked))?;
     match &asked.journal {
         Some(path) => run_journaled(rt, asked, path.as_str(), digest, meta, boxes, watch),
         None => run_unkept(rt, asked, meta, boxes, watch),
