@@ -67,6 +67,21 @@ fn answer_from<A: Adapter>(
     }
 }
 
+/// Runs the lines of the journal at a path again, answers those that come on standard input, and saves files. Returns whether a line was
+/// refused or bad.
+fn run_session<A: Adapter>(
+    rt: &HostRuntime,
+    asked: &Asked,
+    path: &str,
+    digest: &[u8],
+    session: &mut Journaled<SlotStore, A, Ear<'_>>,
+    watch: Watching<'_>,
+) -> Result<bool, Stop> {
+    answer_from(rt, asked, path, digest, session, watch)?;
+    save_files(rt, asked, session.repository(), watch)?;
+    Ok(session.is_faulty())
+}
+
 /// Runs a journal and standard input over an empty repository. Returns whether a line was refused or bad.
 pub(crate) fn run_journaled<A: Adapter>(
     rt: &HostRuntime,
@@ -79,7 +94,5 @@ pub(crate) fn run_journaled<A: Adapter>(
 ) -> Result<bool, Stop> {
     let meta = Box::into_inner(meta);
     let mut session = Journaled::new(rt.alloc(), meta, boxes, Ear::new(watch))?;
-    answer_from(rt, asked, path, digest, &mut session, watch)?;
-    save_files(rt, asked, session.repository(), watch)?;
-    Ok(session.is_faulty())
+    run_session(rt, asked, path, digest, &mut session, watch)
 }

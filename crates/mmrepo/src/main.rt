@@ -13,20 +13,24 @@ mod saving;
 mod stop;
 mod watched;
 
-use crate::asked::{arguments_of, words_of};
-use crate::metamodel::{load, read_meta};
+use crate::asked::{Asked, arguments_of, words_of};
+use crate::metamodel::read_meta;
 use crate::running::{run_asked, status_of};
 use crate::stop::{Stop, report};
 use std::process::ExitCode;
 
-/// Reads the words, the metamodel and the script, and returns the status.
+/// Reads the metamodel and the script, and returns the status.
+fn run(rt: &HostRuntime, asked: &Asked) -> Result<u8, Stop> {
+    let mut document = read_meta(rt, asked)?;
+    let is_faulty = run_asked(rt, asked, &mut document)?;
+    Ok(status_of(is_faulty, asked.strict))
+}
+
+/// Reads the words, and does what they ask for. Returns the status.
 fn start(rt: &HostRuntime) -> Result<u8, Stop> {
     let words = words_of(rt)?;
     let asked = arguments_of(rt, words.as_slice())?;
-    let bytes = read_meta(rt, &asked)?;
-    let meta = load(rt, &asked, bytes.as_slice())?;
-    let is_faulty = run_asked(rt, &asked, meta, bytes)?;
-    Ok(status_of(is_faulty, asked.strict))
+    run(rt, &asked)
 }
 
 fn main(rt: HostRuntime) -> ExitCode {

@@ -3,6 +3,7 @@ use crate::asked::Asked;
 use crate::explained::{explained_open, explained_run};
 use crate::files::load_files;
 use crate::journaled::run_journaled;
+use crate::metamodel::load;
 use crate::prompt::Prompted;
 use crate::saving::save_files;
 use crate::stop::Stop;
@@ -168,43 +169,6 @@ fn last_box(asked: &Asked) -> u32 {
     if asked.live { LIVE_BOXES } else { BOXES }
 }
 
-/// The adapter of a number: A1 to A4 keep every notification, A5 and A6 keep the last 2 and the last 100, and A8 can count two more. All
-/// others count.
-fn box_of(rt: &HostRuntime, no: u32) -> Result<Box<dyn Adapter>, Stop> {
-    let adapter: Box<dyn Adapter> = match no {
-        1..=4 => Box::new(rt.alloc(), Recorder::new(rt.alloc()))?,
-        5 => Box::new(rt.alloc(), Window::new(rt.alloc(), 2)?)?,
-        6 => Box::new(rt.alloc(), Window::new(rt.alloc(), 100)?)?,
-        8 => Box::new(rt.alloc(), Counter::starting_at(u64::MAX - LEFT))?,
-        _ => Box::new(rt.alloc(), Counter::new())?,
-    };
-    Ok(adapter)
-}
-
-/// The adapters of a run. A live run has more that count, so that a long one keeps no notifications.
-fn boxes_of(rt: &HostRuntime, last: u32) -> Result<Vec<Box<dyn Adapter>>, Stop> {
-    let mut boxes = Vec::new(rt.alloc());
-    for no in 1..=last {
-        boxes.push(box_of(rt, no)?)?;
-    }
-    Ok(boxes)
-}
-
-/// Runs the script with its adapters. Returns whether a line was refused or bad.
-fn run_with_boxes(
-    rt: &HostRuntime,
-    asked: &Asked,
-    digest: &[u8],
-    meta: Box<Meta>,
-    watch: Watching<'_>,
-) -> Result<bool, Stop> {
-    let boxes = boxes_of(rt, last_box(asked))?;
-    match &asked.journal {
-        Some(path) => run_journaled(rt, asked, path.as_str(), digest, meta, boxes, watch),
-        None => run_unkept(rt, asked, meta, boxes, watch),
-    }
-}
-
 /// The digest of the metamodel's document, which a journal has in its first line. Without a journal it is the digest of no bytes.
 fn digest_for(asked: &Asked, document: &[u8]) -> [u8; 32] {
     match asked.journal {
@@ -213,25 +177,62 @@ fn digest_for(asked: &Asked, document: &[u8]) -> [u8; 32] {
     }
 }
 
-/// Runs the script as it is asked for, and returns whether a line was refused or bad. The lines are watched if something is said of them, or
-/// if the resources that they make are to be saved.
+/// Reads the metamodel, whose document then goes, and runs the script over an empty repository of it with its adapters. Returns whether a
+/// line was refused or bad.
+fn run_over_metamodel<A: Adapter>(
+    rt: &HostRuntime,
+    asked: &Asked,
+    document: &mut Vec<u8>,
+    boxes: Vec<A>,
+    watch: Watching<'_>,
+) -> Result<bool, Stop> {
+    let meta = load(rt, asked, document.as_slice())?;
+    let digest = digest_for(asked, document.as_slice());
+    *document = Vec::new(rt.alloc());
+    match &asked.journal {
+        Some(path) => run_journaled(rt, asked, path.as_str(), &digest, meta, boxes, watch),
+        None => run_unkept(rt, asked, meta, boxes, watch),
+    }
+}
+
+/// Runs the script with its adapters: A1 to A4, which keep every notification, A5 and A6, which keep the last 2 and the last 100, A7, which
+/// counts, and A8, which can count two more. A live run has more that count, so that a long one keeps no notifications. Returns whether a
+/// line was refused or bad.
+fn run_with_boxes(
+    rt: &HostRuntime,
+    asked: &Asked,
+    document: &mut Vec<u8>,
+    watch: Watching<'_>,
+) -> Result<bool, Stop> {
+    let mut boxes: Vec<Box<dyn Adapter>> = Vec::new(rt.alloc());
+    for no in 1..=last_box(asked) {
+        match no {
+            1..=4 => boxes.push(Box::new(rt.alloc(), Recorder::new(rt.alloc()))?)?,
+            5 => boxes.push(Box::new(rt.alloc(), Window::new(rt.alloc(), 2)?)?)?,
+            6 => boxes.push(Box::new(rt.alloc(), Window::new(rt.alloc(), 100)?)?)?,
+            8 => boxes.push(Box::new(rt.alloc(), Counter::starting_at(u64::MAX - LEFT))?)?,
+            _ => boxes.push(Box::new(rt.alloc(), Counter::new())?)?,
+        }
+    }
+    run_over_metamodel(rt, asked, document, boxes, watch)
+}
+
+/// Runs the script as it is asked for, over the metamodel of a document, and returns whether a line was refused or bad. The lines are
+/// watched if something is said of them, or if the resources that they make are to be saved.
 pub(crate) fn run_asked(
     rt: &HostRuntime,
     asked: &Asked,
-    meta: Box<Meta>,
-    document: Vec<u8>,
+    document: &mut Vec<u8>,
 ) -> Result<bool, Stop> {
-    let digest = digest_for(asked, document.as_slice());
-    drop(document);
     let talk = Talk {
         explains: asked.explain,
         guides: asked.live && rt.reader().is_terminal(),
     };
     if !(talk.explains || talk.guides) && asked.save.is_empty() {
-        return run_with_boxes(rt, asked, &digest, meta, None);
+        return run_with_boxes(rt, asked, document, None);
     }
     let watch = RefCell::new(Watch::new(rt.alloc(), talk, last_box(asked)));
-    run_with_boxes(rt, asked, &digest, meta, Some(&watch))
+    run_with_boxes(rt, asked, document, Some(&watch))
 }
 
 /// The status of a run that came to its end.
