@@ -1,5 +1,5 @@
 -- An object whose containing ends are empty is above no node.
-use Rattle.std.proofs.Common.{◌≡◌, ◌∙◌, ◌&&◌, ◌||◌, ◌++◌, ℕ, nat_eq, nat_lt, Bool, true, false, List, [], ◌∷◌, cond, flat_map, length, arith, refl, sym, ap}
+use Rattle.std.proofs.Common.{◌≡◌, ◌∙◌, ◌&&◌, ◌||◌, ◌++◌, nat_lt, Bool, true, false, List, [], ◌∷◌, cond, flat_map, length, arith, refl, sym, ap}
 use Rattle.std.specs.List.{list_any}
 use Rattle.std.proofs.lemmas.Bool.{true≢false}
 use Rattle.std.proofs.lemmas.Bool.Decides.{nat_tests}
@@ -12,11 +12,10 @@ use Rattle.mm_types.specs.declared.numbers.ObjectNo.{ObjectNo}
 use Rattle.mm_types.specs.declared.value.Value.{Value}
 use Rattle.models.specs.Legal.{IsLegal}
 use Rattle.models.specs.Model.{Model, reading}
-use Rattle.models.specs.Reading.{Reading, all_features_of, at_end, is_within, objects_of}
-use Rattle.containment.specs.Forest.{has_parts, has_parts_at, is_node_among, parts, subtree}
+use Rattle.models.specs.Reading.{Reading, all_features_of, at_end, objects_of}
+use Rattle.containment.specs.Forest.{has_parts, has_parts_at, parts}
+use Rattle.containment.proofs.BelowLemmas.{nothing-waits, parts-have}
 use Rattle.containment.proofs.ForestLemmas.{parts-first}
-use Rattle.containment.proofs.MemberLemmas.{subtree-has}
-use Rattle.containment.proofs.TreeLemmas.{subtree-parts}
 
 empty : (vs : List Value) → nat_lt 0 (length vs) ≡ false → vs ≡ []
 empty [] h = refl
@@ -39,19 +38,7 @@ none-in r n (f ∷ fs) h =
     let both = both-false (has_parts_at r n f) (list_any (has_parts_at r n) fs) h in
     parts-first r n f fs ∙ (λ i. none-at r n f both.0 i ++ none-in r n fs both.1 i)
 
-flipped : (a b : ℕ) → nat_eq a b ≡ nat_eq b a
-flipped a b = grind (arith, nat_tests)
-
 -- what contains nothing is above no other node
 pub leaf-above : (s : Model) → IsLegal s → (o : ObjectNo) (n : Node) → same_node (node.Object o) n ≡ false → has_parts (reading s) (node.Object o) ≡ false → list_any (same_node (node.Object o)) ((reading s).above n) ≡ false
-leaf-above s legal o n apart none = by n apart within
-  where
-    within : is_node_among (o ∷ []) n ≡ is_within (reading s) (node.Object o) n
-    within =
-        sym (ap (λ (os : List ObjectNo). is_node_among os n) (subtree-parts s legal o ∙ ap (λ (cs : List ObjectNo). o ∷ flat_map (subtree (reading s)) cs) (none-in (reading s) (node.Object o) (all_features_of (reading s) (node.Object o)) none)))
-        ∙ subtree-has s legal o n
-
-    by : (n : Node) → same_node (node.Object o) n ≡ false → is_node_among (o ∷ []) n ≡ is_within (reading s) (node.Object o) n → list_any (same_node (node.Object o)) ((reading s).above n) ≡ false
-    by (node.Resource k) other is = sym is
-    by (node.Object c) other is =
-        ap (λ (b : Bool). b || list_any (same_node (node.Object o)) ((reading s).above (node.Object c))) (sym other) ∙ sym is ∙ ap (λ (b : Bool). b || false) (flipped c.0 o.0 ∙ other)
+leaf-above s legal o n apart none =
+    sym (parts-have s legal o n apart) ∙ nothing-waits s legal _ n (none-in (reading s) (node.Object o) (all_features_of (reading s) (node.Object o)) none)

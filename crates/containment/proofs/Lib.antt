@@ -5,6 +5,7 @@ pub mod PartLemmas
 pub mod ChainLemmas
 pub mod TreeLemmas
 pub mod MemberLemmas
+mod BelowLemmas
 mod LeafLemmas
 pub mod DistinctLemmas
 mod Examples

@@ -11,7 +11,7 @@ use Rattle.mm_types.specs.declared.numbers.Node.TheVariants as node
 use Rattle.mm_types.specs.declared.end.End.{End}
 use Rattle.models.specs.Reading.{Reading, all_features_of, at_end, objects_of}
 
--- the objects that a node contains by those of some features that contain, feature by feature, then by position
+-- the objects that a node contains under the containments among some features, feature by feature, then by position
 abbrev pub parts : Reading → Node → List FeatureNo → List ObjectNo
 parts r n fs = flat_map (λ f. objects_of (r.values (at_end n f))) (filter (is_containment r.metamodel) fs)
 

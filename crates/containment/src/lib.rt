@@ -3,6 +3,7 @@
 #![tactic(auto)]
 
 mod above;
+mod below;
 mod forest;
 pub mod laws;
 mod tree;

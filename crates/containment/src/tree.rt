@@ -7,6 +7,7 @@ ghost use Rattle.models.specs.Reading as r;
 ghost use Rattle.containment.specs.Forest as forest;
 
 use crate::above::{is_under, parent_of};
+use crate::below::is_object_above;
 use crate::forest::contents;
 use links::LinkStore;
 use mm_types::{FeatureNo, Node, ObjectNo};
@@ -64,15 +65,16 @@ fn all_below<L: LinkStore>(
     Ok(found)
 }
 
-/// Whether a node is a given one, or is below it. Takes no memory, and few steps if the given one contains nothing.
+/// Whether a node is a given one, or is below it. Takes no memory, and few steps if the given one has little below it.
 pub fn is_within<L: LinkStore>(model: &ModelRef<L>, above: Node, node: Node) -> bool
     ensures { result ≡ r.is_within (reading model.now) above node }
 {
     above == node || is_below(model, above, node)
 }
 
-/// Whether a node is below another one. A node at the top is below none, and an object that contains nothing is above none: so a chain
-/// that grows at its lower end is not climbed to its top for each new object.
+/// Whether a node is below another one. A node at the top is below none, an object that contains nothing is above none, and an object
+/// that has little below it is soon seen to be above no other: so a chain that grows at its lower end is not climbed to its top for each
+/// new object.
 fn is_below<L: LinkStore>(model: &ModelRef<L>, above: Node, node: Node) -> bool
     requires apart { same_node above node ≡ false }
     ensures { result ≡ list_any (same_node above) ((reading model.now).above node) }
@@ -83,7 +85,8 @@ fn is_below<L: LinkStore>(model: &ModelRef<L>, above: Node, node: Node) -> bool
     }
     match above {
         Node::Object(_) if !has_parts(model, above) => false,
-        _ => is_under(model.store(), node, above),
+        Node::Object(object) => is_object_above(model, object, node),
+        Node::Resource(_) => is_under(model.store(), node, above),
     }
 }
 
