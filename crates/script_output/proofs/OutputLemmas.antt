@@ -1,5 +1,7 @@
 -- A text after what is printed.
-use Rattle.std.proofs.Common.{◌∙◌, ◌≡◌, ◌++◌, ◌∷◌, ◌||◌, ◌==◌, ℕ, nat_lt, Bool, false, List, [], ap, append-nil, refl, sym}
+use Rattle.std.proofs.Common.{◌∙◌, ◌≡◌, ◌++◌, ◌∷◌, ◌||◌, ◌==◌, ◌<◌, ◌≤◌, ◌/◌, ◌%◌, ◌^◌, ℕ, ℤ, pos, negsuc, int_le, unsigned_abs, nat_lt, Bool, true, false, true≢false, List, [], ap, append-nil, append_assoc, arith, refl, sym}
+use Rattle.std.specs.Fmt.{decimal, signed_decimal}
+use Rattle.std.proofs.lemmas.Fmt.{decimal_digit, decimal_step}
 use Rattle.std.specs.List.{list_any}
 use Rattle.std.proofs.lemmas.Bool.{eqb-false, ltb-false, or_parts}
 use Rattle.json.specs.Run.{is_stop}
@@ -25,3 +27,14 @@ unescaped (x ∷ xs) h =
 
 pub plain_string : (t : List ℕ) → list_any is_stop t ≡ false → 34 ∷ (t ++ 34 ∷ []) ≡ quoted t
 plain_string t h = ap (λ x. 34 ∷ (x ++ 34 ∷ [])) (sym (unescaped t h))
+
+-- the digits of a number are those before the last, and the last
+pub decimal_split : (old mid new : List ℕ) (n : ℕ) → 10 ≤ n → n < 2 ^ 64 → mid ≡ old ++ decimal (n / 10) → new ≡ mid ++ decimal (n % 10) → new ≡ old ++ decimal n
+decimal_split old mid new n lo hi first last =
+    last ∙ ap (λ x. x ++ decimal (n % 10)) first ∙ append_assoc old (decimal (n / 10)) (decimal (n % 10))
+    ∙ ap (λ x. old ++ x) (ap (λ x. decimal (n / 10) ++ x) (decimal_digit (n % 10) (omega arith)) ∙ sym (decimal_step n lo hi))
+
+-- a number that is not negative has no sign
+pub not_minus : (z : ℤ) → int_le (pos 0) z ≡ true → decimal (unsigned_abs z) ≡ signed_decimal z
+not_minus (pos n) e = refl
+not_minus (negsuc n) e = absurd (true≢false (sym e))

@@ -1,5 +1,5 @@
 //! A text that grows at its end, by values, answers and refusals.
-ghost use Rattle.std.specs.Prelude.{◌≡◌, ◌++◌, ◌∷◌, [], OnOk};
+ghost use Rattle.std.specs.Prelude.{◌≡◌, ◌<◌, ◌++◌, ◌∷◌, [], OnOk};
 ghost use Rattle.std.specs.Fmt.{decimal, signed_decimal};
 ghost use Rattle.std.specs.List.{list_any};
 ghost use Rattle.json.specs.Run.{is_stop};
@@ -15,7 +15,7 @@ use json::Writer;
 use mm_meta::Meta;
 use mm_types::{AdapterNo, ClassNo, DocFault, Node, Refused, Value};
 use script_lines::grammar::{
-    ADAPTER_MARK, LITERAL_MARK, NEWLINE, OBJECT_MARK, QUOTE, RESOURCE_MARK, SPACE,
+    ADAPTER_MARK, LITERAL_MARK, MINUS, NEWLINE, OBJECT_MARK, QUOTE, RESOURCE_MARK, SPACE,
 };
 use std::alloc::{AllocError, Global};
 use std::marker::Model;
@@ -62,12 +62,14 @@ impl Output {
     }
 
     /// Adds a text as it is.
+    #[inline]
     pub fn text(&mut self, text: &str) -> Result<(), AllocError>
         ensures ok { OnOk result (self.new ≡ self.old ++ text.now) }
     {
         self.bytes.extend_from_slice(text.as_bytes())
     }
 
+    #[inline]
     fn byte(&mut self, byte: u8) -> Result<(), AllocError>
         ensures ok { OnOk result (self.new ≡ self.old ++ byte ∷ []) }
     {
@@ -82,19 +84,56 @@ impl Output {
         self.byte(NEWLINE)
     }
 
-    /// Adds a number in decimal.
+    /// Adds a number in decimal. One of up to three digits is added without a buffer.
     pub fn natural(&mut self, n: u64) -> Result<(), AllocError>
         ensures ok { OnOk result (self.new ≡ self.old ++ decimal n) }
     {
+        if n < 1_000 {
+            return self.short_natural(n);
+        }
         let mut buffer = itoa::Buffer::new();
         self.text(buffer.format(n))
+    }
+
+    /// Adds a number of up to three digits.
+    fn short_natural(&mut self, n: u64) -> Result<(), AllocError>
+        requires { n < 1000 }
+        ensures ok { OnOk result (self.new ≡ self.old ++ decimal n) }
+    {
+        if n < 10 {
+            return self.digit(n);
+        }
+        self.tens(n / 10)?;
+        self.digit(n % 10)
+    }
+
+    /// Adds a number of up to two digits.
+    fn tens(&mut self, n: u64) -> Result<(), AllocError>
+        requires { n < 100 }
+        ensures ok { OnOk result (self.new ≡ self.old ++ decimal n) }
+    {
+        if n < 10 {
+            return self.digit(n);
+        }
+        self.digit(n / 10)?;
+        self.digit(n % 10)
+    }
+
+    fn digit(&mut self, n: u64) -> Result<(), AllocError>
+        requires { n < 10 }
+        ensures ok { OnOk result (self.new ≡ self.old ++ decimal n) }
+    {
+        self.byte(b'0' + n as u8)
     }
 
     fn integer(&mut self, n: i64) -> Result<(), AllocError>
         ensures ok { OnOk result (self.new ≡ self.old ++ signed_decimal n) }
     {
-        let mut buffer = itoa::Buffer::new();
-        self.text(buffer.format(n))
+        if n >= 0 {
+            return self.natural(n.unsigned_abs());
+        }
+        self.byte(MINUS)?;
+        self.natural(n.unsigned_abs())
     }
 
     /// Adds a text as a JSON string, with the escapes that `serde_json` writes.
