@@ -266,7 +266,7 @@ fn is_past<L: LinkStore>(model: &ModelRef<L>, end: End, index: Option<u32>) -> b
     }
 }
 
-/// Why there can be no resource more of a URI: `TextLength`, `Limit` or `ResourceExists`.
+/// Why no further resource can have a URI: `TextLength`, `Limit` or `ResourceExists`.
 fn uri_refusal<L: LinkStore>(model: &ModelRef<L>, uri: &Text) -> Option<Refused>
     ensures { result ≡ refusals.uri_refusal (reading model.now) uri.now }
 {

@@ -40,7 +40,7 @@ roots_loaded n doc = map (λ o. value.Object (loaded n o)) doc.roots
 abbrev pub of_object : {X : Type 0} → (ObjectNo → Content → List X) → ℕ × DocObject → List X
 of_object make x = flat_map (make (record { 0 = x.0 })) x.1.contents
 
--- what something makes of each object of a document with its number there, and of each content of it
+-- what a function makes of each object of a document, with the object's number there, and of each of its contents
 abbrev pub of_contents : {X : Type 0} → (ObjectNo → Content → List X) → Doc → List X
 of_contents make doc = flat_map (of_object make) (enumerate_from 0 doc.objects)
 

@@ -28,7 +28,8 @@ pub fn link_edits(
     ensures { IfOk result (λ es. es.items ≡ e.load_edits meta.now next resource doc.now) }
 {
     let objects = doc.objects.as_slice();
-    let mut edits = Vec::new(alloc);
+    // Most objects are put once, where they are contained.
+    let mut edits = Vec::with_capacity(alloc, objects.len())?;
     let roots = contents_end(meta, resource);
     push_roots(meta, next, roots, doc.roots.as_slice(), &mut edits)?;
     push_objects(meta, next, Pass::Near, objects, &mut edits)?;

@@ -10,7 +10,7 @@ use crate::numbers::loaded;
 use mm_meta::Meta;
 use mm_types::ObjectNo;
 use mm_values::{NewValues, ValueEdit};
-use resource_docs::{Content, Doc, DocObject};
+use resource_docs::{Content, Doc, DocObject, DocValues};
 use std::alloc::{AllocError, Global};
 
 /// The edits that make the objects of a document, the first of which gets the number `next`, and give them the values of their
@@ -24,11 +24,20 @@ pub fn value_edits(
     requires fits { IsFitting next doc }
     ensures { IfOk result (λ es. es.items ≡ l.loaded_values meta.now next doc) }
 {
-    let mut edits = Vec::new(alloc);
     let Doc { objects, .. } = doc;
+    let mut edits = Vec::with_capacity(alloc, capacity_for(objects.as_slice()))?;
     push_objects(objects.as_slice(), &mut edits)?;
     push_lists(meta, next, objects.into_vec(), &mut edits)?;
     Ok(edits)
+}
+
+/// How many edits objects take at most, unless that is more than any list has.
+fn capacity_for(objects: &[DocObject]) -> usize {
+    let mut count = objects.len();
+    'objects: for object in objects {
+        count = count.saturating_add(object.contents.len());
+    }
+    count
 }
 
 /// Adds the edits that make objects.
@@ -77,6 +86,16 @@ fn push_object(
     Ok(())
 }
 
+/// Values of a document, as an edit puts them. Takes no memory.
+fn new_values(alloc: Global, values: DocValues) -> NewValues
+    ensures { result ≡ values }
+{
+    match values.into_one(alloc) {
+        Ok(value) => NewValues::one(value),
+        Err(values) => NewValues::from_seq(values),
+    }
+}
+
 /// Adds the edit that gives an object of a document its values under a feature, if that is an attribute.
 fn push_list(
     meta: &Meta,
@@ -90,10 +109,11 @@ fn push_list(
 {
     let Content { feature, values } = content;
     if !meta.is_reference(feature) {
+        let list = new_values(*edits.allocator(), values);
         edits.push(ValueEdit::PutList {
             object: loaded(next, object),
             feature,
-            list: NewValues::from_seq(values),
+            list,
             flag: meta.is_unsettable(feature) && meta.is_single(feature),
         })?;
     }

@@ -33,22 +33,7 @@ list_any-filter_map h p (x ∷ xs) = any_at p (h x) (filter_map h xs) ∙ ap (λ
 
 ---------------------------------------------------------------- what is written under the features of a class
 
-one_entry : (holds : Entry → Bool) (f : FeatureNo) (o : Option Data) (es : List Entry) → list_any holds (cons_option (option_map (new_entry f) o) es) ≡ option_map_or (λ d. holds (new_entry f d)) o false || list_any holds es
-one_entry holds f None es = refl
-one_entry holds f (Some d) es = refl
-
-pub any_entries : (m : Metamodel) (ms : Members) (holds : Entry → Bool) (fs : List FeatureNo) → list_any holds (filter_map (entry_at m ms) fs) ≡ list_any (λ f. option_map_or (λ d. holds (new_entry f d)) (content_at m ms f) false) fs
-any_entries m ms holds [] = refl
-any_entries m ms holds (f ∷ fs) =
-    one_entry holds f (content_at m ms f) (filter_map (entry_at m ms) fs)
-    ∙ ap (λ b. option_map_or (λ d. holds (new_entry f d)) (content_at m ms f) false || b) (any_entries m ms holds fs)
-
 -- of an object whose class is there
 pub entries_of_known : (m : Metamodel) (o : Option (ClassNo × Members)) (c : ClassNo) (ms : Members) (fs : List FeatureNo) → Some (c, ms) ≡ o → Some fs ≡ lookups.features m c
     → filter_map (entry_at m ms) fs ≡ option_map_or (λ k. entries_in m k.0 k.1) o []
 entries_of_known m o c ms fs is features = ap (λ x. filter_map (entry_at m ms) (unwrap_or x [])) features ∙ ap (λ x. option_map_or (λ k. entries_in m k.0 k.1) x []) is
-
-pub any_of_known : (m : Metamodel) (o : Option (ClassNo × Members)) (holds : Entry → Bool) (c : ClassNo) (ms : Members) (fs : List FeatureNo) (b : Bool) → Some (c, ms) ≡ o → Some fs ≡ lookups.features m c
-    → b ≡ list_any (λ f. option_map_or (λ x. holds (new_entry f x)) (content_at m ms f) false) fs → b ≡ list_any holds (option_map_or (λ k. entries_in m k.0 k.1) o [])
-any_of_known m o holds c ms fs b is features h =
-    h ∙ sym (any_entries m ms holds fs) ∙ ap (list_any holds) (entries_of_known m o c ms fs is features)

@@ -61,6 +61,13 @@ found_again t ps p k n f is at =
       number_kept ps p n p.path first ∙ first,
     )
 
+pub finds_same : (t new : Numbers) (ps : List Part) → ((k : Key) → number_at new k ≡ number_at t k) → Finds t ps → Finds new ps
+finds_same t new ps same f =
+    record {
+      ways = λ q. (λ i. way_of (λ k. same k i) q) ∙ f.ways q;
+      below = λ n w i low. same (UnderKey n w i) ∙ f.below n w i low;
+    }
+
 ---------------------------------------------------------------- a new path
 
 way_path : (t : Numbers) (ps : List Part) (i : ℕ) (rs : List Step) → Finds t ps → number_of ps (new_path i (reverse rs)) ≡ way (number_at t) i rs

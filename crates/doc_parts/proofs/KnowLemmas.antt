@@ -2,18 +2,22 @@
 use Rattle.std.proofs.Common.{◌≡◌, ◌∙◌, ◌++◌, Bool, true, false, List, [], ◌∷◌, Option, Some, None, ℕ, ap, cond, length, map, refl, sym}
 use Rattle.std.specs.Prelude.{◌&&◌, ◌||◌, is_some, not, option_map}
 use Rattle.std.specs.List.{list_all, list_any}
+use Rattle.std.specs.Map.{lookup}
 use Rattle.std.specs.Option.{option_map_or, option_or}
 use Rattle.std.proofs.lemmas.List.{length-map, map-append}
 use Rattle.doc_parts.specs.Contents.{conforms_to}
 use Rattle.doc_parts.specs.Faults.{has_no_class, has_other_key, is_misshapen, is_readable, of_written}
-use Rattle.doc_parts.specs.FoundParts.{Seen, conforms_seen, has_other_member, lacks_class, looks_misshapen, part_seen, seen}
-use Rattle.doc_parts.specs.Layout.{Written, written}
+use Rattle.doc_parts.specs.FoundParts.{Knows, Seen, conforms_seen, has_other_member, lacks_class, looks_misshapen, part_seen, seen}
+use Rattle.doc_parts.specs.Keys.{is_at}
+use Rattle.doc_parts.specs.Layout.{Written, features_of, written}
 use Rattle.doc_parts.specs.Parts.{Part, class_of, known, level_of, number_of}
 use Rattle.doc_parts.specs.declared.found.FoundPart.{FoundPart}
+use Rattle.doc_parts.specs.declared.found.FoundParts.{FoundParts}
 use Rattle.doc_parts.proofs.DataLemmas.{list_any-map}
+use Rattle.doc_parts.proofs.FindLemmas.{finds_same}
 use Rattle.doc_parts.proofs.WayLemmas.{number_pushed}
 use Rattle.web_uris.specs.Paths.{same_path}
-use Rattle.serde_json.specs.Data.{Data, Members}
+use Rattle.serde_json.specs.Data.{Data, Members, no_members}
 use Rattle.json_fields.specs.Fields.{◌>>=◌, keys_of}
 use Rattle.mm_types.specs.Lookups as lookups
 use Rattle.mm_types.specs.Resolved.{Metamodel}
@@ -137,3 +141,24 @@ conforms_by m target (Some k) = refl
 
 pub conforms_known : (m : Metamodel) (target : ClassNo) (ps : List Part) (p : Part) → conforms_seen m target (seen m ps p) ≡ conforms_to m target p.json
 conforms_known m target ps p = conforms_by m target (known m p.json) ∙ ap (λ o. option_map_or (λ c. lookups.conforms m c target) o false) (class_of_known m p.json)
+
+-- a part keeps its class, and finds its members again
+first_kept : {X Y : Type 0} (g : X → Y) (o : Option (ClassNo × X)) → option_map (λ k. k.0) o ≡ option_map (λ k. k.0) (option_map {U = ClassNo × Y} (λ k. (k.0, g k.1)) o)
+first_kept g None = refl
+first_kept g (Some k) = refl
+
+members_by : (m : Metamodel) (o : Option Written) → option_map {U = ClassNo × Members} (λ c. (c, option_map_or (λ w. w.features) o no_members)) (option_map (λ k. k.0) (known_of m o)) ≡ known_of m o
+members_by m None = refl
+members_by m (Some w) = ap (option_map (λ c. (c, w.features))) (class_by w.features (lookups.class_by_name m w.class))
+
+pub kept_known : {X : Type 0} (g : X → Members) (m : Metamodel) (d : Data) (o : Option (ClassNo × X)) (class : Option ClassNo) (p : Part) → d ≡ p.json → class ≡ option_map (λ k. k.0) o
+    → option_map {U = ClassNo × Members} (λ k. (k.0, g k.1)) o ≡ known m p.json → option_map (λ c. (c, features_of d)) class ≡ known m p.json
+kept_known g m d o class p json its is =
+    ap (option_map (λ c. (c, features_of d))) (its ∙ first_kept g o ∙ ap (option_map (λ k. k.0)) is)
+    ∙ ap (λ x. option_map (λ c. (c, features_of x)) (option_map (λ k. k.0) (known m p.json))) json
+    ∙ members_by m (written p.json)
+
+---------------------------------------------------------------- more capacity
+
+pub all_stays : (m : Metamodel) (f new : FoundParts) (ps : List Part) → new.parts.items ≡ f.parts.items → new.numbers.numbers.entries ≡ f.numbers.numbers.entries → Knows m f ps → Knows m new ps
+all_stays m f new ps parts numbers kn = record { parts = ap (map part_seen) parts ∙ kn.parts; finds = finds_same f.numbers new.numbers ps (λ k. ap (lookup (is_at k)) numbers) kn.finds }

@@ -46,6 +46,10 @@ finds_as m a b n l f g same first = λ ps p kn num level. subst (λ xs. Knows m 
 pub finds_nothing : (m : Metamodel) (a : FoundParts) (n l : ℕ) (f : Path → List Part) → ((path : Path) → f path ≡ []) → FindsBelow m a a n l f
 finds_nothing m a n l f none = λ ps p kn num level. subst (Knows m a) (sym (ap (λ xs. ps ++ xs) (none p.path) ∙ append_nil ps)) kn
 
+-- what was found stays while capacity is reserved
+pub finds_after : (m : Metamodel) (a b c : FoundParts) (n l : ℕ) (f : Path → List Part) → ((k : Metamodel) (ps : List Part) → Knows k a ps → Knows k b ps) → FindsBelow m b c n l f → FindsBelow m a c n l f
+finds_after m a b c n l f stays more = λ ps p kn num level. more ps p (stays m ps kn) num level
+
 ---------------------------------------------------------------- values
 
 abbrev pub child : Path → List ℕ → Option ℕ → Data → Part

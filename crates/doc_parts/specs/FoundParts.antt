@@ -3,7 +3,7 @@ use Rattle.std.specs.Prelude.{◌≡◌, ◌≤◌, ◌&&◌, ◌++◌, ℕ, suc
 use Rattle.std.specs.List.{enumerate_from, list_all}
 use Rattle.std.specs.Option.{option_map_or}
 use Rattle.serde_json.specs.Data.{Data, Members}
-use Rattle.borrowed_json.specs.View.{members_view, view}
+use Rattle.borrowed_json.specs.View.{view}
 use Rattle.json_fields.specs.Fields.{keys_of}
 use Rattle.mm_types.specs.Lookups as lookups
 use Rattle.mm_types.specs.Resolved.{Metamodel}
@@ -12,8 +12,8 @@ use Rattle.mm_types.specs.declared.numbers.FeatureNo.{FeatureNo}
 use Rattle.web_uris.specs.Paths.{new_path, new_step, with_step}
 use Rattle.web_uris.specs.declared.path.Path.{Path}
 use Rattle.doc_parts.specs.Faults.{is_misshapen_at, is_readable}
-use Rattle.doc_parts.specs.Layout.{written}
-use Rattle.doc_parts.specs.Parts.{Entry, Part, content_at, entries_in, known, level_of, new_entry, number_of, parts_from, parts_in}
+use Rattle.doc_parts.specs.Layout.{features_of, written}
+use Rattle.doc_parts.specs.Parts.{Part, content_at, known, level_of, new_entry, number_of, parts_from, parts_in}
 use Rattle.doc_parts.specs.Keys.{Key, RootKey, UnderKey, number_at, way_of}
 use Rattle.doc_parts.specs.declared.found.FoundParts.{FoundParts}
 use Rattle.doc_parts.specs.declared.found.Numbers.{Numbers}
@@ -44,7 +44,7 @@ part_seen r =
     record {
       level = r.level;
       json = view r.json.now;
-      known = option_map (λ k. (k.0, members_view k.1.now)) r.known;
+      known = option_map (λ c. (c, features_of (view r.json.now))) r.class;
       number = Some r.number;
     }
 
@@ -67,10 +67,6 @@ has_other_member m s = option_map_or (λ k. not (list_all (is_readable m k.0) (k
 
 abbrev pub conforms_seen : Metamodel → ClassNo → Seen → Bool
 conforms_seen m target s = option_map_or (λ k. lookups.conforms m k.0 target) s.known false
-
--- what is written in it, in all-features order
-abbrev pub entries_seen : Metamodel → Seen → List Entry
-entries_seen m s = option_map_or (λ k. entries_in m k.0 k.1) s.known []
 
 ---------------------------------------------------------------- what is below a part
 

@@ -1,22 +1,21 @@
 //! What may be wrong with parts that were found, each by itself.
-ghost use Rattle.std.specs.Prelude.{◌≡◌, List, not};
+ghost use Rattle.std.specs.Prelude.{◌≡◌, List};
 ghost use Rattle.std.specs.List.{list_any};
 ghost use Rattle.mm_types.specs.Resolved.{Metamodel};
-ghost use Rattle.doc_parts.specs.Faults.{has_no_class as no_class, has_other_key as other_key, is_deep, is_deep_at, is_long, is_misshapen, of_entry, of_written};
-ghost use Rattle.doc_parts.specs.Contents.{is_content};
-ghost use Rattle.doc_parts.specs.FoundParts.{Knows, entries_seen, has_other_member, lacks_class, looks_misshapen, part_seen};
+ghost use Rattle.doc_parts.specs.Faults.{has_no_class as no_class, has_other_key as other_key, is_deep, is_deep_at, is_misshapen, of_written};
+ghost use Rattle.doc_parts.specs.FoundParts.{Knows, has_other_member, lacks_class, looks_misshapen, part_seen};
 ghost use Rattle.doc_parts.specs.Parts.{Part};
 
 use crate::found::{FoundPart, FoundParts};
 use crate::layout::written;
-use crate::objects::{has_long_content, has_no_class, has_other_content, has_other_key};
+use crate::objects::{has_no_class, has_other_key};
 use mm_meta::Meta;
 use mm_types::limits::LEVELS;
 
 fn is_misshapen_part(part: &FoundPart) -> bool
     ensures { result ≡ looks_misshapen (part_seen part.now) }
 {
-    part.known.is_none()
+    part.class.is_none()
         && written(part.json).is_none()
         && (part.level == 1 || part.json.is_object())
 }
@@ -39,22 +38,10 @@ fn is_any_with_other_key(meta: &Meta, parts: &[FoundPart]) -> bool
     parts.iter().any(|part| has_other_key(meta, part))
 }
 
-fn is_any_with_other_content(meta: &Meta, parts: &[FoundPart]) -> bool
-    ensures { result ≡ list_any (λ r. list_any (λ e. not (is_content meta.now e)) (entries_seen meta.now (part_seen r))) parts.now }
-{
-    parts.iter().any(|part| has_other_content(meta, part))
-}
-
-fn is_any_long(meta: &Meta, parts: &[FoundPart]) -> bool
-    ensures { result ≡ list_any (λ r. list_any (is_long meta.now) (entries_seen meta.now (part_seen r))) parts.now }
-{
-    parts.iter().any(|part| has_long_content(meta, part))
-}
-
 fn is_any_deep(parts: &[FoundPart]) -> bool
     ensures { result ≡ list_any (λ r. is_deep_at r.level) parts.now }
 {
-    parts.iter().any(|part| part.level > LEVELS)
+    parts.iter().any(|part| part.level as usize > LEVELS)
 }
 
 /// Whether a part is no object although it should be one. Takes no memory.
@@ -76,20 +63,6 @@ pub fn has_unknown_feature(meta: &Meta, found: &FoundParts) -> bool
     ensures { (ps : List Part) → Knows meta.now found.now ps → result ≡ of_written (other_key meta.now) ps }
 {
     is_any_with_other_key(meta, found.parts.as_slice())
-}
-
-/// Whether what is written under a feature is not of its type. Takes no memory.
-pub fn has_other_value(meta: &Meta, found: &FoundParts) -> bool
-    ensures { (ps : List Part) → Knows meta.now found.now ps → result ≡ of_entry meta.now (λ e. not (is_content meta.now e)) ps }
-{
-    is_any_with_other_content(meta, found.parts.as_slice())
-}
-
-/// Whether a list of an object has more values than it may have. Takes no memory.
-pub fn has_long_list(meta: &Meta, found: &FoundParts) -> bool
-    ensures { (ps : List Part) → Knows meta.now found.now ps → result ≡ of_entry meta.now (is_long meta.now) ps }
-{
-    is_any_long(meta, found.parts.as_slice())
 }
 
 /// Whether a part is below the last level. Takes no memory.

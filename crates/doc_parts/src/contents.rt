@@ -1,10 +1,11 @@
-//! Whether what is written under a feature is of the feature's type.
+//! Whether what is written under a feature is of the feature's type, and no more than the feature may have.
 ghost use Rattle.std.specs.Prelude.{◌≡◌, ◌||◌, is_some, map};
 ghost use Rattle.std.specs.List.{list_all};
-ghost use Rattle.mm_types.specs.Shapes.{shape};
+ghost use Rattle.mm_types.specs.Shapes.{is_bounded as bounded, shape};
 ghost use Rattle.serde_json.specs.Find.{as_array};
 ghost use Rattle.borrowed_json.specs.View.{view};
 ghost use Rattle.doc_parts.specs.Contents.{attribute_value, is_content as is_meant, is_value as is_value_meant, may_stand as may_be};
+ghost use Rattle.doc_parts.specs.Faults.{is_long as long};
 ghost use Rattle.doc_parts.specs.Parts.{new_entry, values_of as values_meant};
 
 use crate::attributes::is_attribute_value;
@@ -65,7 +66,7 @@ fn is_shaped(is_single: bool, content: &Json) -> bool
 
 /// Whether what is written under a feature is an array if the feature is many-valued, and each of its values is one of
 /// the feature. Takes no memory.
-pub(crate) fn is_content<'t>(meta: &Meta, feature: FeatureNo, content: &'t Json<'t>) -> bool
+pub fn is_content<'t>(meta: &Meta, feature: FeatureNo, content: &'t Json<'t>) -> bool
     ensures { result ≡ is_meant meta.now (new_entry feature (view content.now)) }
 {
     let single = meta.is_single(feature);
@@ -76,4 +77,27 @@ pub(crate) fn is_content<'t>(meta: &Meta, feature: FeatureNo, content: &'t Json<
         Some(found) => are_values(meta, single, &found.kind, values_of(meta, feature, content)),
         None => false,
     }
+}
+
+fn is_bounded(meta: &Meta, feature: FeatureNo, count: usize) -> bool
+    ensures { result ≡ bounded (shape meta.now feature) count }
+{
+    if count > limits::LIST_VALUES {
+        return false;
+    }
+    match meta.feature(feature) {
+        Some(found) => found.upper < 1 || count as i64 <= i64::from(found.upper),
+        None => true,
+    }
+}
+
+/// Whether what is written under a feature is more than the feature may have. Takes no memory.
+pub fn is_long<'t>(meta: &Meta, feature: FeatureNo, content: &'t Json<'t>) -> bool
+    ensures { result ≡ long meta.now (new_entry feature (view content.now)) }
+{
+    // One value is never too many.
+    if meta.is_single(feature) {
+        return false;
+    }
+    !is_bounded(meta, feature, values_of(meta, feature, content).len())
 }

@@ -1,7 +1,7 @@
 //! The parts of a document that are looked at, as they are found.
 ghost use Rattle.std.specs.Prelude.{◌≡◌, ◌++◌, ◌∷◌, [], IfOk, List, None, OnOk, Some, if◌then◌else◌, length, option_map};
-ghost use Rattle.std.specs.Option.{option_or};
 
+use crate::layout::features_of;
 use borrowed_json::{Json, Members};
 use indexmap::IndexMap;
 use mm_types::ClassNo;
@@ -11,12 +11,22 @@ use web_uris::{Path, Step};
 /// The key of a part: at the position of a root, or under the first part of a path by a step.
 #[derive(Clone, Copy, PartialEq, Eq, Hash)]
 pub enum PartKey<'m> {
-    Root(usize),
+    Root(u32),
     Under {
         part: u32,
         name: &'m str,
-        index: Option<usize>,
+        index: Option<u32>,
     },
+}
+
+/// A position as a key has it. Takes no memory; errs if it is none of 32 bits.
+pub fn index_of(position: usize) -> Result<u32, AllocError>
+    ensures { IfOk result (λ i. i ≡ position) }
+{
+    if position > u32::MAX as usize {
+        return Err(AllocError);
+    }
+    Ok(position as u32)
 }
 
 /// The numbers of parts by their keys.
@@ -25,14 +35,28 @@ pub struct Numbers<'m> {
     numbers: IndexMap<PartKey<'m>, u32>,
 }
 
-/// A part: its level, what is there, its class and its members if its class is there, and the number of the first part of
-/// its path.
+/// A part: what is there, its class if that is there, its level, and the number of the first part of its path.
 #[derive(Clone, Copy)]
 pub struct FoundPart<'t> {
-    pub level: usize,
     pub json: &'t Json<'t>,
-    pub known: Option<(ClassNo, Members<'t>)>,
+    pub class: Option<ClassNo>,
+    pub level: u32,
     pub number: u32,
+}
+
+impl<'t> FoundPart<'t> {
+    ghost use Rattle.borrowed_json.specs.View.{members_view};
+    ghost use Rattle.doc_parts.specs.FoundParts.{part_seen};
+
+    /// The class and the members of the object, if its class is there. Takes no memory.
+    pub fn known(&self) -> Option<(ClassNo, Members<'t>)>
+        ensures { option_map (λ k. (k.0, members_view k.1.now)) result ≡ (part_seen self.now).known }
+    {
+        match self.class {
+            Some(class) => Some((class, features_of(self.json))),
+            None => None,
+        }
+    }
 }
 
 /// The parts that were found, in loading order.
@@ -40,16 +64,6 @@ pub struct FoundPart<'t> {
 pub struct FoundParts<'t, 'm> {
     pub parts: Vec<FoundPart<'t>>,
     pub numbers: Numbers<'m>,
-}
-
-/// The position that the index of a step names.
-fn position_of(index: Option<u32>) -> Option<usize>
-    ensures { result ≡ index }
-{
-    match index {
-        Some(index) => Some(index as usize),
-        None => None,
-    }
 }
 
 impl<'m> Numbers<'m> {
@@ -64,6 +78,13 @@ impl<'m> Numbers<'m> {
         Numbers {
             numbers: IndexMap::new(alloc),
         }
+    }
+
+    /// Reserves capacity for so many more. The numbers stay.
+    fn reserve(&mut self, count: usize) -> Result<(), AllocError>
+        ensures { self.new.numbers.entries ≡ self.old.numbers.entries }
+    {
+        self.numbers.reserve(count)
     }
 
     /// The number of the part at a key. Takes no memory.
@@ -82,7 +103,7 @@ impl<'m> Numbers<'m> {
             let key = PartKey::Under {
                 part,
                 name: step.name.as_str(),
-                index: position_of(step.index),
+                index: step.index,
             };
             match self.at(key) {
                 Some(next) => part = next,
@@ -96,19 +117,19 @@ impl<'m> Numbers<'m> {
     pub fn of_path(&self, path: &Path) -> Option<u32>
         ensures { result ≡ way_of (number_at self.now) path.now }
     {
-        match self.at(PartKey::Root(path.root as usize)) {
+        match self.at(PartKey::Root(path.root)) {
             Some(root) => self.descend(root, path.steps.as_slice()),
             None => None,
         }
     }
 
-    /// Gives a number to a key that has none yet.
-    fn put(&mut self, key: PartKey<'m>, number: u32) -> Result<(), AllocError>
-        requires { number_at self.old (key_of key) ≡ None }
-        ensures { OnOk result ((k : Key) → number_at self.new k ≡ option_or (number_at self.old k) (if is_at k key.entry then Some number else None)) }
+    /// Gives a key a number, and returns the one that it had.
+    fn put(&mut self, key: PartKey<'m>, number: u32) -> Result<Option<u32>, AllocError>
+        ensures number { OnOk result ((k : Key) → number_at self.new k ≡ (if is_at k key.entry then Some number else number_at self.old k)) }
+        ensures had { IfOk result (λ o. o ≡ number_at self.old (key_of key.entry)) }
     {
-        self.numbers.insert(key, number)?;
-        Ok(())
+        let had = self.numbers.insert(key, number)?;
+        Ok(had)
     }
 
     /// The number of the part at a key: `next`, if the key has no number yet.
@@ -116,13 +137,23 @@ impl<'m> Numbers<'m> {
         ensures { IfOk result (λ n. (ps : List Part) (p : Part) → next ≡ length ps → Finds self.old ps → IsPlaced ps (key_of key.entry) p.path
             → Finds self.new (ps ++ p ∷ []) × (number_of (ps ++ p ∷ []) p.path ≡ Some n)) }
     {
-        match self.at(key) {
-            Some(number) => Ok(number),
-            None => {
-                self.put(key, next)?;
-                Ok(next)
+        match self.put(key, next)? {
+            Some(number) => {
+                self.put(key, number)?;
+                Ok(number)
             }
+            None => Ok(next),
         }
+    }
+}
+
+/// The class of what is known of an object.
+fn class_in(known: Option<(ClassNo, Members)>) -> Option<ClassNo>
+    ensures { result ≡ option_map (λ k. k.0) known.entry }
+{
+    match known {
+        Some((class, _)) => Some(class),
+        None => None,
     }
 }
 
@@ -143,12 +174,20 @@ impl<'t, 'm> FoundParts<'t, 'm> {
         }
     }
 
+    /// Reserves capacity for so many parts more. What was found stays, also if memory is refused.
+    pub(crate) fn reserve(&mut self, count: usize) -> Result<(), AllocError>
+        ensures { (m : Metamodel) (ps : List Part) → Knows m self.old ps → Knows m self.new ps }
+    {
+        self.parts.reserve(count)?;
+        self.numbers.reserve(count)
+    }
+
     /// Adds a part, and returns the number of the first part of its path. If memory is refused, or if there are 2^32
     /// parts already, what was found may not be used.
     pub fn add(
         &mut self,
         key: PartKey<'m>,
-        level: usize,
+        level: u32,
         json: &'t Json<'t>,
         known: Option<(ClassNo, Members<'t>)>,
     ) -> Result<u32, AllocError>
@@ -161,9 +200,9 @@ impl<'t, 'm> FoundParts<'t, 'm> {
         }
         let number = self.numbers.number(key, count as u32)?;
         self.parts.push(FoundPart {
-            level,
             json,
-            known,
+            class: class_in(known),
+            level,
             number,
         })?;
         Ok(number)

@@ -1,7 +1,9 @@
 //! The layout of a document: the top, and an object.
-ghost use Rattle.std.specs.Prelude.{◌≡◌, option_map};
+ghost use Rattle.std.specs.Prelude.{◌≡◌, IsTrue, option_map};
+ghost use Rattle.serde_json.specs.Data.{no_members, object};
+ghost use Rattle.serde_json.specs.Find.{as_object, as_str};
 ghost use Rattle.borrowed_json.specs.View.{items_view, members_view, view};
-ghost use Rattle.doc_parts.specs.Layout.{new_top, new_written, top as top_meant, written as written_meant};
+ghost use Rattle.doc_parts.specs.Layout.{IsInOrder, features_of as features_meant, new_top, new_written, top as top_meant, written as written_meant, written_by};
 
 use borrowed_json::{Json, Members, find, has_only_keys};
 
@@ -33,16 +35,60 @@ pub fn top<'t>(json: &Json<'t>) -> Option<TopMembers<'t>>
     Some(TopMembers { format, roots })
 }
 
-/// What an object says, or nothing if the value is none. Takes no memory.
-#[tactic(auto, unfolding(crate::specs::Layout::written))]
-pub(crate) fn written<'t>(json: &Json<'t>) -> Option<ObjectMembers<'t>>
-    ensures { option_map (λ w. new_written w.class.now (members_view w.features.now)) result ≡ written_meant (view json.now) }
+/// Whether the members of an object are those that it has to have, in the order in which they are saved.
+fn is_in_order(members: Members) -> bool
+    ensures { IsTrue result → IsInOrder members.now }
 {
-    let members = json.as_object()?;
+    members.len() == 2 && members[0].0 == "class" && members[1].0 == "features"
+}
+
+/// What an object of two members says, by what they hold.
+fn of_two<'t>(class: &'t Json<'t>, features: &'t Json<'t>) -> Option<ObjectMembers<'t>>
+    ensures { option_map (λ w. new_written w.class.now (members_view w.features.now)) result ≡ written_by (as_str (view class.now)) (as_object (view features.now)) }
+{
+    let class = class.as_str()?;
+    let features = features.as_object()?;
+    Some(ObjectMembers { class, features })
+}
+
+/// What an object of some members says, or nothing if it is none.
+#[tactic(auto, unfolding(crate::specs::Layout::written))]
+fn of_members<'t>(members: Members<'t>) -> Option<ObjectMembers<'t>>
+    ensures { option_map (λ w. new_written w.class.now (members_view w.features.now)) result ≡ written_meant (object (members_view members.now)) }
+{
     if !has_only_keys(members, &["class", "features"]) {
         return None;
     }
     let class = find(members, "class")?.as_str()?;
     let features = find(members, "features")?.as_object()?;
     Some(ObjectMembers { class, features })
+}
+
+/// What an object says, or nothing if the value is none. Takes no memory.
+#[tactic(auto, unfolding(crate::specs::Layout::written))]
+pub(crate) fn written<'t>(json: &Json<'t>) -> Option<ObjectMembers<'t>>
+    ensures { option_map (λ w. new_written w.class.now (members_view w.features.now)) result ≡ written_meant (view json.now) }
+{
+    let members = json.as_object()?;
+    // No key is looked for in a document that was saved.
+    if is_in_order(members) {
+        return of_two(&members[0].1, &members[1].1);
+    }
+    of_members(members)
+}
+
+fn no_members<'t>() -> Members<'t>
+    ensures { members_view result.now ≡ no_members }
+{
+    &[]
+}
+
+/// What the features of an object hold, by their names; nothing if the value is no object. Takes no memory.
+pub(crate) fn features_of<'t>(json: &Json<'t>) -> Members<'t>
+    ensures { members_view result.now ≡ features_meant (view json.now) }
+{
+    let Some(object) = written(json) else {
+        return no_members();
+    };
+    object.features
 }

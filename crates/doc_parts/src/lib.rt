@@ -15,10 +15,9 @@ mod objects;
 mod walk;
 
 pub use attributes::attribute_value;
-pub use checks::{
-    has_deep, has_long_list, has_misshapen, has_other_value, has_unknown_class, has_unknown_feature,
-};
+pub use checks::{has_deep, has_misshapen, has_unknown_class, has_unknown_feature};
+pub use contents::{is_content, is_long};
 pub use entries::{class_of, content_at, known, values_of};
-pub use found::{FoundPart, FoundParts, Numbers, PartKey};
+pub use found::{FoundPart, FoundParts, Numbers, PartKey, index_of};
 pub use layout::{TopMembers, top};
 pub use walk::find_parts;

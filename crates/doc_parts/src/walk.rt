@@ -6,7 +6,7 @@ ghost use Rattle.doc_parts.specs.Parts.{Part, parts_from};
 ghost use Rattle.doc_parts.specs.Keys.{UnderKey, key_of};
 
 use crate::entries::{content_at, known, values_of};
-use crate::found::{FoundParts, PartKey};
+use crate::found::{FoundParts, PartKey, index_of};
 use borrowed_json::{Json, Members};
 use mm_meta::Meta;
 use mm_types::FeatureNo;
@@ -16,7 +16,7 @@ use std::alloc::{AllocError, Global};
 #[derive(Clone, Copy)]
 struct Below {
     part: u32,
-    level: usize,
+    level: u32,
 }
 
 /// Finds a part that is at a key, and what is below it, for so many levels.
@@ -26,7 +26,7 @@ pub(crate) fn walk<'t, 'm>(
     meta: &'m Meta,
     levels: usize,
     key: PartKey<'m>,
-    level: usize,
+    level: u32,
     json: &'t Json<'t>,
 ) -> Result<(), AllocError>
     ensures { OnOk result (Walks meta.entry.now levels found.old found.new (key_of key.entry) level (view json.entry.now)) }
@@ -83,6 +83,8 @@ fn walk_feature<'t, 'm>(
     match content_at(meta, members, feature) {
         Some(content) => {
             let single = meta.is_single(feature);
+            let values = values_of(meta, feature, content);
+            found.reserve(values.len())?;
             walk_values(
                 found,
                 meta,
@@ -90,17 +92,20 @@ fn walk_feature<'t, 'm>(
                 below,
                 meta.feature_name(feature),
                 single,
-                values_of(meta, feature, content),
+                values,
             )
         }
         None => Ok(()),
     }
 }
 
-fn index_at(is_single: bool, position: usize) -> Option<usize>
-    ensures { result ≡ (if is_single then None else Some position) }
+fn index_at(is_single: bool, position: usize) -> Result<Option<u32>, AllocError>
+    ensures { IfOk result (λ i. i ≡ (if is_single then None else Some position)) }
 {
-    if is_single { None } else { Some(position) }
+    if is_single {
+        return Ok(None);
+    }
+    Ok(Some(index_of(position)?))
 }
 
 #[cycle(walk)]
@@ -116,7 +121,7 @@ fn walk_values<'t, 'm>(
     ensures { OnOk result (FindsBelow meta.entry.now found.old found.new below.part below.level (λ path. flat_map (parts_from meta.entry.now levels) (parts_under path name.entry.now is_single (map view values.entry.now)))) }
 {
     'values: for (i, value) in values.iter().enumerate() {
-        let index = index_at(is_single, i);
+        let index = index_at(is_single, i)?;
         walk(
             found,
             meta,
@@ -142,7 +147,8 @@ fn walk_roots<'t, 'm>(
     ensures { OnOk result ((ps : List Part) → Knows meta.entry.now found.old ps → Knows meta.entry.now found.new (ps ++ flat_map (parts_from meta.entry.now levels) (roots_from (map view roots.entry.now)))) }
 {
     'roots: for (i, root) in roots.iter().enumerate() {
-        walk(found, meta, levels, PartKey::Root(i), 1, root)?;
+        let position = index_of(i)?;
+        walk(found, meta, levels, PartKey::Root(position), 1, root)?;
     }
     Ok(())
 }

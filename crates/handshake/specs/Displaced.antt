@@ -55,7 +55,7 @@ link_ends_if_single r e = if (shape_at r e).is_single then link_ends_at r e else
 abbrev pub holding_link_end : Reading → Node → Option LinkEnd
 holding_link_end r n = option_map (λ d. link_end d (node_value n)) (r.holder n)
 
--- a link and those before it, unless one of these is the same
+-- a link after the links before it, unless it is one of them
 abbrev pub with_link_end : Reading → List LinkEnd → LinkEnd → List LinkEnd
 with_link_end r ts t = if list_any (same_link r t) ts then ts else ts ++ t ∷ []
 

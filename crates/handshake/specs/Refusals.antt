@@ -93,7 +93,7 @@ load_refusal r k doc =
     Limit unless nat_le (r.next + length doc.objects) OBJECTS else_by
     NotEmpty unless is_empty_resource r k
 
--- one value is set under a feature of one value, and a list is edited under one of many
+-- a single-valued feature is set, and a list is edited under a many-valued one
 abbrev pub single_refusal : Metamodel → FeatureNo → Option Refused
 single_refusal m f = NotSingle unless (shape m f).is_single
 

@@ -355,7 +355,7 @@ pub fn is_plain_add<L: LinkStore>(model: &ModelRef<L>, end: End, value: &Value) 
     !model.meta().is_reference(end.feature) || model.is_repeat(end, value)
 }
 
-/// Whether a set makes and cuts no link: of an attribute, or to the value that is there.
+/// Whether a set makes and cuts no link: the feature is an attribute, or the end has that value already.
 pub fn is_plain_set<L: LinkStore>(model: &ModelRef<L>, end: End, value: &Value) -> bool
     ensures { result ≡ d.is_plain_set (reading model.now) end value.now }
 {

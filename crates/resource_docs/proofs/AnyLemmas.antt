@@ -31,7 +31,7 @@ any_numbered-more p xs i x below is =
 
 ---------------------------------------------------------------- the item at a position
 
-differ : (i j : ℕ) → i < j → nat_eq i j ≡ false
+pub differ : (i j : ℕ) → i < j → nat_eq i j ≡ false
 differ i j less = by _ refl
   where
     by : (b : Bool) → nat_eq i j ≡ b → b ≡ false

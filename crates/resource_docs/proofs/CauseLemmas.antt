@@ -1,7 +1,7 @@
 -- What bytes, a value and its parts are read as, by cases.
 use Rattle.std.proofs.Common.{◌≡◌, ◌∙◌, ◌≤◌, Bool, true, false, List, [], Option, Some, None, ℕ, ℤ, IsUtf8, ap, arith, cond, length, map, refl, subst, sym}
-use Rattle.std.specs.Prelude.{Ok, Err, flat_map, filter_map}
-use Rattle.std.specs.List.{enumerate_from}
+use Rattle.std.specs.Prelude.{◌||◌, Ok, Err, flat_map, filter_map, is_some, not}
+use Rattle.std.specs.List.{enumerate_from, list_any}
 use Rattle.std.specs.Option.{option_map_or, option_or}
 use Rattle.std.specs.Str.{is_utf8}
 use Rattle.std.proofs.lemmas.List.{length-map}
@@ -11,20 +11,23 @@ use Rattle.serde_json.specs.Data.{Data, depth}
 use Rattle.serde_json.specs.Read.{read}
 use Rattle.borrowed_json.specs.View.{items_view, view}
 use Rattle.borrowed_json.specs.declared.value.Json as json
+use Rattle.mm_types.specs.Conditions.{◌where_so◌}
 use Rattle.mm_types.specs.Resolved.{Metamodel}
 use Rattle.mm_types.specs.declared.document_fault.DocFault.{DocFault}
 use Rattle.mm_types.specs.declared.document_fault.DocFault.TheVariants as cause
 use Rattle.mm_types.specs.declared.numbers.ObjectNo.{ObjectNo}
 use Rattle.web_uris.specs.Paths.{new_path}
+use Rattle.doc_parts.specs.Contents.{is_content}
+use Rattle.doc_parts.specs.Faults.{has_no_class, has_other_key, is_misshapen, of_entry, of_written}
 use Rattle.doc_parts.specs.FoundParts.{Knows, roots_from}
 use Rattle.doc_parts.specs.Layout.{Top, new_top, top}
 use Rattle.doc_parts.specs.Parts.{Part, list_of, parts, parts_from, root_parts}
 use Rattle.doc_parts.specs.declared.found.FoundParts.{FoundParts}
 use Rattle.doc_parts.proofs.DataLemmas.{list_of-items_of}
 use Rattle.doc_parts.proofs.DepthLemmas.{parts_within}
-use Rattle.resource_docs.specs.Causes.{cause_of, reads, reads_bytes, reads_if, sense_cause, shape_cause, unless_faulty}
+use Rattle.resource_docs.specs.Causes.{cause_of, has_other_format, reads, reads_bytes, reads_if, sense_cause, shape_cause, unless_faulty}
 use Rattle.resource_docs.specs.Read.{doc_read, object_read, root_number}
-use Rattle.resource_docs.specs.Reading.{objects_so_far}
+use Rattle.resource_docs.specs.Reading.{early_cause, late_cause, objects_so_far}
 use Rattle.resource_docs.specs.Texts.{Base, base_of}
 use Rattle.resource_docs.specs.declared.doc.Doc.{Doc}
 use Rattle.resource_docs.specs.declared.doc.DocObject.{DocObject}
@@ -50,16 +53,44 @@ one_fault doc wanted says f is some = ap (λ o. unless_faulty o wanted) (ap says
 
 ---------------------------------------------------------------- shapes
 
-pub shape_faulty : (m : Metamodel) (b : Base) (d : Data) (t : Top) (f : DocFault) → top d ≡ Some t → Some f ≡ shape_cause m (Some t) (parts m d) → reads m b d ≡ Err f
+all_causes : (l f c e v s : Option DocFault) → option_or (option_or l (option_or f (option_or c (option_or e v)))) s ≡ option_or (option_or l (option_or f (option_or c e))) (option_or v s)
+all_causes (Some x) f c e v s = refl
+all_causes None (Some x) c e v s = refl
+all_causes None None (Some x) e v s = refl
+all_causes None None None (Some x) v s = refl
+all_causes None None None None v s = refl
+
+-- the causes that are found early, and those that are known late
+in_two : (m : Metamodel) (b : Base) (d : Data) (t : Option Top) (doc : Doc) → option_or (shape_cause m t (parts m d)) (sense_cause m b d (parts m d) doc) ≡ option_or (early_cause m t (parts m d)) (late_cause m b d (parts m d) doc)
+in_two m b d t doc =
+    let ps = parts m d in
+    all_causes (cause.Layout where_so (not (is_some t) || list_any is_misshapen ps)) (cause.Format where_so option_map_or has_other_format t false) (cause.Class where_so of_written (has_no_class m) ps)
+    (cause.Feature where_so of_written (has_other_key m) ps) (cause.Value where_so of_entry m (λ e. not (is_content m e)) ps) (sense_cause m b d ps doc)
+
+pub shape_faulty : (m : Metamodel) (b : Base) (d : Data) (t : Top) (f : DocFault) → top d ≡ Some t → Some f ≡ early_cause m (Some t) (parts m d) → reads m b d ≡ Err f
 unfolding cause_of
 shape_faulty m b d t f here some =
-    ap (λ o. unless_faulty (option_or o (sense_cause m b d (parts m d) (doc_read m b d))) (doc_read m b d)) (ap (λ x. shape_cause m x (parts m d)) here ∙ sym some)
+    ap (λ o. unless_faulty o (doc_read m b d)) (in_two m b d (top d) (doc_read m b d))
+    ∙ ap (λ o. unless_faulty (option_or o (late_cause m b d (parts m d) (doc_read m b d))) (doc_read m b d)) (ap (λ x. early_cause m x (parts m d)) here ∙ sym some)
 
-pub shape_right : (m : Metamodel) (b : Base) (d : Data) (t : Top) → top d ≡ Some t → None ≡ shape_cause m (Some t) (parts m d)
-    → unless_faulty (sense_cause m b d (parts m d) (doc_read m b d)) (doc_read m b d) ≡ reads m b d
+pub shape_right : (m : Metamodel) (b : Base) (d : Data) (t : Top) → top d ≡ Some t → None ≡ early_cause m (Some t) (parts m d)
+    → unless_faulty (late_cause m b d (parts m d) (doc_read m b d)) (doc_read m b d) ≡ reads m b d
 unfolding cause_of
 shape_right m b d t here none =
-    sym (ap (λ o. unless_faulty (option_or o (sense_cause m b d (parts m d) (doc_read m b d))) (doc_read m b d)) (ap (λ x. shape_cause m x (parts m d)) here ∙ sym none))
+    sym (ap (λ o. unless_faulty o (doc_read m b d)) (in_two m b d (top d) (doc_read m b d))
+    ∙ ap (λ o. unless_faulty (option_or o (late_cause m b d (parts m d) (doc_read m b d))) (doc_read m b d)) (ap (λ x. early_cause m x (parts m d)) here ∙ sym none))
+
+-- a value that is none of its feature's, and that there is none
+abbrev by_values : Metamodel → Base → Data → Bool → Option DocFault
+by_values m b d other = option_or (cause.Value where_so other) (sense_cause m b d (parts m d) (doc_read m b d))
+
+pub value_faulty : (m : Metamodel) (b : Base) (d : Data) (r : ReadObjects) → r ≡ objects_so_far m b (parts m d) (parts m d) → r.has_other ≡ true
+    → unless_faulty (late_cause m b d (parts m d) (doc_read m b d)) (doc_read m b d) ≡ Err cause.Value
+value_faulty m b d r is other = ap (λ o. unless_faulty (by_values m b d o) (doc_read m b d)) (sym (ap (λ x. x.has_other) is) ∙ other)
+
+pub values_right : (m : Metamodel) (b : Base) (d : Data) (r : ReadObjects) → r ≡ objects_so_far m b (parts m d) (parts m d) → r.has_other ≡ false
+    → unless_faulty (sense_cause m b d (parts m d) (doc_read m b d)) (doc_read m b d) ≡ unless_faulty (late_cause m b d (parts m d) (doc_read m b d)) (doc_read m b d)
+values_right m b d r is right = sym (ap (λ o. unless_faulty (by_values m b d o) (doc_read m b d)) (sym (ap (λ x. x.has_other) is) ∙ right))
 
 pub no_top : (m : Metamodel) (b : Base) (d : Data) → top d ≡ None → reads m b d ≡ Err cause.Layout
 unfolding cause_of

@@ -1,27 +1,28 @@
 -- What a set of namings says of the ends of a document.
 use Rattle.std.proofs.Common.{◌≡◌, ◌∙◌, ◌+◌, ◌++◌, Bool, true, false, List, [], ◌∷◌, Option, Some, None, ℕ, ap, arith, cond, nat_eq, refl, sym}
-use Rattle.std.specs.Prelude.{◌&&◌, ◌||◌, flat_map, not, slice_get}
+use Rattle.std.specs.Prelude.{◌&&◌, ◌||◌, flat_map, is_some, not, slice_get}
 use Rattle.std.specs.List.{enumerate_from, list_any}
 use Rattle.std.specs.Option.{option_map_or}
+use Rattle.std.proofs.lemmas.Bool.{or_parts, true≢false}
 use Rattle.std.proofs.lemmas.List.Folds.{list_any-append}
 use Rattle.mm_types.specs.Lookups as lookups
 use Rattle.mm_types.specs.Resolved.{Metamodel}
 use Rattle.mm_types.specs.Same.{same_value}
-use Rattle.mm_types.specs.Shapes.{is_containment}
+use Rattle.mm_types.specs.Shapes.{is_containment, shape}
 use Rattle.mm_types.specs.declared.numbers.FeatureNo.{FeatureNo}
 use Rattle.mm_types.specs.declared.numbers.ObjectNo.{ObjectNo}
 use Rattle.mm_types.specs.declared.value.Value.{Value}
 use Rattle.mm_types.specs.declared.value.Value.TheVariants as value
 use Rattle.mm_meta.proofs.ShapeLemmas.{shape_opposite}
 use Rattle.resource_docs.specs.Causes.{is_one_sided, is_unanswered, of_content}
-use Rattle.resource_docs.specs.Ends.{IsEndsOf, among, any_one_sided_by, by_contents, by_objects, has, new_naming, one_sided_by, unanswered_by}
+use Rattle.resource_docs.specs.Ends.{IsEndsOf, among, any_one_sided_by, asks_back, by_contents, by_objects, has, new_naming, one_sided_by, unanswered_by}
 use Rattle.resource_docs.specs.Read.{values_in, values_under}
 use Rattle.resource_docs.specs.declared.doc.Content.{Content}
 use Rattle.resource_docs.specs.declared.doc.Doc.{Doc}
 use Rattle.resource_docs.specs.declared.doc.DocObject.{DocObject}
 use Rattle.resource_docs.specs.declared.ends.Ends.{Ends}
 use Rattle.resource_docs.specs.declared.ends.Naming.{Naming}
-use Rattle.resource_docs.proofs.AnyLemmas.{any-at, any-pulled, any-same}
+use Rattle.resource_docs.proofs.AnyLemmas.{any-at, any-numbered, any-pulled, any-same}
 
 abbrev named_by : Naming → Content → Bool
 named_by k c = nat_eq k.feature c.feature.0 && among c.values k
@@ -72,3 +73,36 @@ one_sided_in m e d ends =
     any-same (λ x. list_any (one_sided_by m e x.0) x.1.contents) (λ x. list_any (is_one_sided m d (record { 0 = x.0 })) x.1.contents) (enumerate_from 0 d.objects)
     (λ x. any-same (one_sided_by m e x.0) (is_one_sided m d (record { 0 = x.0 })) x.1.contents
     (λ c. ap (λ b. not (is_containment m c.feature) && b) (any-same (unanswered_by m e x.0 c.feature) (is_unanswered m d (record { 0 = x.0 }) c.feature) c.values (λ v. unanswered m e d x.0 c.feature v ends))))
+
+---------------------------------------------------------------- if nothing has to be answered
+
+none-less : {X : Type 0} (p q : X → Bool) (xs : List X) → ((x : X) → q x ≡ false → p x ≡ false) → list_any q xs ≡ false → list_any p xs ≡ false
+none-less p q [] less none = refl
+none-less p q (x ∷ xs) less none =
+    let both = or_parts (q x) (list_any q xs) none in
+    ap (λ b. b || list_any p xs) (less x both.0) ∙ none-less p q xs less both.1
+
+none-of : {X : Type 0} (p : X → Bool) (xs : List X) → ((x : X) → p x ≡ false) → list_any p xs ≡ false
+none-of p [] none = refl
+none-of p (x ∷ xs) none = ap (λ b. b || list_any p xs) (none x) ∙ none-of p xs none
+
+never_unanswered : (m : Metamodel) (d : Doc) (o : ObjectNo) (f : FeatureNo) → is_some (shape m f).opposite ≡ false → (v : Value) → is_unanswered m d o f v ≡ false
+never_unanswered m d o f h (value.Object b) = by (shape m f).opposite h
+  where
+    by : (g : Option FeatureNo) → is_some g ≡ false → option_map_or (λ k. not (list_any (same_value (value.Object o)) (values_in d b k))) g false ≡ false
+    by None h = refl
+    by (Some k) h = absurd (true≢false h)
+never_unanswered m d o f h _ = refl
+
+unasked : (m : Metamodel) (d : Doc) (o : ObjectNo) (c : Content) → asks_back m c ≡ false → is_one_sided m d o c ≡ false
+unasked m d o c = by (is_containment m c.feature)
+  where
+    by : (b : Bool) → (not b && is_some (shape m c.feature).opposite) ≡ false → (not b && list_any (is_unanswered m d o c.feature) c.values) ≡ false
+    by true h = refl
+    by false h = none-of (is_unanswered m d o c.feature) c.values (never_unanswered m d o c.feature h)
+
+pub none_asked : (m : Metamodel) (d : Doc) (b : Bool) → b ≡ list_any (λ o. list_any (asks_back m) o.contents) d.objects → b ≡ false → of_content (is_one_sided m d) d ≡ false
+none_asked m d b is none =
+    none-less (λ x. list_any (is_one_sided m d (record { 0 = x.0 })) x.1.contents) (λ x. list_any (asks_back m) x.1.contents) (enumerate_from 0 d.objects)
+    (λ x. none-less (is_one_sided m d (record { 0 = x.0 })) (asks_back m) x.1.contents (unasked m d (record { 0 = x.0 })))
+    (any-numbered (λ o. list_any (asks_back m) o.contents) 0 d.objects ∙ sym is ∙ none)

@@ -1,17 +1,20 @@
 -- A list has a value twice where one is the same as an earlier one.
-use Rattle.std.proofs.Common.{◌≡◌, ◌∙◌, ◌+◌, ◌<◌, ◌++◌, Bool, true, false, List, [], ◌∷◌, ℕ, ap, arith, cond, drop, get_or, length, map, refl, sym, take}
+use Rattle.std.proofs.Common.{◌≡◌, ◌∙◌, ◌+◌, ◌<◌, ◌++◌, Bool, true, false, List, [], ◌∷◌, ℕ, suc, nat_le, ap, arith, cond, drop, get_or, length, map, refl, sym, take}
 use Rattle.std.specs.Prelude.{◌||◌, not}
 use Rattle.std.specs.List.{list_any}
+use Rattle.std.proofs.lemmas.Bool.{and_parts, false≢true, leb-true}
 use Rattle.std.proofs.lemmas.List.{map-append, take-append-drop, take_more}
 use Rattle.indexmap.specs.IndexSet.{insert_key}
 use Rattle.mm_types.specs.Same.{same_value}
 use Rattle.mm_types.specs.SameValues.{same_value_laws}
 use Rattle.mm_types.specs.declared.value.Value.{Value}
+use Rattle.mm_types.specs.declared.value.Value.TheVariants as value
 use Rattle.resource_docs.specs.Causes.{repeats_value}
-use Rattle.resource_docs.specs.Keys.{value_of_key}
+use Rattle.resource_docs.specs.Keys.{rising_from, value_of_key}
 use Rattle.resource_docs.specs.declared.repeats.Key.{Key}
 use Rattle.resource_docs.specs.declared.repeats.Key.TheVariants as key
 use Rattle.resource_docs.specs.contracts.repeats.KeyPartialEq.TheImpl.{ghosts}
+use Rattle.resource_docs.proofs.AnyLemmas.{differ}
 use Rattle.resource_docs.proofs.ReadingLemmas.{any-push}
 
 pub same_key : (k l : Key) → ghosts.eq k l ≡ same_value (value_of_key k) (value_of_key l)
@@ -111,3 +114,21 @@ pub few_repeat_none : (vs : List Value) → length vs < 2 → false ≡ repeats_
 few_repeat_none [] few = refl
 few_repeat_none (v ∷ []) few = refl
 few_repeat_none (v ∷ w ∷ vs) few = absurd (omega (arith, few))
+
+---------------------------------------------------------------- objects in the order of their numbers
+
+rising_above : (n k : ℕ) (vs : List Value) → rising_from n vs ≡ true → k < n → list_any (same_value (value.Object (record { 0 = k }))) vs ≡ false
+rising_above n k [] h low = refl
+rising_above n k (value.Object o ∷ vs) h low =
+    let both = and_parts (nat_le n o.0) (rising_from (suc o.0) vs) h in
+    let least = leb-true n o.0 both.0 in
+    let under : k < o.0 = omega arith in
+    ap (λ b. b || list_any (same_value (value.Object (record { 0 = k }))) vs) (differ k o.0 under) ∙ rising_above (suc o.0) k vs both.1 (omega arith)
+rising_above n k (_ ∷ vs) h low = absurd (false≢true h)
+
+pub rising_none : (n : ℕ) (vs : List Value) → rising_from n vs ≡ true → repeats_value vs ≡ false
+rising_none n [] h = refl
+rising_none n (value.Object o ∷ vs) h =
+    let both = and_parts (nat_le n o.0) (rising_from (suc o.0) vs) h in
+    ap (λ b. b || repeats_value vs) (rising_above (suc o.0) o.0 vs both.1 (omega arith)) ∙ rising_none (suc o.0) vs both.1
+rising_none n (_ ∷ vs) h = absurd (false≢true h)

@@ -1,11 +1,11 @@
 -- Which objects of a document name which.
-use Rattle.std.specs.Prelude.{◌≡◌, ℕ, ◌&&◌, Bool, false, not, List, nat_eq}
+use Rattle.std.specs.Prelude.{◌≡◌, ℕ, ◌&&◌, Bool, false, is_some, not, List, nat_eq}
 use Rattle.std.specs.List.{enumerate_from, list_any}
 use Rattle.std.specs.Option.{option_map_or}
 use Rattle.mm_types.specs.Lookups as lookups
 use Rattle.mm_types.specs.Resolved.{Metamodel}
 use Rattle.mm_types.specs.Same.{same_value}
-use Rattle.mm_types.specs.Shapes.{is_containment}
+use Rattle.mm_types.specs.Shapes.{is_containment, shape}
 use Rattle.mm_types.specs.declared.numbers.FeatureNo.{FeatureNo}
 use Rattle.mm_types.specs.declared.value.Value.{Value}
 use Rattle.mm_types.specs.declared.value.Value.TheVariants as value
@@ -52,3 +52,9 @@ one_sided_by m e o c = not (is_containment m c.feature) && list_any (unanswered_
 
 abbrev pub any_one_sided_by : Metamodel → Ends → List DocObject → Bool
 any_one_sided_by m e os = list_any (λ x. list_any (one_sided_by m e x.0) x.1.contents) (enumerate_from 0 os)
+
+---------------------------------------------------------------- what has to be answered
+
+-- what is named under a feature with an opposite that contains nothing has to name back
+abbrev pub asks_back : Metamodel → Content → Bool
+asks_back m c = not (is_containment m c.feature) && is_some (shape m c.feature).opposite

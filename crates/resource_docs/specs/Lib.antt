@@ -4,4 +4,5 @@ pub mod Read
 pub mod Reading
 pub mod Causes
 pub mod Keys
+pub mod DocValues
 pub mod Ends

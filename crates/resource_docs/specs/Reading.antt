@@ -1,21 +1,29 @@
 -- What is read so far, and whether a reference in it is lost.
-use Rattle.std.specs.Prelude.{◌≡◌, ◌++◌, ◌||◌, ℕ, Bool, not, List, [], ◌∷◌, filter, filter_map, map, Some}
+use Rattle.std.specs.Prelude.{◌≡◌, ◌++◌, ◌||◌, ℕ, Bool, false, not, List, [], ◌∷◌, filter, filter_map, is_some, map, Option, Some}
 use Rattle.std.specs.List.{All, enumerate_from, list_any}
+use Rattle.std.specs.Option.{option_map_or}
 use Rattle.serde_json.specs.Data.{Data}
+use Rattle.mm_types.specs.Conditions.{◌else_by◌, ◌where_so◌}
 use Rattle.mm_types.specs.Resolved.{Metamodel}
 use Rattle.mm_types.specs.Same.{is_nil}
+use Rattle.mm_types.specs.declared.document_fault.DocFault.{DocFault}
+use Rattle.mm_types.specs.declared.document_fault.DocFault.TheVariants as cause
 use Rattle.mm_types.specs.declared.feature.Kind.{Kind}
 use Rattle.mm_types.specs.declared.numbers.FeatureNo.{FeatureNo}
 use Rattle.mm_types.specs.declared.value.Value.{Value}
 use Rattle.web_uris.specs.declared.path.Path.{Path}
-use Rattle.doc_parts.specs.Faults.{of_entry}
+use Rattle.doc_parts.specs.Contents.{is_content}
+use Rattle.doc_parts.specs.Faults.{has_no_class, has_other_key, is_long, is_misshapen, of_entry, of_written}
 use Rattle.doc_parts.specs.FoundParts.{Knows}
+use Rattle.doc_parts.specs.Layout.{Top}
 use Rattle.doc_parts.specs.Parts.{Entry, Part, number_of}
 use Rattle.doc_parts.specs.declared.found.FoundParts.{FoundParts}
+use Rattle.resource_docs.specs.Causes.{has_other_format, sense_cause}
 use Rattle.resource_docs.specs.Read.{contents_read, object_read, values_read}
 use Rattle.resource_docs.specs.Texts.{Base}
 use Rattle.resource_docs.specs.Values.{IsProxyValue, has_lost, is_lost, value_of}
 use Rattle.resource_docs.specs.declared.doc.Content.{Content}
+use Rattle.resource_docs.specs.declared.doc.Doc.{Doc}
 use Rattle.resource_docs.specs.declared.doc.DocObject.{DocObject}
 use Rattle.resource_docs.specs.declared.objects.ReadContents.{ReadContents}
 use Rattle.resource_docs.specs.declared.objects.ReadObjects.{ReadObjects}
@@ -42,15 +50,51 @@ entry_read m b ps path e = record { values = values_read m b ps path e; is_lost 
 ---------------------------------------------------------------- objects
 
 abbrev pub contents_so_far : Metamodel → Base → List Part → Path → List Entry → ReadContents
-contents_so_far m b ps path es = record { contents = contents_read m b ps path es; is_lost = list_any (has_lost m b ps) es }
+contents_so_far m b ps path es =
+    record {
+      contents = contents_read m b ps path es;
+      is_lost = list_any (has_lost m b ps) es;
+      has_other = list_any (λ e. not (is_content m e)) es;
+      has_long = list_any (is_long m) es;
+    }
 
 -- with what was read under one more feature, unless that is nothing
 abbrev pub with_values : ReadContents → FeatureNo → ReadValues → ReadContents
 with_values r f v =
-    record { contents = r.contents ++ filter (λ c. not (is_nil c.values)) (record { feature = f; values = v.values } ∷ []); is_lost = r.is_lost || v.is_lost }
+    record {
+      contents = r.contents ++ filter (λ c. not (is_nil c.values)) (record { feature = f; values = v.values } ∷ []);
+      is_lost = r.is_lost || v.is_lost;
+      has_other = r.has_other;
+      has_long = r.has_long;
+    }
+
+-- with what is wrong with what is written under one more feature
+abbrev pub with_flaws : Metamodel → ReadContents → Entry → ReadContents
+with_flaws m r e =
+    record { contents = r.contents; is_lost = r.is_lost; has_other = r.has_other || not (is_content m e); has_long = r.has_long || is_long m e }
 
 abbrev pub objects_so_far : Metamodel → Base → List Part → List Part → ReadObjects
-objects_so_far m b ps qs = record { objects = map (object_read m b ps) qs; is_lost = of_entry m (has_lost m b ps) qs }
+objects_so_far m b ps qs =
+    record {
+      objects = map (object_read m b ps) qs;
+      is_lost = of_entry m (has_lost m b ps) qs;
+      has_other = of_entry m (λ e. not (is_content m e)) qs;
+      has_long = of_entry m (is_long m) qs;
+    }
+
+---------------------------------------------------------------- causes
+
+-- what is found without reading: the shape of what is written, and its names
+abbrev pub early_cause : Metamodel → Option Top → List Part → Option DocFault
+early_cause m t ps =
+    cause.Layout where_so (not (is_some t) || list_any is_misshapen ps) else_by
+    cause.Format where_so option_map_or has_other_format t false else_by
+    cause.Class where_so of_written (has_no_class m) ps else_by
+    cause.Feature where_so of_written (has_other_key m) ps
+
+-- and what is known once it is read
+abbrev pub late_cause : Metamodel → Base → Data → List Part → Doc → Option DocFault
+late_cause m b d ps doc = cause.Value where_so of_entry m (λ e. not (is_content m e)) ps else_by sense_cause m b d ps doc
 
 ---------------------------------------------------------------- proxies
 

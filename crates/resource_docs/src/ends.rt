@@ -1,6 +1,8 @@
 //! Which objects of a document name which, and whether those that are named name back.
 ghost use Rattle.std.specs.Prelude.{◌≡◌, ◌||◌, ◌∷◌, [], IfOk, OnOk, false};
+ghost use Rattle.std.specs.List.{list_any};
 ghost use Rattle.resource_docs.specs.Causes.{is_one_sided, of_content};
+ghost use Rattle.resource_docs.specs.Ends.{asks_back as asks_meant};
 
 use crate::doc::{Content, Doc, DocObject};
 use indexmap::IndexSet;
@@ -165,11 +167,35 @@ impl Ends {
     }
 }
 
+/// Whether what a list names has to name back: its feature has an opposite, and contains nothing.
+fn asks_back(meta: &Meta, content: &Content) -> bool
+    ensures { result ≡ asks_meant meta.now content.now }
+{
+    !meta.is_containment(content.feature) && meta.opposite(content.feature).is_some()
+}
+
+fn any_asks_back(meta: &Meta, contents: &[Content]) -> bool
+    ensures { result ≡ list_any (asks_meant meta.now) contents.now }
+{
+    contents.iter().any(|content| asks_back(meta, content))
+}
+
+fn is_any_asked(meta: &Meta, objects: &[DocObject]) -> bool
+    ensures { result ≡ list_any (λ o. list_any (asks_meant meta.now) o.contents) objects.now }
+{
+    objects
+        .iter()
+        .any(|object| any_asks_back(meta, object.contents.as_slice()))
+}
+
 /// Whether an object of a document names one, under a feature with opposite, that does not name back. Errs only if
-/// memory is refused.
+/// memory is refused; takes none if no list has to be answered.
 pub(crate) fn has_one_sided(alloc: Global, meta: &Meta, doc: &Doc) -> Result<bool, AllocError>
     ensures { IfOk result (λ b. b ≡ of_content (is_one_sided meta.now doc.now) doc.now) }
 {
+    if !is_any_asked(meta, doc.objects.as_slice()) {
+        return Ok(false);
+    }
     let ends = Ends::of(alloc, doc.objects.as_slice())?;
     Ok(ends.has_one_sided(meta, doc.objects.as_slice()))
 }

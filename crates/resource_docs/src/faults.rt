@@ -4,11 +4,12 @@ ghost use Rattle.std.specs.Option.{option_map_or};
 ghost use Rattle.mm_types.specs.Shapes.{contents_shape, is_bounded};
 ghost use Rattle.serde_json.specs.Data.{Data};
 ghost use Rattle.borrowed_json.specs.View.{items_view};
-ghost use Rattle.doc_parts.specs.Faults.{of_entry};
+ghost use Rattle.doc_parts.specs.Faults.{is_long as long_meant, of_entry};
 ghost use Rattle.doc_parts.specs.FoundParts.{Knows};
 ghost use Rattle.doc_parts.specs.Layout.{new_top, top as top_meant};
 ghost use Rattle.doc_parts.specs.Parts.{Part, root_parts};
-ghost use Rattle.resource_docs.specs.Causes.{has_first_format as first_meant, sense_cause as sense_meant, shape_cause as shape_meant};
+ghost use Rattle.resource_docs.specs.Causes.{has_first_format as first_meant, sense_cause as sense_meant};
+ghost use Rattle.resource_docs.specs.Reading.{early_cause as early_meant};
 ghost use Rattle.resource_docs.specs.Texts.{base_of};
 ghost use Rattle.resource_docs.specs.Values.{has_lost};
 
@@ -18,8 +19,7 @@ use crate::ends::has_one_sided;
 use crate::repeats::has_repeats;
 use crate::source::Source;
 use doc_parts::{
-    FoundParts, TopMembers, has_deep, has_long_list, has_misshapen, has_other_value,
-    has_unknown_class, has_unknown_feature,
+    FoundParts, TopMembers, has_deep, has_misshapen, has_unknown_class, has_unknown_feature,
 };
 use mm_meta::Meta;
 use mm_types::{DocFault, limits};
@@ -32,9 +32,9 @@ pub(crate) fn has_first_format(top: TopMembers) -> bool
     top.format == i64::from(limits::FIRST_DOCUMENT_FORMAT)
 }
 
-/// What is wrong with the shape of what is written, or with its names and types. Takes no memory.
-pub(crate) fn shape_cause(meta: &Meta, top: TopMembers, found: &FoundParts) -> Option<DocFault>
-    ensures { (ps : List Part) → Knows meta.now found.now ps → result ≡ shape_meant meta.now (Some (new_top top.entry.format (items_view top.entry.roots.now))) ps }
+/// What is wrong with the shape of what is written, or with its names. Takes no memory.
+pub(crate) fn early_cause(meta: &Meta, top: TopMembers, found: &FoundParts) -> Option<DocFault>
+    ensures { (ps : List Part) → Knows meta.now found.now ps → result ≡ early_meant meta.now (Some (new_top top.entry.format (items_view top.entry.roots.now))) ps }
 {
     if has_misshapen(found) {
         return Some(DocFault::Layout);
@@ -48,9 +48,6 @@ pub(crate) fn shape_cause(meta: &Meta, top: TopMembers, found: &FoundParts) -> O
     if has_unknown_feature(meta, found) {
         return Some(DocFault::Feature);
     }
-    if has_other_value(meta, found) {
-        return Some(DocFault::Value);
-    }
     None
 }
 
@@ -61,32 +58,41 @@ fn has_many_roots(meta: &Meta, count: usize) -> bool
     count > limits::LIST_VALUES
 }
 
-/// What is wrong with what a document leads to, with how much there is of it, or with how deep it lies; whether it has
-/// the first format, its number of roots, and whether a reference is lost, are known. Errs only if memory is refused.
+/// What is known of a document beside what was read: whether it has the first format, the number of its roots, whether a reference
+/// is lost, and whether a list is too long.
+#[derive(Clone, Copy)]
+pub(crate) struct Noted {
+    pub has_first_format: bool,
+    pub root_count: usize,
+    pub is_lost: bool,
+    pub has_long: bool,
+}
+
+/// What is wrong with what a document leads to, with how much there is of it, or with how deep it lies. Errs only if memory is
+/// refused.
 pub(crate) fn sense_cause(
     source: &Source,
-    has_first_format: bool,
-    root_count: usize,
-    is_lost: bool,
+    noted: Noted,
     doc: &Doc,
 ) -> Result<Option<DocFault>, AllocError>
-    ensures { IfOk result (λ o. (ps : List Part) (d : Data) → Knows source.now.meta.now source.now.found.now ps → has_first_format ≡ option_map_or first_meant (top_meant d) false → root_count ≡ length (root_parts d)
-        → is_lost ≡ of_entry source.now.meta.now (has_lost source.now.meta.now (base_of source.now.uri.now) ps) ps
+    ensures { IfOk result (λ o. (ps : List Part) (d : Data) → Knows source.now.meta.now source.now.found.now ps → noted.has_first_format ≡ option_map_or first_meant (top_meant d) false → noted.root_count ≡ length (root_parts d)
+        → noted.is_lost ≡ of_entry source.now.meta.now (has_lost source.now.meta.now (base_of source.now.uri.now) ps) ps
+        → noted.has_long ≡ of_entry source.now.meta.now (long_meant source.now.meta.now) ps
         → o ≡ sense_meant source.now.meta.now (base_of source.now.uri.now) d ps doc.now) }
 {
-    if is_lost {
+    if noted.is_lost {
         return Ok(Some(DocFault::Reference));
     }
     if has_repeats(source.alloc, source.meta, doc)? {
         return Ok(Some(DocFault::Duplicate));
     }
-    if has_many_roots(source.meta, root_count) || has_long_list(source.meta, source.found) {
+    if has_many_roots(source.meta, noted.root_count) || noted.has_long {
         return Ok(Some(DocFault::Bound));
     }
     if has_one_sided(source.alloc, source.meta, doc)? {
         return Ok(Some(DocFault::OneSided));
     }
-    if has_first_format && has_crosses(source.meta, doc) {
+    if noted.has_first_format && has_crosses(source.meta, doc) {
         return Ok(Some(DocFault::Cross));
     }
     if has_deep(source.found) {

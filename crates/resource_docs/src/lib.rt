@@ -6,6 +6,7 @@
 
 mod cross;
 mod doc;
+mod doc_values;
 mod ends;
 mod faults;
 mod objects;
@@ -18,6 +19,7 @@ mod target;
 mod values;
 
 pub use doc::{Content, Doc, DocObject};
+pub use doc_values::DocValues;
 pub use reading::read_doc;
 pub use target::Target;
 pub use web_uris::{UriFault, joined};

@@ -1,10 +1,10 @@
 //! The objects of a document are read.
 ghost use Rattle.std.specs.Prelude.{◌≡◌, ◌++◌, ◌∷◌, [], IfOk, List, OnOk, false, filter_map, option_to_list};
 ghost use Rattle.std.specs.List.{All};
-ghost use Rattle.borrowed_json.specs.View.{members_view};
+ghost use Rattle.borrowed_json.specs.View.{members_view, view};
 ghost use Rattle.doc_parts.specs.FoundParts.{Knows, part_seen, seen};
-ghost use Rattle.doc_parts.specs.Parts.{Entry, Part, entries, entry_at};
-ghost use Rattle.resource_docs.specs.Reading.{IsProxyContent, IsProxyObject, Numbered, contents_so_far, objects_so_far, with_values};
+ghost use Rattle.doc_parts.specs.Parts.{Entry, Part, entries, entry_at, new_entry};
+ghost use Rattle.resource_docs.specs.Reading.{IsProxyContent, IsProxyObject, Numbered, contents_so_far, objects_so_far, with_flaws, with_values};
 ghost use Rattle.resource_docs.specs.Texts.{base_of};
 ghost use Rattle.resource_docs.specs.Values.{IsProxyValue};
 
@@ -12,32 +12,40 @@ use crate::doc::{Content, DocObject};
 use crate::source::Source;
 use crate::values::{ReadValues, read_content};
 use borrowed_json::{Json, Members};
-use doc_parts::{FoundPart, content_at};
+use doc_parts::{FoundPart, content_at, is_content, is_long};
+use mm_meta::Meta;
 use mm_types::{ClassNo, FeatureNo, Seq};
 use std::alloc::{AllocError, Global};
 
-/// What is read of an object: its contents, and whether a reference among them is lost.
+/// What is read of an object: its contents; whether a reference among them is lost; and whether any of what is written is not of
+/// the type of its feature, or more than that may have.
 #[derive(Drop)]
 pub(crate) struct ReadContents {
     pub contents: Seq<Content>,
     pub is_lost: bool,
+    pub has_other: bool,
+    pub has_long: bool,
 }
 
-/// What is read of a document: its objects, and whether a reference among them is lost.
+/// What is read of a document: its objects, and the same of all that is written in them.
 #[derive(Drop)]
 pub(crate) struct ReadObjects {
     pub objects: Seq<DocObject>,
     pub is_lost: bool,
+    pub has_other: bool,
+    pub has_long: bool,
 }
 
 /// Nothing yet, with capacity for the contents of so many features.
 fn no_contents(alloc: Global, room: usize) -> Result<ReadContents, AllocError>
-    ensures { IfOk result (λ r. r ≡ record { contents = []; is_lost = false }) }
+    ensures { IfOk result (λ r. r ≡ record { contents = []; is_lost = false; has_other = false; has_long = false }) }
 {
     let contents = Vec::with_capacity(alloc, room)?;
     Ok(ReadContents {
         contents: Seq::from_vec(contents),
         is_lost: false,
+        has_other: false,
+        has_long: false,
     })
 }
 
@@ -58,6 +66,14 @@ fn add_values(
     Ok(())
 }
 
+/// Notes what is wrong with what is written under a feature, by itself.
+fn note_flaws<'t>(read: &mut ReadContents, meta: &Meta, feature: FeatureNo, content: &'t Json<'t>)
+    ensures { read.new ≡ with_flaws meta.now read.old (new_entry feature (view content.now)) }
+{
+    read.has_other = read.has_other || !is_content(meta, feature, content);
+    read.has_long = read.has_long || is_long(meta, feature, content);
+}
+
 /// Reads what is written under one more feature.
 fn add_feature(
     read: &mut ReadContents,
@@ -74,6 +90,7 @@ fn add_feature(
     match content_at(source.meta, members, feature) {
         Some(content) => {
             let found = read_content(source, number, feature, content)?;
+            note_flaws(read, source.meta, feature, content);
             add_values(read, feature, found)
         }
         None => Ok(()),
@@ -103,7 +120,7 @@ fn read_contents(source: &Source, part: &FoundPart) -> Result<ReadContents, Allo
         → r ≡ contents_so_far source.now.meta.now (base_of source.now.uri.now) ps p.path (entries source.now.meta.now p.json)) }
     ensures proxy { IfOk result (λ r. All IsProxyContent r.contents) }
 {
-    match part.known {
+    match part.known() {
         Some((class, members)) => match source.meta.features(class) {
             Some(features) => read_features(source, part.number, members, features),
             None => no_contents(source.alloc, 0),
@@ -119,12 +136,19 @@ fn add_object(read: &mut ReadObjects, source: &Source, part: &FoundPart) -> Resu
         → read.new ≡ objects_so_far source.now.meta.now (base_of source.now.uri.now) ps (qs ++ p ∷ [])) }
     ensures proxy { OnOk result (All IsProxyObject read.old.objects → All IsProxyObject read.new.objects) }
 {
-    let ReadContents { contents, is_lost } = read_contents(source, part)?;
-    let class = match part.known {
-        Some((class, _)) => class,
+    let ReadContents {
+        contents,
+        is_lost,
+        has_other,
+        has_long,
+    } = read_contents(source, part)?;
+    let class = match part.class {
+        Some(class) => class,
         None => ClassNo(0),
     };
     read.is_lost = read.is_lost || is_lost;
+    read.has_other = read.has_other || has_other;
+    read.has_long = read.has_long || has_long;
     read.objects.push(DocObject { class, contents })?;
     Ok(())
 }
@@ -138,6 +162,8 @@ pub(crate) fn read_objects(source: &Source) -> Result<ReadObjects, AllocError>
     let mut read = ReadObjects {
         objects: Seq::from_vec(objects),
         is_lost: false,
+        has_other: false,
+        has_long: false,
     };
     'parts: for part in source.found.parts.as_slice() {
         add_object(&mut read, source, part)?;

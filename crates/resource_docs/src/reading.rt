@@ -1,18 +1,20 @@
 //! The bytes of a document are read.
 ghost use Rattle.std.specs.Prelude.{◌≡◌, ◌≤◌, Some, false, map};
+ghost use Rattle.std.specs.List.{All};
 ghost use Rattle.std.specs.Option.{option_map_or};
 ghost use Rattle.serde_json.specs.Data.{Data, depth};
 ghost use Rattle.borrowed_json.specs.View.{items_view, view};
 ghost use Rattle.doc_parts.specs.FoundParts.{Knows, roots_from};
 ghost use Rattle.doc_parts.specs.Layout.{new_top, top as top_meant};
 ghost use Rattle.doc_parts.specs.Parts.{parts, root_parts};
-ghost use Rattle.resource_docs.specs.Causes.{Answers, Reads, has_first_format as first_meant, reads, sense_cause as sense_meant, unless_faulty};
+ghost use Rattle.resource_docs.specs.Causes.{Answers, Reads, has_first_format as first_meant, reads, unless_faulty};
 ghost use Rattle.resource_docs.specs.Read.{doc_read};
+ghost use Rattle.resource_docs.specs.Reading.{IsProxyObject, late_cause as late_meant, objects_so_far};
 ghost use Rattle.resource_docs.specs.Texts.{base_of};
 
 use crate::doc::Doc;
-use crate::faults::{has_first_format, sense_cause, shape_cause};
-use crate::objects::read_objects;
+use crate::faults::{Noted, early_cause, has_first_format, sense_cause};
+use crate::objects::{ReadObjects, read_objects};
 use crate::roots::read_roots;
 use crate::source::Source;
 use borrowed_json::{Json, JsonFault, read_json};
@@ -26,19 +28,29 @@ use std::alloc::Global;
 /// How deep arrays and objects nest at most in JSON that is read.
 const NESTING: usize = 127;
 
-/// Reads the document whose parts were found and have the right shape, and of which is known whether it has the first
-/// format.
-fn read_found(source: &Source, has_first_format: bool, roots: &[Json]) -> Result<Doc, Refused>
+/// The document whose objects were read, of which is known whether it has the first format.
+fn read_rest(
+    source: &Source,
+    has_first_format: bool,
+    roots: &[Json],
+    read: ReadObjects,
+) -> Result<Doc, Refused>
+    requires { All IsProxyObject read.objects }
     ensures { (d : Data) → Knows source.now.meta.now source.now.found.now (parts source.now.meta.now d) → has_first_format ≡ option_map_or first_meant (top_meant d) false
         → root_parts d ≡ roots_from (map view roots.now)
-        → Answers result (unless_faulty (sense_meant source.now.meta.now (base_of source.now.uri.now) d (parts source.now.meta.now d) (doc_read source.now.meta.now (base_of source.now.uri.now) d))
+        → read ≡ objects_so_far source.now.meta.now (base_of source.now.uri.now) (parts source.now.meta.now d) (parts source.now.meta.now d)
+        → Answers result (unless_faulty (late_meant source.now.meta.now (base_of source.now.uri.now) d (parts source.now.meta.now d) (doc_read source.now.meta.now (base_of source.now.uri.now) d))
         (doc_read source.now.meta.now (base_of source.now.uri.now) d)) }
 {
-    let read = match read_objects(source) {
-        Ok(read) => read,
-        Err(_) => return Err(Refused::Memory),
+    if read.has_other {
+        return Err(Refused::Document(DocFault::Value));
+    }
+    let noted = Noted {
+        has_first_format,
+        root_count: roots.len(),
+        is_lost: read.is_lost,
+        has_long: read.has_long,
     };
-    let is_lost = read.is_lost;
     let numbers = match read_roots(source.alloc, source.found, roots) {
         Ok(numbers) => numbers,
         Err(_) => return Err(Refused::Memory),
@@ -47,9 +59,23 @@ fn read_found(source: &Source, has_first_format: bool, roots: &[Json]) -> Result
         objects: read.objects,
         roots: numbers,
     };
-    match sense_cause(source, has_first_format, roots.len(), is_lost, &doc) {
+    match sense_cause(source, noted, &doc) {
         Ok(None) => Ok(doc),
         Ok(Some(fault)) => Err(Refused::Document(fault)),
+        Err(_) => Err(Refused::Memory),
+    }
+}
+
+/// Reads the document whose parts were found and have the right shape and names, and of which is known whether it has the first
+/// format.
+fn read_found(source: &Source, has_first_format: bool, roots: &[Json]) -> Result<Doc, Refused>
+    ensures { (d : Data) → Knows source.now.meta.now source.now.found.now (parts source.now.meta.now d) → has_first_format ≡ option_map_or first_meant (top_meant d) false
+        → root_parts d ≡ roots_from (map view roots.now)
+        → Answers result (unless_faulty (late_meant source.now.meta.now (base_of source.now.uri.now) d (parts source.now.meta.now d) (doc_read source.now.meta.now (base_of source.now.uri.now) d))
+        (doc_read source.now.meta.now (base_of source.now.uri.now) d)) }
+{
+    match read_objects(source) {
+        Ok(read) => read_rest(source, has_first_format, roots, read),
         Err(_) => Err(Refused::Memory),
     }
 }
@@ -59,7 +85,7 @@ fn read_parts(source: &Source, top: TopMembers) -> Result<Doc, Refused>
     ensures { (d : Data) → Knows source.now.meta.now source.now.found.now (parts source.now.meta.now d) → top_meant d ≡ Some (new_top top.entry.format (items_view top.entry.roots.now))
         → Answers result (reads source.now.meta.now (base_of source.now.uri.now) d) }
 {
-    match shape_cause(source.meta, top, source.found) {
+    match early_cause(source.meta, top, source.found) {
         Some(fault) => Err(Refused::Document(fault)),
         None => read_found(source, has_first_format(top), top.roots),
     }
@@ -99,7 +125,6 @@ fn read_text(alloc: Global, meta: &Meta, uri: &str, text: &str) -> Result<Doc, R
     ensures { Reads result meta.now uri.now text.now }
 {
     let arena = Bump::new(alloc);
-    let arena = Bump::new(alloc);
     let mut scratch = Scratch::new(alloc);
     match read_json(alloc, &arena, text, &mut scratch) {
         Ok(value) => read_value(alloc, meta, uri, &value),
@@ -125,9 +150,9 @@ fn read_text(alloc: Global, meta: &Meta, uri: &str, text: &str) -> Result<Doc, R
 /// - `Cross` if its format is 1, and a reference with an opposite leads to a different resource;
 /// - `Depth` if an object is below level 40.
 ///
-/// `Memory` if memory is refused, or if there are more than 2^32 objects, whatever else applies; no other
+/// `Memory` if memory is refused, or if there are more than 2^32 objects or values of a list, whatever else applies; no other
 /// refusal. References into other resources become proxies, by their joined URIs. The time is linear in the document, for
-/// each metamodel: the members of an object are looked through once for each feature of its class, some four times in all.
+/// each metamodel: the members of an object are looked through once for each feature of its class, some two times in all.
 pub fn read_doc(alloc: Global, meta: &Meta, uri: &str, bytes: &[u8]) -> Result<Doc, Refused>
     ensures { Reads result meta.now uri.now bytes.now }
 {

@@ -21,8 +21,8 @@ use web_uris::Path;
 fn conforms_to(meta: &Meta, class: ClassNo, part: FoundPart) -> bool
     ensures { result ≡ conforms_seen meta.now class (part_seen part.entry) }
 {
-    match part.known {
-        Some((own, _)) => meta.conforms(own, class),
+    match part.class {
+        Some(own) => meta.conforms(own, class),
         None => false,
     }
 }

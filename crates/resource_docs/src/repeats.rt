@@ -3,7 +3,7 @@ ghost use Rattle.std.specs.Prelude.{◌≡◌, IfOk};
 ghost use Rattle.std.specs.List.{list_any};
 ghost use Rattle.mm_types.specs.Shapes.{shape};
 ghost use Rattle.resource_docs.specs.Causes.{has_repeat as repeat_meant, of_content, repeats_value as repeats_meant};
-ghost use Rattle.resource_docs.specs.Keys.{value_of_key};
+ghost use Rattle.resource_docs.specs.Keys.{rising_from, value_of_key};
 
 use crate::doc::{Content, Doc, DocObject};
 use indexmap::IndexSet;
@@ -39,11 +39,32 @@ fn key_of(value: &Value) -> Key<'_>
     }
 }
 
+/// Whether values are objects in the order of their numbers; then none is there twice. Takes no memory.
+fn are_rising(values: &[Value]) -> bool
+    ensures { result ≡ rising_from 0 values.now }
+{
+    let mut least = 0;
+    'values: for value in values {
+        let Value::Object(object) = value else {
+            return false;
+        };
+        if (object.0 as u64) < least {
+            return false;
+        }
+        least = object.0 as u64 + 1;
+    }
+    true
+}
+
 /// Whether a list has a value twice. Errs only if memory is refused.
 fn repeats_value(alloc: Global, values: &[Value]) -> Result<bool, AllocError>
     ensures { IfOk result (λ b. b ≡ repeats_meant values.now) }
 {
     if values.len() < 2 {
+        return Ok(false);
+    }
+    // So are the objects that an object contains.
+    if are_rising(values) {
         return Ok(false);
     }
     let mut keys: IndexSet<Key> = IndexSet::new(alloc);

@@ -8,16 +8,12 @@ ghost use Rattle.doc_parts.specs.Parts.{Part};
 ghost use Rattle.resource_docs.specs.Read.{root_number};
 
 use borrowed_json::Json;
-use doc_parts::{FoundParts, PartKey};
+use doc_parts::{FoundParts, PartKey, index_of};
 use mm_types::{ObjectNo, Seq};
 use std::alloc::{AllocError, Global};
 
 /// Adds the number of the root at a position.
-fn add_root(
-    roots: &mut Seq<ObjectNo>,
-    found: &FoundParts,
-    position: usize,
-) -> Result<(), AllocError>
+fn add_root(roots: &mut Seq<ObjectNo>, found: &FoundParts, position: u32) -> Result<(), AllocError>
     ensures { OnOk result ((m : Metamodel) (ps : List Part) → Knows m found.now ps → roots.new ≡ roots.old ++ option_to_list (root_number ps (new_path position []))) }
 {
     match found.numbers.at(PartKey::Root(position)) {
@@ -27,7 +23,7 @@ fn add_root(
     Ok(())
 }
 
-/// The numbers of the roots. Errs only if memory is refused.
+/// The numbers of the roots. Errs only if memory is refused, or if there are more than 2^32.
 pub(crate) fn read_roots(
     alloc: Global,
     found: &FoundParts,
@@ -37,7 +33,8 @@ pub(crate) fn read_roots(
 {
     let mut numbers = Seq::from_vec(Vec::with_capacity(alloc, roots.len())?);
     'roots: for (i, _root) in roots.iter().enumerate() {
-        add_root(&mut numbers, found, i)?;
+        let position = index_of(i)?;
+        add_root(&mut numbers, found, position)?;
     }
     Ok(numbers)
 }

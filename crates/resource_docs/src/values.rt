@@ -9,22 +9,23 @@ ghost use Rattle.resource_docs.specs.Reading.{Numbered, entry_read, new_values, 
 ghost use Rattle.resource_docs.specs.Texts.{base_of};
 ghost use Rattle.resource_docs.specs.Values.{IsProxyValue, is_link as link_meant, object_of, value_of as value_meant};
 
+use crate::doc_values::DocValues;
 use crate::references::reference_value;
 use crate::source::Source;
 use borrowed_json::Json;
-use doc_parts::{PartKey, attribute_value, values_of};
-use mm_types::{FeatureNo, Kind, ObjectNo, Seq, Value};
+use doc_parts::{PartKey, attribute_value, index_of, values_of};
+use mm_types::{FeatureNo, Kind, ObjectNo, Value};
 use std::alloc::{AllocError, Global};
 
 /// What is read under a feature: its values, and whether a reference among them is lost.
 #[derive(Drop)]
 pub(crate) struct ReadValues {
-    pub values: Seq<Value>,
+    pub values: DocValues,
     pub is_lost: bool,
 }
 
 /// The object that a step leads to under a part. The part is given by its number.
-fn part_at(source: &Source, number: u32, name: &str, index: Option<usize>) -> Option<Value>
+fn part_at(source: &Source, number: u32, name: &str, index: Option<u32>) -> Option<Value>
     ensures value { Numbered source.now.meta.now source.now.found.now number (λ ps path. result ≡ option_map object_of (number_of ps (with_step path (new_step name.now index)))) }
     ensures proxy { IfSome result IsProxyValue }
 {
@@ -39,7 +40,7 @@ fn part_at(source: &Source, number: u32, name: &str, index: Option<usize>) -> Op
 }
 
 /// The object at a position under a feature of a part. The part is given by its number.
-fn part_of(source: &Source, number: u32, feature: FeatureNo, position: usize) -> Option<Value>
+fn part_of(source: &Source, number: u32, feature: FeatureNo, position: u32) -> Option<Value>
     ensures value { Numbered source.now.meta.now source.now.found.now number (λ ps path. result ≡ option_map object_of (number_of ps (with_step path (step_to source.now.meta.now feature position)))) }
     ensures proxy { IfSome result IsProxyValue }
 {
@@ -61,7 +62,7 @@ fn value_of(
     number: u32,
     feature: FeatureNo,
     kind: &Kind,
-    position: usize,
+    position: u32,
     json: &Json,
 ) -> Result<Option<Value>, AllocError>
     ensures value { IfOk result (λ v. Numbered source.now.meta.now source.now.found.now number (λ ps path. v ≡ value_meant source.now.meta.now (base_of source.now.uri.now) ps path feature kind.now (position, view json.now))) }
@@ -109,7 +110,7 @@ fn add_value(
     number: u32,
     feature: FeatureNo,
     kind: &Kind,
-    position: usize,
+    position: u32,
     json: &Json,
 ) -> Result<(), AllocError>
     ensures value { OnOk result (Numbered source.now.meta.now source.now.found.now number (λ ps path. (ds : List Data) → position ≡ length ds
@@ -118,7 +119,7 @@ fn add_value(
     ensures proxy { OnOk result (All IsProxyValue read.old.values → All IsProxyValue read.new.values) }
 {
     match value_of(source, number, feature, kind, position, json)? {
-        Some(value) => read.values.push(value)?,
+        Some(value) => read.values.push(source.alloc, value)?,
         None => note_lost(read, is_link(kind)),
     }
     Ok(())
@@ -128,14 +129,14 @@ fn add_value(
 fn no_values(alloc: Global, room: usize) -> Result<ReadValues, AllocError>
     ensures { IfOk result (λ r. r ≡ new_values [] false) }
 {
-    let values = Vec::with_capacity(alloc, room)?;
+    let values = DocValues::with_capacity(alloc, room)?;
     Ok(ReadValues {
-        values: Seq::from_vec(values),
+        values,
         is_lost: false,
     })
 }
 
-/// Reads values under a feature. Errs only if memory is refused.
+/// Reads values under a feature. Errs only if memory is refused, or if there are more than 2^32.
 fn read_values(
     source: &Source,
     number: u32,
@@ -148,12 +149,14 @@ fn read_values(
 {
     let mut read = no_values(source.alloc, values.len())?;
     'values: for (i, json) in values.iter().enumerate() {
-        add_value(&mut read, source, number, feature, kind, i, json)?;
+        let position = index_of(i)?;
+        add_value(&mut read, source, number, feature, kind, position, json)?;
     }
     Ok(read)
 }
 
-/// Reads what is written under a feature of a part. The part is given by its number. Errs only if memory is refused.
+/// Reads what is written under a feature of a part. The part is given by its number. Errs only if memory is refused, or if
+/// there are more than 2^32 values.
 pub(crate) fn read_content<'t>(
     source: &Source,
     number: u32,

@@ -4,7 +4,7 @@ use Rattle.borrowed_json.specs.View.{members_view, view}
 use Rattle.doc_parts.specs.FoundParts.{parts_at, parts_under}
 use Rattle.doc_parts.specs.Parts.{parts_from}
 use Rattle.doc_parts.specs.Keys.{key_of}
-use Rattle.doc_parts.proofs.WalkLemmas.{added_known, child, features_next, finds_as, finds_nothing, finds_then, no_class_entries, no_feature_entries, no_parts_at, ok_more, parts_at_some, values_next, walked_known, walked_nothing, walks_below}
+use Rattle.doc_parts.proofs.WalkLemmas.{added_known, child, features_next, finds_after, finds_as, finds_nothing, finds_then, no_class_entries, no_feature_entries, no_parts_at, ok_more, parts_at_some, values_next, walked_known, walked_nothing, walks_below}
 use Rattle.doc_parts.proofs.walk.+walk.Goals as goal
 
 pub walk-returns-in-Some-features : goal.walk-returns-in-Some-features
@@ -31,13 +31,14 @@ pub walk_feature-returns-then-not-is_containment : goal.walk_feature-returns-the
 walk_feature-returns-then-not-is_containment t c =
     finds_nothing c.args.meta.now c.args.found.now _ _ _ (λ path. ap (flat_map (parts_from c.args.meta.now c.args.levels)) (no_parts_at c.args.meta.now (members_view c.args.members.now) c.args.feature path (sym c.is_containment.ensures ∙ c.if-not-is_containment.true)))
 
-pub walk_feature-returns-in-Some : goal.walk_feature-returns-in-Some
-walk_feature-returns-in-Some t c =
+pub walk_feature-returns-in_ok-reserve-in-Some : goal.walk_feature-returns-in_ok-reserve-in-Some
+walk_feature-returns-in_ok-reserve-in-Some t c =
     ok_more c.walk_values.result
-    (finds_as c.args.meta.now c.args.found.now c.walk_values.new.found c.args.below.part c.args.below.level _ _
+    (λ more. finds_as c.args.meta.now c.args.found.now c.walk_values.new.found c.args.below.part c.args.below.level _ _
     (λ path. ap (flat_map (parts_from c.args.meta.now c.args.levels))
-    (parts_at_some c.args.meta.now (members_view c.args.members.now) c.args.feature (view c.in-Some.content.now) c.feature_name.result.now c.is_single-single.result c.values_of.result.now path
-    (sym c.is_containment.ensures ∙ c.if-not-is_containment.false) c.in-Some.ensures c.feature_name.ensures c.is_single-single.ensures c.values_of.ensures)))
+    (parts_at_some c.args.meta.now (members_view c.args.members.now) c.args.feature (view c.in-Some.content.now) c.feature_name.result.now c.is_single-single.result c.values_of-values.result.now path
+    (sym c.is_containment.ensures ∙ c.if-not-is_containment.false) c.in-Some.ensures c.feature_name.ensures c.is_single-single.ensures c.values_of-values.ensures))
+    (finds_after c.args.meta.now c.args.found.now c.reserve.new.self c.walk_values.new.found c.args.below.part c.args.below.level _ c.reserve.ensures more))
     c.walk_values.ensures
 
 pub walk_features-features-preserved : goal.walk_features-features-preserved
@@ -51,7 +52,7 @@ walk_values-values-preserved t c =
     finds_as c.args.meta.now c.args.found.now c.walk.new.found c.args.below.part c.args.below.level _ _
     (λ path.
     ap (λ ix. flat_map (parts_from c.args.meta.now c.args.levels) (parts_under path c.args.name.now c.args.is_single (map view (take c.values.i c.args.values.now)))
-    ++ parts_from c.args.meta.now c.args.levels (child path c.args.name.now ix (view c.index-values-i.result))) c.index_at-index.ensures
+    ++ parts_from c.args.meta.now c.args.levels (child path c.args.name.now ix (view c.index-values-i.result))) c.in_ok-index.ensures
     ∙ values_next (parts_from c.args.meta.now c.args.levels) path c.args.name.now c.args.is_single c.args.values.now c.values.i c.index-values-i.result c.values-test.true c.index-values-i.is)
     (finds_then c.args.meta.now c.args.found.now c.values.found c.walk.new.found c.args.below.part c.args.below.level _ _ c.values.invariant
-    (walks_below c.args.meta.now c.args.levels c.values.found c.walk.new.found c.args.below.part c.args.below.level c.args.name.now c.index_at-index.result (view c.index-values-i.result) c.in_ok-walk.ensures))
+    (walks_below c.args.meta.now c.args.levels c.values.found c.walk.new.found c.args.below.part c.args.below.level c.args.name.now c.in_ok-index.index (view c.index-values-i.result) c.in_ok-walk.ensures))

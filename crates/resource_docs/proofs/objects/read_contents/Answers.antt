@@ -1,5 +1,4 @@
 use Rattle.std.proofs.Common.{◌∙◌, ap, sym}
-use Rattle.std.specs.Prelude.{option_map}
 use Rattle.borrowed_json.specs.View.{members_view}
 use Rattle.doc_parts.specs.Parts.{known}
 use Rattle.doc_parts.proofs.DataLemmas.{entries_of_known}
@@ -16,5 +15,5 @@ returns-in-Some-features-clause-value c =
     read ps p.path knows (sym (ap (λ s. s.number) part))
     ∙ ap (contents_so_far m (base_of c.args.source.now.uri.now) ps p.path)
     (entries_of_known m (known m p.json) c.in-Some.class (members_view c.in-Some.members.now) c.in-Some-features.features.now
-    (ap (option_map (λ k. (k.0, members_view k.1.now))) (sym c.in-Some.is) ∙ ap (λ s. s.known) part) c.in-Some-features.ensures))
+    (c.in-Some.ensures ∙ ap (λ s. s.known) part) c.in-Some-features.ensures))
     c.read_features.ensures.value
