@@ -280,6 +280,18 @@ def deep_set(size):
         yield f'set #{i} parent #{i - 1}', 'ok'
 
 
+def deep_filled(size):
+    """Folders one in another: each new one gets a folder of its own, and is then put in the lowest."""
+    yield 'new Folder', '#0'
+    lowest = 0
+    for i in range(1, size + 1):
+        yield 'new Folder', f'#{2 * i - 1}'
+        yield 'new Folder', f'#{2 * i}'
+        yield f'add #{2 * i - 1} subs #{2 * i}', 'true'
+        yield f'add #{lowest} subs #{2 * i - 1}', 'true'
+        lowest = 2 * i - 1
+
+
 def deep_raised(size):
     """Folders one in another, from below: each new one gets all that there is."""
     yield 'new Folder', '#0'
@@ -523,11 +535,11 @@ def chain(size):
 WORKLOADS = {
     workload.__name__: workload
     for workload in (
-        attributes, alone, elsewhere, watched, watched_deep, watched_many, far_below, appended, inserted, moved, removed, repeated, stocked,
-        saved, loaded, paired, reloaded, deleted, wide_added, wide_set, deep_added, deep_set, deep_raised, deep_deleted, stolen_front,
-        stolen_back, stolen_random, books_inserted, books_moved, joined, liked_by_all, liked_deleted, shuffled_deleted, unliked,
-        unliked_random, library_deleted, targets_deleted, tree, tree_up, books, kept, wide_contents, wide_fragments, deep_fragments,
-        fragment_again, linked, unlinked, inherited,
+        attributes, alone, elsewhere, watched, watched_deep, watched_many, far_below, appended, inserted, moved, removed, repeated,
+        stocked, saved, loaded, paired, reloaded, deleted, wide_added, wide_set, deep_added, deep_set, deep_filled, deep_raised,
+        deep_deleted, stolen_front, stolen_back, stolen_random, books_inserted, books_moved, joined, liked_by_all, liked_deleted,
+        shuffled_deleted, unliked, unliked_random, library_deleted, targets_deleted, tree, tree_up, books, kept, wide_contents,
+        wide_fragments, deep_fragments, fragment_again, linked, unlinked, inherited,
     )
 }
 METAMODELS = {name: TOP / 'bench/authors.json' for name in ('linked', 'unlinked')} | {

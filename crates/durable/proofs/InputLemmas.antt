@@ -1,11 +1,12 @@
 -- The lines that were read of an input.
-use Rattle.std.proofs.Common.{◌≡◌, ◌≢◌, ◌∙◌, ◌+◌, ◌-◌, ◌^◌, ◌<◌, ◌≤◌, ◌++◌, ◌||◌, inl, inr, ℕ, Bool, true, false, List, [], ◌∷◌, Option, None, Some, ap, append-nil, append_assoc, arith, cond, length, lt-ltb, ne_eqb, refl, sym}
+use Rattle.std.proofs.Common.{◌≡◌, ◌≢◌, ◌∙◌, ◌+◌, ◌-◌, ◌^◌, ◌<◌, ◌≤◌, ◌++◌, ◌||◌, inl, inr, ℕ, Bool, true, List, [], ◌∷◌, Option, None, Some, ap, append-nil, append_assoc, arith, cond, length, lt-ltb, ne_eqb, refl, sym}
 use Rattle.std.specs.List.{list_any}
 use Rattle.std.specs.Prelude.{IfSome, OnSome, nat_lt}
 use Rattle.std.specs.Io.KnownBytes.{IsAtEnd}
 use Rattle.std.proofs.lemmas.List.{length-append, nil_from_length}
 use Rattle.std.proofs.lemmas.List.Folds.{list_any-append}
 use Rattle.std.proofs.lemmas.List.Elements.{All-head, All-tail}
+use Rattle.std.proofs.Math.Bool.{or-true}
 use Rattle.durable.specs.Answered.{IsTooLong}
 use Rattle.mm_types.specs.declared.limits.TheConstants.{INPUT_BYTES}
 use Rattle.script_lines.specs.Lines.{lines, with_byte}
@@ -97,10 +98,6 @@ lines-front (c ∷ d ∷ ds) rest plain some =
 is_long : List ℕ → Bool
 is_long l = nat_lt INPUT_BYTES (length l)
 
-or_true : (a : Bool) → (a || true) ≡ true
-or_true true = refl
-or_true false = refl
-
 any_long : (bytes : List ℕ) → BeginsTooLong bytes → list_any is_long (lines bytes) ≡ true
 unfolding is_long
 any_long bytes h =
@@ -117,7 +114,7 @@ module _ (done : List (List ℕ)) where
   too_long None b read long = tt
   too_long (Some x) None read long = absurd read
   too_long (Some x) (Some y) read long =
-      inl (ap (list_any is_long) read ∙ list_any-append is_long done (lines y) ∙ ap (λ t. list_any is_long done || t) (any_long y long) ∙ or_true (list_any is_long done))
+      inl (ap (list_any is_long) read ∙ list_any-append is_long done (lines y) ∙ ap (λ t. list_any is_long done || t) (any_long y long) ∙ or-true (list_any is_long done))
 
   -- there are as many lines as can be counted
   pub too_many : (a b : Option (List ℕ)) → LinesRead a b done → 2 ^ 64 - 1 ≤ length done → IfSome a (λ input. IsTooLong (lines input))

@@ -1,4 +1,5 @@
 mod DialogueLemmas
+mod HeadLemmas
 pub mod InputLemmas
 mod RunLemmas
 mod TwinLemmas

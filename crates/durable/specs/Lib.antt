@@ -1,4 +1,5 @@
 pub mod Answered
+pub mod Heads
 pub mod Outboxes
 pub mod Printed
 pub mod Waiting

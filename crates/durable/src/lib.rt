@@ -2,12 +2,16 @@
 #![tactic(auto)]
 
 mod dialogue;
+mod head;
 pub mod laws;
+mod opening;
 mod outbox;
 mod recovery;
 mod session;
 
 pub use dialogue::run_dialogue;
+pub use head::{behind_head, head_of};
+pub use opening::{JournalFault, open_journal};
 pub use outbox::Outbox;
 pub use recovery::{ReplayFault, replay};
 pub use session::{Session, Turn, Twin};

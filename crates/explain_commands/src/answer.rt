@@ -107,7 +107,7 @@ fn worded(line: &str) -> Option<Printed> {
     }
 }
 
-/// What a line is that has a mark and a number, as `#0`.
+/// A line that is a mark and a number, as `#0`.
 fn marked(line: &str) -> Option<Printed> {
     if let Some(number) = line.strip_prefix('#') {
         return Some(Printed::Object(natural_of(number)?));

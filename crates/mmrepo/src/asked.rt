@@ -1,7 +1,8 @@
 //! What the words of the command line ask for.
 use crate::misuse::{Misuse, misuse_of};
 use crate::stop::Stop;
-use script_program::{Dress, Options, options_of};
+use command_line::{Options, options_of};
+use script_answers::Dress;
 use script_streams::RunFault;
 use std::io::IsTerminal;
 use std::{env, io};

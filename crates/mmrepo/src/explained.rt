@@ -1,11 +1,11 @@
 //! What the program says beside of why it stops, if that is asked for.
 use crate::asked::Asked;
 use crate::stop::{JournalRefusal, Stop};
+use durable::JournalFault;
 use explain::explain_meta;
 use file_disk::OpenFault;
 use mm_types::MetaFault;
 use mm_types::limits::INPUT_BYTES;
-use script_program::JournalFault;
 use script_streams::RunFault;
 use std::alloc::AllocError;
 use std::io;

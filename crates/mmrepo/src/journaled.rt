@@ -11,10 +11,11 @@ use crate::saving::save_files;
 use crate::stop::Stop;
 use crate::watched::{Ear, Watching};
 use adapters::Adapter;
+use durable::head_of;
 use journal::Disk;
 use link_store::SlotStore;
 use mm_meta::Meta;
-use script_program::{Journaled, KeptFault, head_of, run_kept};
+use script_program::{Journaled, KeptFault, run_kept};
 use script_streams::RunFault;
 use std::io::BufReader;
 

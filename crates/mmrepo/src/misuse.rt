@@ -1,5 +1,5 @@
 //! Options that don't go together.
-use script_program::Options;
+use command_line::Options;
 use std::fmt;
 
 /// Why options that are good by themselves are refused.

@@ -1,8 +1,8 @@
 //! Why the program stops, and what it says of that.
 use crate::misuse::Misuse;
 use clap::error::ErrorKind;
+use command_line::usage_of;
 use mm_types::{MetaFault, Refused};
-use script_program::usage_of;
 use script_streams::RunFault;
 use std::alloc::{AllocError, AllocFailed};
 use std::fmt;

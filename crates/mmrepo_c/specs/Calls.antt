@@ -16,8 +16,8 @@ use Rattle.repository.specs.declared.command.Command.TheVariants.{Load}
 use Rattle.script_program.specs.Lists.{list_len_printed, list_value_printed}
 use Rattle.script_program.specs.Script.{RunsCommand, RunsLine}
 use Rattle.script_program.specs.Session.{Session}
-use Rattle.script_program.specs.Turns.{Printed, printed}
-use Rattle.script_program.specs.declared.turn.Turn.{Turn}
+use Rattle.script_answers.specs.Turns.{Printed, printed}
+use Rattle.script_answers.specs.declared.turn.Turn.{Turn}
 use Rattle.mmrepo_c.specs.Filled.{filled}
 use Rattle.mmrepo_c.specs.Sessions.{Begins, Reads, answer, running}
 use Rattle.mmrepo_c.specs.Statuses.{fault_status, line_status}

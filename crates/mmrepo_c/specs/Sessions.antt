@@ -4,7 +4,7 @@ use Rattle.mm_types.specs.Resolved.{Metamodel}
 use Rattle.notice_chain.specs.View.{View}
 use Rattle.repository.specs.State.{empty_state}
 use Rattle.script_program.specs.Session.{Session, session}
-use Rattle.script_program.specs.Turns.{Printed}
+use Rattle.script_answers.specs.Turns.{Printed}
 use Rattle.mmrepo_c.specs.declared.session.Session.{Session as Held}
 use Rattle.mmrepo_c.specs.declared.session.TheConstants.{BOXES}
 

@@ -2,8 +2,8 @@
 use Rattle.std.specs.Prelude.{ℕ, unwrap_or}
 use Rattle.mm_types.specs.Faults.{fault_number}
 use Rattle.mm_types.specs.declared.meta_fault.MetaFault.{MetaFault}
-use Rattle.script_program.specs.declared.turn.Turn.{Turn}
-use Rattle.script_program.specs.declared.turn.Turn.TheVariants as turned
+use Rattle.script_answers.specs.declared.turn.Turn.{Turn}
+use Rattle.script_answers.specs.declared.turn.Turn.TheVariants as turned
 use Rattle.mmrepo_c.specs.declared.status.TheConstants.{OK, BLANK, BAD, REFUSED, LOST, MEMORY}
 
 -- the status of a line, by how it is counted

@@ -7,7 +7,7 @@ use crate::handle::Handle;
 use crate::session::Session;
 use crate::status::{MEMORY, line_status};
 use mm_types::{Node, ObjectNo, ResourceNo};
-use script_program::Turn;
+use script_answers::Turn;
 use std::alloc::AllocError;
 
 /// The node of a number.

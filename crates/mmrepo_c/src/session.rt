@@ -4,14 +4,15 @@ ghost use Rattle.repository.specs.declared.command.Command.TheVariants.{Load};
 ghost use Rattle.script_lines.specs.Forms as forms;
 ghost use Rattle.script_program.specs.Lists.{list_len_printed, list_value_printed};
 ghost use Rattle.script_program.specs.Script.{RunsCommand, RunsLine};
-ghost use Rattle.script_program.specs.Turns.{printed};
+ghost use Rattle.script_answers.specs.Turns.{printed};
 ghost use Rattle.mmrepo_c.specs.Sessions.{AreUnheard, Begins, Reads, answer, running};
 
 use adapters::{Adapter, Counter};
 use link_store::SlotStore;
 use mm_meta::Meta;
 use mm_types::{Node, ResourceNo};
-use script_program::{Interpreter, Turn};
+use script_answers::Turn;
+use script_program::Interpreter;
 use std::alloc::{AllocError, Global};
 
 /// How many adapters a script has: A1 and so on.

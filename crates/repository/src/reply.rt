@@ -15,7 +15,7 @@ pub enum Answer {
     Object(ObjectNo),
     /// The resource that was made.
     Resource(ResourceNo),
-    /// The value of a feature of one value, or the one that was taken out of a list or moved in it.
+    /// The value of a single-valued feature, or the value that was taken out of a list or moved in it.
     Value(Value),
     /// The values of a feature of many, in order.
     Values(Seq<Value>),

@@ -5,13 +5,13 @@ use Rattle.std.specs.Io.KnownBytes.{Appends}
 use Rattle.repository.specs.State.{State}
 use Rattle.script_lines.specs.Lines.{lines}
 use Rattle.script_program.specs.Batch.{EndsAnywhere, EndsIn, PrintsDressed, PrintsDressedFront, PrintsInputDressed, PrintsInputDressedFront}
-use Rattle.script_program.specs.Dressed.{plain}
+use Rattle.script_answers.specs.Dressed.{plain}
 use Rattle.script_program.specs.Script.{Prints, PrintsFront, PrintsInput, PrintsInputFront, RunsLines}
 use Rattle.script_program.specs.Session.{Session}
-use Rattle.script_program.specs.declared.dress.Dress.{Dress}
+use Rattle.script_answers.specs.declared.dress.Dress.{Dress}
 use Rattle.script_program.specs.declared.summary.Summary.{Summary}
 use Rattle.script_streams.specs.Streams.{AppendsFront}
-use Rattle.script_program.proofs.DressLemmas.{plain_text}
+use Rattle.script_answers.proofs.DressLemmas.{plain_text}
 use Rattle.script_program.proofs.ScriptLemmas.{runs_length}
 
 no_rest : (rest : List (List ℕ)) → ((rest ≡ []) ⊎ (false ≡ true)) → rest ≡ []

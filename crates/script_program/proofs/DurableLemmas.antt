@@ -10,7 +10,8 @@ use Rattle.mm_types.specs.Resolved.{Metamodel}
 use Rattle.models.specs.Model.{Model}
 use Rattle.repository.specs.State.{State, empty_state}
 use Rattle.script_lines.specs.Lines.{lines}
-use Rattle.script_program.specs.Kept.{EndsJournaled, IsJournalOf, LeavesJournaled, RunsJournaled, StopsJournaled, begun, model_of, replayed}
+use Rattle.durable.specs.Heads.{begun}
+use Rattle.script_program.specs.Kept.{EndsJournaled, IsJournalOf, LeavesJournaled, RunsJournaled, StopsJournaled, model_of, replayed}
 use Rattle.script_program.specs.Session.{Session}
 use Rattle.script_program.proofs.KeptLemmas.{RanAll, Runs, kept_all, model_of-append, none_refused, ran_all}
 use Rattle.script_streams.specs.declared.run_fault.RunFault.{RunFault}

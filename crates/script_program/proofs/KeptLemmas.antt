@@ -29,10 +29,10 @@ use Rattle.script_program.specs.Live.{live_text}
 use Rattle.script_program.specs.Pool.{box_of}
 use Rattle.script_program.specs.Script.{RunsCommand, RunsLine, RunsLines, RunsRequest, command_printed}
 use Rattle.script_program.specs.Session.{Session}
-use Rattle.script_program.specs.Turns.{Printed}
+use Rattle.script_answers.specs.Turns.{Printed}
 use Rattle.script_program.specs.declared.request.Request.TheVariants as request
-use Rattle.script_program.specs.declared.turn.Turn.{Turn}
-use Rattle.script_program.specs.declared.turn.Turn.TheVariants as turned
+use Rattle.script_answers.specs.declared.turn.Turn.{Turn}
+use Rattle.script_answers.specs.declared.turn.Turn.TheVariants as turned
 use Rattle.repository.proofs.AloneLemmas.{comes_back, keeps_model}
 
 -- A line was run that asks for a change or not. If it counts as kept, it leaves the model that is named, and else the one from before.
@@ -137,20 +137,8 @@ line_one s u (line.Form (asks.Load k text)) p run = change_one s u _ p refl run
 line_one s u (line.Form (asks.Resource t)) p run = change_one s u _ p refl run
 line_one s u (line.Form (asks.Delete o)) p run = change_one s u _ p refl run
 line_one s u (line.Form (asks.Attach number target deep)) p run = other_counts s u p.turn (attach_one s u (box_of s.pool number) number target deep p run)
-line_one s u (line.Form (asks.Watch number target deep)) p run = other_counts s u p.turn (other_one s u _ p refl run)
-line_one s u (line.Form (asks.Unwatch number target)) p run = other_counts s u p.turn (other_one s u _ p refl run)
-line_one s u (line.Form (asks.Detach number)) p run = other_counts s u p.turn (other_one s u _ p refl run)
-line_one s u (line.Form (asks.Get n feature)) p run = other_counts s u p.turn (other_one s u _ p refl run)
-line_one s u (line.Form (asks.IsSet n feature)) p run = other_counts s u p.turn (other_one s u _ p refl run)
-line_one s u (line.Form (asks.Container o)) p run = other_counts s u p.turn (other_one s u _ p refl run)
-line_one s u (line.Form (asks.Within o)) p run = other_counts s u p.turn (other_one s u _ p refl run)
-line_one s u (line.Form (asks.Contents n)) p run = other_counts s u p.turn (other_one s u _ p refl run)
-line_one s u (line.Form (asks.Validate o)) p run = other_counts s u p.turn (other_one s u _ p refl run)
-line_one s u (line.Form (asks.Fragment o)) p run = other_counts s u p.turn (other_one s u _ p refl run)
-line_one s u (line.Form (asks.At t)) p run = other_counts s u p.turn (other_one s u _ p refl run)
-line_one s u (line.Form (asks.Save k)) p run = other_counts s u p.turn (other_one s u _ p refl run)
-line_one s u (line.Form (asks.Class o)) p run = other_counts s u p.turn (other_one s u _ p refl run)
 line_one s u (line.Form (asks.Seen number)) p run = other_counts s u p.turn (ap (λ (v : Session). v.state.model) run.1)
+line_one s u (line.Form _) p run = other_counts s u p.turn (other_one s u _ p refl run)
 
 -- ---- lines
 

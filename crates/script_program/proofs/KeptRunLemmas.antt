@@ -5,10 +5,11 @@ use Rattle.journal.specs.Disk.{LeavesOnly}
 use Rattle.journal.specs.Lines.{recovered}
 use Rattle.mm_types.specs.Resolved.{Metamodel}
 use Rattle.script_lines.specs.Lines.{lines}
-use Rattle.script_program.specs.Kept.{EndsJournaled, EndsKept, IsBegunOrNot, LeavesJournaled, LeavesKeptIn, StopsJournaled, StopsKept, begun, kept_outcome, model_of}
+use Rattle.durable.specs.Heads.{IsBegunOrNot, begun}
+use Rattle.script_program.specs.Kept.{EndsJournaled, EndsKept, LeavesJournaled, LeavesKeptIn, StopsJournaled, StopsKept, kept_outcome, model_of}
 use Rattle.script_program.specs.Session.{Session}
 use Rattle.script_program.specs.declared.kept_run.KeptFault.TheVariants.{Stopped, Unopened}
-use Rattle.script_program.specs.declared.recovery.JournalFault.{JournalFault}
+use Rattle.durable.specs.declared.opening.JournalFault.{JournalFault}
 use Rattle.script_program.proofs.DurableLemmas.{leaves_then, leaves_weaker}
 use Rattle.script_streams.specs.declared.run_fault.RunFault.{RunFault}
 

@@ -8,11 +8,11 @@ use Rattle.repository.specs.Views.{Outcome}
 use Rattle.repository.specs.declared.command.Command.{Command}
 use Rattle.script_lines.specs.Forms.{form}
 use Rattle.script_program.specs.Batch.{AnswersFront, EndsIn}
-use Rattle.script_program.specs.Dressed.{dressed_line}
+use Rattle.script_answers.specs.Dressed.{dressed_line}
 use Rattle.script_program.specs.Script.{IsLeft, RunsCommand, RunsLine, RunsRequest, command_printed}
 use Rattle.script_program.specs.Session.{Session, pool_after, session}
-use Rattle.script_program.specs.Turns.{Printed}
-use Rattle.script_program.specs.declared.dress.Dress.{Dress}
+use Rattle.script_answers.specs.Turns.{Printed}
+use Rattle.script_answers.specs.declared.dress.Dress.{Dress}
 use Rattle.script_program.specs.declared.request.Request.{Request}
 use Rattle.script_program.specs.declared.request.Request.TheVariants as request
 

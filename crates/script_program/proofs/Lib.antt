@@ -1,7 +1,5 @@
-mod ArgumentLemmas
 mod PoolLemmas
 mod SessionLemmas
-mod DressLemmas
 mod ScriptLemmas
 mod LostLemmas
 mod PlainLemmas
@@ -9,6 +7,5 @@ mod BatchLemmas
 mod LiveLemmas
 mod KeptLemmas
 mod DurableLemmas
-mod HeadLemmas
 pub mod LeftLemmas
 mod KeptRunLemmas

@@ -14,14 +14,14 @@ use Rattle.durable.proofs.InputLemmas.{LinesRead, none_read, read_end, read_more
 use Rattle.script_streams.proofs.FrontLemmas.{front_after, front_more, front_whole}
 use Rattle.repository.specs.State.{State}
 use Rattle.script_program.specs.Batch.{AnswersFront, AnswersLine, EndsIn}
-use Rattle.script_program.specs.Dressed.{plain}
+use Rattle.script_answers.specs.Dressed.{plain}
 use Rattle.script_program.specs.Live.{AnswersLive, AnswersLiveFront, IsTooLong, PrintsLive, PrintsLiveFront, live_answer, live_text, with_empty_line}
 use Rattle.script_program.specs.Script.{RunsLines}
 use Rattle.script_program.specs.Session.{Session}
-use Rattle.script_program.specs.Summary.{IsWithin}
-use Rattle.script_program.specs.Turns.{Printed, no_lines, summary_of, texts, with_turn}
+use Rattle.script_program.specs.Summary.{IsWithin, no_lines, summary_of, with_turn}
+use Rattle.script_answers.specs.Turns.{Printed, texts}
 use Rattle.script_program.specs.declared.summary.Summary.{Summary}
-use Rattle.script_program.specs.declared.turn.Turn.{Turn}
+use Rattle.script_answers.specs.declared.turn.Turn.{Turn}
 use Rattle.script_program.proofs.ScriptLemmas.{runs_more, summary_of_push, within_more}
 
 -- ---- an answer, and the empty line after it

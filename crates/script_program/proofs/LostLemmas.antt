@@ -26,10 +26,11 @@ use Rattle.script_program.specs.Pool.{Pool}
 use Rattle.script_program.specs.Session.{Session, pool_after}
 use Rattle.script_program.specs.declared.request.Request.{Request}
 use Rattle.script_program.specs.declared.request.Request.TheVariants as request
-use Rattle.script_program.specs.Turns.{Printed, is_lost, no_lines, outcome_turn, summary_of, with_turn}
+use Rattle.script_answers.specs.Turns.{Printed, is_lost}
+use Rattle.script_program.specs.Summary.{no_lines, outcome_turn, summary_of, with_turn}
 use Rattle.script_program.specs.declared.summary.Summary.{Summary}
-use Rattle.script_program.specs.declared.turn.Turn.{Turn}
-use Rattle.script_program.specs.declared.turn.Turn.TheVariants as turned
+use Rattle.script_answers.specs.declared.turn.Turn.{Turn}
+use Rattle.script_answers.specs.declared.turn.Turn.TheVariants as turned
 
 -- ---- one line
 

@@ -7,12 +7,13 @@ use Rattle.script_lines.specs.Forms.{form}
 use Rattle.script_lines.specs.Lines.{lines}
 use Rattle.repository.specs.State.{State}
 use Rattle.script_program.specs.Batch.{EndsIn, PrintsDressed, PrintsDressedFront}
-use Rattle.script_program.specs.Dressed.{dressed_from, dressed_line, plain}
+use Rattle.script_answers.specs.Dressed.{dressed_from, dressed_line, plain}
 use Rattle.script_program.specs.Session.{Session}
 use Rattle.script_program.specs.Script.{Adds, IsLeft, RunsLine}
-use Rattle.script_program.specs.Turns.{Printed, no_lines, printed, with_turn}
+use Rattle.script_answers.specs.Turns.{Printed, printed}
+use Rattle.script_program.specs.Summary.{no_lines, with_turn}
 use Rattle.script_program.specs.declared.summary.Summary.{Summary}
-use Rattle.script_program.specs.declared.turn.Turn.{Turn}
+use Rattle.script_answers.specs.declared.turn.Turn.{Turn}
 use Rattle.script_streams.specs.Streams.{AppendsFront}
 use Rattle.script_streams.proofs.FrontLemmas.{front_after, front_more}
 use Rattle.script_program.proofs.ScriptLemmas.{Ran, front_of, line_behind, none_run, one_more, whole_of}

@@ -1,5 +1,6 @@
 -- A script goes on by one line, and ends.
-use Rattle.std.proofs.Common.{◌∙◌, ◌≡◌, ◌+◌, ◌<◌, ◌≤◌, ◌++◌, ◌&&◌, ◌⊎◌, ℕ, Bool, true, false, inl, inr, List, [], ◌∷◌, Option, ap, append_assoc, arith, length, map, refl, subst, sym}
+use Rattle.std.proofs.Common.{◌∙◌, ◌≡◌, ◌+◌, ◌<◌, ◌≤◌, ◌++◌, ◌&&◌, ◌⊎◌, ℕ, true, false, inl, inr, List, [], ◌∷◌, Option, ap, append_assoc, arith, length, map, refl, subst, sym}
+use Rattle.std.proofs.Math.Bool.{and-false}
 use Rattle.std.proofs.lemmas.List.{length-append, map-append, nil_from_length}
 use Rattle.std.proofs.lemmas.List.Sums.{fold-append}
 use Rattle.std.specs.List.{fold}
@@ -9,18 +10,18 @@ use Rattle.script_lines.specs.Forms.{form}
 use Rattle.script_lines.specs.Lines.{lines}
 use Rattle.repository.specs.State.{State}
 use Rattle.script_program.specs.Batch.{AnswersFront, AnswersLine, EndsIn, PrintsDressed, PrintsDressedFront, RunsFirst}
-use Rattle.script_program.specs.Dressed.{dressed_from, dressed_line, is_fault, is_stopped, kept}
+use Rattle.script_answers.specs.Dressed.{dressed_from, dressed_line, is_stopped, kept}
 use Rattle.script_program.specs.Script.{RunsLine, RunsLines}
 use Rattle.script_program.specs.Session.{Session}
-use Rattle.script_program.specs.Summary.{IsWithin}
-use Rattle.script_program.specs.Turns.{Printed, no_lines, summary_of, with_turn}
-use Rattle.script_program.specs.declared.dress.Dress.{Dress}
+use Rattle.script_program.specs.Summary.{IsWithin, no_lines, summary_of, with_turn}
+use Rattle.script_answers.specs.Turns.{Printed, is_fault}
+use Rattle.script_answers.specs.declared.dress.Dress.{Dress}
 use Rattle.script_program.specs.declared.summary.Summary.{Summary}
-use Rattle.script_program.specs.declared.turn.Turn.{Turn}
-use Rattle.script_program.specs.declared.turn.Turn.TheVariants.{Blank, Bad, Done, Refused, Lost}
+use Rattle.script_answers.specs.declared.turn.Turn.{Turn}
+use Rattle.script_answers.specs.declared.turn.Turn.TheVariants.{Blank}
 use Rattle.script_streams.specs.Streams.{AppendsFront}
 use Rattle.script_streams.proofs.FrontLemmas.{front_after, front_whole}
-use Rattle.script_program.proofs.DressLemmas.{dressed_push, kept_all, kept_last, stopped_last}
+use Rattle.script_answers.proofs.DressLemmas.{dressed_push, kept_all, kept_last, stopped_last}
 
 -- ---- one more line
 
@@ -40,10 +41,7 @@ runs_length s t (l ∷ ls) (p ∷ ps) h = let rest = runs_length h.0 t ls ps h.2
 
 pub within_more : (t : Turn) (s : Summary) (n : ℕ) → IsWithin s n → IsWithin (with_turn s t) (n + 1)
 within_more Blank s n w = record { lines = omega (arith, w.lines); refused = omega (arith, w.refused); bad = omega (arith, w.bad); no_memory = omega (arith, w.no_memory) }
-within_more Bad s n w = record { lines = omega (arith, w.lines); refused = omega (arith, w.refused); bad = omega (arith, w.bad); no_memory = omega (arith, w.no_memory) }
-within_more Done s n w = record { lines = omega (arith, w.lines); refused = omega (arith, w.refused); bad = omega (arith, w.bad); no_memory = omega (arith, w.no_memory) }
-within_more Refused s n w = record { lines = omega (arith, w.lines); refused = omega (arith, w.refused); bad = omega (arith, w.bad); no_memory = omega (arith, w.no_memory) }
-within_more Lost s n w = record { lines = omega (arith, w.lines); refused = omega (arith, w.refused); bad = omega (arith, w.bad); no_memory = omega (arith, w.no_memory) }
+within_more _ s n w = record { lines = omega (arith, w.lines); refused = omega (arith, w.refused); bad = omega (arith, w.bad); no_memory = omega (arith, w.no_memory) }
 
 pub summary_of_push : (ps : List Printed) (p : Printed) → summary_of (ps ++ p ∷ []) ≡ with_turn (summary_of ps) p.turn
 summary_of_push ps p = ap (fold with_turn no_lines) (map-append (λ (q : Printed). q.turn) ps (p ∷ [])) ∙ fold-append with_turn no_lines (map (λ (q : Printed). q.turn) ps) (p.turn ∷ [])
@@ -65,10 +63,6 @@ pub record GoesOn (d : Dress) (z : Session) (bytes rest : List ℕ) (s : Session
   pub going : is_stopped d printed ≡ false
   pub written : Appends old now (dressed_from d 1 so_far.done printed)
 
-pub never : (b : Bool) → (b && false) ≡ false
-never true = refl
-never false = refl
-
 unfoldable pub none_run : (d : Dress) (z : Session) (bytes : List ℕ) → Ran d z bytes bytes z 0 [] no_lines
 none_run d z bytes = record {
   done = [];
@@ -78,12 +72,12 @@ none_run d z bytes = record {
   number_is = refl;
   room = omega arith;
   within = record { lines = omega arith; refused = omega arith; bad = omega arith; no_memory = omega arith };
-  none_behind = kept_all d [] (never d.stop);
+  none_behind = kept_all d [] (and-false d.stop);
 }
 
 pub start : (d : Dress) (z : Session) (bytes : List ℕ) (old : Option (List ℕ)) → GoesOn d z bytes bytes z 0 [] no_lines old old
 unfolding none_run
-start d z bytes old = record { so_far = none_run d z bytes; going = never d.stop; written = Appends-nil old }
+start d z bytes old = record { so_far = none_run d z bytes; going = and-false d.stop; written = Appends-nil old }
 
 -- one more line is run
 unfoldable pub one_more : (d : Dress) (z : Session) (bytes rest more line : List ℕ) (s u : Session) (number : ℕ) (printed : List Printed) (summary : Summary) (p : Printed)

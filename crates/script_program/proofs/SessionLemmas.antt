@@ -21,8 +21,8 @@ use Rattle.script_program.specs.Bind.{IsGiven, attach_request, bind}
 use Rattle.script_program.specs.Pool.{Pool, box_of, with_box, without}
 use Rattle.script_program.specs.Script.{Adds}
 use Rattle.script_program.specs.Session.{IsBrought, Session, brought_no, pool_after, returned, taken}
-use Rattle.script_program.specs.Turns.{Printed}
-use Rattle.script_program.specs.declared.turn.Turn.{Turn}
+use Rattle.script_answers.specs.Turns.{Printed}
+use Rattle.script_answers.specs.declared.turn.Turn.{Turn}
 use Rattle.script_program.proofs.PoolLemmas.{put-back}
 
 -- what brings nothing, and releases nothing, leaves the pool as it is

@@ -5,13 +5,14 @@ use Rattle.mm_types.specs.declared.limits.TheConstants.{INPUT_BYTES}
 use Rattle.repository.specs.State.{State}
 use Rattle.script_lines.specs.Forms.{form}
 use Rattle.script_lines.specs.Lines.{lines}
-use Rattle.script_program.specs.Dressed.{dressed, dressed_line, is_stopped, kept}
+use Rattle.script_answers.specs.Dressed.{dressed, dressed_line, is_stopped, kept}
 use Rattle.script_program.specs.Script.{RunsLine, RunsLines}
 use Rattle.script_program.specs.Session.{Session}
-use Rattle.script_program.specs.Turns.{Printed, summary_of}
-use Rattle.script_program.specs.declared.dress.Dress.{Dress}
+use Rattle.script_answers.specs.Turns.{Printed}
+use Rattle.script_program.specs.Summary.{summary_of}
+use Rattle.script_answers.specs.declared.dress.Dress.{Dress}
 use Rattle.script_program.specs.declared.summary.Summary.{Summary}
-use Rattle.script_program.specs.declared.turn.Turn.{Turn}
+use Rattle.script_answers.specs.declared.turn.Turn.{Turn}
 use Rattle.script_streams.specs.Streams.{AppendsFront}
 
 -- The first lines of a script were run, none of them after the end of the run, and the others were not.

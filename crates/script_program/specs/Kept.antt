@@ -1,6 +1,5 @@
 -- The lines that a journal keeps, and what they make when they are run again.
 use Rattle.std.specs.Prelude.{◌≡◌, ◌⊎◌, ◌++◌, ℕ, Bool, true, false, List, [], ◌∷◌, Option, Some, None, Result, Ok, Err, IfSome, option_and_then, if◌then◌else◌}
-use Rattle.std.specs.Borrow.{Bor}
 use Rattle.std.specs.Io.KnownBytes.{Appends}
 use Rattle.mm_types.specs.Resolved.{Metamodel}
 use Rattle.models.specs.Model.{Model}
@@ -17,8 +16,8 @@ use Rattle.script_lines.specs.declared.line.Line.{Line}
 use Rattle.script_lines.specs.declared.line.Line.TheVariants as line
 use Rattle.script_streams.specs.declared.run_fault.RunFault.{RunFault}
 use Rattle.durable.specs.Answered.{WritesUntil}
-use Rattle.journal.specs.Journal.{StandsFor}
 use Rattle.journal.specs.Lines.{recovered}
+use Rattle.durable.specs.Heads.{IsBegunOrNot, begun}
 use Rattle.durable.specs.Printed as durable
 use Rattle.durable.specs.declared.session.Turn.{Turn as JournalTurn}
 use Rattle.durable.specs.declared.session.Turn.TheVariants as journaled
@@ -26,16 +25,14 @@ use Rattle.script_program.specs.Bind.{bind}
 use Rattle.script_program.specs.Live.{live_text}
 use Rattle.script_program.specs.Script.{RunsLine, RunsLines}
 use Rattle.script_program.specs.Session.{Session, session}
-use Rattle.script_program.specs.Turns.{Printed}
+use Rattle.script_answers.specs.Turns.{Printed}
 use Rattle.script_program.specs.declared.journaled.Journaled.{Journaled}
 use Rattle.script_program.specs.declared.kept_run.KeptFault.{KeptFault}
 use Rattle.script_program.specs.declared.kept_run.KeptFault.TheVariants as stopping
-use Rattle.script_program.specs.declared.recovery.JournalFault.{JournalFault}
-use Rattle.script_program.specs.declared.recovery.JournalFault.TheVariants as refused
 use Rattle.script_program.specs.declared.request.Request.{Request}
 use Rattle.script_program.specs.declared.request.Request.TheVariants as request
-use Rattle.script_program.specs.declared.turn.Turn.{Turn}
-use Rattle.script_program.specs.declared.turn.Turn.TheVariants as turned
+use Rattle.script_answers.specs.declared.turn.Turn.{Turn}
+use Rattle.script_answers.specs.declared.turn.Turn.TheVariants as turned
 
 -- a form asks for a change of the model
 abbrev pub asks_change : Form → Bool
@@ -51,34 +48,17 @@ asks_change asks.ResolveAll = true
 asks_change (asks.Load k text) = true
 asks_change (asks.Resource t) = true
 asks_change (asks.Delete o) = true
-asks_change (asks.Attach number target deep) = false
-asks_change (asks.Watch number target deep) = false
-asks_change (asks.Unwatch number target) = false
-asks_change (asks.Detach number) = false
-asks_change (asks.Get n feature) = false
-asks_change (asks.IsSet n feature) = false
-asks_change (asks.Container o) = false
-asks_change (asks.Within o) = false
-asks_change (asks.Contents n) = false
-asks_change (asks.Validate o) = false
-asks_change (asks.Fragment o) = false
-asks_change (asks.At t) = false
-asks_change (asks.Save k) = false
-asks_change (asks.Class o) = false
-asks_change (asks.Seen number) = false
+asks_change _ = false
 
 abbrev pub line_asks : Line → Bool
-line_asks line.Blank = false
-line_asks line.Bad = false
 line_asks (line.Form f) = asks_change f
+line_asks _ = false
 
 -- how a line counts for a journal, by whether it asks for a change
 abbrev pub journal_turn : Bool → Turn → JournalTurn
-journal_turn asked turned.Blank = journaled.Other
-journal_turn asked turned.Bad = journaled.Other
 journal_turn asked turned.Done = if asked then journaled.Kept else journaled.Other
-journal_turn asked turned.Refused = journaled.Other
 journal_turn asked turned.Lost = journaled.Lost
+journal_turn asked _ = journaled.Other
 
 -- what a line printed, as a journal counts it
 abbrev pub journal_printed : List ℕ → Printed → durable.Printed
@@ -114,13 +94,11 @@ model_if_done (Err f) m = None
 -- the model that a command leaves of a repository without adapters, if it is done
 abbrev pub model_after_request : Model → Request View → Option Model
 model_after_request m (request.Execute c) = let one = step (bare m) c in model_if_done one.outcome one.after.model
-model_after_request m (request.Seen number) = None
-model_after_request m (request.Refuse r) = None
+model_after_request m _ = None
 
 abbrev pub model_after_line : Model → Line → Option Model
-model_after_line m line.Blank = None
-model_after_line m line.Bad = None
 model_after_line m (line.Form f) = if asks_change f then model_after_request m (bind (session (bare m) []) f) else None
+model_after_line m _ = None
 
 -- the model that lines leave, run in turn by a repository without adapters, if each asks for a change and is done
 abbrev pub replayed : Model → List (List ℕ) → Option Model
@@ -135,20 +113,6 @@ model_of m (head ∷ ls) = replayed (empty_state m).model ls
 -- a file is a journal, whose lines leave this model
 abbrev pub Recalls : Metamodel → Model → List ℕ → Type 0
 Recalls m model file = model_of m (recovered file) ≡ Some model
-
--- the lines of a journal once it has been begun: its head alone if there was none
-abbrev pub begun : List ℕ → List (List ℕ) → List (List ℕ)
-begun head [] = head ∷ []
-begun head (l ∷ ls) = l ∷ ls
-
--- what a file has after its head was found, or that it has no line
-abbrev pub FindsLines : Option (Bor (List ℕ)) → List ℕ → List ℕ → Type 0
-FindsLines None bytes head = recovered bytes ≡ []
-FindsLines (Some rest) bytes head = recovered bytes ≡ head ∷ recovered rest.now
-
--- a file stands for these lines, or for those of the journal when it has been begun
-abbrev pub IsBegunOrNot : List ℕ → List (List ℕ) → List ℕ → Type 0
-IsBegunOrNot head ls file = StandsFor ls file ⊎ StandsFor (begun head ls) file
 
 -- A run came to its end: all lines were run and answered, and the journal leaves the model that they left.
 pub record EndsJournaled (m : Metamodel) (s : Session) (ls : List (List ℕ)) (old new : Option (List ℕ)) (kept : List (List ℕ)) (t : Session) : Type 0 where
@@ -211,14 +175,6 @@ pub record LeavesKept (m : Metamodel) (head file : List ℕ) (ls : List (List �
 -- what a crash leaves at any moment of such a run: the lines of the file, or a journal of the model that the first lines of a known input left
 abbrev pub LeavesKeptIn : Metamodel → List ℕ → List ℕ → Option (List ℕ) → List ℕ → Type 0
 LeavesKeptIn m head file input left = IsBegunOrNot head (recovered file) left ⊎ IfSome input (λ bytes. LeavesKept m head file (lines bytes) left)
-
--- a file is refused as a journal before any of its lines is run
-abbrev pub IsOfHead : JournalFault → Type 0
-IsOfHead refused.Memory = ⊥
-IsOfHead refused.Failed = ⊥
-IsOfHead refused.NoJournal = Unit {0}
-IsOfHead refused.OtherMetamodel = Unit {0}
-IsOfHead (refused.Line n) = ⊥
 
 -- a file begins with a head, and the lines after it leave a model
 pub record IsJournalOf (m : Metamodel) (head file : List ℕ) (model : Model) : Type 0 where

@@ -1,10 +1,7 @@
-pub mod CommandLine
 pub mod Pool
 pub mod Session
 pub mod Bind
 pub mod Answers
-pub mod Turns
-pub mod Dressed
 pub mod Edits
 pub mod Script
 pub mod Lists

@@ -12,8 +12,8 @@ use Rattle.script_lines.specs.declared.grammar.TheConstants.{NEWLINE}
 use Rattle.script_program.specs.Answers.{read_text}
 use Rattle.script_program.specs.Bind.{feature_number, named_end}
 use Rattle.script_program.specs.Script.{refused_printed}
-use Rattle.script_program.specs.Turns.{Printed}
-use Rattle.script_program.specs.declared.turn.Turn.TheVariants as turned
+use Rattle.script_answers.specs.Turns.{Printed}
+use Rattle.script_answers.specs.declared.turn.Turn.TheVariants as turned
 
 abbrev pub len_printed : Result ℕ Refused → Printed
 len_printed (Ok n) = record { text = decimal n ++ NEWLINE ∷ []; turn = turned.Done }

@@ -8,9 +8,9 @@ use Rattle.script_lines.specs.Lines.{lines}
 use Rattle.script_lines.specs.declared.grammar.TheConstants.{NEWLINE}
 use Rattle.script_program.specs.Script.{PrintsAs, PrintsFrontAs, RunsLine}
 use Rattle.script_program.specs.Session.{Session}
-use Rattle.script_program.specs.Turns.{Printed}
+use Rattle.script_answers.specs.Turns.{Printed}
 use Rattle.script_program.specs.declared.summary.Summary.{Summary}
-use Rattle.script_program.specs.declared.turn.Turn.{Turn}
+use Rattle.script_answers.specs.declared.turn.Turn.{Turn}
 use Rattle.script_streams.specs.Streams.{AppendsFront}
 
 -- what is written for a line that prints this: the answer, and an empty line

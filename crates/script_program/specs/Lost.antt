@@ -17,7 +17,7 @@ use Rattle.script_program.specs.Script.{bad_printed, blank_printed, command_prin
 use Rattle.script_program.specs.Session.{Session, pool_after}
 use Rattle.script_program.specs.declared.request.Request.{Request}
 use Rattle.script_program.specs.declared.request.Request.TheVariants as request
-use Rattle.script_program.specs.Turns.{Printed, is_lost}
+use Rattle.script_answers.specs.Turns.{Printed, is_lost}
 
 -- what a line prints, and the session after it
 pub record LineRun : Type 0 where

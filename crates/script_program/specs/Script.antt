@@ -25,10 +25,11 @@ use Rattle.script_program.specs.Session.{Session, pool_after}
 use Rattle.script_program.specs.declared.request.Request.{Request}
 use Rattle.script_program.specs.declared.request.Request.TheVariants as request
 use Rattle.script_streams.specs.Streams.{AppendsFront}
-use Rattle.script_program.specs.Turns.{Printed, outcome_turn, summary_of, texts}
+use Rattle.script_answers.specs.Turns.{Printed, texts}
+use Rattle.script_program.specs.Summary.{outcome_turn, summary_of}
 use Rattle.script_program.specs.declared.summary.Summary.{Summary}
-use Rattle.script_program.specs.declared.turn.Turn.{Turn}
-use Rattle.script_program.specs.declared.turn.Turn.TheVariants as turned
+use Rattle.script_answers.specs.declared.turn.Turn.{Turn}
+use Rattle.script_answers.specs.declared.turn.Turn.TheVariants as turned
 
 -- what a command with this outcome prints
 abbrev pub command_printed : Metamodel → Command View → Outcome → Printed

@@ -3,17 +3,17 @@ ghost use Rattle.std.specs.Prelude.{◌≡◌, [], IfOk};
 ghost use Rattle.script_lines.specs.Forms as forms;
 ghost use Rattle.script_program.specs.Script.{RunsLine};
 ghost use Rattle.script_program.specs.Session.{first_session, session};
-ghost use Rattle.script_program.specs.Turns.{printed};
+ghost use Rattle.script_answers.specs.Turns.{printed};
 
 mod calls;
 
 use crate::line::run_line;
 use crate::pool::Pool;
-use crate::turn::Turn;
 use adapters::Adapter;
 use links::LinkStore;
 use mm_meta::Meta;
 use repository::Repository;
+use script_answers::Turn;
 use script_lines::Source;
 use script_output::Output;
 use std::alloc::{AllocError, Global};

@@ -6,12 +6,12 @@ ghost use Rattle.script_program.specs.Session.{first_session};
 
 use crate::interpreter::Interpreter;
 use crate::listener::Listener;
-use crate::turn::Turn;
 use adapters::Adapter;
 use durable::Session;
 use links::LinkStore;
 use mm_meta::Meta;
 use repository::Repository;
+use script_answers::Turn;
 use script_lines::{Form, Line, parse_line};
 use std::alloc::{AllocError, Global};
 

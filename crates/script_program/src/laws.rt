@@ -1,16 +1,17 @@
 //! Laws of the definitions, each the contract of a function that does nothing.
-ghost use Rattle.std.specs.Prelude.{◌≡◌, ◌++◌, [], List, ℕ, Some, length, map, true};
+ghost use Rattle.std.specs.Prelude.{◌≡◌, ◌++◌, [], List, ℕ, Some, length, map};
 ghost use Rattle.script_lines.specs.Lines.{lines};
 ghost use Rattle.script_program.specs.Batch.{RunsBatch};
-ghost use Rattle.script_program.specs.Dressed.{dressed, plain, until_fault};
+ghost use Rattle.script_answers.specs.Dressed.{dressed};
 ghost use Rattle.durable.specs.Printed.{Refuses};
 ghost use Rattle.script_program.specs.Kept.{RunsJournaled, kept_lines, replayed};
 ghost use Rattle.script_program.specs.Live.{live_text, with_empty_line};
 ghost use Rattle.script_program.specs.Lost.{AreCommands, lost_lines, script};
 ghost use Rattle.script_program.specs.Session.{Session};
 ghost use Rattle.script_program.specs.Script.{RunsLines};
-ghost use Rattle.script_program.specs.Turns.{Printed, summary_of, texts};
-ghost use Rattle.script_program.specs.declared.dress.Dress.{Dress};
+ghost use Rattle.script_answers.specs.Turns.{Printed, texts};
+ghost use Rattle.script_program.specs.Summary.{summary_of};
+ghost use Rattle.script_answers.specs.declared.dress.Dress.{Dress};
 
 /// What the lines of a script print is the text that is defined for the numbers of its lost lines. Each of these numbers is there once and
 /// is that of a line that asks for a command, and there are as many as `no_memory` counts. What the first lines print is a prefix of such
@@ -37,14 +38,6 @@ pub fn with_no_line_lost_the_script_is_a_function()
 pub fn a_run_writes_the_dressed_script()
     ensures { (d : Dress) (s t : Session) (bytes : List ℕ) (first : List (List ℕ)) (printed : List Printed) → RunsBatch d s bytes first printed t
         → dressed d (lines bytes) (script s bytes (lost_lines printed)) ≡ dressed d first printed }
-{}
-
-/// Without options it is the text of the script. If only the end of the run is asked for, it is the text of the lines up to and including
-/// the first that is refused or bad.
-pub fn a_plain_script_is_its_text()
-    ensures whole { (ls : List (List ℕ)) (printed : List Printed) → length ls ≡ length printed → dressed plain ls printed ≡ texts printed }
-    ensures stop { (ls : List (List ℕ)) (printed : List Printed) → length ls ≡ length printed
-        → dressed (record plain { stop = true }) ls printed ≡ texts (until_fault printed) }
 {}
 
 /// What is written for a live run is made of the same answers as the text of the script: each has an empty line after it.

@@ -1,13 +1,9 @@
-//! The program's parts: its command line, and a script that is run, and what its lines print.
+//! A script is run: its lines, what they print, and a journal that keeps them.
 #![tactic(auto)]
 
 mod answers;
-mod arguments;
 mod bind;
-mod dress;
-mod dressing;
 mod frequent;
-mod help;
 mod interpreter;
 mod journal_run;
 mod journaled;
@@ -23,10 +19,7 @@ mod recovery;
 mod request;
 mod script;
 mod summary;
-mod turn;
 
-pub use arguments::{Options, meta_file, options_of, usage_of};
-pub use dress::Dress;
 pub use interpreter::Interpreter;
 pub use journal_run::run_journal;
 pub use journaled::Journaled;
@@ -34,9 +27,8 @@ pub use kept_run::{KeptFault, KeptRun, run_kept};
 pub use listener::{Listener, NoListener};
 pub use live::{live_over, run_live};
 pub use loading::load_resource;
-pub use recovery::{JournalFault, head_of, open_journal, run_again};
+pub use recovery::run_again;
 pub use script::{run, run_dressed, run_over};
 pub use script_lines::parse_line;
 pub use script_streams::RunFault;
 pub use summary::Summary;
-pub use turn::Turn;

@@ -6,16 +6,15 @@ ghost use Rattle.script_streams.specs.Faults.{IsWriteOrMemory};
 ghost use Rattle.script_program.specs.Live.{AnswersLive, AnswersLiveFront, IsTooLong, PrintsInputLive, PrintsInputLiveFront};
 ghost use Rattle.script_program.specs.Session.{first_session, session, session_with};
 
-use crate::dress::Dress;
 use crate::listener::{Listener, NoListener};
 use crate::pool::Pool;
 use crate::script::answer_line;
 use crate::summary::Summary;
-use crate::turn::Turn;
 use adapters::Adapter;
 use links::LinkStore;
 use mm_meta::Meta;
 use repository::Repository;
+use script_answers::{Dress, Turn};
 use script_lines::Source;
 use script_output::Output;
 use script_streams::{LineEnd, RunFault, read_line, write_all};

@@ -5,7 +5,7 @@ ghost use Rattle.mm_types.specs.declared.limits.TheConstants.{INPUT_BYTES};
 ghost use Rattle.script_streams.specs.Faults.{IsWriteOrMemory};
 ghost use Rattle.script_streams.specs.Streams.{AppendsFront};
 ghost use Rattle.script_program.specs.Batch.{EndsIn, PrintsDressed, PrintsDressedFront};
-ghost use Rattle.script_program.specs.Dressed.{plain};
+ghost use Rattle.script_answers.specs.Dressed.{plain};
 ghost use Rattle.script_program.specs.Session.{session};
 
 use crate::line::run_line;

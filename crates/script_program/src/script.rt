@@ -7,19 +7,17 @@ ghost use Rattle.script_program.specs.Batch.{AnswersFront, AnswersLine, EndsAnyw
 ghost use Rattle.script_program.specs.Script.{PrintsInput, PrintsInputFront};
 ghost use Rattle.script_program.specs.Session.{first_session, session, session_with};
 
-use crate::dress::Dress;
-use crate::dressing::write_dressed;
 use crate::line::run_line;
 use crate::listener::{Listener, NoListener};
 use crate::plain::run_plain;
 use crate::pool::Pool;
 use crate::summary::Summary;
-use crate::turn::Turn;
 use adapters::Adapter;
 use links::LinkStore;
 use mm_meta::Meta;
 use mm_types::limits::INPUT_BYTES;
 use repository::Repository;
+use script_answers::{Dress, Turn, write_dressed};
 use script_lines::Source;
 use script_output::Output;
 use script_streams::{RunFault, read_all};

@@ -1,9 +1,8 @@
 //! The counts of a run.
 ghost use Rattle.std.specs.Prelude.{◌≡◌, ◌-◌, ◌^◌};
-ghost use Rattle.script_program.specs.Turns.{no_lines, with_turn};
-ghost use Rattle.script_program.specs.Summary.{IsWithin};
+ghost use Rattle.script_program.specs.Summary.{IsWithin, no_lines, with_turn};
 
-use crate::turn::Turn;
+use script_answers::Turn;
 
 /// The counts of a run that came to its end.
 #[derive(Clone, Copy, Debug, PartialEq, Eq)]

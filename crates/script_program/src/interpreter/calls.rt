@@ -7,17 +7,17 @@ ghost use Rattle.repository.specs.declared.command.Command.TheVariants.{Load};
 ghost use Rattle.script_program.specs.Lists.{list_len_printed, list_value_printed};
 ghost use Rattle.script_program.specs.Script.{RunsCommand};
 ghost use Rattle.script_program.specs.Session.{session};
-ghost use Rattle.script_program.specs.Turns.{printed};
+ghost use Rattle.script_answers.specs.Turns.{printed};
 
 use super::Interpreter;
 use crate::answers::{print_found, print_outcome, print_refusal};
 use crate::bind::{NOTHING, feature_number};
 use crate::line::turn_of;
-use crate::turn::Turn;
 use adapters::Adapter;
 use links::LinkStore;
 use mm_types::{FeatureNo, Node, Refused, ResourceNo};
 use repository::{Failure, Reply};
+use script_answers::Turn;
 use std::alloc::AllocError;
 
 /// What becomes of a command that brings no adapter.

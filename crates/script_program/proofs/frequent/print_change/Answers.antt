@@ -1,6 +1,6 @@
 use Rattle.std.proofs.Common.{List, ℕ, ap}
-use Rattle.script_program.specs.Turns.{printed}
-use Rattle.script_program.specs.declared.turn.Turn.TheVariants as turned
+use Rattle.script_answers.specs.Turns.{printed}
+use Rattle.script_answers.specs.declared.turn.Turn.TheVariants as turned
 use Rattle.script_program.proofs.frequent.print_change.Goals as goal
 
 pub returns-in_ok-text-in-Ok : goal.returns-in_ok-text-in-Ok

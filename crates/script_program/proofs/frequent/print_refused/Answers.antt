@@ -1,6 +1,6 @@
 use Rattle.std.proofs.Common.{ap}
 use Rattle.script_program.specs.Answers.{refusal_line}
-use Rattle.script_program.specs.Turns.{printed}
+use Rattle.script_answers.specs.Turns.{printed}
 use Rattle.script_program.proofs.frequent.print_refused.Goals as goal
 
 pub returns : goal.returns

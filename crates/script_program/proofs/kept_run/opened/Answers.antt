@@ -1,6 +1,7 @@
 use Rattle.std.proofs.Common.{◌≡◌, ◌∙◌, Some, ap, inl, sym}
 use Rattle.journal.specs.Lines.{recovered}
-use Rattle.script_program.specs.Kept.{begun, model_of, session_of}
+use Rattle.durable.specs.Heads.{begun}
+use Rattle.script_program.specs.Kept.{model_of, session_of}
 use Rattle.script_program.specs.Session.{Session}
 use Rattle.script_program.proofs.DurableLemmas.{leaves_same}
 use Rattle.script_program.proofs.KeptRunLemmas.{on_done}

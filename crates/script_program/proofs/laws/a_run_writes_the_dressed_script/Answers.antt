@@ -1,13 +1,13 @@
 use Rattle.std.proofs.Common.{◌≡◌, ◌∙◌, ◌++◌, ℕ, inl, inr, List, ap, append-nil, subst, sym}
 use Rattle.script_lines.specs.Lines.{lines}
 use Rattle.script_program.specs.Batch.{RunsBatch}
-use Rattle.script_program.specs.Dressed.{dressed, dressed_from, kept}
+use Rattle.script_answers.specs.Dressed.{dressed, dressed_from, kept}
 use Rattle.script_program.specs.Lost.{lost_lines, script}
 use Rattle.script_program.specs.Script.{RunsLines}
 use Rattle.script_program.specs.Session.{Session}
-use Rattle.script_program.specs.Turns.{Printed}
-use Rattle.script_program.specs.declared.dress.Dress.{Dress}
-use Rattle.script_program.proofs.DressLemmas.{dressed_first, kept_append}
+use Rattle.script_answers.specs.Turns.{Printed}
+use Rattle.script_answers.specs.declared.dress.Dress.{Dress}
+use Rattle.script_answers.proofs.DressLemmas.{dressed_first, kept_append}
 use Rattle.script_program.proofs.LostLemmas.{front, whole}
 use Rattle.script_program.proofs.ScriptLemmas.{runs_length}
 use Rattle.script_program.proofs.laws.a_run_writes_the_dressed_script.Goals as goal

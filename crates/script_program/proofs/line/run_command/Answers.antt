@@ -6,7 +6,7 @@ use Rattle.repository.proofs.RunLemmas.{executed-metamodel}
 use Rattle.repository.specs.Views.{command_view, outcome_view}
 use Rattle.script_program.specs.Answers.{feature_of, outcome_text}
 use Rattle.script_program.specs.Pool.{Pool}
-use Rattle.script_program.specs.Turns.{printed}
+use Rattle.script_answers.specs.Turns.{printed}
 use Rattle.script_program.proofs.SessionLemmas.{returned-after}
 use Rattle.script_program.specs.Session.{returned, session}
 use Rattle.script_program.proofs.LeftLemmas.{as_executed}

@@ -1,7 +1,7 @@
 use Rattle.std.proofs.Common.{◌-◌, List}
 use Rattle.std.specs.Io.Buffered.{reader_remaining}
 use Rattle.script_program.specs.Session.{Session}
-use Rattle.script_program.specs.Turns.{Printed}
+use Rattle.script_answers.specs.Turns.{Printed}
 use Rattle.script_program.proofs.LiveLemmas.{Goes}
 use Rattle.script_program.proofs.live.answer_lines.Given as goal
 

@@ -4,7 +4,7 @@ use Rattle.script_lines.specs.Forms.{form}
 use Rattle.script_lines.specs.Source.{bytes_of}
 use Rattle.script_program.specs.Script.{RunsLine}
 use Rattle.script_program.specs.Session.{session}
-use Rattle.script_program.specs.Turns.{printed}
+use Rattle.script_answers.specs.Turns.{printed}
 use Rattle.script_program.proofs.LeftLemmas.{unanswered}
 use Rattle.script_program.proofs.script.answer_line.Goals as goal
 

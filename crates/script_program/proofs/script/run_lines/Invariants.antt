@@ -1,7 +1,7 @@
 use Rattle.std.proofs.Common.{length, List}
 use Rattle.script_lines.specs.Source.{bytes_of}
 use Rattle.script_program.specs.Session.{Session}
-use Rattle.script_program.specs.Turns.{Printed}
+use Rattle.script_answers.specs.Turns.{Printed}
 use Rattle.script_program.proofs.ScriptLemmas.{GoesOn}
 use Rattle.script_program.proofs.script.run_lines.Given as goal
 

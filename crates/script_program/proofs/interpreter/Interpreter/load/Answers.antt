@@ -10,7 +10,7 @@ use Rattle.repository.specs.declared.command.Command.{Command}
 use Rattle.repository.specs.declared.command.Command.TheVariants.{Load}
 use Rattle.script_program.specs.Answers.{feature_of, outcome_text}
 use Rattle.script_program.specs.Pool.{box_of}
-use Rattle.script_program.specs.Turns.{printed}
+use Rattle.script_answers.specs.Turns.{printed}
 use Rattle.script_program.proofs.SessionLemmas.{returned-after}
 use Rattle.script_program.proofs.interpreter.Interpreter.load.Goals as goal
 

@@ -1,0 +1,69 @@
+//! The first line of a journal.
+ghost use Rattle.std.specs.Prelude.{◌≡◌, ◌≢◌, ◌++◌, ◌∷◌, ℕ, List, codes, IfErr, IfOk, OnErr};
+ghost use Rattle.hex.specs.Hex.{encode_lower};
+ghost use Rattle.journal.specs.Lines.{IsLine, recovered};
+ghost use Rattle.durable.specs.Heads.{FindsLines, IsOfHead};
+
+use crate::opening::JournalFault;
+use journal::next_entry;
+use std::alloc::{AllocError, Global};
+
+/// What the first line of a journal begins with.
+const HEAD: &[u8] = b"mmrepo-journal 1 ";
+
+/// The byte that ends a line.
+const NEWLINE: u8 = b'\n';
+
+/// The first line of a journal, by a digest of the document of its metamodel. Errs only if memory is refused.
+pub fn head_of(alloc: Global, digest: &[u8]) -> Result<Vec<u8>, AllocError>
+    ensures head { IfOk result (λ v. v.items ≡ codes "mmrepo-journal 1 " ++ encode_lower digest.now) }
+    ensures line { IfOk result (λ v. IsLine v.items) }
+{
+    let text = hex::encode(alloc, digest)?;
+    let mut head = Vec::new(alloc);
+    head.extend_from_slice(HEAD)?;
+    head.extend_from_slice(text.as_bytes())?;
+    Ok(head)
+}
+
+/// Whether a file of these bytes, which stand for no line, may be what a crash left of a journal that was to get this head.
+fn is_unbegun(bytes: &[u8], head: &[u8]) -> bool {
+    match bytes {
+        [] => true,
+        // The text after the newline was torn.
+        [NEWLINE, rest @ ..] => rest.len().saturating_sub(2) <= head.len(),
+        // The mark was torn, or the file was cut in part afterwards.
+        [_, rest @ ..] => match rest.strip_prefix(head) {
+            Some(more) => matches!(more, [] | [NEWLINE] | [NEWLINE, NEWLINE]),
+            None => head.starts_with(rest),
+        },
+    }
+}
+
+/// What a file has after its head; nothing if the journal is still to be begun.
+///
+/// Errs with `NoJournal` or `OtherMetamodel` if the file does not begin with the head.
+pub fn behind_head<'a>(bytes: &'a [u8], head: &[u8]) -> Result<Option<&'a [u8]>, JournalFault>
+    ensures found { IfOk result (λ found. FindsLines found bytes.now head.now) }
+    ensures kind { IfErr result IsOfHead }
+    ensures other { OnErr result ((rest : List (List ℕ)) → recovered bytes.now ≢ head.now ∷ rest) }
+{
+    match next_entry(bytes) {
+        Some((line, rest)) => {
+            if line == head {
+                Ok(Some(rest))
+            } else if line.starts_with(HEAD) {
+                Err(JournalFault::OtherMetamodel)
+            } else {
+                Err(JournalFault::NoJournal)
+            }
+        }
+        None => {
+            if is_unbegun(bytes, head) {
+                Ok(None)
+            } else {
+                Err(JournalFault::NoJournal)
+            }
+        }
+    }
+}

@@ -1,0 +1,14 @@
+//! Adapters: attached, given targets, notified, refused, given back and dropped; and views that follow notifications.
+mod adapter_kinds;
+mod attached;
+mod attached_again;
+mod caller;
+mod calls;
+mod closing;
+mod deciding;
+mod drops;
+mod following;
+mod notices;
+mod refused_adapters;
+mod replays;
+mod several_targets;

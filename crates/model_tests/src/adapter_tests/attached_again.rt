@@ -1,0 +1,122 @@
+//! An adapter that is refused when it is attached once more: its `Box` comes back, with what it was notified of.
+use crate::fixtures::books::{NAME, RowRepository, attach, object, one_book, text};
+use crate::fixtures::counted::{Drops, NO_DROPS, counted_box};
+use crate::fixtures::replies::{failure_text, made};
+use crate::fixtures::telling::Kind;
+use adapters::Adapter;
+use mm_types::{AdapterNo, Node, ObjectNo, ResourceNo};
+use std::alloc::Global;
+use std::cell::Cell;
+use std::rc::Rc;
+use std::test::Fail;
+
+/// A case in which an adapter can't be attached that was at a book, and got notifications of a change and of its own leaving. The number 6
+/// is taken.
+struct Again {
+    kind: Kind,
+    no: u32,
+    target: Node,
+    /// The refusal, and what the adapter that comes back was notified of.
+    wanted: &'static str,
+}
+
+const AGAIN: [Again; 5] = [
+    Again {
+        kind: Kind::Recorder,
+        no: 5,
+        target: Node::Object(ObjectNo(1)),
+        wanted: "refused 1, back, 2 told, SET -1, REMOVING_ADAPTER 0",
+    },
+    Again {
+        kind: Kind::Recorder,
+        no: 5,
+        target: Node::Resource(ResourceNo(0)),
+        wanted: "refused 2, back, 2 told, SET -1, REMOVING_ADAPTER 0",
+    },
+    Again {
+        kind: Kind::Recorder,
+        no: 6,
+        target: Node::Object(ObjectNo(0)),
+        wanted: "refused 26, back, 2 told, SET -1, REMOVING_ADAPTER 0",
+    },
+    // It could get two more.
+    Again {
+        kind: Kind::NearlyFull,
+        no: 5,
+        target: Node::Object(ObjectNo(0)),
+        wanted: "refused 27, back, 18446744073709551615 told",
+    },
+    // It found memory when it was attached first, and for the change.
+    Again {
+        kind: Kind::PoorRecorder,
+        no: 5,
+        target: Node::Object(ObjectNo(0)),
+        wanted: "refused 28, back, 2 told, SET -1, REMOVING_ADAPTER 0",
+    },
+];
+
+/// Detaches the adapter 5.
+fn released<A: Adapter>(repository: &mut RowRepository<A>) -> Result<A, Fail> {
+    let mut released = repository.detach(AdapterNo(5))?.released.into_vec();
+    match released.pop() {
+        Some((_no, adapter)) => Ok(adapter),
+        None => Err(Fail::new("the adapter is not given back")),
+    }
+}
+
+/// An adapter that was at a book, and was notified that the book was named.
+fn heard<A: Adapter>(
+    alloc: Global,
+    repository: &mut RowRepository<A>,
+    adapter: A,
+) -> Result<A, Fail> {
+    attach(repository, 5, adapter)?;
+    let emma = text(alloc, "Emma")?;
+    made(repository.e_set(object(0), NAME, emma))?;
+    released(repository)
+}
+
+/// Attaches an adapter, which has to be refused. Shows the refusal, what the adapter that comes back was notified of, and how many were
+/// dropped by then.
+fn refused<A: Adapter>(
+    alloc: Global,
+    repository: &mut RowRepository<A>,
+    again: &Again,
+    adapter: A,
+    drops: &Cell<Drops>,
+) -> Result<(String, u64), Fail> {
+    match repository.attach(AdapterNo(again.no), again.target, false, adapter) {
+        Ok(_) => Err(Fail::new("the adapter is attached")),
+        Err(failure) => Ok((failure_text(alloc, &failure)?, drops.get().all)),
+    }
+}
+
+/// What that gives in a repository of one book, with another adapter of the number 6 at the book.
+fn refused_at_a_book<A: Adapter>(
+    alloc: Global,
+    again: &Again,
+    adapter: A,
+    other: A,
+    drops: &Cell<Drops>,
+) -> Result<(String, u64), Fail> {
+    let mut repository = one_book(alloc)?;
+    let adapter = heard(alloc, &mut repository, adapter)?;
+    attach(&mut repository, 6, other)?;
+    refused(alloc, &mut repository, again, adapter, drops)
+}
+
+#[test]
+fn an_adapter_that_is_refused_comes_back_as_it_was(rt: HostRuntime) -> Result<(), Fail> {
+    let alloc = rt.alloc();
+    for again in &AGAIN {
+        let drops = Rc::new(alloc, Cell::new(NO_DROPS))?;
+        let adapter = counted_box(alloc, &drops, again.kind)?;
+        let other = counted_box(alloc, &drops, Kind::Counter)?;
+        let (found, dropped) = refused_at_a_book(alloc, again, adapter, other, &drops)?;
+        assert_eq!(rt; found.as_str(), again.wanted);
+        // The `Box` that came back is not dropped before its refusal is, and the other with its repository.
+        assert_eq!(rt; dropped, 0);
+        assert_eq!(rt; drops.get().all, 2);
+    }
+    Ok(())
+}

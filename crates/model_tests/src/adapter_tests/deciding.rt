@@ -1,0 +1,37 @@
+//! Which of two adapters decides why a chain is refused of which neither can be notified.
+use crate::fixtures::no_links::without_links;
+use crate::fixtures::notices::added;
+use crate::fixtures::telling::{Kind, adapter, attach, tell};
+use adapter_list::AdapterList;
+use adapters::Adapter;
+use mm_types::Refused;
+use notice_chain::Chain;
+use std::alloc::Global;
+use std::test::Fail;
+
+/// Why a chain is refused by two adapters at two objects. The chain reaches the object of the second one first.
+fn refused_to_two<A: Adapter>(alloc: Global, first: A, second: A) -> Result<Option<Refused>, Fail> {
+    let mut list = Box::new(alloc, AdapterList::new(alloc))?;
+    attach(&mut *list, 5, 1, first)?;
+    attach(&mut *list, 6, 2, second)?;
+    let chain = Chain::from_vec(vec![in alloc; added(2, 0), added(1, 0)]?);
+    let store = without_links(alloc);
+    Ok(tell(alloc, &store, &mut *list, &chain).err())
+}
+
+/// Two adapters in attach order, and why the chain is refused.
+const REFUSED: [(Kind, Kind, Refused); 2] = [
+    (Kind::LastAlone, Kind::Poor, Refused::AdapterFull),
+    (Kind::Poor, Kind::LastAlone, Refused::Memory),
+];
+
+#[test]
+fn the_first_in_attach_order_decides(rt: HostRuntime) -> Result<(), Fail> {
+    let alloc = rt.alloc();
+    for (first, second, reason) in &REFUSED {
+        let first = adapter(alloc, *first)?;
+        let found = refused_to_two(alloc, first, adapter(alloc, *second)?)?;
+        assert_eq!(rt; found, Some(*reason));
+    }
+    Ok(())
+}

@@ -1,0 +1,162 @@
+//! Each adapter is dropped once: after it was detached, after its target was destroyed, after its owner was closed, and with its owner,
+//! which is a list or a repository.
+use crate::fixtures::books::{object, watched};
+use crate::fixtures::counted::{Counted, Drops, NO_DROPS, counted_box};
+use crate::fixtures::telling::{Kind, three};
+use adapters::{Adapter, Counter};
+use mm_types::{AdapterNo, ObjectNo};
+use repository::Command;
+use std::alloc::{AllocError, Global};
+use std::cell::Cell;
+use std::rc::Rc;
+use std::test::Fail;
+
+/// How many parts are dropped when a list of three adapters is closed, and at the end.
+fn drops_on_the_way<A: Adapter>(
+    alloc: Global,
+    first: A,
+    second: A,
+    third: A,
+    drops: &Cell<Drops>,
+) -> Result<[u64; 2], Fail> {
+    let list = three(alloc, [1, 2, 1], first, second, third)?;
+    let closed = Box::into_inner(list).close();
+    let after_close = drops.get().all;
+    drop(closed);
+    Ok([after_close, drops.get().all])
+}
+
+#[test]
+fn each_part_is_dropped_once(rt: HostRuntime) -> Result<(), Fail> {
+    let alloc = rt.alloc();
+    let drops = Rc::new(alloc, Cell::new(NO_DROPS))?;
+    let first = counted_box(alloc, &drops, Kind::Counter)?;
+    let second = counted_box(alloc, &drops, Kind::Counter)?;
+    let third = counted_box(alloc, &drops, Kind::Counter)?;
+    let found = drops_on_the_way(alloc, first, second, third, &drops)?;
+    assert_eq!(rt; found, [0, 3]);
+    Ok(())
+}
+
+/// How many parts are dropped when one of a repository's three adapters is detached, when what came back is dropped, when
+/// the repository is closed, and at the end.
+fn drops_of_a_repository<A: Adapter>(
+    alloc: Global,
+    first: A,
+    second: A,
+    third: A,
+    drops: &Cell<Drops>,
+) -> Result<[u64; 4], Fail> {
+    let mut repository = watched(alloc, first, second, third)?;
+    let reply = repository.detach(AdapterNo(6))?;
+    let after_detach = drops.get().all;
+    drop(reply);
+    let after_drop = drops.get().all;
+    let closed = Box::into_inner(repository).close();
+    let after_close = drops.get().all;
+    drop(closed);
+    Ok([after_detach, after_drop, after_close, drops.get().all])
+}
+
+#[test]
+fn each_part_of_a_repository_is_dropped_once(rt: HostRuntime) -> Result<(), Fail> {
+    let alloc = rt.alloc();
+    let drops = Rc::new(alloc, Cell::new(NO_DROPS))?;
+    let first = counted_box(alloc, &drops, Kind::Counter)?;
+    let second = counted_box(alloc, &drops, Kind::Counter)?;
+    let third = counted_box(alloc, &drops, Kind::Counter)?;
+    let found = drops_of_a_repository(alloc, first, second, third, &drops)?;
+    assert_eq!(rt; found, [0, 1, 1, 3]);
+    Ok(())
+}
+
+/// How many parts are dropped when a book with three adapters is destroyed, when what came back is dropped, and with the
+/// repository.
+fn drops_of_a_deletion<A: Adapter>(
+    alloc: Global,
+    first: A,
+    second: A,
+    third: A,
+    drops: &Cell<Drops>,
+) -> Result<[u64; 3], Fail> {
+    let mut repository = watched(alloc, first, second, third)?;
+    let reply = repository.delete(ObjectNo(0))?;
+    let after_delete = drops.get().all;
+    drop(reply);
+    let after_drop = drops.get().all;
+    drop(repository);
+    Ok([after_delete, after_drop, drops.get().all])
+}
+
+#[test]
+fn each_part_at_a_book_that_is_destroyed_is_dropped_once(rt: HostRuntime) -> Result<(), Fail> {
+    let alloc = rt.alloc();
+    let drops = Rc::new(alloc, Cell::new(NO_DROPS))?;
+    let first = counted_box(alloc, &drops, Kind::Recorder)?;
+    let second = counted_box(alloc, &drops, Kind::WindowOfOne)?;
+    let third = counted_box(alloc, &drops, Kind::Counter)?;
+    let found = drops_of_a_deletion(alloc, first, second, third, &drops)?;
+    assert_eq!(rt; found, [0, 3, 3]);
+    assert_eq!(rt; drops.get().removed, 3);
+    Ok(())
+}
+
+fn counter(drops: &Rc<Cell<Drops>>) -> Result<Counted<Counter>, AllocError> {
+    Counted::new(drops, Counter::new())
+}
+
+#[test]
+fn a_dropped_list_drops_its_adapters(rt: HostRuntime) -> Result<(), Fail> {
+    let drops = Rc::new(rt.alloc(), Cell::new(NO_DROPS))?;
+    let (first, second) = (counter(&drops)?, counter(&drops)?);
+    let list = three(rt.alloc(), [1, 2, 1], first, second, counter(&drops)?)?;
+    assert_eq!(rt; drops.get().all, 0);
+    drop(list);
+    assert_eq!(rt; drops.get().all, 3);
+    // No adapter was notified: only `detach`, `release` and `close` notify.
+    assert_eq!(rt; drops.get().removed, 0);
+    Ok(())
+}
+
+#[test]
+fn a_dropped_repository_drops_its_adapters(rt: HostRuntime) -> Result<(), Fail> {
+    let drops = Rc::new(rt.alloc(), Cell::new(NO_DROPS))?;
+    let (first, second) = (counter(&drops)?, counter(&drops)?);
+    let repository = watched(rt.alloc(), first, second, counter(&drops)?)?;
+    assert_eq!(rt; drops.get().all, 0);
+    drop(repository);
+    assert_eq!(rt; drops.get().all, 3);
+    assert_eq!(rt; drops.get().removed, 0);
+    Ok(())
+}
+
+/// The command that attaches an adapter to the first object and all below it.
+fn attach<A: Adapter>(no: u32, adapter: A) -> Command<A> {
+    Command::Attach {
+        no: AdapterNo(no),
+        target: object(0),
+        deep: true,
+        adapter,
+    }
+}
+
+/// Commands that attach two adapters.
+fn attaching<A: Adapter>(
+    alloc: Global,
+    first: A,
+    second: A,
+) -> Result<Vec<Command<A>>, AllocError> {
+    Ok(vec![in alloc; attach(1, first), attach(2, second)]?)
+}
+
+#[test]
+fn commands_that_are_not_run_drop_their_adapters(rt: HostRuntime) -> Result<(), Fail> {
+    let drops = Rc::new(rt.alloc(), Cell::new(NO_DROPS))?;
+    let (first, second) = (counter(&drops)?, counter(&drops)?);
+    let commands = attaching(rt.alloc(), first, second)?;
+    assert_eq!(rt; drops.get().all, 0);
+    drop(commands);
+    assert_eq!(rt; drops.get().all, 2);
+    assert_eq!(rt; drops.get().removed, 0);
+    Ok(())
+}

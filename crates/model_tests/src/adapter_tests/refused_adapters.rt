@@ -1,0 +1,131 @@
+//! Changes of which an adapter can't be notified.
+use crate::fixtures::books::{NAME, RowRepository, closed, name_book, object, watched};
+use crate::fixtures::counted::{Drops, NO_DROPS, counted_box};
+use crate::fixtures::replies::{given, made};
+use crate::fixtures::telling::Kind;
+use adapters::Adapter;
+use mm_types::{AdapterNo, Refused};
+use std::alloc::{AllocError, Global};
+use std::cell::Cell;
+use std::rc::Rc;
+use std::test::Fail;
+
+/// How many notifications an adapter got, and how many it keeps.
+fn counts<A: Adapter>(repository: &RowRepository<A>, no: u32) -> Result<(u64, u64), Refused> {
+    let told = repository.adapter_told(AdapterNo(no))?;
+    Ok((told, repository.adapter_kept(AdapterNo(no))?))
+}
+
+/// What three adapters were notified of, and the name of the book.
+fn state<A: Adapter>(alloc: Global, repository: &RowRepository<A>) -> Result<String, AllocError> {
+    let counts = (
+        counts(repository, 5),
+        counts(repository, 6),
+        counts(repository, 7),
+    );
+    let name = repository.e_get(object(0), NAME);
+    format!(in alloc; "{counts:?} {name:?}")
+}
+
+/// A book that no adapter was notified of, and whose name is null.
+const BEFORE: &str = "(Ok((0, 0)), Ok((0, 0)), Ok((0, 0))) Ok(One(Null))";
+
+/// What the second call gives.
+const TOLD: &str =
+    "Done; A5 SET Null Text(\"Emma\") -1 false; A6 SET Null Text(\"Emma\") -1 false; A7 SET Null Text(\"Emma\") -1 false";
+
+/// A book with three adapters of which one is refused memory when it is named, in attach order.
+struct Watched {
+    kinds: [Kind; 3],
+    /// What the adapters were notified of, and the book's name, after the second call: the poor one keeps none.
+    after: &'static str,
+    /// What the adapters were notified of when the repository is closed.
+    closed: &'static str,
+}
+
+const WATCHED: [Watched; 3] = [
+    Watched {
+        kinds: [Kind::Recorder, Kind::Recorder, Kind::Poor],
+        after: "(Ok((1, 1)), Ok((1, 1)), Ok((1, 0))) Ok(One(Text(\"Emma\")))",
+        closed: "; A5 back, 2 told, SET -1, REMOVING_ADAPTER 0; A6 back, 2 told, SET -1, REMOVING_ADAPTER 0; A7 back, 2 told",
+    },
+    Watched {
+        kinds: [Kind::Recorder, Kind::Poor, Kind::Recorder],
+        after: "(Ok((1, 1)), Ok((1, 0)), Ok((1, 1))) Ok(One(Text(\"Emma\")))",
+        closed: "; A5 back, 2 told, SET -1, REMOVING_ADAPTER 0; A6 back, 2 told; A7 back, 2 told, SET -1, REMOVING_ADAPTER 0",
+    },
+    Watched {
+        kinds: [Kind::Poor, Kind::Recorder, Kind::Recorder],
+        after: "(Ok((1, 0)), Ok((1, 1)), Ok((1, 1))) Ok(One(Text(\"Emma\")))",
+        closed: "; A5 back, 2 told; A6 back, 2 told, SET -1, REMOVING_ADAPTER 0; A7 back, 2 told, SET -1, REMOVING_ADAPTER 0",
+    },
+];
+
+/// Why the book is not named, and what the adapters were notified of and the book has before and after.
+fn refusal<A: Adapter>(alloc: Global, repository: &mut RowRepository<A>) -> Result<String, Fail> {
+    let before = state(alloc, repository)?;
+    let refused = made(name_book(alloc, repository, 0)?).err();
+    let after = state(alloc, repository)?;
+    Ok(format!(in alloc; "{before}; {refused:?}; {after}")?)
+}
+
+/// What it gives to name the book.
+fn named<A: Adapter>(alloc: Global, repository: &mut RowRepository<A>) -> Result<String, Fail> {
+    given(alloc, name_book(alloc, repository, 0)?)
+}
+
+/// Names a book with three adapters, twice. Shows why it is refused first, what it gives then, and what the adapters were
+/// notified of and the book has before, between and after.
+fn named_twice<A: Adapter>(
+    alloc: Global,
+    repository: &mut RowRepository<A>,
+) -> Result<[String; 3], Fail> {
+    let refused = refusal(alloc, repository)?;
+    let told = named(alloc, repository)?;
+    let after = state(alloc, repository)?;
+    Ok([refused, told, after])
+}
+
+/// What that gives over a book of its own, and what the adapters were notified of when its repository is closed.
+fn twice_at_a_book<A: Adapter>(
+    alloc: Global,
+    first: A,
+    second: A,
+    third: A,
+) -> Result<([String; 3], String), Fail> {
+    let mut repository = watched(alloc, first, second, third)?;
+    let found = named_twice(alloc, &mut repository)?;
+    let closed = closed(alloc, repository)?;
+    Ok((found, closed))
+}
+
+/// What that gives with three adapters in a `Box` each, whose parts are counted.
+fn twice_by(
+    alloc: Global,
+    drops: &Rc<Cell<Drops>>,
+    kinds: [Kind; 3],
+) -> Result<([String; 3], String), Fail> {
+    let first = counted_box(alloc, drops, kinds[0])?;
+    let second = counted_box(alloc, drops, kinds[1])?;
+    twice_at_a_book(alloc, first, second, counted_box(alloc, drops, kinds[2])?)
+}
+
+#[test]
+fn a_set_that_one_adapter_cannot_hear_notifies_none(rt: HostRuntime) -> Result<(), Fail> {
+    let alloc = rt.alloc();
+    let wanted = format!(in alloc; "{BEFORE}; Some(Memory); {BEFORE}")?;
+    for Watched {
+        kinds,
+        after,
+        closed,
+    } in &WATCHED {
+        let drops = Rc::new(alloc, Cell::new(NO_DROPS))?;
+        let (found, last) = twice_by(alloc, &drops, *kinds)?;
+        assert_eq!(rt; found[0].as_str(), wanted.as_str());
+        assert_eq!(rt; found[1].as_str(), TOLD);
+        assert_eq!(rt; found[2].as_str(), *after);
+        assert_eq!(rt; last.as_str(), *closed);
+        assert_eq!(rt; drops.get().all, 3);
+    }
+    Ok(())
+}

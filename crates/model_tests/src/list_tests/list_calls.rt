@@ -1,0 +1,85 @@
+//! What no script names is put in no list, and a list is not one value.
+use crate::fixtures::books::{RowRepository, object, text};
+use crate::fixtures::boxes::{LIKES, MARKS, PARTS, boxes};
+use crate::fixtures::replies::made;
+use adapters::{Adapter, Counter};
+use mm_types::{AdapterNo, FeatureNo, Node, Refused, ResourceNo, Text, Value};
+use std::alloc::{AllocError, Global};
+use std::test::Fail;
+
+/// Why a value is neither added to a list of a box nor taken out of it.
+fn refusals<A: Adapter>(
+    repository: &mut RowRepository<A>,
+    node: Node,
+    feature: FeatureNo,
+    first: Value,
+    second: Value,
+) -> [Option<Refused>; 2] {
+    let added = made(repository.add(node, feature, first, None)).err();
+    let removed = made(repository.remove_value(node, feature, second)).err();
+    [added, removed]
+}
+
+fn proxy(alloc: Global) -> Result<Value, AllocError> {
+    Ok(Value::Proxy(Text::from_str(alloc, "a.xmi#/")?))
+}
+
+/// Why a proxy, a literal and an adapter are in no list of a box.
+fn refusals_of_type<A: Adapter>(
+    alloc: Global,
+    repository: &mut RowRepository<A>,
+) -> Result<[[Option<Refused>; 2]; 3], AllocError> {
+    let (node, literal, no) = (object(0), Value::Literal, AdapterNo(0));
+    let (first, second) = (proxy(alloc)?, proxy(alloc)?);
+    Ok([
+        refusals(repository, node, PARTS, first, second),
+        refusals(repository, node, MARKS, literal(0), literal(0)),
+        refusals(
+            repository,
+            node,
+            LIKES,
+            Value::Adapter(no),
+            Value::Adapter(no),
+        ),
+    ])
+}
+
+#[test]
+fn values_that_no_script_names_are_in_no_list(rt: HostRuntime) -> Result<(), Fail> {
+    let mut repository: Box<RowRepository<Counter>> = boxes(rt.alloc(), 1)?;
+    let found = refusals_of_type(rt.alloc(), &mut repository)?;
+    assert_eq!(rt; found, [[Some(Refused::WrongType); 2]; 3]);
+    assert_eq!(rt; repository.e_is_set(object(0), MARKS), Ok(false));
+    Ok(())
+}
+
+#[test]
+fn numbers_past_the_last_name_nothing(rt: HostRuntime) -> Result<(), Fail> {
+    let mut repository: Box<RowRepository<Counter>> = boxes(rt.alloc(), 1)?;
+    let past = FeatureNo(6);
+    let found = refusals(&mut repository, object(0), past, Value::Null, Value::Null);
+    assert_eq!(rt; found, [Some(Refused::NoFeature); 2]);
+    let resource = Node::Resource(ResourceNo(0));
+    let found = refusals(&mut repository, resource, past, Value::Null, Value::Null);
+    assert_eq!(rt; found, [Some(Refused::NoResource); 2]);
+    Ok(())
+}
+
+/// Why a list of one number is not read as one value, and not set to one.
+fn refused_as_one<A: Adapter>(
+    alloc: Global,
+    repository: &mut RowRepository<A>,
+) -> Result<[Option<Refused>; 2], Fail> {
+    made(repository.add(object(0), MARKS, Value::Int(7), None))?;
+    let one = repository.value(object(0), MARKS).err();
+    let name = text(alloc, "Emma")?;
+    Ok([one, made(repository.e_set(object(0), MARKS, name)).err()])
+}
+
+#[test]
+fn a_list_is_no_one_value(rt: HostRuntime) -> Result<(), Fail> {
+    let mut repository: Box<RowRepository<Counter>> = boxes(rt.alloc(), 1)?;
+    let found = refused_as_one(rt.alloc(), &mut repository)?;
+    assert_eq!(rt; found, [Some(Refused::NotSingle); 2]);
+    Ok(())
+}

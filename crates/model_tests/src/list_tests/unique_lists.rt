@@ -1,0 +1,206 @@
+//! Whether a list has a value: a short list, one of the length from which its values are counted, and a long one.
+use crate::fixtures::values::{empty, put_many, remove, shift};
+use mm_types::{AdapterNo, ClassNo, FeatureNo, ObjectNo, Text, Value};
+use mm_values::{ValueEdit, ValuePlan, Values};
+use std::alloc::{AllocError, Global};
+use std::test::Fail;
+
+const OBJECT: ObjectNo = ObjectNo(0);
+
+const FEATURE: FeatureNo = FeatureNo(3);
+
+/// Short, the last length at which values are looked for one by one, the first at which they are not, and longer.
+const LENGTHS: [u32; 5] = [10, 64, 65, 200, 10_000];
+
+/// Puts a value into a list that is asked for its values.
+fn insert(index: u32, value: Value) -> ValueEdit {
+    ValueEdit::InsertValue {
+        object: OBJECT,
+        feature: FEATURE,
+        index,
+        value,
+        is_unique: true,
+    }
+}
+
+fn number(number: u32) -> Value {
+    Value::Int(i64::from(number))
+}
+
+/// Makes an edit; if memory is refused, it is asked for once more.
+fn run(values: &mut Values, edit: ValueEdit) -> Result<(), AllocError> {
+    let plan = ValuePlan::one(edit);
+    if values.reserve_for(&plan).is_err() {
+        values.reserve_for(&plan)?;
+    }
+    values.apply(plan);
+    Ok(())
+}
+
+/// Puts the numbers from 0 on into the list, each at the end.
+fn fill(values: &mut Values, count: u32) -> Result<(), AllocError> {
+    for at in 0..count {
+        run(values, insert(at, number(at)))?;
+    }
+    Ok(())
+}
+
+/// No object; if memory is refused, it is asked for once more.
+fn no_values(alloc: Global) -> Result<Box<Values>, Fail> {
+    match Box::new(alloc, Values::new(alloc)) {
+        Ok(values) => Ok(values),
+        Err(_) => empty(alloc),
+    }
+}
+
+/// An object whose list has the numbers from 0 on. If memory is refused, it is asked for once more.
+fn filled(alloc: Global, count: u32) -> Result<Box<Values>, Fail> {
+    let mut values = no_values(alloc)?;
+    run(&mut values, ValueEdit::NewObject(ClassNo(1)))?;
+    fill(&mut values, count)?;
+    Ok(values)
+}
+
+/// Fails unless the list has a number exactly if it is one from the first to before the second.
+fn check_number(values: &Values, at: u32, first: u32, before: u32) -> Result<(), Fail> {
+    let has = values.has(OBJECT, FEATURE, &number(at));
+    if has == Some(first <= at && at < before) {
+        return Ok(());
+    }
+    Err(Fail::new(format_args!("{at}, of {first} to {before}: {has:?}")))
+}
+
+/// Checks the numbers at both edges.
+fn check_edges(values: &Values, first: u32, before: u32) -> Result<(), Fail> {
+    let edges = [
+        first.saturating_sub(1),
+        first,
+        before.saturating_sub(1),
+        before,
+    ];
+    for at in &edges {
+        check_number(values, *at, first, before)?;
+    }
+    Ok(())
+}
+
+/// Fails unless the list has the numbers from the first to before the second, and no other. Of a long list, not every number is looked for.
+fn check(values: &Values, first: u32, before: u32) -> Result<(), Fail> {
+    check_edges(values, first, before)?;
+    for at in 0..before.saturating_add(20) {
+        if before < 1000 || at % 37 == 0 {
+            check_number(values, at, first, before)?;
+        }
+    }
+    Ok(())
+}
+
+/// Edits a list of the numbers from 0 on, one value at a time.
+fn check_edits(values: &mut Values, count: u32) -> Result<(), Fail> {
+    check(values, 0, count)?;
+    run(values, remove(3, 0))?;
+    check(values, 1, count)?;
+    run(values, insert(5, number(count)))?;
+    check(values, 1, count.saturating_add(1))?;
+    run(values, shift(3, 0, 5))?;
+    check(values, 1, count.saturating_add(1))?;
+    run(values, remove(3, 0))?;
+    check(values, 1, count)
+}
+
+/// Replaces a list by a short one, and by one of the numbers from 0 on, and adds one more each time.
+fn check_replaced(alloc: Global, values: &mut Values, count: u32) -> Result<(), Fail> {
+    run(values, put_many(alloc, 3)?)?;
+    check(values, 0, 3)?;
+    run(values, insert(0, number(3)))?;
+    check(values, 0, 4)?;
+    run(values, put_many(alloc, i64::from(count))?)?;
+    check(values, 0, count)?;
+    run(values, insert(count, number(count)))?;
+    check(values, 0, count.saturating_add(1))?;
+    run(values, remove(3, 0))?;
+    check(values, 1, count.saturating_add(1))
+}
+
+#[test]
+fn a_list_has_what_its_edits_leave(rt: HostRuntime) -> Result<(), Fail> {
+    for count in &LENGTHS {
+        let mut values = filled(rt.alloc(), *count)?;
+        check_edits(&mut values, *count)?;
+        check_replaced(rt.alloc(), &mut values, *count)?;
+    }
+    Ok(())
+}
+
+#[test]
+fn a_value_that_stands_twice_is_there_until_both_are_gone(rt: HostRuntime) -> Result<(), Fail> {
+    let mut values = filled(rt.alloc(), 100)?;
+    run(&mut values, insert(100, number(7)))?;
+    run(&mut values, remove(3, 7))?;
+    check(&values, 0, 100)?;
+    run(&mut values, remove(3, 99))?;
+    assert_eq!(rt; values.has(OBJECT, FEATURE, &number(7)), Some(false));
+    assert_eq!(rt; values.has(OBJECT, FEATURE, &number(8)), Some(true));
+    Ok(())
+}
+
+/// Values of each kind.
+fn kinds(alloc: Global) -> Result<Vec<Value>, AllocError> {
+    Ok(vec![in alloc;
+        Value::Null,
+        Value::Bool(true),
+        Value::Int(1000),
+        Value::Text(Text::from_str(alloc, "a")?),
+        Value::Literal(1001),
+        Value::Object(ObjectNo(1002)),
+        Value::Proxy(Text::from_str(alloc, "b")?),
+        Value::Adapter(AdapterNo(1003)),
+    ]?)
+}
+
+/// Values of the same kinds, and with what others of them hold.
+fn others(alloc: Global) -> Result<Vec<Value>, AllocError> {
+    Ok(vec![in alloc;
+        Value::Bool(false),
+        Value::Int(1001),
+        Value::Text(Text::from_str(alloc, "b")?),
+        Value::Text(Text::from_str(alloc, "")?),
+        Value::Literal(1000),
+        Value::Object(ObjectNo(1003)),
+        Value::Proxy(Text::from_str(alloc, "a")?),
+        Value::Adapter(AdapterNo(1002)),
+    ]?)
+}
+
+fn insert_all(values: &mut Values, more: Vec<Value>) -> Result<(), AllocError> {
+    for value in more {
+        run(values, insert(50, value))?;
+    }
+    Ok(())
+}
+
+/// How many of some values a list has.
+fn count_there(values: &Values, some: &[Value]) -> usize {
+    some.iter()
+        .filter(|value| values.has(OBJECT, FEATURE, *value) == Some(true))
+        .count()
+}
+
+#[test]
+fn values_of_each_kind_are_told_apart(rt: HostRuntime) -> Result<(), Fail> {
+    let alloc = rt.alloc();
+    let mut values = filled(alloc, 100)?;
+    let (there, absent) = (kinds(alloc)?, others(alloc)?);
+    insert_all(&mut values, kinds(alloc)?)?;
+    assert_eq!(rt; count_there(&values, there.as_slice()), 8);
+    assert_eq!(rt; count_there(&values, absent.as_slice()), 0);
+    Ok(())
+}
+
+#[test]
+fn no_object_has_no_list(rt: HostRuntime) -> Result<(), Fail> {
+    let values = filled(rt.alloc(), 1)?;
+    assert_eq!(rt; values.has(ObjectNo(1), FEATURE, &number(0)), None);
+    assert_eq!(rt; values.has(OBJECT, FeatureNo(4), &number(0)), Some(false));
+    Ok(())
+}

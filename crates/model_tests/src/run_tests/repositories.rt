@@ -1,0 +1,42 @@
+//! A repository by its calls.
+use crate::fixtures::books::{BOOK, NAME, RowRepository, object, repository, text};
+use crate::fixtures::replies::outcomes_text;
+use adapters::Adapter;
+use mm_types::End;
+use repository::{Act, Command, EndRead, Read};
+use std::alloc::{AllocError, Global};
+use std::test::Fail;
+
+/// A book is made, named and read.
+fn commands<A: Adapter>(alloc: Global) -> Result<Vec<Command<A>>, AllocError> {
+    let end = End {
+        node: object(0),
+        feature: NAME,
+    };
+    let emma = text(alloc, "Emma")?;
+    Ok(vec![in alloc;
+        Command::Create(BOOK),
+        Command::At(end, Act::Set(emma)),
+        Command::Read(Read::At(end, EndRead::Get)),
+    ]?)
+}
+
+/// What these commands give: nobody is notified, and no adapter comes back.
+const OUTCOMES: &str = "Object(ObjectNo(0))\nDone\nValue(Text(\"Emma\"))\n";
+
+/// What these commands give in an empty repository.
+fn outcomes<A: Adapter>(alloc: Global) -> Result<String, Fail> {
+    let mut repository: Box<RowRepository<A>> = repository(alloc)?;
+    let commands = commands(alloc)?;
+    let Ok(outcomes) = repository.run_all(commands) else {
+        return Err(Fail::new("out of memory for the outcomes"));
+    };
+    Ok(outcomes_text(alloc, outcomes.as_slice())?)
+}
+
+#[test]
+fn a_list_of_commands_makes_names_and_reads_a_book(rt: HostRuntime) -> Result<(), Fail> {
+    let found = outcomes::<Box<dyn Adapter>>(rt.alloc())?;
+    assert_eq!(rt; found.as_str(), OUTCOMES);
+    Ok(())
+}

@@ -1,0 +1,45 @@
+//! The output options of a script.
+ghost use Rattle.std.specs.Prelude.{◌≡◌, ◌&&◌, IsTrue};
+ghost use Rattle.script_answers.specs.Dressed.{plain};
+ghost use Rattle.script_answers.specs.Turns.{is_fault};
+
+use crate::turn::Turn;
+
+/// What a run writes beside the answers of its lines, and where it ends.
+#[derive(Clone, Copy)]
+pub struct Dress {
+    /// Each line that is not passed over is written before its answer, as `> LINE`.
+    pub echo: bool,
+    /// Each line of an answer begins with the number of its line in the script, as `7: ok`. Lines are counted from 1, the
+    /// ones that are passed over included.
+    pub number: bool,
+    /// The run ends after the first line that is refused or bad.
+    pub stop: bool,
+}
+
+impl Dress {
+    /// Answers alone, of all lines.
+    pub fn plain() -> Self
+        ensures { result ≡ plain }
+    {
+        Dress {
+            echo: false,
+            number: false,
+            stop: false,
+        }
+    }
+
+    /// Whether nothing is written but answers, and all lines are run.
+    pub fn is_plain(self) -> bool
+        ensures { IsTrue result → self ≡ plain }
+    {
+        !(self.echo || self.number || self.stop)
+    }
+
+    /// Whether the run ends after a line that is counted so.
+    pub fn ends_at(self, turn: Turn) -> bool
+        ensures { result ≡ (self.stop && is_fault turn) }
+    {
+        self.stop && turn.is_fault()
+    }
+}

@@ -1,0 +1,91 @@
+//! The answer of a line is written by the output options.
+ghost use Rattle.std.specs.Prelude.{◌≡◌, IfErr, OnErr, OnOk};
+ghost use Rattle.std.specs.Io.KnownBytes.{Appends};
+ghost use Rattle.script_answers.specs.Dressed.{dressed_answer, dressed_line, each_behind, echoed, numbered};
+ghost use Rattle.script_answers.specs.Turns.{printed};
+ghost use Rattle.script_streams.specs.Streams.{AppendsFront};
+
+use crate::dress::Dress;
+use crate::turn::Turn;
+use script_lines::next_line;
+use script_streams::{RunFault, write_all, write_parts};
+use std::io::Write;
+
+/// What comes before a line that is echoed.
+const ECHO: &[u8] = b"> ";
+
+/// What comes after the number of a line.
+const NUMBERED: &[u8] = b": ";
+
+/// Ends a line.
+const LINE_END: &[u8] = b"\n";
+
+/// Writes a line of the script, if it is echoed.
+fn write_echo<W: Write>(
+    writer: &mut W,
+    dress: Dress,
+    line: &[u8],
+    turn: Turn,
+) -> Result<(), RunFault>
+    ensures ok { OnOk result (Appends (W.contents writer.old) (W.contents writer.new) (echoed dress line.now turn)) }
+    ensures err { OnErr result (AppendsFront (W.contents writer.old) (W.contents writer.new) (echoed dress line.now turn)) }
+    ensures kind { IfErr result (λ e. e ≡ RunFault.Write) }
+{
+    if !dress.echo || turn == Turn::Blank {
+        return Ok(());
+    }
+    write_parts(writer, &[ECHO, line, LINE_END])
+}
+
+/// Writes each line of an answer after the number of its line in the script.
+fn write_numbered<W: Write>(writer: &mut W, number: u64, answer: &[u8]) -> Result<(), RunFault>
+    ensures ok { OnOk result (Appends (W.contents writer.old) (W.contents writer.new) (numbered number answer.now)) }
+    ensures err { OnErr result (AppendsFront (W.contents writer.old) (W.contents writer.new) (numbered number answer.now)) }
+    ensures kind { IfErr result (λ e. e ≡ RunFault.Write) }
+{
+    let mut buffer = itoa::Buffer::new();
+    let digits = buffer.format(number).as_bytes();
+    let mut rest = answer;
+    'lines: while let Some((line, more)) = next_line(rest) {
+        write_parts(writer, &[digits, NUMBERED, line, LINE_END])?;
+        rest = more;
+    }
+    Ok(())
+}
+
+/// Writes the answer of a line of the script, with the number of the line if answers are numbered.
+fn write_answer<W: Write>(
+    writer: &mut W,
+    dress: Dress,
+    number: u64,
+    answer: &[u8],
+) -> Result<(), RunFault>
+    ensures ok { OnOk result (Appends (W.contents writer.old) (W.contents writer.new) (dressed_answer dress number answer.now)) }
+    ensures err { OnErr result (AppendsFront (W.contents writer.old) (W.contents writer.new) (dressed_answer dress number answer.now)) }
+    ensures kind { IfErr result (λ e. e ≡ RunFault.Write) }
+{
+    if dress.number {
+        write_numbered(writer, number, answer)
+    } else {
+        write_all(writer, answer)
+    }
+}
+
+/// Writes what a line of the script prints, by the output options.
+///
+/// Errs with `Write` as `write_all` does; what was written by then is a prefix of it.
+pub fn write_dressed<W: Write>(
+    writer: &mut W,
+    dress: Dress,
+    number: u64,
+    line: &[u8],
+    turn: Turn,
+    answer: &[u8],
+) -> Result<(), RunFault>
+    ensures ok { OnOk result (Appends (W.contents writer.old) (W.contents writer.new) (dressed_line dress number line.now (printed answer.now turn))) }
+    ensures err { OnErr result (AppendsFront (W.contents writer.old) (W.contents writer.new) (dressed_line dress number line.now (printed answer.now turn))) }
+    ensures kind { IfErr result (λ e. e ≡ RunFault.Write) }
+{
+    write_echo(writer, dress, line, turn)?;
+    write_answer(writer, dress, number, answer)
+}
