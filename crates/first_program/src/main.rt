@@ -13,8 +13,8 @@ mod stop;
 mod tally;
 
 use mmrepo_lib::{
-    Adapter, AdapterNo, Answer, FeatureNo, LinkStore, Meta, Node, ObjectNo, Refused, Reply,
-    Repository, ResourceNo, SlotStore, Text, Value, check, load_meta,
+    Adapter, AdapterNo, Answer, FeatureNo, LinkStore, Meta, MetaFault, Node, Notice, ObjectNo,
+    Refused, Reply, Repository, ResourceNo, SlotStore, Text, Value, check, load_meta,
 };
 use names::Names;
 use reload::load_again;
@@ -53,12 +53,30 @@ fn resource_in(reply: Reply<Tally>) -> Result<ResourceNo, Stop> {
     }
 }
 
-/// Prints what a change notified the adapter of. Here the program acts on it.
-fn print_told<W: Write>(writer: &mut W, reply: &Reply<Tally>) -> Result<(), io::Error> {
-    for (_no, notice) in reply.told.as_slice() {
+/// Prints what the adapter was notified of.
+fn print_told<W: Write>(writer: &mut W, told: &[(AdapterNo, Notice)]) -> Result<(), io::Error> {
+    for (_no, notice) in told {
         writeln!(writer, "{} at {}", notice.kind.name(), notice.position)?;
     }
     Ok(())
+}
+
+/// Prints what the adapter counted, if it was given back.
+fn print_counts<W: Write>(
+    writer: &mut W,
+    released: &[(AdapterNo, Tally)],
+) -> Result<(), io::Error> {
+    for (_no, tally) in released {
+        let (all, additions) = (tally.told(), tally.additions());
+        writeln!(writer, "{all} notices, of an addition: {additions}")?;
+    }
+    Ok(())
+}
+
+/// Prints what a call notified the adapter of, and gave back. Here the program acts on it.
+fn print_reply<W: Write>(writer: &mut W, reply: Reply<Tally>) -> Result<(), io::Error> {
+    print_told(writer, reply.told.as_slice())?;
+    print_counts(writer, reply.released.as_slice())
 }
 
 /// Gives a book a title. The contract is that of the call: the step of the command `set`, or a refusal that changes nothing.
@@ -86,10 +104,10 @@ fn make_books<L: LinkStore, W: Write>(
     let book = object_in(repository.create(names.book)?)?;
     let node = Node::Object(library);
     let reply = repository.add(node, names.books, Value::Object(book), None)?;
-    print_told(writer, &reply)?;
+    print_reply(writer, reply)?;
     let title = Text::from_str(alloc, "Emma")?;
     let reply = set_title(repository, book, names.title, title)?;
-    print_told(writer, &reply)?;
+    print_reply(writer, reply)?;
     Ok(library)
 }
 
@@ -108,28 +126,41 @@ fn save<L: LinkStore, W: Write>(
     Ok(())
 }
 
-/// Prints how many objects the only resource of a repository directly contains.
-fn print_count<L: LinkStore, W: Write>(
-    writer: &mut W,
-    repository: &Repository<L, Tally>,
-) -> Result<(), Stop> {
-    let roots = repository.e_contents(Node::Resource(ResourceNo(0)))?;
-    writeln!(writer, "loaded again, roots: {}", roots.as_slice().len())?;
-    Ok(())
-}
-
 /// Takes the adapter back, and prints what it counted.
 fn take_back<L: LinkStore, W: Write>(
     writer: &mut W,
     repository: &mut Repository<L, Tally>,
 ) -> Result<(), Stop> {
     let reply = repository.detach(TALLY)?;
-    print_told(writer, &reply)?;
-    for (_no, tally) in reply.released.as_slice() {
-        let (all, additions) = (tally.told(), tally.additions());
-        writeln!(writer, "{all} notices, of an addition: {additions}")?;
-    }
+    Ok(print_reply(writer, reply)?)
+}
+
+fn metamodel(alloc: Global) -> Result<Meta, MetaFault> {
+    check(alloc, load_meta(alloc, LIBRARY.as_bytes())?)
+}
+
+/// Loads what is saved of a repository into another one, and prints how many objects its only resource directly contains.
+fn load_second<L: LinkStore, W: Write>(
+    writer: &mut W,
+    first: &Repository<L, Tally>,
+    second: &mut Repository<L, Tally>,
+) -> Result<(), Stop> {
+    load_again(first, second, LIBRARY_URI)?;
+    let roots = second.e_contents(Node::Resource(ResourceNo(0)))?;
+    writeln!(writer, "loaded again, roots: {}", roots.as_slice().len())?;
     Ok(())
+}
+
+/// Loads the library again, into a repository of its own.
+fn reload_books<L: LinkStore, W: Write>(
+    alloc: Global,
+    writer: &mut W,
+    first: &Repository<L, Tally>,
+) -> Result<(), Stop> {
+    let mut second = Repository::new(alloc, metamodel(alloc)?);
+    let outcome = load_second(writer, first, &mut second);
+    let _ = second.close();
+    outcome
 }
 
 fn session<L: LinkStore, W: Write>(
@@ -140,29 +171,16 @@ fn session<L: LinkStore, W: Write>(
     let names = Names::of(repository.meta())?;
     let library = make_books(alloc, writer, repository, names)?;
     save(writer, repository, names, library)?;
-    take_back(writer, repository)
-}
-
-fn metamodel(alloc: Global) -> Result<Box<Meta>, Stop> {
-    let raw = load_meta(alloc, LIBRARY.as_bytes())?;
-    let meta = check(alloc, raw)?;
-    Ok(Box::new(alloc, meta)?)
-}
-
-/// An empty repository over the metamodel.
-fn empty(alloc: Global) -> Result<Box<Repository<SlotStore, Tally>>, Stop> {
-    let meta = metamodel(alloc)?;
-    let repository = Repository::<SlotStore, Tally>::new(alloc, Box::into_inner(meta));
-    Ok(Box::new(alloc, repository)?)
+    take_back(writer, repository)?;
+    reload_books(alloc, writer, repository)
 }
 
 fn start(rt: &HostRuntime) -> Result<(), Stop> {
     let alloc = rt.alloc();
-    let mut repository = empty(alloc)?;
-    session(alloc, &mut io::writer(rt), &mut repository)?;
-    let mut second = empty(alloc)?;
-    load_again(&repository, &mut second, LIBRARY_URI)?;
-    print_count(&mut io::writer(rt), &second)
+    let mut repository = Repository::<SlotStore, Tally>::new(alloc, metamodel(alloc)?);
+    let outcome = session(alloc, &mut io::writer(rt), &mut repository);
+    let _ = repository.close();
+    outcome
 }
 
 fn main(rt: HostRuntime) -> ExitCode {

@@ -1,6 +1,6 @@
 //! Why the program stops.
 use mmrepo_lib::{Failure, MetaFault, Refused};
-use std::alloc::{AllocError, AllocFailed};
+use std::alloc::AllocError;
 use std::{fmt, io};
 
 /// Why the program stops before its end.
@@ -38,12 +38,6 @@ impl<A: Drop> From<Failure<A>> for Stop {
 
 impl From<AllocError> for Stop {
     fn from(_error: AllocError) -> Stop {
-        Stop::Refused(Refused::Memory)
-    }
-}
-
-impl<T: Drop> From<AllocFailed<T>> for Stop {
-    fn from(_error: AllocFailed<T>) -> Stop {
         Stop::Refused(Refused::Memory)
     }
 }
