@@ -550,6 +550,6 @@ METAMODELS = {name: TOP / 'bench/authors.json' for name in ('linked', 'unlinked'
 # The classes, for a size, of the metamodels that grow with it.
 CLASSES = {'inherited': chain}
 
-# What no script asks for is a program of its own, which takes the size: a view takes a snapshot of so many books, is notified that each is
-# named, and replays its notifications.
-PROGRAMS = {'followed': TOP / 'crates/command_list/out/command_list'}
+# What no script asks for is done by the program `cases`, which takes the size: a view takes a snapshot of so many books, is notified that
+# each is named, and replays its notifications.
+PROGRAMS = {'followed': TOP / 'crates/cases/out/cases'}

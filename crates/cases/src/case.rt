@@ -1,6 +1,6 @@
 //! A case as it is written.
 use crate::expand::push_line;
-use crate::fault::CaseFault;
+use crate::fault::Fault;
 use std::alloc::Global;
 
 /// A case: a metamodel, a script over it, and what the two must give.
@@ -23,7 +23,7 @@ impl<'a> Case<'a> {
     ///
     /// `metamodel NAME` names its metamodel's file, `document TEXT` is its metamodel, `> TEXT` is a line of the script, and
     /// any other line is one that must be printed.
-    pub(crate) fn parse(alloc: Global, text: &'a str) -> Result<Case<'a>, CaseFault> {
+    pub(crate) fn parse(alloc: Global, text: &'a str) -> Result<Case<'a>, Fault> {
         let mut lines = text.lines();
         let mut case = Case {
             name: lines.next().unwrap_or(""),
@@ -50,7 +50,7 @@ impl<'a> Case<'a> {
     }
 
     /// Adds a line.
-    fn push(&mut self, line: &'a str) -> Result<(), CaseFault> {
+    fn push(&mut self, line: &'a str) -> Result<(), Fault> {
         if let Some(name) = line.strip_prefix("metamodel ") {
             self.metamodel = Some(name);
             Ok(())

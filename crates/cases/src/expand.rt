@@ -2,11 +2,11 @@
 //!
 //! `<<xFF>>` is a byte by its two hexadecimal digits. `<<3* ab%,>>` is a text so many times, each `%` in it being how often
 //! it came before: `ab0,ab1,ab2,`. A `^` in it is one more than that, and a `|` ends a line.
-use crate::fault::CaseFault;
+use crate::fault::Fault;
 use std::io::Write;
 
 /// Adds a text once: `number` instead of each `%`, the number after it instead of each `^`, a newline instead of each `|`.
-fn push_numbered(out: &mut Vec<u8>, text: &str, number: u32) -> Result<(), CaseFault> {
+fn push_numbered(out: &mut Vec<u8>, text: &str, number: u32) -> Result<(), Fault> {
     for byte in text.bytes() {
         match byte {
             b'%' => write!(out, "{number}")?,
@@ -19,19 +19,19 @@ fn push_numbered(out: &mut Vec<u8>, text: &str, number: u32) -> Result<(), CaseF
 }
 
 /// Adds what a mark stands for.
-fn push_mark(out: &mut Vec<u8>, mark: &str) -> Result<(), CaseFault> {
+fn push_mark(out: &mut Vec<u8>, mark: &str) -> Result<(), Fault> {
     if let Some(digits) = mark.strip_prefix('x') {
         let Ok(byte) = u8::from_str_radix(digits, 16) else {
-            return Err(CaseFault::Mark);
+            return Err(Fault::Mark);
         };
         out.push(byte)?;
         return Ok(());
     }
     let Some((count, text)) = mark.split_once("* ") else {
-        return Err(CaseFault::Mark);
+        return Err(Fault::Mark);
     };
     let Ok(count) = count.parse::<u32>() else {
-        return Err(CaseFault::Mark);
+        return Err(Fault::Mark);
     };
     for number in 0..count {
         push_numbered(out, text, number)?;
@@ -40,9 +40,9 @@ fn push_mark(out: &mut Vec<u8>, mark: &str) -> Result<(), CaseFault> {
 }
 
 /// Adds a text whose first part, up to `>>`, is a mark.
-fn push_after_mark(out: &mut Vec<u8>, text: &str) -> Result<(), CaseFault> {
+fn push_after_mark(out: &mut Vec<u8>, text: &str) -> Result<(), Fault> {
     let Some((mark, rest)) = text.split_once(">>") else {
-        return Err(CaseFault::Mark);
+        return Err(Fault::Mark);
     };
     push_mark(out, mark)?;
     out.extend_from_slice(rest.as_bytes())?;
@@ -50,7 +50,7 @@ fn push_after_mark(out: &mut Vec<u8>, text: &str) -> Result<(), CaseFault> {
 }
 
 /// Adds a line: its text with each mark replaced by what it stands for, and a newline.
-pub(crate) fn push_line(out: &mut Vec<u8>, text: &str) -> Result<(), CaseFault> {
+pub(crate) fn push_line(out: &mut Vec<u8>, text: &str) -> Result<(), Fault> {
     for (i, piece) in text.split("<<").enumerate() {
         if i == 0 {
             out.extend_from_slice(piece.as_bytes())?;

@@ -1,45 +1,70 @@
-//! Why a case can't be run.
+//! Why a case or the list of commands can't be run.
+use mm_types::{MetaFault, Refused};
 use std::alloc::{AllocError, AllocFailed};
 use std::{fmt, io};
 
-/// Why a case can't be run.
-#[derive(Debug, Drop)]
-pub enum CaseFault {
+/// Why a case or the list of commands can't be run.
+#[derive(Clone, Copy)]
+pub enum Fault {
     /// A mark is badly written.
     Mark,
     /// The metamodel's file can't be read.
     Unreadable,
-    /// Nothing could be written.
-    Unwritable,
+    /// The arguments can't be read, or nothing can be written.
+    Stream,
+    /// The metamodel of the list, or what is done before the list, is refused: the program is wrong.
+    Refused,
     /// Memory was refused.
     Memory,
 }
 
-impl From<AllocError> for CaseFault {
-    fn from(_error: AllocError) -> CaseFault {
-        CaseFault::Memory
+impl From<AllocError> for Fault {
+    fn from(_error: AllocError) -> Fault {
+        Fault::Memory
     }
 }
 
-impl<T: Drop> From<AllocFailed<T>> for CaseFault {
-    fn from(_error: AllocFailed<T>) -> CaseFault {
-        CaseFault::Memory
+impl<T: Drop> From<AllocFailed<T>> for Fault {
+    fn from(_error: AllocFailed<T>) -> Fault {
+        Fault::Memory
     }
 }
 
-impl From<io::Error> for CaseFault {
-    fn from(_error: io::Error) -> CaseFault {
-        CaseFault::Unwritable
+impl From<io::Error> for Fault {
+    fn from(error: io::Error) -> Fault {
+        match error.kind() {
+            io::ErrorKind::OutOfMemory => Fault::Memory,
+            _ => Fault::Stream,
+        }
     }
 }
 
-impl fmt::Display for CaseFault {
+impl From<MetaFault> for Fault {
+    fn from(fault: MetaFault) -> Fault {
+        match fault {
+            MetaFault::Memory => Fault::Memory,
+            _ => Fault::Refused,
+        }
+    }
+}
+
+impl From<Refused> for Fault {
+    fn from(refused: Refused) -> Fault {
+        match refused {
+            Refused::Memory => Fault::Memory,
+            _ => Fault::Refused,
+        }
+    }
+}
+
+impl fmt::Display for Fault {
     fn fmt<W: fmt::Write>(&self, f: &mut fmt::Formatter<W>) -> fmt::Result {
         f.write_str(match self {
-            CaseFault::Mark => "a mark is not <<xHH>> or <<N* TEXT>>",
-            CaseFault::Unreadable => "its metamodel can't be read",
-            CaseFault::Unwritable => "nothing can be written",
-            CaseFault::Memory => "out of memory",
+            Fault::Mark => "a mark is not <<xHH>> or <<N* TEXT>>",
+            Fault::Unreadable => "its metamodel can't be read",
+            Fault::Stream => "the arguments can't be read, or nothing can be written",
+            Fault::Refused => "what is done before the list of commands is refused",
+            Fault::Memory => "out of memory",
         })
     }
 }

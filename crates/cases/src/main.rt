@@ -3,16 +3,24 @@
 //! `cases FILE..` reads files of cases and the metamodels that they name; CONTRIBUTING.md explains how a case is written.
 //! A script is run over each store of links. A case that differs is printed with the store, what was expected and what it
 //! gave, and the status is then 1. The last line counts the cases.
+//!
+//! The word `commands` does a list of commands by one call of a repository, and prints what each of them gives; or, if there is no memory
+//! for what they give, the commands that come back. Then it prints what the repository has. `tests/run_refused_memory` runs the program
+//! with that word once for each of its allocations, which is refused. No script makes this call, and no test function can refuse memory.
+//!
+//! A number N follows N books: it takes a snapshot, names each book, and replays the notifications. `bench/measure` runs the program so.
 #![tactic(auto)]
 
 mod case;
 mod expand;
 mod fault;
+mod list;
 mod outcome;
 
 use case::Case;
-use fault::CaseFault;
+use fault::Fault;
 use link_store::{LinkStore, RowStore, SlotStore};
+use list::{follow, run_list};
 use outcome::{document_outcome, script_outcome};
 use std::alloc::Global;
 use std::io::{BufWriter, Read, Write};
@@ -36,14 +44,14 @@ impl Tally {
 }
 
 /// The bytes of a file in the folder in which the program runs.
-fn read_file(rt: &HostRuntime, path: &str) -> Result<Vec<u8>, CaseFault> {
+fn read_file(rt: &HostRuntime, path: &str) -> Result<Vec<u8>, Fault> {
     let Ok(mut file) = fs::open(rt, path) else {
-        return Err(CaseFault::Unreadable);
+        return Err(Fault::Unreadable);
     };
     let mut bytes = Vec::new(rt.alloc());
     match file.read_to_end(&mut bytes) {
         Ok(_) => Ok(bytes),
-        Err(_) => Err(CaseFault::Unreadable),
+        Err(_) => Err(Fault::Unreadable),
     }
 }
 
@@ -66,7 +74,7 @@ fn gives_expected<W: Write>(
 }
 
 /// The metamodel of a case.
-fn metamodel_of(rt: &HostRuntime, case: &Case<'_>) -> Result<Vec<u8>, CaseFault> {
+fn metamodel_of(rt: &HostRuntime, case: &Case<'_>) -> Result<Vec<u8>, Fault> {
     match case.metamodel {
         Some(name) => {
             let path = format!(in rt.alloc(); "{name}.json")?;
@@ -84,7 +92,7 @@ fn passes_over<L: LinkStore, W: Write>(
     case: &Case<'_>,
     metamodel: &[u8],
     store: &str,
-) -> Result<bool, CaseFault> {
+) -> Result<bool, Fault> {
     let scripts = [case.script(), case.unended_script()];
     for script in scripts {
         let given = script_outcome::<L>(alloc, metamodel, script)?;
@@ -96,26 +104,26 @@ fn passes_over<L: LinkStore, W: Write>(
 }
 
 /// Runs a case, over each store if it has a script; returns whether it gives what it expects, and so the same over both.
-fn passes<W: Write>(rt: &HostRuntime, writer: &mut W, case: &Case<'_>) -> Result<bool, CaseFault> {
-    let metamodel = metamodel_of(rt, case)?;
-    let metamodel = metamodel.as_slice();
+fn passes<W: Write>(
+    alloc: Global,
+    writer: &mut W,
+    case: &Case<'_>,
+    metamodel: &[u8],
+) -> Result<bool, Fault> {
     if case.script().is_empty() {
-        let given = document_outcome(rt.alloc(), metamodel)?;
+        let given = document_outcome(alloc, metamodel)?;
         return Ok(gives_expected(writer, case, "no store", given.as_slice())?);
     }
-    let slots = passes_over::<SlotStore, W>(rt.alloc(), writer, case, metamodel, "SlotStore")?;
-    let rows = passes_over::<RowStore, W>(rt.alloc(), writer, case, metamodel, "RowStore")?;
+    let slots = passes_over::<SlotStore, W>(alloc, writer, case, metamodel, "SlotStore")?;
+    let rows = passes_over::<RowStore, W>(alloc, writer, case, metamodel, "RowStore")?;
     Ok(slots && rows)
 }
 
 /// Parses a case and runs it.
-fn parse_and_run<W: Write>(
-    rt: &HostRuntime,
-    writer: &mut W,
-    text: &str,
-) -> Result<bool, CaseFault> {
+fn parse_and_run<W: Write>(rt: &HostRuntime, writer: &mut W, text: &str) -> Result<bool, Fault> {
     let case = Case::parse(rt.alloc(), text)?;
-    passes(rt, writer, &case)
+    let metamodel = metamodel_of(rt, &case)?;
+    passes(rt.alloc(), writer, &case, metamodel.as_slice())
 }
 
 /// Runs a case; one that can't be run is written and does not pass.
@@ -160,14 +168,32 @@ fn run_file<W: Write>(
     }
 }
 
-/// Runs the files that the arguments name; returns whether each case passes.
-fn run_files<W: Write>(rt: &HostRuntime, writer: &mut W) -> Result<bool, io::Error> {
+/// Does what a word asks for.
+fn run_word<W: Write>(
+    rt: &HostRuntime,
+    writer: &mut W,
+    word: &str,
+    tally: Tally,
+) -> Result<Tally, Fault> {
+    if word == "commands" {
+        run_list(rt.alloc(), writer)?;
+        return Ok(tally);
+    }
+    if let Ok(count) = word.parse::<u32>() {
+        follow(rt.alloc(), writer, count)?;
+        return Ok(tally);
+    }
+    Ok(run_file(rt, writer, word, tally)?)
+}
+
+/// Does what the arguments ask for; returns whether each case passes.
+fn run_words<W: Write>(rt: &HostRuntime, writer: &mut W) -> Result<bool, Fault> {
     let mut tally = Tally {
         passed: 0,
         failed: 0,
     };
-    for path in env::args(rt)?.skip(1) {
-        tally = run_file(rt, writer, path.as_str(), tally)?;
+    for word in env::args(rt)?.skip(1) {
+        tally = run_word(rt, writer, word.as_str(), tally)?;
     }
     writeln!(
         writer,
@@ -178,14 +204,18 @@ fn run_files<W: Write>(rt: &HostRuntime, writer: &mut W) -> Result<bool, io::Err
     Ok(tally.failed == 0)
 }
 
-fn start(rt: &HostRuntime) -> Result<bool, io::Error> {
+fn start(rt: &HostRuntime) -> Result<bool, Fault> {
     let mut writer = BufWriter::new(rt.alloc(), io::writer(rt))?;
-    run_files(rt, &mut writer)
+    run_words(rt, &mut writer)
 }
 
 fn main(rt: HostRuntime) -> ExitCode {
     match start(&rt) {
         Ok(true) => ExitCode::SUCCESS,
-        _ => ExitCode::FAILURE,
+        Ok(false) => ExitCode::FAILURE,
+        Err(fault) => {
+            let _ = eprintln!(&rt; "stopped: {fault}");
+            ExitCode::from(3)
+        }
     }
 }

@@ -1,6 +1,9 @@
 //! What a case gives.
+ghost use Rattle.std.specs.Prelude.{◌≤◌};
+ghost use Rattle.mm_types.specs.declared.limits.TheConstants.{WINDOW_NOTICES};
+
 use adapters::{Adapter, Counter, Recorder, Window};
-use link_store::LinkStore;
+use link_store::{LinkStore, SlotStore};
 use mm_check::check;
 use mm_load::load_meta;
 use mm_meta::Meta;
@@ -9,28 +12,28 @@ use script_program::run;
 use std::alloc::{AllocError, Global};
 use std::io::Write;
 
-fn loaded(alloc: Global, metamodel: &[u8]) -> Result<Box<Meta>, MetaFault> {
-    let raw = load_meta(alloc, metamodel)?;
-    let meta = check(alloc, raw)?;
-    Box::new(alloc, meta).map_err(|_| MetaFault::Memory)
+/// The metamodel of a document.
+pub(crate) fn loaded(alloc: Global, metamodel: &[u8]) -> Result<Meta, MetaFault> {
+    check(alloc, load_meta(alloc, metamodel)?)
 }
-
-/// How many of the adapters keep every notification.
-const RECORDERS: u64 = 4;
 
 /// How many notifications the last adapter can still count, its last one included.
 const LEFT: u64 = 2;
 
+fn line(alloc: Global, fault: MetaFault) -> Result<Vec<u8>, AllocError> {
+    let line = format!(in alloc; "{fault}\n")?;
+    Vec::from_slice(alloc, line.as_bytes())
+}
+
 /// What a script prints, and the fault that stopped it.
-fn printed_with<L: LinkStore, A: Adapter>(
+fn printed<L: LinkStore, A: Adapter>(
     alloc: Global,
-    meta: Box<Meta>,
+    meta: Meta,
     boxes: Vec<A>,
     script: &[u8],
 ) -> Result<Vec<u8>, AllocError> {
     let mut reader = script;
     let mut found = Vec::new(alloc);
-    let meta = Box::into_inner(meta);
     let outcome = run::<_, _, L, _>(alloc, &mut reader, &mut found, meta, boxes);
     match outcome {
         Err(fault) if writeln!(found, "stopped: {fault}").is_err() => Err(AllocError),
@@ -38,48 +41,63 @@ fn printed_with<L: LinkStore, A: Adapter>(
     }
 }
 
+/// What a script gives with adapters: its metamodel's fault, or what it prints, and the fault that stopped it.
+fn given<L: LinkStore, A: Adapter>(
+    alloc: Global,
+    metamodel: &[u8],
+    boxes: Vec<A>,
+    script: &[u8],
+) -> Result<Vec<u8>, AllocError> {
+    match loaded(alloc, metamodel) {
+        Err(fault) => line(alloc, fault),
+        Ok(meta) => printed::<L, A>(alloc, meta, boxes, script),
+    }
+}
+
+/// An adapter that keeps every notification.
 fn recorder(alloc: Global) -> Result<Box<Recorder>, AllocError> {
     Ok(Box::new(alloc, Recorder::new(alloc))?)
 }
 
-/// What a script prints with the adapters of the program, and the fault that stopped it.
-fn printed<L: LinkStore>(
-    alloc: Global,
-    meta: Box<Meta>,
-    script: &[u8],
-) -> Result<Vec<u8>, AllocError> {
-    let mut boxes: Vec<Box<dyn Adapter>> = Vec::new(alloc);
-    for _ in 0..RECORDERS {
-        boxes.push(recorder(alloc)?)?;
-    }
-    boxes.push(Box::new(alloc, Window::new(alloc, 2)?)?)?;
-    boxes.push(Box::new(alloc, Window::new(alloc, 100)?)?)?;
-    boxes.push(Box::new(alloc, Counter::new())?)?;
-    boxes.push(Box::new(alloc, Counter::starting_at(u64::MAX - LEFT))?)?;
-    printed_with::<L, _>(alloc, meta, boxes, script)
+/// An adapter that keeps the last notifications, so many.
+fn window(alloc: Global, room: u64) -> Result<Box<Window>, AllocError>
+    requires some { 1 ≤ room }
+    requires within { room ≤ WINDOW_NOTICES }
+{
+    Ok(Box::new(alloc, Window::new(alloc, room)?)?)
 }
 
-fn line(alloc: Global, fault: MetaFault) -> Result<Vec<u8>, AllocError> {
-    let line = format!(in alloc; "{fault}\n")?;
-    Vec::from_slice(alloc, line.as_bytes())
+/// An adapter that counts on from a number.
+fn counter(alloc: Global, told: u64) -> Result<Box<Counter>, AllocError> {
+    Ok(Box::new(alloc, Counter::starting_at(told))?)
 }
 
-/// What a metamodel gives: its fault, or `accepted`.
-pub(crate) fn document_outcome(alloc: Global, metamodel: &[u8]) -> Result<Vec<u8>, AllocError> {
-    match loaded(alloc, metamodel) {
-        Err(fault) => line(alloc, fault),
-        Ok(_) => Vec::from_slice(alloc, b"accepted\n".as_slice()),
-    }
-}
-
-/// What a script gives over a store of links: its metamodel's fault, or what the script prints.
+/// What a script gives over a store of links, with the adapters of the program: its metamodel's fault, or what it prints, and the fault
+/// that stopped it.
 pub(crate) fn script_outcome<L: LinkStore>(
     alloc: Global,
     metamodel: &[u8],
     script: &[u8],
 ) -> Result<Vec<u8>, AllocError> {
-    match loaded(alloc, metamodel) {
-        Err(fault) => line(alloc, fault),
-        Ok(meta) => printed::<L>(alloc, meta, script),
+    let mut boxes: Vec<Box<dyn Adapter>> = Vec::new(alloc);
+    for no in 1..=8 {
+        let adapter: Box<dyn Adapter> = match no {
+            1..=4 => recorder(alloc)?,
+            5 => window(alloc, 2)?,
+            6 => window(alloc, 100)?,
+            7 => counter(alloc, 0)?,
+            _ => counter(alloc, u64::MAX - LEFT)?,
+        };
+        boxes.push(adapter)?;
     }
+    given::<L, _>(alloc, metamodel, boxes, script)
+}
+
+/// What a metamodel gives: its fault, or `accepted`. A script without lines prints nothing over one that is accepted.
+pub(crate) fn document_outcome(alloc: Global, metamodel: &[u8]) -> Result<Vec<u8>, AllocError> {
+    let given = script_outcome::<SlotStore>(alloc, metamodel, b"")?;
+    if given.is_empty() {
+        return Vec::from_slice(alloc, b"accepted\n".as_slice());
+    }
+    Ok(given)
 }

@@ -1,5 +1,5 @@
 //! What is printed. None of it takes memory.
-use crate::commands::{BROUGHT, FIRST, NAME, THERE};
+use crate::list::commands::{BROUGHT, FIRST, NAME, THERE};
 use adapters::Adapter;
 use link_store::LinkStore;
 use mm_types::ObjectNo;
@@ -30,7 +30,7 @@ fn print_outcome<A: Adapter, W: Write>(
 }
 
 /// Prints what each command gives.
-pub(crate) fn print_outcomes<A: Adapter, W: Write>(
+pub(super) fn print_outcomes<A: Adapter, W: Write>(
     writer: &mut W,
     outcomes: &[Result<Reply<A>, Failure<A>>],
 ) -> Result<(), io::Error> {
@@ -64,7 +64,7 @@ fn print_command<A: Adapter, W: Write>(
 }
 
 /// Prints commands that come back.
-pub(crate) fn print_commands<A: Adapter, W: Write>(
+pub(super) fn print_commands<A: Adapter, W: Write>(
     writer: &mut W,
     commands: &[Command<A>],
 ) -> Result<(), io::Error> {
@@ -75,7 +75,7 @@ pub(crate) fn print_commands<A: Adapter, W: Write>(
 }
 
 /// Prints whether the first book has a name, the class of the second, and how many notifications the two adapters got.
-pub(crate) fn print_state<L: LinkStore, A: Adapter, W: Write>(
+pub(super) fn print_state<L: LinkStore, A: Adapter, W: Write>(
     writer: &mut W,
     repository: &Repository<L, A>,
 ) -> Result<(), io::Error> {

@@ -1,0 +1,95 @@
+//! A list of commands is done by one call of a repository, which no script makes, and a snapshot follows notifications.
+mod commands;
+mod printed;
+mod views;
+
+use crate::fault::Fault;
+use crate::outcome::loaded;
+use adapters::{Adapter, Counter, Recorder};
+use commands::{FIRST, commands, make_book, renamed, watch};
+use link_store::{LinkStore, SlotStore};
+use printed::{print_commands, print_outcomes, print_state};
+use repository::{Command, Repository};
+use std::alloc::Global;
+use std::io;
+use std::io::Write;
+use views::followed;
+
+/// The metamodel of books that have a name.
+const BOOKS: &str =
+    r#"{"classes":[{"name":"Book","features":[{"name":"name","kind":"attribute","type":"EString"}]}]}"#;
+
+/// Does commands, and prints what each gives, or the commands that come back.
+fn do_all<L: LinkStore, A: Adapter, W: Write>(
+    writer: &mut W,
+    repository: &mut Repository<L, A>,
+    commands: Vec<Command<A>>,
+) -> Result<(), io::Error> {
+    match repository.run_all(commands) {
+        Ok(outcomes) => print_outcomes(writer, outcomes.as_slice()),
+        Err(commands) => print_commands(writer, commands.as_slice()),
+    }
+}
+
+/// Does the list of commands, and prints what that gives and what the repository has then.
+fn do_list<L: LinkStore, A: Adapter, W: Write>(
+    alloc: Global,
+    writer: &mut W,
+    repository: &mut Repository<L, A>,
+    adapter: A,
+) -> Result<(), Fault> {
+    let commands = commands(alloc, adapter)?;
+    do_all(writer, repository, commands)?;
+    print_state(writer, repository)?;
+    Ok(())
+}
+
+/// Makes a book at which an adapter is, and does the list of commands, which attaches another. At last it prints what a notification made
+/// of the book's snapshot from before the list.
+fn session<L: LinkStore, A: Adapter, W: Write>(
+    alloc: Global,
+    writer: &mut W,
+    repository: &mut Repository<L, A>,
+    first: A,
+    second: A,
+) -> Result<(), Fault> {
+    make_book(repository)?;
+    watch(repository, FIRST, false, first)?;
+    let renamed = renamed(alloc, repository)?;
+    do_list(alloc, writer, repository, second)?;
+    writeln!(writer, "replayed {:?}", *renamed)?;
+    Ok(())
+}
+
+/// Does that in a repository of its own.
+fn run<L: LinkStore, A: Adapter, W: Write>(
+    alloc: Global,
+    writer: &mut W,
+    first: A,
+    second: A,
+) -> Result<(), Fault> {
+    let meta = loaded(alloc, BOOKS.as_bytes())?;
+    let mut repository: Repository<L, A> = Repository::new(alloc, meta);
+    let outcome = session(alloc, writer, &mut repository, first, second);
+    let _ = repository.close();
+    outcome
+}
+
+/// Does the list of commands, and prints what each of them gives; or, if there is no memory for what they give, the commands that come
+/// back. Then it prints what the repository has.
+pub(crate) fn run_list<W: Write>(alloc: Global, writer: &mut W) -> Result<(), Fault> {
+    // A recorder takes memory when it is attached.
+    let first: Box<dyn Adapter> = Box::new(alloc, Recorder::new(alloc))?;
+    let second: Box<dyn Adapter> = Box::new(alloc, Recorder::new(alloc))?;
+    run::<SlotStore, _, W>(alloc, writer, first, second)
+}
+
+/// Follows so many books, and prints how many nodes the view has.
+pub(crate) fn follow<W: Write>(alloc: Global, writer: &mut W, count: u32) -> Result<(), Fault> {
+    let meta = loaded(alloc, BOOKS.as_bytes())?;
+    let mut repository: Repository<SlotStore, Counter> = Repository::new(alloc, meta);
+    let followed = followed(alloc, &mut repository, Counter::new(), count);
+    let _ = repository.close();
+    writeln!(writer, "followed {:?}", followed?)?;
+    Ok(())
+}

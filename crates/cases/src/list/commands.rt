@@ -1,0 +1,104 @@
+//! The list of commands, and what is done before it.
+use crate::fault::Fault;
+use crate::list::views::view_of;
+use adapters::Adapter;
+use link_store::LinkStore;
+use mm_types::{AdapterNo, ClassNo, End, FeatureNo, Node, ObjectNo, Refused, Text, Value};
+use notice_chain::{NO_INDEX, Notice, NoticeKind};
+use repository::{Act, Command, EndRead, NodeRead, Read, Reply, Repository};
+use snapshots::Snapshot;
+use std::alloc::{AllocError, Global};
+
+const BOOK: ClassNo = ClassNo(0);
+
+/// The first book.
+pub(super) const FIRST: Node = Node::Object(ObjectNo(0));
+
+pub(super) const NAME: FeatureNo = FeatureNo(0);
+
+/// The adapter that is there before the list.
+pub(super) const THERE: AdapterNo = AdapterNo(1);
+
+/// The adapter that the list attaches.
+pub(super) const BROUGHT: AdapterNo = AdapterNo(2);
+
+/// Whether a command is done.
+pub(super) fn done<A: Adapter>(given: Result<Reply<A>, Refused>) -> Result<(), Refused> {
+    match given {
+        Ok(_) => Ok(()),
+        Err(refused) => Err(refused),
+    }
+}
+
+/// Makes a book.
+pub(super) fn make_book<L: LinkStore, A: Adapter>(
+    repository: &mut Repository<L, A>,
+) -> Result<(), Refused> {
+    done(repository.create(BOOK))
+}
+
+/// The name that a book gets.
+pub(super) fn emma(alloc: Global) -> Result<Value, AllocError> {
+    Ok(Value::Text(Text::from_str(alloc, "Emma")?))
+}
+
+/// The notification that the first book is named.
+fn named(alloc: Global) -> Result<Notice, AllocError> {
+    Ok(Notice {
+        notifier: FIRST,
+        feature: Some(NAME),
+        kind: NoticeKind::Set,
+        old_value: Value::Null,
+        new_value: emma(alloc)?,
+        position: NO_INDEX,
+        was_set: false,
+    })
+}
+
+/// What that notification makes of the snapshot of the first book.
+pub(super) fn renamed<L: LinkStore, A: Adapter>(
+    alloc: Global,
+    repository: &Repository<L, A>,
+) -> Result<Box<Snapshot>, Fault> {
+    let notices = vec![in alloc; named(alloc)?]?;
+    let snapshot = repository.snapshot(FIRST)?;
+    Ok(view_of(alloc, snapshot, notices.as_slice())?)
+}
+
+/// Attaches the first adapter; one that is refused is dropped.
+pub(super) fn watch<L: LinkStore, A: Adapter>(
+    repository: &mut Repository<L, A>,
+    target: Node,
+    deep: bool,
+    adapter: A,
+) -> Result<(), Refused> {
+    match repository.attach(THERE, target, deep, adapter) {
+        Ok(_) => Ok(()),
+        Err(failure) => Err(failure.refused),
+    }
+}
+
+/// Makes another book, names the first, attaches an adapter to it, reads its name, and takes its snapshot.
+pub(super) fn commands<A: Adapter>(
+    alloc: Global,
+    adapter: A,
+) -> Result<Vec<Command<A>>, AllocError> {
+    let end = End {
+        node: FIRST,
+        feature: NAME,
+    };
+    let name = emma(alloc)?;
+    let commands = vec![in alloc;
+        Command::Create(BOOK),
+        Command::At(end, Act::Set(name)),
+        Command::Attach {
+            no: BROUGHT,
+            target: FIRST,
+            deep: false,
+            adapter,
+        },
+        Command::Read(Read::At(end, EndRead::Get)),
+        Command::Read(Read::Under(FIRST, NodeRead::Snapshot)),
+    ]?;
+    Ok(commands)
+}
