@@ -87,18 +87,18 @@ pub(super) fn commands<A: Adapter>(
         node: FIRST,
         feature: NAME,
     };
-    let name = emma(alloc)?;
-    let commands = vec![in alloc;
-        Command::Create(BOOK),
-        Command::At(end, Act::Set(name)),
-        Command::Attach {
-            no: BROUGHT,
-            target: FIRST,
-            deep: false,
-            adapter,
-        },
-        Command::Read(Read::At(end, EndRead::Get)),
-        Command::Read(Read::Under(FIRST, NodeRead::Snapshot)),
-    ]?;
+    let value = emma(alloc)?;
+    let attach = Command::Attach {
+        no: BROUGHT,
+        target: FIRST,
+        deep: false,
+        adapter,
+    };
+    let mut commands = Vec::new(alloc);
+    commands.push(Command::Create(BOOK))?;
+    commands.push(Command::At(end, Act::Set(value)))?;
+    commands.push(attach)?;
+    commands.push(Command::Read(Read::At(end, EndRead::Get)))?;
+    commands.push(Command::Read(Read::Under(FIRST, NodeRead::Snapshot)))?;
     Ok(commands)
 }
