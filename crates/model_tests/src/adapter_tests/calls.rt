@@ -121,18 +121,17 @@ fn attach_command<A>(no: u32, target: Node, adapter: A) -> Command<A> {
 
 /// The same calls as commands.
 fn commands<A: Adapter>(alloc: Global, adapter: A) -> Result<Vec<Command<A>>, AllocError> {
+    let mut commands = Vec::new(alloc);
+    commands.push(attach_command(5, object(0), adapter))?;
     let end = End {
         node: object(0),
         feature: NAME,
     };
-    let emma = text(alloc, "Emma")?;
-    Ok(vec![in alloc;
-        attach_command(5, object(0), adapter),
-        Command::At(end, Act::Set(emma)),
-        Command::Read(Read::Adapter(NO, Tally::Told)),
-        Command::Read(Read::Adapter(NO, Tally::Kept)),
-        Command::Detach(NO),
-    ]?)
+    commands.push(Command::At(end, Act::Set(text(alloc, "Emma")?)))?;
+    commands.push(Command::Read(Read::Adapter(NO, Tally::Told)))?;
+    commands.push(Command::Read(Read::Adapter(NO, Tally::Kept)))?;
+    commands.push(Command::Detach(NO))?;
+    Ok(commands)
 }
 
 fn command_outcome<A: Adapter>(

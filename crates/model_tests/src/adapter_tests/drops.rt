@@ -146,7 +146,10 @@ fn attaching<A: Adapter>(
     first: A,
     second: A,
 ) -> Result<Vec<Command<A>>, AllocError> {
-    Ok(vec![in alloc; attach(1, first), attach(2, second)]?)
+    let mut commands = Vec::new(alloc);
+    commands.push(attach(1, first))?;
+    commands.push(attach(2, second))?;
+    Ok(commands)
 }
 
 #[test]

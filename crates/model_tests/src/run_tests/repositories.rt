@@ -13,12 +13,11 @@ fn commands<A: Adapter>(alloc: Global) -> Result<Vec<Command<A>>, AllocError> {
         node: object(0),
         feature: NAME,
     };
-    let emma = text(alloc, "Emma")?;
-    Ok(vec![in alloc;
-        Command::Create(BOOK),
-        Command::At(end, Act::Set(emma)),
-        Command::Read(Read::At(end, EndRead::Get)),
-    ]?)
+    let mut commands = Vec::new(alloc);
+    commands.push(Command::Create(BOOK))?;
+    commands.push(Command::At(end, Act::Set(text(alloc, "Emma")?)))?;
+    commands.push(Command::Read(Read::At(end, EndRead::Get)))?;
+    Ok(commands)
 }
 
 /// What these commands give: nobody is notified, and no adapter comes back.
