@@ -2,12 +2,14 @@
 use Rattle.std.proofs.Common.{◌≡◌, ◌∙◌, ℕ, List, [], ◌∷◌, Bool, true, false, Bor, Ordering, Less, Equal, Greater, ap, bytes_eq, is_eq, map, nat_cmp, refl, sym}
 use Rattle.std.proofs.lemmas.Map.Text.{is_eq-slice_cmp}
 use Rattle.std.proofs.lemmas.Slice.Eq.{bytes_eq-Decides}
-use Rattle.std.specs.Prelude.{◌&&◌, ◌||◌, fold}
+use Rattle.std.specs.Prelude.{◌&&◌, fold}
 use Rattle.std.specs.Cmp.Lexicographic.{slice_cmp}
 use Rattle.std.specs.List.{list_all, list_any}
 use Rattle.std.specs.Ordering.{match_ordering}
+use Rattle.std.proofs.Math.Bool.{and-true}
 use Rattle.serde_json.specs.Data.{Data, Members, no_members, member, put}
 use Rattle.json_fields.specs.Fields.{keys_of, only_keys}
+use Rattle.json_fields.proofs.FieldLemmas.{any_map}
 use Rattle.borrowed_json.specs.View.{members_view, view}
 use Rattle.borrowed_json.proofs.ViewLemmas.{Entry}
 
@@ -43,17 +45,9 @@ all_onto p old (m ∷ ms) =
     all_onto p (put m.0.now (view m.1) old) ms ∙ ap (λ b. list_all (λ (e : Entry). p e.0.now) ms && b) (all_put p m.0.now (view m.1) old)
     ∙ and_either (p m.0.now) (list_all (λ (e : Entry). p e.0.now) ms) (list_all p (keys_of old))
 
-and_true : (b : Bool) → b && true ≡ b
-and_true true = refl
-and_true false = refl
-
 -- a test of all keys is one of all members as they are written
 pub all_keys : (p : List ℕ → Bool) (ms : List Entry) → list_all p (keys_of (members_view ms)) ≡ list_all (λ (m : Entry). p m.0.now) ms
-all_keys p ms = all_onto p no_members ms ∙ and_true (list_all (λ (m : Entry). p m.0.now) ms)
-
-any_map : (names : List (Bor (List ℕ))) (k : List ℕ) → list_any (λ n. bytes_eq n k) (map (λ n. n.now) names) ≡ list_any (λ n. bytes_eq n.now k) names
-any_map [] k = refl
-any_map (n ∷ ns) k = ap (λ b. bytes_eq n.now k || b) (any_map ns k)
+all_keys p ms = all_onto p no_members ms ∙ and-true (list_all (λ (m : Entry). p m.0.now) ms)
 
 only_keys-all : (names : List (List ℕ)) (ms : Members) → only_keys names ms ≡ list_all (λ k. list_any (λ n. bytes_eq n k) names) (keys_of ms)
 only_keys-all names no_members = refl

@@ -1,4 +1,4 @@
--- Members that take the place of members of their keys.
+-- Members that replace earlier members of the same key.
 use Rattle.std.proofs.Common.{◌≡◌, ◌∙◌, ◌<◌, ℕ, zero, suc, List, [], ◌∷◌, Bool, true, false, Bor, Ordering, Less, Equal, Greater, ap, arith, bytes_eq, drop, get_or, is_eq, length, map, nat_cmp, refl, set, sym, true≢false}
 use Rattle.std.proofs.lemmas.Cmp.{nat_list_cmp_total, tied_itself}
 use Rattle.std.proofs.lemmas.Map.Text.{is_eq-slice_cmp}
@@ -85,7 +85,7 @@ both : (a b : Bool) → not a && b ≡ true → (a ≡ false) × (b ≡ true)
 both true b h = absurd (true≢false (sym h))
 both false b h = (refl, h)
 
--- a key that comes no more may be put before the others
+-- a key that does not come again may be put before the others
 put_before : (k : List ℕ) (d : Data) (old : Members) (ms : List Entry) → others k ms ≡ true → put k d (onto old ms) ≡ onto (put k d old) ms
 put_before k d old [] h = refl
 put_before k d old (m ∷ ms) h =

@@ -14,7 +14,7 @@ use Rattle.borrowed_json.specs.declared.value.Json.{Json, Array, Null, Object, t
 abbrev pub Entry : Type 0
 Entry = Bor (List ℕ) × Json
 
--- what members have past their end
+-- the entry that is read past the end of members
 abbrev pub no_entry : Entry
 no_entry = (record { ref_ptr = (0, 0); now = [] }, Null)
 

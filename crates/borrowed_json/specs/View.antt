@@ -13,11 +13,11 @@ number_view (Unsigned n) = unsigned n
 number_view (Negative z) = negative z
 number_view (Float x) = float x
 
--- the members go in one after another, so the last value of a key stays
+-- the members are put in one after another, so the last value of a key stays
 abbrev pub members_of : List (Bor (List ℕ) × Data) → Members
 members_of ms = fold (λ found m. put m.0.now m.1 found) no_members ms
 
--- one level, with each value inside already seen as its data
+-- the data of one level of a value, given the data of the values inside
 abbrev pub view_step : Json-F Data → Data
 view_step Json-F.Null = null
 view_step (Json-F.Bool b) = boolean b

@@ -7,18 +7,26 @@ ghost use Rattle.borrowed_json.specs.View.{items_view, members_view, view};
 ghost use Rattle.borrowed_json.specs.declared.fault.JsonFault.TheVariants as fault;
 
 use crate::fault::JsonFault;
-use crate::growth::{FIRST_ITEMS, push, put};
+use crate::growth::put;
 use crate::number::Number;
 use crate::value::{Json, Members};
 use bumpalo::Bump;
 use json::{Reader, Scratch, Token};
 use std::alloc::Global;
 
-/// How deep arrays and objects nest at most.
+/// The greatest depth to which arrays and objects nest.
 const NESTING: usize = 127;
 
-/// The JSON value that a text is. Its items and members are kept in `arena`, texts with escapes in `scratch`, and all other texts in the
-/// text.
+/// What is read of the arrays and objects that are not ended yet: the items of the arrays, and the members of the objects, each after
+/// those of the arrays and objects that it is in.
+#[derive(Drop)]
+struct Unfinished<'t> {
+    items: Vec<Json<'t>>,
+    members: Vec<(&'t str, Json<'t>)>,
+}
+
+/// Reads a text as a JSON value. Its items and members are kept in `arena`, and texts with escapes in `scratch`; all other texts are
+/// borrowed from the text that is read.
 pub fn read_json<'t>(
     alloc: Global,
     arena: &'t Bump,
@@ -30,7 +38,11 @@ pub fn read_json<'t>(
     ensures syntax { result ≡ Err fault.Syntax → read_text text.now ≡ None }
 {
     let mut reader = Reader::new(text, scratch)?;
-    let value = read(alloc, arena, &mut reader, NESTING)?;
+    let mut unfinished = Unfinished {
+        items: Vec::new(alloc),
+        members: Vec::new(alloc),
+    };
+    let value = read(arena, &mut reader, &mut unfinished, NESTING)?;
     if reader.next().is_some() {
         return Err(JsonFault::Syntax);
     }
@@ -40,13 +52,14 @@ pub fn read_json<'t>(
 #[cycle(read)]
 #[inline(always)]
 fn read<'t>(
-    alloc: Global,
     arena: &'t Bump,
     reader: &mut Reader<'t>,
+    unfinished: &mut Unfinished<'t>,
     depth: usize,
 ) -> Result<Json<'t>, JsonFault>
     ensures value { IfOk result (λ v. converted of_json (value depth reader.old) ≡ Some (view v, reader.new)) }
     ensures shorter { OnOk result (length reader.new < length reader.old) }
+    ensures unfinished { OnOk result ((unfinished.new.items.items ≡ unfinished.old.items.items) × (unfinished.new.members.items ≡ unfinished.old.members.items)) }
     ensures syntax { result ≡ Err fault.Syntax → converted of_json (value depth reader.old) ≡ None }
 {
     let token = reader.next().ok_or(JsonFault::Syntax)?;
@@ -63,13 +76,13 @@ fn read<'t>(
             if depth == 0 {
                 return Err(JsonFault::Syntax);
             }
-            Ok(Json::Array(read_items(alloc, arena, reader, depth - 1)?))
+            Ok(Json::Array(read_items(arena, reader, unfinished, depth - 1)?))
         }
         Token::BeginObject => {
             if depth == 0 {
                 return Err(JsonFault::Syntax);
             }
-            Ok(Json::Object(read_members(alloc, arena, reader, depth - 1)?))
+            Ok(Json::Object(read_members(arena, reader, unfinished, depth - 1)?))
         }
     }
 }
@@ -77,39 +90,45 @@ fn read<'t>(
 #[cycle(read)]
 #[inline(never)]
 fn read_items<'t>(
-    alloc: Global,
     arena: &'t Bump,
     reader: &mut Reader<'t>,
+    unfinished: &mut Unfinished<'t>,
     depth: usize,
 ) -> Result<&'t [Json<'t>], JsonFault>
     ensures value { IfOk result (λ v. converted of_items (items (value depth) (length reader.old) reader.old) ≡ Some (items_view v.now, reader.new)) }
     ensures shorter { OnOk result (length reader.new < length reader.old) }
+    ensures unfinished { OnOk result ((unfinished.new.items.items ≡ unfinished.old.items.items) × (unfinished.new.members.items ≡ unfinished.old.members.items)) }
     ensures syntax { result ≡ Err fault.Syntax → converted of_items (items (value depth) (length reader.old) reader.old) ≡ None }
 {
-    let mut found = Vec::new(alloc);
+    let base = unfinished.items.len();
     'items: while !reader.take_end_array() {
-        let item = read(alloc, arena, reader, depth)?;
-        push(&mut found, item, FIRST_ITEMS)?;
+        let item = read(arena, reader, unfinished, depth)?;
+        unfinished.items.push(item)?;
     }
-    Ok(arena.try_alloc_slice_copy(found.as_slice())?)
+    let items = arena.try_alloc_slice_copy(&unfinished.items[base..])?;
+    unfinished.items.truncate(base);
+    Ok(items)
 }
 
 #[cycle(read)]
 #[inline(never)]
 fn read_members<'t>(
-    alloc: Global,
     arena: &'t Bump,
     reader: &mut Reader<'t>,
+    unfinished: &mut Unfinished<'t>,
     depth: usize,
 ) -> Result<Members<'t>, JsonFault>
     ensures value { IfOk result (λ m. converted (λ ms. of_members ms no_members) (members (value depth) (length reader.old) reader.old) ≡ Some (members_view m.now, reader.new)) }
     ensures shorter { OnOk result (length reader.new < length reader.old) }
+    ensures unfinished { OnOk result ((unfinished.new.items.items ≡ unfinished.old.items.items) × (unfinished.new.members.items ≡ unfinished.old.members.items)) }
     ensures syntax { result ≡ Err fault.Syntax → converted (λ ms. of_members ms no_members) (members (value depth) (length reader.old) reader.old) ≡ None }
 {
-    let mut found = Vec::new(alloc);
+    let base = unfinished.members.len();
     'members: while let Some(name) = reader.next_key()? {
-        let member = read(alloc, arena, reader, depth)?;
-        put(&mut found, name, member)?;
+        let member = read(arena, reader, unfinished, depth)?;
+        put(&mut unfinished.members, base, name, member)?;
     }
-    Ok(arena.try_alloc_slice_copy(found.as_slice())?)
+    let members = arena.try_alloc_slice_copy(&unfinished.members[base..])?;
+    unfinished.members.truncate(base);
+    Ok(members)
 }

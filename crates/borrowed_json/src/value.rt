@@ -48,7 +48,7 @@ impl<'t> Json<'t> {
         matches!(self, Json::Object(_))
     }
 
-    /// True or false, if it is that. Takes no memory.
+    /// The truth value, if it is one. Takes no memory.
     pub fn as_bool(&self) -> Option<bool>
         ensures { result ≡ as_bool (view self.now) }
     {

@@ -1,9 +1,10 @@
-use Rattle.std.proofs.Common.{◌≡◌, ◌-◌, ◌<◌, [], ◌∷◌, length, Some, None, sym, ap, ap₂, ◌∙◌, arith, rules}
+use Rattle.std.proofs.Common.{◌≡◌, ◌-◌, ◌<◌, ◌++◌, [], ◌∷◌, drop, length, take, Some, None, refl, sym, ap, ap₂, ◌∙◌, arith, rules}
+use Rattle.std.proofs.lemmas.List.{append-nil, append_assoc, drop_at, take-append-drop, take_at, take_rest}
 use Rattle.json.specs.Token.{Token}
 use Rattle.json.specs.Json.{parse_map, after_end_array, read_key, items, members, value}
 use Rattle.json.specs.Reads.{token_of}
 use Rattle.json.proofs.Grammar.{value_is, value-begin_array, value-begin_object, read_key-shorter}
-use Rattle.serde_json.specs.Data.{null, boolean, number, string, array, object, put}
+use Rattle.serde_json.specs.Data.{null, boolean, number, string, array, object, put as put_data}
 use Rattle.serde_json.specs.Read.{of_json, of_items, of_members, converted}
 use Rattle.borrowed_json.specs.View.{items_view, members_view, number_view, view}
 use Rattle.borrowed_json.specs.declared.value.Json.{String, Number, Bool, Null, the_lemmas}
@@ -99,73 +100,75 @@ read-returns-in_ok-read_members-in-BeginObject-clause-value t c =
 pub read_items-items-init : goal.read_items-items-init
 read_items-items-init t c =
     let all = converted of_items (items (value c.args.depth) (length c.args.reader.now) c.args.reader.now) in
-    (length c.args.reader.now, omega arith, none_before all ∙ ap (λ vs. parse_map (items_before vs) all) (sym c.new-found.ensures.items), omega arith)
+    ([], length c.args.reader.now, omega arith, none_before all, omega arith, search rules, sym (append-nil c.args.unfinished.now.items.items), refl)
 
 pub read_items-returns-in_err-item-clause-syntax : goal.read_items-returns-in_err-item-clause-syntax
 read_items-returns-in_err-item-clause-syntax t c refused =
     let p = value c.args.depth in
     let l = c.items in
-    let n = l.invariant.0 in
+    let (found, n, enough, far, near, base, items_are, members_are) = l.invariant in
     let going : (after_end_array l.reader ≡ None) × (c.take_end_array.new.self ≡ l.reader) = grind arith in
-    l.invariant.2 ∙ ap (parse_map (items_before l.found.items)) (item_refused p n l.reader going.0 (rw (← going.1) (c.read.ensures.syntax (grind arith))))
+    far ∙ ap (parse_map (items_before found)) (item_refused p n l.reader going.0 (rw (← going.1) (c.read.ensures.syntax (grind arith))))
 
 pub read_items-items-preserved : goal.read_items-items-preserved
 read_items-items-preserved t c =
     let p = value c.args.depth in
     let l = c.items in
-    let n = l.invariant.0 in
+    let (found, n, enough, far, near, base, items_are, members_are) = l.invariant in
     let going : (after_end_array l.reader ≡ None) × (c.take_end_array.new.self ≡ l.reader) = grind arith in
     let done = c.in_ok-item.ensures in
     let v = c.in_ok-item.item in
     let r = c.read.new.reader in
     let less : length r < length l.reader = rw (← going.1) done.shorter in
-    let turn = item_read p n l.reader r (view v) (omega (arith, l.invariant.1)) going.0 (rw (← going.1) done.value) in (
+    let turn = item_read p n l.reader r (view v) (omega (arith, enough)) going.0 (rw (← going.1) done.value) in (
+      found ++ v ∷ [],
       n - 1,
-      omega (arith, l.invariant.1),
-      l.invariant.2 ∙ ap (parse_map (items_before l.found.items)) turn ∙ one_more_item l.found.items v _
-          ∙ ap (λ vs. parse_map (items_before vs) (converted of_items (items p (n - 1) r))) (sym c.in_ok-push.ensures.items),
-      omega (arith, l.invariant.3),
+      omega (arith, enough),
+      far ∙ ap (parse_map (items_before found)) turn ∙ one_more_item found v _,
+      omega (arith, near),
+      base,
+      c.in_ok-push.ensures.items ∙ ap (λ vs. vs ++ v ∷ []) (done.unfinished.0 ∙ items_are) ∙ append_assoc c.args.unfinished.now.items.items found (v ∷ []),
+      done.unfinished.1 ∙ members_are,
     )
 
 pub read_items-returns-clause-value : goal.read_items-returns-clause-value
 read_items-returns-clause-value t c =
     let p = value c.args.depth in
     let l = c.items in
-    let n = l.invariant.0 in
+    let (found, n, enough, far, near, base, items_are, members_are) = l.invariant in
     let r = c.take_end_array.new.self in
-    l.invariant.2 ∙ ap (parse_map (items_before l.found.items)) (items_over p n l.reader r l.invariant.1 (grind arith)) ∙ ap (λ ds. Some (ds, r)) (items_before-no_items l.found.items)
-    ∙ ap (λ vs. Some (items_view vs, r)) (sym (c.in_ok-try_alloc_slice_copy.ensures ∙ c.as_slice.ensures.value))
+    let at = c.len-base.result in
+    let read = c.in_ok-items.ensures ∙ take_rest c.deref.result.now at ∙ ap (drop at) (c.deref.ensures.value ∙ items_are) ∙ drop_at c.args.unfinished.now.items.items found at (sym base) in
+    far ∙ ap (parse_map (items_before found)) (items_over p n l.reader r enough (grind arith)) ∙ ap (λ ds. Some (ds, r)) (items_before-no_items found)
+    ∙ ap (λ vs. Some (items_view vs, r)) (sym read)
 
 pub read_members-members-init : goal.read_members-members-init
 read_members-members-init t c =
     let all = members (value c.args.depth) (length c.args.reader.now) c.args.reader.now in
-    (length c.args.reader.now, omega arith, ap (λ es. converted (λ ms. of_members ms (members_view es)) all) (sym c.new-found.ensures.items), omega arith)
+    ([], length c.args.reader.now, omega arith, refl, omega arith, search rules, sym (append-nil c.args.unfinished.now.members.items), refl)
 
 pub read_members-returns-in_err-name-clause-syntax : goal.read_members-returns-in_err-name-clause-syntax
 read_members-returns-in_err-name-clause-syntax t c refused =
     let p = value c.args.depth in
     let l = c.members in
-    let n = l.invariant.0 in
-    let old = members_view l.found.items in
-    l.invariant.2 ∙ key_refused p old n l.reader c.in_err-name.ensures.value
+    let (found, n, enough, far, near, base, members_are, items_are) = l.invariant in
+    far ∙ key_refused p (members_view found) n l.reader c.in_err-name.ensures.value
 
 pub read_members-returns-in_err-member-clause-syntax : goal.read_members-returns-in_err-member-clause-syntax
 read_members-returns-in_err-member-clause-syntax t c refused =
     let p = value c.args.depth in
     let l = c.members in
-    let n = l.invariant.0 in
-    let old = members_view l.found.items in
+    let (found, n, enough, far, near, base, members_are, items_are) = l.invariant in
     let k = c.in-Some.name.now in
     let s = c.next_key.new.self in
     let named : read_key l.reader ≡ Some (Some k, s) = grind arith in
-    l.invariant.2 ∙ member_refused p old n k l.reader s named (c.read.ensures.syntax (grind arith))
+    far ∙ member_refused p (members_view found) n k l.reader s named (c.read.ensures.syntax (grind arith))
 
 pub read_members-members-preserved : goal.read_members-members-preserved
 read_members-members-preserved t c =
     let p = value c.args.depth in
     let l = c.members in
-    let n = l.invariant.0 in
-    let old = members_view l.found.items in
+    let (found, n, enough, far, near, base, members_are, items_are) = l.invariant in
     let k = c.in-Some.name.now in
     let s = c.next_key.new.self in
     let named : read_key l.reader ≡ Some (Some k, s) = grind arith in
@@ -174,19 +177,32 @@ read_members-members-preserved t c =
     let r = c.read.new.reader in
     let less = read_key-shorter l.reader (Some k) s named in
     let lesser = done.shorter in
-    let inserted : members_view c.put.new.members.items ≡ put k (view v) old = c.in_ok-put.ensures.members in (
+    let outer = c.args.unfinished.now.members.items in
+    let before = done.unfinished.1 ∙ members_are in
+    let at = c.len-base.result in
+    let own = drop_at outer found at (sym base) in
+    let outside = take_at outer found at (sym base) in
+    let after = c.put.new.members.items in
+    let put = c.in_ok-put.ensures in
+    let inserted : members_view (drop at after) ≡ put_data k (view v) (members_view found) = put.members ∙ ap (λ ms. put_data k (view v) (members_view (drop at ms))) before ∙ ap (λ ms. put_data k (view v) (members_view ms)) own in
+    let kept : take at after ≡ outer = put.outer ∙ ap (take at) before ∙ outside in (
+      drop at after,
       n - 1,
-      omega (arith, l.invariant.1),
-      l.invariant.2 ∙ member_read p old n k l.reader s r (view v) (omega (arith, l.invariant.1)) named done.value
+      omega (arith, enough),
+      far ∙ member_read p (members_view found) n k l.reader s r (view v) (omega (arith, enough)) named done.value
           ∙ ap (λ found. converted (λ ms. of_members ms found) (members p (n - 1) r)) (sym inserted),
-      omega (arith, l.invariant.3),
+      omega (arith, near),
+      base,
+      sym (take-append-drop at after) ∙ ap (λ ms. ms ++ drop at after) kept,
+      done.unfinished.0 ∙ items_are,
     )
 
 pub read_members-returns-clause-value : goal.read_members-returns-clause-value
 read_members-returns-clause-value t c =
     let p = value c.args.depth in
     let l = c.members in
-    let n = l.invariant.0 in
-    let old = members_view l.found.items in
-    l.invariant.2 ∙ members_over p old n l.reader c.next_key.new.self l.invariant.1 (grind arith)
-    ∙ ap (λ ms. Some (members_view ms, c.next_key.new.self)) (sym (c.in_ok-try_alloc_slice_copy.ensures ∙ c.as_slice.ensures.value))
+    let (found, n, enough, far, near, base, members_are, items_are) = l.invariant in
+    let at = c.len-base.result in
+    let read = c.in_ok-members.ensures ∙ take_rest c.deref.result.now at ∙ ap (drop at) (c.deref.ensures.value ∙ members_are) ∙ drop_at c.args.unfinished.now.members.items found at (sym base) in
+    far ∙ members_over p (members_view found) n l.reader c.next_key.new.self enough (grind arith)
+    ∙ ap (λ ms. Some (members_view ms, c.next_key.new.self)) (sym read)

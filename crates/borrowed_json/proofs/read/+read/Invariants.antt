@@ -1,9 +1,10 @@
-use Rattle.std.proofs.Common.{◌≡◌, ℕ, ◌+◌, ◌*◌, ◌≤◌, length}
+use Rattle.std.proofs.Common.{◌≡◌, ℕ, ◌+◌, ◌++◌, ◌*◌, ◌≤◌, List, length}
 use Rattle.json.specs.Json.{items, members, value, parse_map}
 use Rattle.serde_json.specs.Data.{no_members}
 use Rattle.serde_json.specs.Read.{of_items, of_members, converted}
 use Rattle.borrowed_json.specs.View.{members_view}
-use Rattle.borrowed_json.proofs.ViewLemmas.{items_before}
+use Rattle.borrowed_json.specs.declared.value.Json.{Json}
+use Rattle.borrowed_json.proofs.ViewLemmas.{Entry, items_before}
 use Rattle.borrowed_json.proofs.read.+read.Given as goal
 
 abbrev pub decreases-read : goal.decreases-read
@@ -17,18 +18,24 @@ decreases-read_members l = 2 * l.depth + 1
 
 abbrev pub invariant-read_items-items : goal.invariant-read_items-items
 invariant-read_items-items l =
-    (n : ℕ) × (length l.reader ≤ n)
-    × (converted of_items (items (value l.depth) (length l.initial.reader) l.initial.reader) ≡ parse_map (items_before l.found.items) (converted of_items (items (value l.depth) n l.reader)))
+    (found : List Json) × (n : ℕ) × (length l.reader ≤ n)
+    × (converted of_items (items (value l.depth) (length l.initial.reader) l.initial.reader) ≡ parse_map (items_before found) (converted of_items (items (value l.depth) n l.reader)))
     × (length l.reader ≤ length l.initial.reader)
+    × (l.base ≡ length l.initial.unfinished.items.items)
+    × (l.unfinished.items.items ≡ l.initial.unfinished.items.items ++ found)
+    × (l.unfinished.members.items ≡ l.initial.unfinished.members.items)
 
 abbrev pub decreases-read_items-items : goal.decreases-read_items-items
 decreases-read_items-items l = length l.reader
 
 abbrev pub invariant-read_members-members : goal.invariant-read_members-members
 invariant-read_members-members l =
-    (n : ℕ) × (length l.reader ≤ n)
-    × (converted (λ ms. of_members ms no_members) (members (value l.depth) (length l.initial.reader) l.initial.reader) ≡ converted (λ ms. of_members ms (members_view l.found.items)) (members (value l.depth) n l.reader))
+    (found : List Entry) × (n : ℕ) × (length l.reader ≤ n)
+    × (converted (λ ms. of_members ms no_members) (members (value l.depth) (length l.initial.reader) l.initial.reader) ≡ converted (λ ms. of_members ms (members_view found)) (members (value l.depth) n l.reader))
     × (length l.reader ≤ length l.initial.reader)
+    × (l.base ≡ length l.initial.unfinished.members.items)
+    × (l.unfinished.members.items ≡ l.initial.unfinished.members.items ++ found)
+    × (l.unfinished.items.items ≡ l.initial.unfinished.items.items)
 
 abbrev pub decreases-read_members-members : goal.decreases-read_members-members
 decreases-read_members-members l = length l.reader
