@@ -1,4 +1,4 @@
--- What the adapters' targets are once one more adapter is attached.
+-- The targets of the adapters after one more adapter is attached.
 use Rattle.std.proofs.Common.{◌≡◌, ◌+◌, ℕ, true, false, cond, List, [], ◌∷◌, ◌++◌, length, map, insert, Option, Some, None, option_map, if◌then◌else◌, refl, sym, ap, subst, ◌∙◌}
 use Rattle.std.specs.List.{IsDistinct, cons_option, find, fold}
 use Rattle.std.proofs.lemmas.List.{append-nil}

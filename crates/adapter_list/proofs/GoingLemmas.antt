@@ -1,4 +1,4 @@
--- What the adapters are once one has lost a target, by its index.
+-- The adapters after one has lost a target, by its index.
 use Rattle.std.proofs.Common.{◌≡◌, ◌<◌, ◌≤◌, ◌+◌, ℕ, zero, suc, Bool, true, false, cond, not, ◌&&◌, ◌||◌, nat_eq, List, [], ◌∷◌, ◌++◌, map, filter, length, set, get_or, slice_get, remove, drop, nat_lt, position, Option, Some, None, option_map, if◌then◌else◌, refl, sym, ap, subst, ◌∙◌, arith, eqb-true}
 use Rattle.std.specs.List.{AllByRecursion, IsDistinct, fold, list_any, position_or_len}
 use Rattle.std.proofs.lemmas.Bool.{false≢true, ltb-false}
@@ -7,6 +7,7 @@ use Rattle.std.proofs.lemmas.List.Elements.{All-head, All-tail, recursion_from_A
 use Rattle.std.specs.Option.{IfSome}
 use Rattle.std.proofs.lemmas.Option.{slice_get-map, slice_get_read}
 use Rattle.std.proofs.lemmas.Map.Keys.{IsDistinct-head, IsDistinct-tail}
+use Rattle.std.proofs.Math.Bool.{and-false}
 use Rattle.mm_types.proofs.SameLemmas.{same_node-true}
 use Rattle.mm_types.specs.Same.{same_node}
 use Rattle.mm_types.specs.declared.numbers.AdapterNo.{AdapterNo}
@@ -116,7 +117,7 @@ targets_len-set rs i q p at fewer = total-set 0 rs i q p at fewer
 pub once-filter : (x : Node) (ts : List Target) → IsDistinct same_node (map (λ t. t.node) ts) → IsDistinct same_node (map (λ t. t.node) (filter (λ t. not (is_at x t)) ts))
 once-filter x ts once = distinct-filter same_node (λ t. t.node) (λ t. not (is_at x t)) ts once
 
--- the adapter at the index has the target, if the adapter of its number has
+-- the adapter at the index has the target, if the adapter with its number has it
 pub target-at : (x : Node) (number : AdapterNo) (rs : List Listed) (i : ℕ) (q : Listed) → HasDistinctNumbers rs → slice_get rs i ≡ Some q → has_no number q ≡ true → is_target number x rs ≡ true → has_target x q ≡ true
 target-at x number [] i q distinct at has there = absurd (no-some q at)
 target-at x number (r ∷ rs) zero q distinct at has there =
@@ -152,11 +153,11 @@ some-position k n i h = elim (nat_lt k n) as (λ b. Some i ≡ cond b (Some k) N
 none-position : (k n : ℕ) → None ≡ cond (nat_lt k n) (Some k) None → n ≤ k
 none-position k n h = elim (nat_lt k n) as (λ b. nat_lt k n ≡ b → None ≡ cond b (Some k) None → n ≤ k) [ true ↦ λ _ e. absurd (no-some k e) | false ↦ λ low _. ltb-false k n low ] refl h
 
--- the target that is found first is the one that goes
+-- the target that is found first is the one that is removed
 pub gone-at : (x : Node) (ts : List Target) (i : ℕ) → IsDistinct same_node (map (λ t. t.node) ts) → Some i ≡ position (is_at x) ts → remove ts i ≡ filter (λ t. not (is_at x t)) ts
 gone-at x ts i once found = ap (remove ts) (some-position (position_or_len (is_at x) ts) (length ts) i found) ∙ first-gone x ts once
 
--- and if none is found, none goes
+-- if no target is found, none is removed
 pub none-gone : (x : Node) (ts : List Target) → IsDistinct same_node (map (λ t. t.node) ts) → None ≡ position (is_at x) ts → ts ≡ filter (λ t. not (is_at x t)) ts
 none-gone x ts once found =
     let k = position_or_len (is_at x) ts in
@@ -169,7 +170,8 @@ once-of heard [] i one all low is = absurd (omega (arith, low))
 once-of heard (x ∷ xs) zero one all low is = subst (λ (a : Attached _). IsDistinct same_node (map (λ t. t.node) a.targets.items)) (sym is) (All-head IsOnce (listed_one heard x) (listed heard xs) all)
 once-of heard (x ∷ xs) (suc i) one all low is = once-of heard xs i one (All-tail IsOnce (listed_one heard x) (listed heard xs) all) (omega (arith, low)) is
 
--- all that is known when a target goes: the index of its adapter, its index among those that have it, and the adapters after it
+-- facts about a target that is removed: the index of its adapter, its index among the adapters that have the target, and the adapters
+-- afterwards
 pub record Goes {A : Type 0} (heard : A → View) (xs : List (Attached A)) (x : Node) (number : AdapterNo) (ordinal index : ℕ) (one after : Attached A) : Type 0 where
   pub there : is_target number x (listed heard xs) ≡ true
   pub index_is : index ≡ index_at (number, x) (listed heard xs)
@@ -234,15 +236,11 @@ target-some : (x : Node) (ts : List Target) → list_any (is_at x) ts ≡ true �
 target-some x [] h = absurd (false≢true h)
 target-some x (t ∷ ts) h = omega arith
 
-none-and : (c : Bool) → (c && false) ≡ false
-none-and true = refl
-none-and false = refl
-
 low-by : (x : Node) (number : AdapterNo) (m : ℕ) (r : Listed) (rs : List Listed) → is_target number x (r ∷ rs) ≡ true → (is_target number x rs ≡ true → m + length r.targets + index_at (number, x) rs < fold (λ a (q : Listed). a + length q.targets) (m + length r.targets) rs)
     → (b : Bool) → has_target x r ≡ b → (d : Bool) → has_no number r ≡ d → m + index_at (number, x) (r ∷ rs) < fold (λ a (q : Listed). a + length q.targets) (m + length r.targets) rs
 low-by x number m r rs there later true target true same = let here = index-here x number r rs same target in let some = target-some x r.targets target in let more = total-more (m + length r.targets) rs in omega (arith, here, some, more)
 low-by x number m r rs there later true target false apart = let behind = index-behind x number r rs apart target in let some = target-some x r.targets target in let low = later (sym (ap (λ b. (b && has_target x r) || is_target number x rs) apart) ∙ there) in omega (arith, behind, some, low)
-low-by x number m r rs there later false target d is = let other = index-other x number r rs target in let low = later (sym (ap (λ b. (has_no number r && b) || is_target number x rs) target ∙ ap (λ b. b || is_target number x rs) (none-and (has_no number r))) ∙ there) in omega (arith, other, low)
+low-by x number m r rs there later false target d is = let other = index-other x number r rs target in let low = later (sym (ap (λ b. (has_no number r && b) || is_target number x rs) target ∙ ap (λ b. b || is_target number x rs) (and-false (has_no number r))) ∙ there) in omega (arith, other, low)
 
 low-from : (x : Node) (number : AdapterNo) (m : ℕ) (rs : List Listed) → is_target number x rs ≡ true → m + index_at (number, x) rs < fold (λ a (r : Listed). a + length r.targets) m rs
 low-from x number m [] there = absurd (false≢true there)
@@ -253,7 +251,7 @@ index-low x number rs there = let low = low-from x number 0 rs there in omega (a
 
 ----------------------------------------------------------------- by the words of the list
 
--- if a target is: the index of its adapter, and its index among those that have the target
+-- facts about a target: the index of its adapter, and its index among the adapters that have the target
 pub record Stands {A : Type 0} (heard : A → View) (xs : List (Attached A)) (x : Node) (number : AdapterNo) (ordinal index : ℕ) : Type 0 where
   pub within : ordinal < length xs
   pub at : Some ordinal ≡ position (has_no number) (listed heard xs)
@@ -292,7 +290,7 @@ module _ {A : Type 0} {heard : A → View} {places : A → ℕ} {xs : List (Atta
       pub some-target : 0 < length one.targets.items
       some-target = some-by heard xs x number ordinal index one one (distinct-numbers heard xs keys sound.numbered sound.distinct) stands.at stands.within is stands.found
 
-      -- all that is known once it has gone
+      -- facts after the target is removed
       pub going : (after : Attached A) → after.no ≡ one.no → after.targets.items ≡ filter (λ q. not (is_at x q)) one.targets.items → heard after.adapter ≡ hear (heard one.adapter) (removing number x index) → Goes heard xs x number ordinal index one after
       going after same_number targets view =
           goes heard xs x number ordinal index one after (distinct-numbers heard xs keys sound.numbered sound.distinct) (recursion_from_All IsOnce (listed heard xs) sound.once) stands.at stands.within is stands.found same_number targets view

@@ -15,7 +15,7 @@ list_any-or : {X : Type 0} (p q : X → Bool) (xs : List X) → list_any (λ x. 
 list_any-or p q [] = refl
 list_any-or p q (x ∷ xs) = ap (λ b. (p x || q x) || b) (list_any-or p q xs) ∙ shuffled (p x) (q x) (list_any p xs) (list_any q xs)
 
--- an adapter is notified of changes at a node if it is attached there, or as a deep one above
+-- an adapter is notified of changes at a node if it is attached there, or deep above
 pub heard-anywhere : (up : Above) (x : Node) (rs : List Listed) → AllByRecursion IsOnce rs → is_heard up x rs ≡ (list_any (is_attached x false) rs || list_any (λ a. list_any (is_attached a true) rs) (up x))
 heard-anywhere up x [] once = sym (none-any (up x))
 heard-anywhere up x (r ∷ rs) once =
@@ -34,7 +34,7 @@ any-entries x only_deep (r ∷ rs) = by (find (is_at x) r.targets) (any-entries 
     by None rest = rest
     by (Some t) rest = ap (λ b. (not only_deep || t.deep) || b) rest
 
--- there are indexes exactly if something is so of an adapter
+-- there is an index exactly if an adapter passes the test
 pub some-ordinal : (p : Listed → Bool) (k : ℕ) (rs : List Listed) → not (nat_eq (length (ordinals_from p k rs)) 0) ≡ list_any p rs
 some-ordinal p k [] = refl
 some-ordinal p k (r ∷ rs) =

@@ -1,4 +1,4 @@
--- What one write to the list of attached adapters shows.
+-- The view of the list of attached adapters after one write.
 use Rattle.std.proofs.Common.{◌≡◌, ℕ, ◌+◌, ◌-◌, ◌≤◌, ◌<◌, Bool, cond, Some, List, [], ◌∷◌, ◌++◌, map, length, get_or, set, take, drop, remove, position, count_by, slice_get, option_map, zero, suc, subst, refl, sym, ap, ◌∙◌, arith, slice_index, All, ◌^◌}
 use Rattle.std.specs.List.{AllByRecursion, prefix_len, fold}
 use Rattle.std.proofs.lemmas.Option.{slice_get-map, slice_get_read}

@@ -25,7 +25,7 @@ marks-longer (b ∷ bs) zero k low i = absurd (omega (arith, low))
 marks-longer (b ∷ bs) (suc n) k low zero = refl
 marks-longer (b ∷ bs) (suc n) k low (suc i) = marks-longer bs n k (omega (arith, low)) i
 
--- past the last nothing is marked
+-- past the last mark nothing is marked
 pub mark-past : (bs : List Bool) (i : ℕ) → length bs ≤ i → get_or bs i false ≡ false
 mark-past [] i low = refl
 mark-past (b ∷ bs) zero low = absurd (omega (arith, low))
@@ -38,7 +38,7 @@ mark-set bs n b low i =
       | false ↦ λ other. get_or-set_other bs n i b false (λ (e : i ≡ n). eqb-false n i other (sym e))
     ] refl
 
--- if there is no entry for a mark, it is taken away already
+-- if there is no entry for a mark, the mark is not set
 pub mark-absent : (bs : List Bool) (n : ℕ) (b : Bool) → (b ≡ true → n < length bs) → length bs ≤ n → (i : ℕ) → get_or bs i false ≡ (if nat_eq n i then b else get_or bs i false)
 mark-absent bs n true room past i = absurd (let low = room refl in omega (arith, low, past))
 mark-absent bs n false room past i =

@@ -1,4 +1,4 @@
--- What the lists per node are once one target goes, and where its adapter is in its list.
+-- The lists of the nodes after one target is removed, and the position of its adapter in its list.
 use Rattle.std.proofs.Common.{◌≡◌, ◌+◌, ℕ, suc, Bool, true, false, cond, not, ◌&&◌, ◌||◌, nat_eq, List, [], ◌∷◌, map, filter, remove, Option, Some, None, option_map, position, if◌then◌else◌, refl, sym, ap, ◌∙◌, arith, eqb-true}
 use Rattle.std.specs.List.{AllByRecursion, cons_option, find, list_any, prefix_len}
 use Rattle.std.proofs.lemmas.Bool.{false≢true}
@@ -17,7 +17,7 @@ use Rattle.adapter_list.specs.declared.target_lists.Entry.{Entry}
 
 ----------------------------------------------------------------- one adapter
 
--- who has a node as a target has an entry there
+-- an adapter that has a node as a target has an entry there
 pub has-some : (x : Node) (ts : List Target) → (list_any (is_at x) ts ≡ true → (t : Target) × (find (is_at x) ts ≡ Some t)) × (list_any (is_at x) ts ≡ false → find (is_at x) ts ≡ None)
 has-some x [] = (λ h. absurd (false≢true h), λ h. refl)
 has-some x (t ∷ ts) =
@@ -27,7 +27,7 @@ has-some x (t ∷ ts) =
       | false ↦ later
     ]
 
--- once a target has gone, the adapter has no entry there, and its others as they were
+-- after a target is removed, the adapter has no entry there, and its other entries are as they were
 find-gone : (x : Node) (ts : List Target) → find (is_at x) (filter (λ t. not (is_at x t)) ts) ≡ None
 find-gone x [] = refl
 find-gone x (t ∷ ts) =
@@ -93,7 +93,7 @@ behind x number n r rs apart rest false target =
     no-entry x r (entries x (with_changed number (losing x n) rs)) none ∙ rest
     ∙ sym (ap (λ (es : List Entry). remove es (index_at (number, x) (r ∷ rs))) (no-entry x r (entries x rs) none) ∙ ap (λ (i : ℕ). remove (entries x rs) i) (index-other x number r rs target))
 
--- an adapter of the number that has the target is in the list of the node where it is among those that have it
+-- the position of an adapter in the list of a node is its index among the adapters that have the node as a target
 pub entries-gone : (x : Node) (number : AdapterNo) (n : Notice) (rs : List Listed) → list_any (λ r. has_no number r && has_target x r) rs ≡ true → HasDistinctNumbers rs → entries x (with_changed number (losing x n) rs) ≡ remove (entries x rs) (index_at (number, x) rs)
 entries-gone x number n [] there distinct = absurd (false≢true there)
 entries-gone x number n (r ∷ rs) there distinct =
@@ -143,7 +143,7 @@ at-first x number r rs false target d is rest =
     none-and true = refl
     none-and false = refl
 
--- the number of an adapter is in the list of a node where the adapter is among those that have it, if it does
+-- the position of a number in the list of a node is the index of its adapter among the adapters that have the node as a target, if it has
 pub position-entries : (x : Node) (number : AdapterNo) (rs : List Listed) → position (at-number number) (entries x rs) ≡ spot-at (is_target number x rs) (index_at (number, x) rs)
 position-entries x number [] = refl
 position-entries x number (r ∷ rs) = at-first x number r rs (has_target x r) refl (has_no number r) refl (position-entries x number rs)

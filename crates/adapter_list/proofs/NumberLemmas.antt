@@ -1,4 +1,4 @@
--- How an adapter is found by its number, and why one is not taken.
+-- Finding an adapter by its number, and the refusals of a new number.
 use Rattle.std.proofs.Common.{◌≡◌, ℕ, ◌<◌, Bool, filter, true, false, cond, ◌||◌, ◌++◌, if◌then◌else◌, nat_lt, nat_le, List, [], ◌∷◌, map, length, get_or, position, slice_get, Some, None, option_map, option_and_then, refl, subst, sym, ap, ◌∙◌, arith}
 use Rattle.std.specs.List.{AllByRecursion, IsDistinct, find, list_any, position_or_len}
 use Rattle.std.proofs.lemmas.List.Folds.{find_at}
@@ -32,7 +32,7 @@ module _ {A : Type 0} (heard : A → View) (xs : List (Attached A)) where
   map-listed [] = refl
   map-listed (y ∷ ys) = ap (λ ns. y.no ∷ ns) (map-listed ys)
 
-  -- the numbers are in attach order, so the index of a number is its adapter's
+  -- the numbers are in attach order, so the index of a number is the index of its adapter
   pub position-numbers : (keys : List AdapterNo) (number : AdapterNo) → keys ≡ numbers_of xs → position (same_no number) keys ≡ position (has_no number) (listed heard xs)
   position-numbers keys number e = ap (position (same_no number)) e ∙ position-map (λ (a : Attached A). a.no) (same_no number) xs ∙ sym (position-map (listed_one heard) (has_no number) xs)
 
@@ -65,7 +65,7 @@ allowed_from_none rs number none = by (nat_le TARGETS (targets_len rs)) refl (li
     by false h true k e = absurd (none-some _ e)
     by false h false k e = (leb-false _ _ h, k)
 
--- a new number goes last, as its adapter does
+-- a new number is last, as its adapter is
 pub numbers_of-push : {A : Type 0} (xs after : List (Attached A)) (x : Attached A) (keys new : List AdapterNo) → keys ≡ numbers_of xs → list_any (same_no x.no) keys ≡ false → new ≡ insert_key same_no keys x.no → after ≡ xs ++ (x ∷ []) → new ≡ numbers_of after
 numbers_of-push xs after x keys new e absent inserted pushed =
     inserted ∙ ap (λ b. if b then keys else (keys ++ (x.no ∷ []))) absent ∙ ap (λ ks. ks ++ (x.no ∷ [])) e ∙ sym (ap numbers_of pushed ∙ map-append (λ a. a.no) xs (x ∷ []))
@@ -75,7 +75,7 @@ distinct-numbers heard xs keys is distinct = subst (IsDistinct same_no) (is ∙ 
 
 ----------------------------------------------------------------- some of them
 
--- keys that are distinct stay so if some go
+-- distinct keys stay distinct if some are removed
 module _ {X K : Type 0} (eq : K → K → Bool) (f : X → K) (p : X → Bool) where
   apart-filter : (k : K) (xs : List X) → AllByRecursion (λ j. eq k j ≡ false) (map f xs) → AllByRecursion (λ j. eq k j ≡ false) (map f (filter p xs))
   apart-filter k [] h = tt

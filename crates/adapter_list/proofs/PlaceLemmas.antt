@@ -1,5 +1,5 @@
--- The indexes that are found by where adapters are attached: of those that get the notifications of a node, and of those that have objects
--- as targets.
+-- The indexes of adapters that are found through the nodes to which they are attached: of the adapters that get the notifications of a
+-- node, and of those that have objects as targets.
 use Rattle.std.proofs.Common.{◌≡◌, ℕ, ◌+◌, ◌≤◌, ◌<◌, zero, suc, Bool, true, false, not, cond, ◌&&◌, ◌||◌, nat_eq, List, [], ◌∷◌, map, length, drop, get_or, slice_get, Option, Some, None, Result, Ok, Err, option_map, option_and_then, position, refl, sym, ap, subst, ◌∙◌, arith, eqb-true, eq-eqb}
 use Rattle.std.specs.BTreeSet as tree
 use Rattle.std.specs.BTreeSet.{BTreeSet}
@@ -16,6 +16,7 @@ use Rattle.std.proofs.lemmas.List.{drop_all, drop_more}
 use Rattle.std.proofs.lemmas.Map.Keys.{IsDistinct-head, IsDistinct-tail}
 use Rattle.std.proofs.lemmas.Map.Lookups.{btree_set_from_contains, exact_unsigned}
 use Rattle.std.proofs.lemmas.Option.{same_Some}
+use Rattle.std.proofs.Math.Bool.{or_assoc}
 use Rattle.mm_types.proofs.SameLemmas.{same_node-true}
 use Rattle.mm_types.specs.Same.{same_node}
 use Rattle.mm_types.specs.declared.numbers.AdapterNo.{AdapterNo}
@@ -28,12 +29,10 @@ use Rattle.adapter_list.specs.Targets.{IsOnce, entries, finds, has_number_at, is
 use Rattle.adapter_list.specs.declared.target_lists.Entry.{Entry}
 use Rattle.notice_chain.specs.declared.target.Target.{Target}
 use Rattle.adapter_list.proofs.NumberLemmas.{find-position}
+use Rattle.links.proofs.RankLemmas.{is_eq-nat_cmp}
 
 pub flipped : (j k : AdapterNo) → same_no j k ≡ false → same_no k j ≡ false
 flipped j k other = ne_eqb k.0 j.0 (λ (e : k.0 ≡ j.0). eqb-false j.0 k.0 other (sym e))
-
-is_eq-nat : (x y : ℕ) → is_eq (nat_cmp x y) ≡ nat_eq x y
-is_eq-nat x y = grind (arith, nat_tests)
 
 ----------------------------------------------------------------- the index of a number
 
@@ -60,7 +59,7 @@ find-passes p (r ∷ rs) q h =
       | false ↦ λ _ e. find-passes p rs q e
     ] refl h
 
--- what is at the position that a test has passes it
+-- the adapter at the position that a test finds passes the test
 pub passes-at : (p : Listed → Bool) (rs : List Listed) (i : ℕ) (q : Listed) → Some i ≡ position p rs → slice_get rs i ≡ Some q → p q ≡ true
 passes-at p rs i q at there = find-passes p rs q (find-position p rs ∙ ap (option_and_then (slice_get rs)) (sym at) ∙ there)
 
@@ -125,7 +124,7 @@ none-added b h none = or-false b ∙ ap (λ c. b || c) (sym none)
 -- the index of the adapter of a number is added
 pub is-added : (rs : List Listed) (number : AdapterNo) (i : ℕ) (q : Listed) → HasDistinctNumbers rs → slice_get rs i ≡ Some q → has_no number q ≡ true → (b new : Bool) (k : ℕ) → new ≡ cond (is_eq (nat_cmp i k)) true b → new ≡ (b || has_number_at rs number k)
 is-added rs number i q distinct at has b new k now =
-    now ∙ ap (λ c. cond c true b) (is_eq-nat i k ∙ turned)
+    now ∙ ap (λ c. cond c true b) (is_eq-nat_cmp i k ∙ turned)
     ∙ elim (nat_eq k i) as (λ c. cond c true b ≡ (b || c)) [ true ↦ or-true b | false ↦ or-false b ]
     ∙ ap (λ c. b || c) (sym (number-here rs number i q distinct at has k))
   where
@@ -191,23 +190,19 @@ entries-find x only_deep rs k distinct = by (slice_get rs k) refl
     by None e = list_any-none (entries x rs) (λ e. (not only_deep || e.deep) && false) (λ e. none (not only_deep || e.deep))
     by (Some r) e = entries-name x only_deep rs k r distinct e
 
--- if a node has no adapters, none is found
+-- if a node has no adapters, no adapter is found
 pub none-found : (x : Node) (only_deep : Bool) (rs : List Listed) (k : ℕ) → HasDistinctNumbers rs → entries x rs ≡ [] → (b : Bool) → b ≡ (b || is_attached_at rs x only_deep k)
 none-found x only_deep rs k distinct none b = none-added b (is_attached_at rs x only_deep k) (sym (entries-find x only_deep rs k distinct) ∙ ap (list_any (finds rs only_deep k)) none)
-
-step : (c p r : Bool) → ((c || p) || r) ≡ (c || (p || r))
-step true p r = refl
-step false p r = refl
 
 -- one entry more
 pub added-more : (p : Entry → Bool) (b new all : Bool) (es : List Entry) (i : ℕ) (d : Entry) → i < length es → new ≡ (b || p (get_or es i d)) → (b || list_any p (drop i es)) ≡ all → (new || list_any p (drop (i + 1) es)) ≡ all
 added-more p b new all es i d low made whole =
     ap (λ c. c || list_any p (drop (i + 1) es)) made
-    ∙ step b (p (get_or es i d)) (list_any p (drop (i + 1) es))
+    ∙ or_assoc b (p (get_or es i d)) (list_any p (drop (i + 1) es))
     ∙ ap (λ (ds : List Entry). b || list_any p ds) (sym (drop_more es i d low))
     ∙ whole
 
--- and all of them
+-- all entries
 pub added-all : (p : Entry → Bool) (b all : Bool) (es : List Entry) (i : ℕ) → length es ≤ i → (b || list_any p (drop i es)) ≡ all → b ≡ all
 added-all p b all es i past whole = or-false b ∙ ap (λ (ds : List Entry). b || list_any p ds) (sym (drop_all i es past)) ∙ whole
 
@@ -215,9 +210,9 @@ added-all p b all es i past whole = or-false b ∙ ap (λ (ds : List Entry). b |
 
 -- one node further up
 pub above-more : (p : Node → Bool) (b new all : Bool) (y : Node) (ys zs : List Node) → zs ≡ y ∷ ys → new ≡ (b || p y) → (b || list_any p zs) ≡ all → (new || list_any p ys) ≡ all
-above-more p b new all y ys zs next made whole = ap (λ c. c || list_any p ys) made ∙ step b (p y) (list_any p ys) ∙ ap (λ (ws : List Node). b || list_any p ws) (sym next) ∙ whole
+above-more p b new all y ys zs next made whole = ap (λ c. c || list_any p ys) made ∙ or_assoc b (p y) (list_any p ys) ∙ ap (λ (ws : List Node). b || list_any p ws) (sym next) ∙ whole
 
--- and the topmost
+-- the topmost node
 pub above-all : (p : Node → Bool) (b all : Bool) (zs : List Node) → zs ≡ [] → (b || list_any p zs) ≡ all → b ≡ all
 above-all p b all zs none whole = or-false b ∙ ap (λ (ws : List Node). b || list_any p ws) (sym none) ∙ whole
 
@@ -278,14 +273,14 @@ deep-first t ts apart (a ∷ xs) =
     joined true false false m n = refl
     joined false s e m n = refl
 
--- the indexes of the adapters of which something is so
+-- the indexes of the adapters that pass a test
 module _ (p : Listed → Bool) where
   none-before : (k j : ℕ) (rs : List Listed) → k < j → list_any (λ y. is_eq (nat_cmp k y)) (ordinals_from p j rs) ≡ false
   none-before k j [] h = refl
   none-before k j (r ∷ rs) h =
       let later = none-before k (suc j) rs (omega (arith, h)) in
       elim (p r) as (λ b. list_any (λ y. is_eq (nat_cmp k y)) (cond b (j ∷ ordinals_from p (suc j) rs) (ordinals_from p (suc j) rs)) ≡ false) [
-        | true ↦ ap (λ c. c || list_any (λ y. is_eq (nat_cmp k y)) (ordinals_from p (suc j) rs)) (is_eq-nat k j ∙ ne_eqb k j (λ (e : k ≡ j). omega (arith, h, e))) ∙ later
+        | true ↦ ap (λ c. c || list_any (λ y. is_eq (nat_cmp k y)) (ordinals_from p (suc j) rs)) (is_eq-nat_cmp k j ∙ ne_eqb k j (λ (e : k ≡ j). omega (arith, h, e))) ∙ later
         | false ↦ later
       ]
 
@@ -293,7 +288,7 @@ module _ (p : Listed → Bool) where
   has-ordinal i j [] = refl
   has-ordinal zero j (r ∷ rs) =
       elim (p r) as (λ b. list_any (λ y. is_eq (nat_cmp (j + 0) y)) (cond b (j ∷ ordinals_from p (suc j) rs) (ordinals_from p (suc j) rs)) ≡ b) [
-        | true ↦ ap (λ c. c || list_any (λ y. is_eq (nat_cmp (j + 0) y)) (ordinals_from p (suc j) rs)) (is_eq-nat (j + 0) j ∙ eq-eqb (j + 0) j (omega arith))
+        | true ↦ ap (λ c. c || list_any (λ y. is_eq (nat_cmp (j + 0) y)) (ordinals_from p (suc j) rs)) (is_eq-nat_cmp (j + 0) j ∙ eq-eqb (j + 0) j (omega arith))
         | false ↦ none-before (j + 0) (suc j) rs (omega arith)
       ]
   has-ordinal (suc i) j (r ∷ rs) =
@@ -301,7 +296,7 @@ module _ (p : Listed → Bool) where
       let later : list_any (λ y. is_eq (nat_cmp (j + suc i) y)) (ordinals_from p (suc j) rs) ≡ option_map_or p (slice_get rs i) false =
       subst (λ (k : ℕ). list_any (λ y. is_eq (nat_cmp k y)) (ordinals_from p (suc j) rs) ≡ option_map_or p (slice_get rs i) false) moved (has-ordinal i (suc j) rs) in
       elim (p r) as (λ b. list_any (λ y. is_eq (nat_cmp (j + suc i) y)) (cond b (j ∷ ordinals_from p (suc j) rs) (ordinals_from p (suc j) rs)) ≡ option_map_or p (slice_get rs i) false) [
-        | true ↦ ap (λ c. c || list_any (λ y. is_eq (nat_cmp (j + suc i) y)) (ordinals_from p (suc j) rs)) (is_eq-nat (j + suc i) j ∙ ne_eqb (j + suc i) j (λ (e : j + suc i ≡ j). omega (arith, e))) ∙ later
+        | true ↦ ap (λ c. c || list_any (λ y. is_eq (nat_cmp (j + suc i) y)) (ordinals_from p (suc j) rs)) (is_eq-nat_cmp (j + suc i) j ∙ ne_eqb (j + suc i) j (λ (e : j + suc i ≡ j). omega (arith, e))) ∙ later
         | false ↦ later
       ]
 
@@ -323,7 +318,7 @@ module _ (p : Listed → Bool) where
         | false ↦ in-order (suc j) rs
       ]
 
-  -- a set with the indexes of which this is so, and with no others
+  -- a set with exactly these indexes
   pub places-are : (rs : List Listed) (s : BTreeSet ℕ) → tree.IsOrdered nat_cmp s → ((k : ℕ) → tree.contains nat_cmp s k ≡ option_map_or p (slice_get rs k) false) → s.keys ≡ ordinals_from p 0 rs
   places-are rs s order has =
       let all : BTreeSet ℕ = record { keys = ordinals_from p 0 rs } in
@@ -333,7 +328,7 @@ module _ (p : Listed → Bool) where
       btree_set_from_contains nat_cmp_total s all order (in-order 0 rs) same exact_unsigned
 
 module _ (up : Above) (x : Node) where
-  -- if an adapter has no target twice, it gets the notifications of a node exactly if that is a target, or a deep one is above it
+  -- if an adapter has no target twice, it gets the notifications of a node exactly if the node is a target, or a deep target is above it
   heard-at : (ts : List Target) → IsDistinct same_node (map (λ t. t.node) ts) → list_any (brings_in up x) ts ≡ (option_map_or (λ t. true) (find (is_at x) ts) false || list_any (deep-at ts) (up x))
   unfolding deep-at
   heard-at [] once = sym (none-any (up x))
@@ -353,17 +348,18 @@ module _ (up : Above) (x : Node) where
   heard-is None once = sym (none-any (up x))
   heard-is (Some r) once = heard-at r.targets once
 
-  -- a set with the indexes of those that are attached to the node, and of the deep ones above, has those that are notified
+  -- a set with the indexes of the adapters that are attached to the node, and of the deep adapters above, has exactly the adapters that are
+  -- notified
   pub places-hearers : (rs : List Listed) (s : BTreeSet ℕ) → tree.IsOrdered nat_cmp s → ((k : ℕ) → IfSome (slice_get rs k) IsOnce) → ((k : ℕ) → tree.contains nat_cmp s k ≡ (is_attached_at rs x false k || list_any (λ a. is_attached_at rs a true k) (up x))) → s.keys ≡ hearers up x rs
   places-hearers rs s order once has = places-are (hears_node up x) rs s order (λ k. has k ∙ sym (heard-is (slice_get rs k) (once k)))
 
--- each that is there has no target twice
+-- an adapter at an index has no target twice
 pub once-there : (rs : List Listed) (k : ℕ) → AllByRecursion IsOnce rs → IfSome (slice_get rs k) IsOnce
 once-there [] k h = tt
 once-there (r ∷ rs) zero h = h.0
 once-there (r ∷ rs) (suc k) h = once-there rs k h.1
 
--- an adapter that is there has an object as a target
+-- an adapter at an index has an object as a target
 touched-one : (o : ObjectNo) (q : Option Listed) → option_map_or (is_attached (node.Object o) false) q false ≡ option_map_or (has_target (node.Object o)) q false
 touched-one o None = refl
 touched-one o (Some r) = by r.targets
@@ -381,30 +377,30 @@ touched-some (Some r) [] = refl
 touched-some None (o ∷ os) = touched-some None os
 touched-some (Some r) (o ∷ os) = ap (λ b. b || list_any (λ p. is_attached (node.Object p) false r) os) (touched-one o (Some r)) ∙ ap (λ b. has_target (node.Object o) r || b) (touched-some (Some r) os)
 
--- a set with the indexes of those that are attached to one of some objects
+-- a set with the indexes of the adapters that are attached to one of some objects
 pub places-touched : (os : List ObjectNo) (rs : List Listed) (s : BTreeSet ℕ) → tree.IsOrdered nat_cmp s → ((k : ℕ) → tree.contains nat_cmp s k ≡ list_any (λ o. is_attached_at rs (node.Object o) false k) os) → s.keys ≡ touched os rs
 places-touched os rs s order has = places-are (is_touched os) rs s order (λ k. has k ∙ touched-some (slice_get rs k) os)
 
--- one object more
+-- one more object
 pub touched-more : (p : ObjectNo → Bool) (b new all : Bool) (os : List ObjectNo) (i : ℕ) (d : ObjectNo) → i < length os → new ≡ (b || p (get_or os i d)) → (b || list_any p (drop i os)) ≡ all → (new || list_any p (drop (i + 1) os)) ≡ all
 touched-more p b new all os i d low made whole =
     ap (λ c. c || list_any p (drop (i + 1) os)) made
-    ∙ step b (p (get_or os i d)) (list_any p (drop (i + 1) os))
+    ∙ or_assoc b (p (get_or os i d)) (list_any p (drop (i + 1) os))
     ∙ ap (λ (ds : List ObjectNo). b || list_any p ds) (sym (drop_more os i d low))
     ∙ whole
 
 pub touched-all : (p : ObjectNo → Bool) (b all : Bool) (os : List ObjectNo) (i : ℕ) → length os ≤ i → (b || list_any p (drop i os)) ≡ all → b ≡ all
 touched-all p b all os i past whole = or-false b ∙ ap (λ (ds : List ObjectNo). b || list_any p ds) (sym (drop_all i os past)) ∙ whole
 
--- an entry that is asked for adds the index of its adapter
+-- an entry that counts adds the index of its adapter
 pub asked-for : (rs : List Listed) (only_deep : Bool) (k : ℕ) (e : Entry) (b new : Bool) → (not only_deep || e.deep) ≡ true → new ≡ (b || has_number_at rs e.no k) → new ≡ (b || finds rs only_deep k e)
 asked-for rs only_deep k e b new asked now = now ∙ ap (λ d. b || (d && has_number_at rs e.no k)) (sym asked)
 
--- what holds of each result that is there, made of what else does
+-- a property of a successful result, made of another one
 pub on_ok-map : {X E : Type 0} {P Q : Type 0} (r : Result X E) → OnOk r P → (P → Q) → OnOk r Q
 on_ok-map (Ok x) h f = f h
 on_ok-map (Err e) h f = tt
 
--- what was found last is of this node
+-- the adapters that were found last are those of this node
 pub known-same : (up : Above) (rs : List Listed) (o : Option Node) (last x : Node) (ks : List ℕ) → IfSome o (λ y. ks ≡ hearers up y rs) → o ≡ Some last → last ≡ x → ks ≡ hearers up x rs
 known-same up rs o last x ks known is same = subst (λ (y : Node). ks ≡ hearers up y rs) same (subst (λ (q : Option Node). IfSome q (λ y. ks ≡ hearers up y rs)) is known)

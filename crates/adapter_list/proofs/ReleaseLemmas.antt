@@ -1,4 +1,4 @@
--- The numbers of those that stay, and who is released from which targets.
+-- The numbers of the adapters that stay, and the adapters that are released.
 use Rattle.std.proofs.Common.{◌≡◌, ◌||◌, Result, Ok, Err, ℕ, ◌+◌, ◌<◌, false, List, [], ◌∷◌, ◌++◌, get_or, drop, length, map, append_assoc, refl, sym, ap, ◌∙◌, if◌then◌else◌}
 use Rattle.std.specs.List.{AllByRecursion, IsDistinct, list_any}
 use Rattle.std.specs.Result.{IfOk, IsErr, IsOk, OnErr}
@@ -13,7 +13,7 @@ use Rattle.notice_chain.specs.View.{View, hear_all}
 use Rattle.adapter_list.specs.Attached.{listed, numbers_of, views_of}
 use Rattle.adapter_list.specs.declared.attached.Attached.{Attached}
 
--- a number is not among those before it
+-- a number is not among the numbers before it
 none-of : (k : AdapterNo) (ks rest : List AdapterNo) → IsDistinct same_no (ks ++ k ∷ rest) → list_any (same_no k) ks ≡ false
 none-of k [] rest h = refl
 none-of k (j ∷ ks) rest h =
@@ -25,11 +25,11 @@ none-of k (j ∷ ks) rest h =
     here [] a = a.0
     here (y ∷ ys) a = here ys a.1
 
--- a number that no other is goes last
+-- a new number is put last
 pub insert_key-new : (ks rest : List AdapterNo) (k : AdapterNo) → IsDistinct same_no (ks ++ k ∷ rest) → insert_key same_no ks k ≡ ks ++ k ∷ []
 insert_key-new ks rest k h = ap (λ b. if b then ks else (ks ++ k ∷ [])) (none-of k ks rest h)
 
--- what holds of a result that is there
+-- a property of a successful result
 pub from_ok : {X E : Type 0} (P : Type 0) (r : Result X E) → IsOk r → IfOk r (λ _. P) → P
 from_ok P (Ok x) h k = k
 from_ok P (Err e) h k = absurd (false≢true h)
@@ -42,7 +42,7 @@ module _ {A : Type 0} where
   pub drop-numbers : (xs : List (Attached A)) (i : ℕ) (x : Attached A) → i < length xs → x ≡ get_or xs i x → numbers_of (drop i xs) ≡ x.no ∷ numbers_of (drop (i + 1) xs)
   drop-numbers xs i x h e = ap numbers_of (drop_more xs i x h) ∙ ap (λ (q : Attached A). q.no ∷ numbers_of (drop (i + 1) xs)) (sym e)
 
--- one adapter more is handed out
+-- one more adapter is given back
 pub closed-more : {A : Type 0} (heard : A → View) (out new : List (AdapterNo × A)) (one : Attached A) (after : A) (items rest : List (Attached A)) (all : List (AdapterNo × View)) → new ≡ out ++ (one.no, after) ∷ [] → heard after ≡ hear_all (heard one.adapter) (map (λ t. removing one.no t.node 0) one.targets.items) → items ≡ one ∷ rest
     → views_of heard out ++ all_released (listed heard items) ≡ all → views_of heard new ++ all_released (listed heard rest) ≡ all
 closed-more heard out new one after items rest all made told is whole =

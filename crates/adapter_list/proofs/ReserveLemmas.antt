@@ -1,4 +1,4 @@
--- How many copies each index gets, and whether its adapter is ready for them.
+-- The number of copies for each index, and whether its adapter is ready for them.
 use Rattle.std.proofs.Common.{◌≡◌, ℕ, ◌+◌, ◌≤◌, ◌<◌, ◌^◌, zero, suc, Bool, true, false, cond, ◌&&◌, ◌||◌, nat_eq, nat_lt, nat_le, List, [], ◌∷◌, map, filter, length, drop, get_or, slice_get, slice_index, Some, None, Option, unwrap_or, refl, sym, ap, subst, inl, inr, ◌∙◌, arith, le-leb, leb-true, eqb-true, eq-eqb, if◌then◌else◌}
 use Rattle.std.specs.List.{AllByRecursion, list_any}
 use Rattle.std.specs.List.Sorted.{IsStrictlySortedBy}
@@ -24,7 +24,7 @@ use Rattle.adapter_list.proofs.RoundLemmas.{copies_for-round_copies}
 
 ----------------------------------------------------------------- counting
 
--- the first copy of some counts for its own index alone
+-- the first of some copies counts only for its own index
 module _ (cs : List (ℕ × Notice)) (i : ℕ) (x : ℕ × Notice) (low : i < length cs) (is : x ≡ get_or cs i x) where
   first : drop i cs ≡ x ∷ drop (i + 1) cs
   first = drop_more cs i x low ∙ ap (λ (c : ℕ × Notice). c ∷ drop (i + 1) cs) (sym is)
@@ -44,7 +44,7 @@ copies_len-le (c ∷ cs) k =
       | false ↦ omega (arith, fewer)
     ]
 
--- a count of so many is one more with the next copy
+-- with the next copy the count is one more
 counted-here : (o : Option ℕ) (rest all : ℕ) → IsCounted o (suc rest) all → IsCounted (Some (unwrap_or o 0 + 1)) rest all
 counted-here None rest all h = (omega arith, omega (arith, h))
 counted-here (Some n) rest all h = (omega arith, omega (arith, h.1))
@@ -109,7 +109,7 @@ counted-nothing : (o : Option ℕ) (all : ℕ) → IsCounted o 0 all → unwrap_
 counted-nothing None all h = h
 counted-nothing (Some n) all h = omega (arith, h.1)
 
--- what is counted is all
+-- the count is the number of all copies
 pub count-is : (cs : List (ℕ × Notice)) (k : ℕ) (o : Option ℕ) → IsCounted o 0 (copies_len cs k) → unwrap_or o 0 ≡ copies_len cs k
 count-is cs k o h = counted-nothing o (copies_len cs k) h
 
@@ -141,7 +141,7 @@ is_place-within n (c ∷ cs) k h e =
 ready-more : (rs : List Listed) (ps qs : List ℕ) (k n : ℕ) → length qs ≡ length ps → slice_index ps k ≤ slice_index qs k → IsReadyFor rs ps k n → IsReadyFor rs qs k n
 ready-more rs ps qs k n same more h = record { places = λ low. let few = h.places (omega (arith, low, same)) in omega (arith, few, more); countable = h.countable }
 
--- those of the adapters that are asked, or get no copies, are ready
+-- the adapters that were asked, or that get no copies, are ready
 abbrev pub AreAsked : List Listed → List ℕ → List (ℕ × Notice) → List ℕ → Type 0
 AreAsked rs ps cs rest = (k : ℕ) → list_any (nat_eq k) rest ≡ false → IsReadyFor rs ps k (copies_len cs k)
 
@@ -164,7 +164,7 @@ module _ (cs : List (ℕ × Notice)) (all : List ℕ) (places : (k : ℕ) → li
   pub asked-within : (n : ℕ) → AllByRecursion (λ c. c.0 < n) cs → get_or all i 0 < n
   asked-within n within = is_place-within n cs (get_or all i 0) within (sym (places (get_or all i 0)) ∙ in-at all i low)
 
--- once one more is asked, one more is ready
+-- after one more adapter is asked, one more is ready
 pub asked-more : (rs : List Listed) (ps qs : List ℕ) (cs : List (ℕ × Notice)) (all : List ℕ) (i : ℕ) → i < length all → length qs ≡ length ps → ((k : ℕ) → slice_index ps k ≤ slice_index qs k) → IsReadyFor rs qs (get_or all i 0) (copies_len cs (get_or all i 0)) → AreAsked rs ps cs (drop i all) → AreAsked rs qs cs (drop (i + 1) all)
 asked-more rs ps qs cs all i low same more ready asked = λ k other.
     elim (nat_eq k (get_or all i 0)) as (λ b. nat_eq k (get_or all i 0) ≡ b → IsReadyFor rs qs k (copies_len cs k)) [
@@ -184,7 +184,7 @@ none-less j x (y ∷ xs) h all =
     let above : x < y = less-than x y all.0 in
     ap (λ b. b || list_any (nat_eq j) xs) (ne_eqb j y (λ (e : j ≡ y). omega (arith, h, above, e))) ∙ none-less j x xs h all.1
 
--- no index before the next one in order is among those still to be asked
+-- no index before the next one in order is among the indexes that are still to be asked
 none-before : (j : ℕ) (xs : List ℕ) (i : ℕ) → IsStrictlySortedBy nat_cmp xs → i < length xs → j < get_or xs i 0 → list_any (nat_eq j) (drop i xs) ≡ false
 unfolding IsStrictlySortedBy
 none-before j [] i sorted low h = absurd (omega (arith, low))
@@ -198,7 +198,7 @@ first-full rs ps qs cs all i sorted low same more asked full =
 
 ----------------------------------------------------------------- one copy each
 
--- copies that ascend
+-- copies whose indexes are ascending
 behind : (n : ℕ) (before : Option ℕ) (ks : List ℕ) → ascends before ks ≡ true → before ≡ Some n → AllByRecursion (λ y. nat_cmp n y ≡ Less) ks
 behind n before [] h is = tt
 behind n before (k ∷ ks) h is =
@@ -240,7 +240,7 @@ none-same x [] j all low = absurd (omega (arith, low))
 none-same x (y ∷ ys) zero all low = let less : x < y = less-than x y all.0 in ne_eqb x y (λ (e : x ≡ y). omega (arith, less, e))
 none-same x (y ∷ ys) (suc j) all low = none-same x ys j all.1 (omega (arith, low))
 
--- of copies that ascend each adapter gets one
+-- if the indexes of copies are ascending, each adapter gets at most one
 pub one-each : (before : Option ℕ) (cs : List (ℕ × Notice)) (i : ℕ) → ascends before (ordinals cs) ≡ true → i < length (ordinals cs) → copies_len cs (get_or (ordinals cs) i 0) ≡ 1
 one-each before [] i h low = absurd (omega (arith, low))
 one-each before (c ∷ cs) i h low = by i low (λ j within. one-each (Some c.0) cs j (and_parts (is_after before c.0) (ascends (Some c.0) (ordinals cs)) h).1 within)
@@ -271,7 +271,7 @@ ordinal-at (c ∷ cs) (suc i) x low is = ordinal-at cs i x (omega (arith, low)) 
 
 ----------------------------------------------------------------- full
 
--- a test that none passes
+-- a test that no adapter passes
 any-none : (p : Listed → Bool) (rs : List Listed) → ((k : ℕ) (r : Listed) → slice_get rs k ≡ Some r → p r ≡ false) → list_any p rs ≡ false
 any-none p [] h = refl
 any-none p (r ∷ rs) h = ap (λ b. b || list_any p rs) (h 0 r refl) ∙ any-none p rs (λ k q e. h (suc k) q e)
@@ -345,7 +345,7 @@ pub refusal-is : (full : Bool) (e : NoRoom) → (e ≡ room.Full → full ≡ tr
 refusal-is full room.Memory h = inl refl
 refusal-is full room.Full h = inr (refl, h refl)
 
--- only a full adapter is answered so
+-- only a full adapter gives AdapterFull
 pub full-from : (e : NoRoom) → refusal_of e ≡ refused.AdapterFull → e ≡ room.Full
 full-from room.Memory h = cc
 full-from room.Full h = refl

@@ -1,7 +1,7 @@
 -- That each adapter has a target, and how many have none once some targets have gone.
-use Rattle.std.proofs.Common.{◌≡◌, ◌≤◌, ◌<◌, ◌+◌, ℕ, zero, suc, true, false, not, cond, nat_lt, List, [], ◌∷◌, ◌++◌, filter, length, set, if◌then◌else◌, refl, ap, ◌∙◌, arith, length-append}
+use Rattle.std.proofs.Common.{◌≡◌, ◌≤◌, ◌<◌, ◌+◌, ℕ, zero, suc, true, false, not, cond, List, [], ◌∷◌, ◌++◌, filter, length, set, if◌then◌else◌, refl, ap, ◌∙◌, arith, length-append}
 use Rattle.std.specs.List.{All, AllByRecursion}
-use Rattle.std.proofs.lemmas.Bool.{le-leb}
+use Rattle.std.proofs.lemmas.Bool.{le-leb, ltb-true}
 use Rattle.std.proofs.lemmas.List.{length-map}
 use Rattle.std.proofs.lemmas.List.Elements.{All-cons, All-from_recursion, All-head, All-nil, All-push, All-set, All-tail, recursion_from_All}
 use Rattle.mm_types.specs.declared.numbers.AdapterNo.{AdapterNo}
@@ -35,15 +35,12 @@ some-tell_at rs i n h = All-from_recursion Has (tell_at rs i n) (has_at rs i n (
 
 ---------------------------------------------------------------- each has a target
 
-lt-true : (m n : ℕ) → nat_lt m n ≡ true → m < n
-lt-true m n h = grind (arith)
-
 pub some-staying : (rs : List Listed) → HaveTargets (staying rs)
 some-staying [] = All-nil (λ (r : Listed). 0 < length r.targets)
 some-staying (r ∷ rs) =
     let P : Listed → Type 0 = λ q. 0 < length q.targets in
     elim (has_targets r) as (λ b. has_targets r ≡ b → All P (cond b (r ∷ staying rs) (staying rs))) [
-      | true ↦ λ some. All-cons P r (staying rs) (lt-true 0 (length r.targets) some) (some-staying rs)
+      | true ↦ λ some. All-cons P r (staying rs) (ltb-true 0 (length r.targets) some) (some-staying rs)
       | false ↦ λ _. some-staying rs
     ] refl
 
@@ -91,7 +88,7 @@ none-bare (r ∷ rs) some =
     let has : has_targets r ≡ true = le-leb _ _ (All-head P r rs some) in
     ap (λ b. length (cond (not b) (r ∷ bare rs) (bare rs))) has ∙ none-bare rs (All-tail P r rs some)
 
--- no more leave than targets go
+-- at most as many adapters are released as targets are removed
 pub few-leave : (ss : List Spot) (rs : List Listed) → HaveTargets rs → length (leaving (without_all ss rs)) ≤ length ss
 few-leave ss rs some = omega (arith, length-map (bare (without_all ss rs)) (λ (r : Listed). let p : AdapterNo × View = (r.no, r.view) in p), bare-all ss rs, none-bare rs some)
 
@@ -116,11 +113,11 @@ without_all-len : (ss : List Spot) (rs : List Listed) → length (without_all ss
 without_all-len [] rs = refl
 without_all-len (s ∷ ss) rs = without_all-len ss (without s rs) ∙ without-len s rs
 
--- no adapter comes by releasing targets
+-- releasing targets adds no adapter
 pub others-fewer : (ss : List Spot) (rs : List Listed) → length (staying (without_all ss rs)) ≤ length rs
 others-fewer ss rs = omega (arith, fewer has_targets (without_all ss rs), without_all-len ss rs)
 
--- whoever is notified is there
+-- an adapter that is notified is in the list
 pub some-there : (s : Spot) (p : AdapterNo × Notice) (rs : List Listed) → p ∷ [] ≡ told_of_leaving s rs → 1 ≤ length rs
 some-there s p [] told = absurd (cons-nil told)
   where

@@ -1,4 +1,4 @@
--- A list that is turned once around, those of no targets left out.
+-- A list that is rotated once around, in which adapters without targets are left out.
 use Rattle.std.proofs.Common.{le-leb, option_map, ◌≡◌, ◌≤◌, ◌<◌, ◌+◌, ◌-◌, ℕ, Option, Some, zero, suc, Bool, true, false, cond, not, nat_lt, List, [], ◌∷◌, ◌++◌, map, filter, take, length, if◌then◌else◌, refl, sym, ap, subst, ◌∙◌, arith, append_assoc}
 use Rattle.std.specs.List.{IsDistinct, cons_option, find}
 use Rattle.std.specs.Option.{option_to_list}
@@ -19,12 +19,12 @@ use Rattle.adapter_list.specs.declared.target_lists.TargetLists.{TargetLists}
 use Rattle.adapter_list.proofs.NumberLemmas.{distinct-filter}
 use Rattle.adapter_list.specs.declared.attached.Attached.{Attached}
 
--- x is the first of j that are left, and what comes after it is rest
+-- x is the first of j elements that are left, and `rest` has the elements after it
 pub record IsFront {X : Type 0} (xs rest : List X) (x : X) (j : ℕ) : Type 0 where
   pub first : xs ≡ x ∷ rest
   pub next : j ≡ suc (j - 1)
 
--- it is what is taken from the front
+-- x is the element that is taken from the front
 pub front-taken : {X : Type 0} (xs rest : List X) (o : Option X) (x : X) (j : ℕ) → xs ≡ option_to_list o ++ rest → o ≡ Some x → 0 < j → IsFront xs rest x j
 front-taken xs rest o x j taken is some = record { first = taken ∙ ap (λ (q : Option _). option_to_list q ++ rest) is; next = omega (arith, some) }
 
@@ -65,7 +65,7 @@ module _ {A : Type 0} (heard : A → View) where
   abbrev pub leaving_of : ℕ → List (Attached A) → List (AdapterNo × View)
   leaving_of k xs = leaving (listed heard (take k xs))
 
-  -- those without targets
+  -- the adapters without targets
   pub bare : (a : Attached A) → length a.targets.items ≤ 0 → has a ≡ false
   bare a none = le-ltb _ _ none
 
@@ -118,7 +118,7 @@ module _ {A : Type 0} (heard : A → View) where
   listed-staying [] = refl
   listed-staying (x ∷ xs) = elim (has heard x) as (λ b. listed heard (cond b (x ∷ filter (has heard) xs) (filter (has heard) xs)) ≡ cond b (listed_one heard x ∷ staying (listed heard xs)) (staying (listed heard xs))) [ true ↦ ap (λ rs. listed_one heard x ∷ rs) (listed-staying xs) | false ↦ listed-staying xs ]
 
--- all that is known of a valid list once those without targets are taken out of the adapters
+-- facts about a valid list after the adapters without targets are taken out
 pub record Stays {A : Type 0} (heard : A → View) (places : A → ℕ) (xs ys : List (Attached A)) (t : TargetLists) (count : ℕ) : Type 0 where
   pub fewer : length ys ≤ length xs
   pub now : listed heard ys ≡ staying (listed heard xs)

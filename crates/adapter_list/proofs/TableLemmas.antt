@@ -1,4 +1,4 @@
--- What a write to the list of one node makes of a table.
+-- A table after a write to the list of one node.
 use Rattle.std.proofs.Common.{◌≡◌, ◌≤◌, ◌<◌, ℕ, zero, suc, Bool, true, false, cond, List, [], ◌∷◌, Option, Some, None, Result, Ok, Err, Vec, Global, insert, remove, length, IfSome, IsSome, if◌then◌else◌, refl, sym, ap, subst, ◌∙◌, arith}
 use Rattle.std.specs.Option.{option_map_or}
 use Rattle.std.specs.Result.{OnErr}
@@ -31,7 +31,7 @@ module _ (old new : TargetLists) (x : Node) (k : NodeKey) (is : k ≡ key x) (w 
         | false ↦ λ _. refl
       ] refl
 
-  -- a list that is written has some, or is gone
+  -- a list that is written has entries, or is removed
   pub none_empty-written : IfSome w (λ v. 0 < length v.items) → HasNoEmpty old → HasNoEmpty new
   none_empty-written some all q =
       subst (λ (o : Option (Vec Entry Global)). IfSome o (λ v. 0 < length v.items)) (sym (updates q))
@@ -43,11 +43,11 @@ found t x k v is at = ap (λ (q : NodeKey). items_of (get same_key t.lists q)) (
 pub found-none : (t : TargetLists) (x : Node) (k : NodeKey) → k ≡ key x → None ≡ get same_key t.lists k → entries_in t x ≡ []
 found-none t x k is at = ap (λ (q : NodeKey). items_of (get same_key t.lists q)) (sym is) ∙ ap items_of (sym at)
 
--- a list that is found has some
+-- a list that is found has entries
 pub some-found : (t : TargetLists) (k : NodeKey) (v : Vec Entry Global) → Some v ≡ get same_key t.lists k → HasNoEmpty t → 0 < length v.items
 some-found t k v at all = subst (λ (o : Option (Vec Entry Global)). IfSome o (λ w. 0 < length w.items)) (sym at) (all k)
 
--- what is found is there
+-- a list that is found is in the table
 pub is-there : (o : Option (Vec Entry Global)) (v : Vec Entry Global) → Some v ≡ o → IsSome o
 is-there o v at = subst (λ (q : Option (Vec Entry Global)). IsSome q) at refl
 
@@ -81,7 +81,7 @@ remove-some (e ∷ []) i low more = absurd (omega (arith, more))
 remove-some (e ∷ d ∷ es) zero low more = omega arith
 remove-some (e ∷ d ∷ es) (suc i) low more = omega arith
 
--- if there is one alone, nothing is left
+-- if there is only one entry, removing it leaves none
 pub remove-only : (es : List Entry) (i : ℕ) → i < length es → length es ≤ 1 → [] ≡ remove es i
 remove-only [] i low few = absurd (omega (arith, low))
 remove-only (e ∷ []) zero low few = refl

@@ -1,4 +1,4 @@
--- What the adapters' targets are once one got a notification.
+-- The targets of the adapters after one got a notification.
 use Rattle.std.proofs.Common.{◌≡◌, ℕ, ◌+◌, ◌<◌, zero, suc, List, [], ◌∷◌, map, length, get_or, refl, sym, ap, arith}
 use Rattle.std.specs.List.{AllByRecursion, IsDistinct, cons_option, fold}
 use Rattle.std.proofs.lemmas.List.Elements.{All-from_recursion, recursion_from_All}

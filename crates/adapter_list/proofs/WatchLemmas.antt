@@ -1,4 +1,4 @@
--- What the adapters' targets are once one of them has got one more.
+-- The targets of the adapters after one of them got one more.
 use Rattle.std.proofs.Common.{◌^◌, length-append, length-set, eqb-true, nat_le, option_and_then, ◌≡◌, ◌<◌, ◌≤◌, ◌+◌, ℕ, zero, suc, Bool, true, false, cond, ◌&&◌, nat_lt, List, [], ◌∷◌, ◌++◌, map, filter, length, set, insert, take, get_or, slice_get, position, Option, Some, None, option_map, if◌then◌else◌, refl, sym, ap, subst, ◌∙◌, arith, eq-eqb}
 use Rattle.std.specs.List.{AllByRecursion, IsDistinct, cons_option, find, fold, list_any}
 use Rattle.std.specs.Option.{IfSome, option_map_or}
@@ -44,7 +44,7 @@ find-last z q (t ∷ ts) none same =
     let parts = or_parts (is_at z t) (list_any (is_at z) ts) none in
     ap (λ b. cond b (Some t) (find (is_at z) (ts ++ q ∷ []))) parts.0 ∙ find-last z q ts parts.1 same
 
--- at other nodes it changes nothing
+-- at other nodes a new target changes nothing
 find-same : (z : Node) (q : Target) (ts : List Target) → same_node q.node z ≡ false → find (is_at z) (ts ++ q ∷ []) ≡ find (is_at z) ts
 find-same z q [] other = ap (λ b. cond b (Some q) None) other
 find-same z q (t ∷ ts) other = ap (λ (o : Option Target). cond (is_at z t) (Some t) o) (find-same z q ts other)
@@ -82,7 +82,7 @@ module _ (q : Target) (z : Node) where
   put-behind p rs i k es true is = ap (cons_option (entry_of z p)) is ∙ insert-behind (entry_of z p) (entries z rs) (entries z (take i rs)) (record { no = k; deep = q.deep })
   put-behind p rs i k es false is = ap (cons_option (entry_of z p)) is
 
-  -- the entry of a new target is after those of the adapters before
+  -- the entry of a new target is after the entries of the earlier adapters
   pub entries-watched : (rs : List Listed) (i : ℕ) (r : Listed) → slice_get rs i ≡ Some r → list_any (is_at q.node) r.targets ≡ false → entries z (set rs i (with_target q r)) ≡ put rs i r.no (same_node q.node z)
   entries-watched [] i r at none = absurd (no-some r at)
   entries-watched (p ∷ rs) zero r at none =
@@ -103,7 +103,7 @@ targets_len-more rs i q p at more = total-more 0 rs i q p at more
 
 ----------------------------------------------------------------- how many are before
 
--- the number of an adapter is found where it is
+-- the number of an adapter is found at its index
 position-here : (rs : List Listed) (j : ℕ) (r : Listed) → HasDistinctNumbers rs → slice_get rs j ≡ Some r → position (has_no r.no) rs ≡ Some j
 position-here [] j r distinct at = absurd (no-some r at)
 position-here (q ∷ rs) zero r distinct at =
@@ -148,7 +148,7 @@ pub entries-before : (x : Node) (rs : List Listed) (ordinal : ℕ) → HasDistin
 entries-before x rs ordinal distinct =
     count-before (λ n. option_map_or (λ k. nat_lt k ordinal) (position (has_no n) rs) false) x rs ordinal (λ j r e. ap (λ (o : Option ℕ). option_map_or (λ k. nat_lt k ordinal) o false) (position-here rs j r distinct e))
 
--- how many are before is at most how many there are
+-- at most all entries are before an index
 fewer-before : (o : Option Entry) (ds es : List Entry) → length ds ≤ length es → length (cons_option o ds) ≤ length (cons_option o es)
 fewer-before None ds es h = h
 fewer-before (Some e) ds es h = omega (arith, h)
@@ -161,7 +161,7 @@ before-low x (r ∷ rs) (suc i) = fewer-before (entry_of x r) (entries x (take i
 
 ----------------------------------------------------------------- a list that is sound
 
--- an adapter of the number has not the target, if none of that number has
+-- an adapter with the number lacks the target, if no adapter with that number has it
 target-apart : (x : Node) (number : AdapterNo) (rs : List Listed) (i : ℕ) (q : Listed) → slice_get rs i ≡ Some q → has_no number q ≡ true → is_target number x rs ≡ false → has_target x q ≡ false
 target-apart x number [] i q at has none = absurd (no-some q at)
 target-apart x number (r ∷ rs) zero q at has none =
@@ -180,7 +180,7 @@ module _ {A : Type 0} {heard : A → View} {places : A → ℕ} {xs : List (Atta
   as-many : length (set xs i y) ≡ length xs
   as-many = length-set xs i y
 
-  -- its adapter, with capacity for more targets, and its table and marks as they were
+  -- the same for the rules of the list: the adapter has capacity for more targets, and the table and the marks are as they were
   sound-same : y.targets.items ≡ x.targets.items → ((z : Node) → entries_in u z ≡ entries_in t z) → AreSameMarks bs cs → IsSound heard places (set xs i y) keys u cs count used room
   sound-same targets kept marks =
       let after : listed heard (set xs i y) ≡ listed heard xs = listed-same heard xs i x y is same_number targets same_adapter in
@@ -224,7 +224,7 @@ module _ {A : Type 0} {heard : A → View} {places : A → ℕ} {xs : List (Atta
         let now : listed_one heard y ≡ with_target q (listed_one heard x) = λ j. record { no = same_number j; targets = targets j; view = heard (same_adapter j) } in
         listed-put heard xs i y ∙ ap (set (listed heard xs) i) now
 
-    -- its adapter, with one target more
+    -- the adapter at an index with one more target
     pub listed-watched : listed heard (set xs i y) ≡ watched number q seen
     listed-watched =
         put-there ∙ sym (changed-set number (with_target q) (listed heard xs) i (listed_one heard x) (distinct-numbers heard xs keys sound.numbered sound.distinct) stands-at has-number)
@@ -233,7 +233,7 @@ module _ {A : Type 0} {heard : A → View} {places : A → ℕ} {xs : List (Atta
     some-watched : HaveTargets (listed heard xs) → HaveTargets (listed heard (set xs i y))
     some-watched each = subst HaveTargets (sym put-there) (some-set (listed heard xs) i (listed_one heard x) q each)
 
-    -- with reserved capacity, and its entry and its mark
+    -- the same for the rules of the list: with reserved capacity, an entry and a mark
     sound-watched : length x.targets.items < places x.adapter → count < TARGETS → (index : ℕ) → index ≡ length (entries q.node (take i (listed heard xs)))
         → ((z : Node) → entries_in u z ≡ (if same_node q.node z then insert (entries_in t z) index (record { no = number; deep = q.deep }) else entries_in t z)) → AreSetAt bs q.node true cs
         → IsSound heard places (set xs i y) keys u cs (count + 1) used room
@@ -284,7 +284,7 @@ found-at rs number i at low =
     let found : adapter number rs ≡ Some one.0 = find-position (has_no number) rs ∙ ap (option_and_then (slice_get rs)) (sym at) ∙ one.1 in
     ap target_refusal found ∙ ap (λ (n : ℕ). if nat_le (2 ^ 64) n then Some refused.AdapterFull else None) (sym (let told = told-there rs i one.0 one.1 in let many = targets-there rs i one.0 one.1 in let sum : told_at_ordinal rs i + (targets_at rs i + 1) ≡ one.0.view.told + (length one.0.targets + 1) = omega (arith, told, many) in sum))
 
--- by what its adapter returns from `reserve`
+-- the refusal of a target, by the result of the adapter's `reserve`
 pub target-refused : (rs : List Listed) (number : AdapterNo) (i n : ℕ) (reason : NoRoom) → Some i ≡ position (has_no number) rs → i < length rs → n ≡ targets_at rs i → (reason ≡ room.Full → 2 ^ 64 ≤ told_at_ordinal rs i + (n + 1)) → (2 ^ 64 ≤ told_at_ordinal rs i + (n + 1) → reason ≡ room.Full) → but_memory (refusal_of reason) ≡ target_refusal (adapter number rs)
 target-refused rs number i n reason at low many full only = by reason full only ∙ sym (found-at rs number i at low)
   where

@@ -10,12 +10,12 @@ use Rattle.adapter_list.specs.Targets.{targets_at}
 abbrev pub copies_len : List (ℕ × Notice) → ℕ → ℕ
 copies_len cs k = length (copies_for k cs)
 
--- of so many copies, those that were counted and the rest; if none was counted, there is no count
+-- the counted copies and the rest are all copies together; if none was counted, there is no count
 abbrev pub IsCounted : Option ℕ → ℕ → ℕ → Type 0
 IsCounted None rest all = rest ≡ all
 IsCounted (Some n) rest all = (0 < n) × (n + rest ≡ all)
 
--- the notifications that the adapter at index k got
+-- how many notifications the adapter at index k got
 abbrev pub told_at_ordinal : List Listed → ℕ → ℕ
 told_at_ordinal rs k = slice_index (map (λ r. r.view.told) rs) k
 
@@ -24,13 +24,13 @@ pub record IsReadyFor (rs : List Listed) (ps : List ℕ) (k n : ℕ) : Type 0 wh
   pub places : k < length ps → n + targets_at rs k ≤ slice_index ps k
   pub countable : 0 < n → told_at_ordinal rs k + (n + targets_at rs k) < 2 ^ 64
 
--- an adapter can't count the copies that it gets
+-- the adapter at index k can't count the copies that it gets
 pub record IsFullFor (rs : List Listed) (cs : List (ℕ × Notice)) (k : ℕ) : Type 0 where
   pub within : k < length rs
   pub some : 0 < copies_len cs k
   pub full : 2 ^ 64 ≤ told_at_ordinal rs k + (copies_len cs k + targets_at rs k)
 
--- it is the first in attach order that refuses its copies: each before it is ready for those that it gets
+-- the adapter at index k is the first in attach order that can't count its copies: each adapter before it is ready for its own copies
 pub record IsFirstFull (rs : List Listed) (ps : List ℕ) (cs : List (ℕ × Notice)) (k : ℕ) : Type 0 where
   pub full : IsFullFor rs cs k
   pub earlier : (j : ℕ) → j < k → IsReadyFor rs ps j (copies_len cs j)
@@ -39,16 +39,16 @@ pub record IsFirstFull (rs : List Listed) (ps : List ℕ) (cs : List (ℕ × Not
 abbrev pub ordinals : List (ℕ × Notice) → List ℕ
 ordinals cs = map (λ c. c.0) cs
 
--- an index comes after another, if there is one before it
+-- whether an index comes after the index before it, if there is one
 abbrev pub is_after : Option ℕ → ℕ → Bool
 is_after None k = true
 is_after (Some j) k = nat_lt j k
 
--- each index is greater than the one before it
+-- whether each index is greater than the index before it
 abbrev pub ascends : Option ℕ → List ℕ → Bool
 ascends before [] = true
 ascends before (k ∷ ks) = is_after before k && ascends (Some k) ks
 
--- some copy is for index k
+-- whether some copy is for index k
 abbrev pub is_ordinal_of : List (ℕ × Notice) → ℕ → Bool
 is_ordinal_of cs k = list_any (λ c. nat_eq c.0 k) cs

@@ -1,11 +1,12 @@
--- What a call that takes one target from an adapter gives: its last notification from there, and the adapter if that was its last target.
+-- The result of a call that takes one target from an adapter: its last notification from there, and the adapter if that was its last
+-- target.
 use Rattle.std.specs.Prelude.{Bool, List, [], ◌∷◌, Option, None, Some}
 use Rattle.mm_types.specs.declared.numbers.AdapterNo.{AdapterNo}
 use Rattle.notice_chain.specs.View.{View}
 use Rattle.notice_chain.specs.declared.notice.Notice.{Notice}
 use Rattle.adapter_list.specs.declared.detached.Detached.{Detached}
 
--- which adapter is notified of what, by the last notification; none, if the node is no target
+-- which adapter gets the last notification; none if the node is no target
 abbrev pub last_told : AdapterNo → Option (Notice × Bool) → List (AdapterNo × Notice)
 last_told number None = []
 last_told number (Some r) = (number, r.0) ∷ []
@@ -15,7 +16,7 @@ module _ {A : Type 0} where
   told_in number None = []
   told_in number (Some d) = (number, d.notice) ∷ []
 
-  -- an adapter that is handed out, if there is one, by what it was notified of
+  -- the view of the adapter that is given back, if there is one
   abbrev pub view_of : (A → View) → Option A → List View
   view_of heard None = []
   view_of heard (Some a) = heard a ∷ []

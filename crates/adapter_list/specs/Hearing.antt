@@ -8,11 +8,11 @@ use Rattle.notice_chain.specs.Listed.{Above, Listed, brings_in, has_target}
 use Rattle.notice_chain.specs.declared.notice.Notice.{Notice}
 use Rattle.adapter_list.specs.declared.hearers.Hearers.{Hearers}
 
--- this adapter gets the notifications of a node
+-- whether an adapter gets the notifications of a node
 abbrev pub hears_node : Above → Node → Listed → Bool
 hears_node up x r = list_any (brings_in up x) r.targets
 
--- the indexes of the adapters of which something is so; the first adapter is at index k
+-- the indexes of the adapters for which p is true; the first adapter of the list has index k
 abbrev pub ordinals_from : (Listed → Bool) → ℕ → List Listed → List ℕ
 ordinals_from p k [] = []
 ordinals_from p k (r ∷ rs) = if p r then k ∷ ordinals_from p (suc k) rs else ordinals_from p (suc k) rs
@@ -21,7 +21,7 @@ ordinals_from p k (r ∷ rs) = if p r then k ∷ ordinals_from p (suc k) rs else
 abbrev pub hearers : Above → Node → List Listed → List ℕ
 hearers up x rs = ordinals_from (hears_node up x) 0 rs
 
--- an adapter gets the notifications of a node
+-- whether some adapter gets the notifications of a node
 abbrev pub is_heard : Above → Node → List Listed → Bool
 is_heard up x rs = list_any (hears_node up x) rs
 
@@ -29,7 +29,7 @@ is_heard up x rs = list_any (hears_node up x) rs
 abbrev pub IsUnheard : Above → List Notice → List Listed → Type 0
 IsUnheard up ns rs = AllByRecursion (λ n. is_heard up n.notifier rs ≡ false) ns
 
--- an adapter has one of some objects as a target
+-- whether an adapter has one of some objects as a target
 abbrev pub is_touched : List ObjectNo → Listed → Bool
 is_touched os r = list_any (λ o. has_target (node.Object o) r) os
 
@@ -37,7 +37,7 @@ is_touched os r = list_any (λ o. has_target (node.Object o) r) os
 abbrev pub touched : List ObjectNo → List Listed → List ℕ
 touched os rs = ordinals_from (is_touched os) 0 rs
 
--- what was found last is right: it is of no node, or has the adapters that get the notifications of its node
+-- the result of the last search is still right: it is for no node, or has the adapters that get the notifications of its node
 abbrev pub AreKnown : Above → List Listed → Hearers → Type 0
 AreKnown up rs h = IfSome h.node (λ x. h.ordinals.items ≡ hearers up x rs)
 

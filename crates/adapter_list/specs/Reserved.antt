@@ -1,4 +1,4 @@
--- What reserving a chain gives: its round fits the adapters and their capacities, or the first adapter that refuses decides.
+-- The result of reserving a chain: a round that fits the adapters and their capacities, or the refusal of the first adapter that refuses.
 use Rattle.std.specs.Prelude.{◌≡◌, ℕ, ◌≤◌, false, List, slice_index, Result, Ok, Err, IfErr, IfOk, OnOk}
 use Rattle.mm_types.specs.declared.refused.Refused.{Refused}
 use Rattle.mm_types.specs.declared.refused.Refused.TheVariants.{AdapterFull}
@@ -8,7 +8,7 @@ use Rattle.adapter_list.specs.Counts.{IsFirstFull}
 use Rattle.adapter_list.specs.Refusals.{IsChainRefusal}
 use Rattle.adapter_list.specs.Rounds.{RoundFits, RoundView, round_copies, round_of}
 
--- the adapters and their capacities before and after a chain is reserved, and the round or the refusal that this gives
+-- a chain was reserved: the adapters and their capacities before and after it, and the round or the refusal
 pub record IsReserved (up : Above) (chain : List Notice) (old new : List Listed × List ℕ) (result : Result RoundView Refused) : Type 0 where
   pub kept : new.0 ≡ old.0
   pub round : IfOk result (λ r. r ≡ round_of up chain old.0)
@@ -19,7 +19,7 @@ pub record IsReserved (up : Above) (chain : List Notice) (old new : List Listed 
   pub no_fewer : (k : ℕ) → slice_index old.1 k ≤ slice_index new.1 k
   pub still_fits : (r : RoundView) → RoundFits old.0 old.1 r → RoundFits new.0 new.1 r
 
--- a round, if its capacity is reserved
+-- the round if the reservation succeeded, else its refusal
 abbrev pub reserved_round : {U : Type 0} → RoundView → Result U Refused → Result RoundView Refused
 reserved_round r (Ok u) = Ok r
 reserved_round r (Err e) = Err e

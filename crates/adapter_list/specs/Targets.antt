@@ -1,4 +1,4 @@
--- The adapters that have each node as a target: the entries of the table, and the entries that the list of adapters asks for.
+-- The adapters that have each node as a target: the entries of the table, and the entries that the list of adapters calls for.
 use Rattle.std.specs.Prelude.{◌≡◌, ℕ, ◌<◌, ◌&&◌, ◌||◌, not, Bool, true, false, List, [], ◌∷◌, get_or, slice_get, length, map, nat_eq, slice_index, Option, option_map, IfSome, ⊤, if◌then◌else◌}
 use Rattle.std.specs.List.{IsDistinct, filter_map, find}
 use Rattle.std.specs.Option.{option_map_or}
@@ -26,15 +26,15 @@ same_bool false false = true
 abbrev pub same_key : NodeKey → NodeKey → Bool
 same_key j k = same_bool j.is_resource k.is_resource && nat_eq j.number k.number
 
--- the adapters that a table has of a node
+-- the entries that a table has for a node
 abbrev pub entries_in : TargetLists → Node → List Entry
 entries_in t x = option_map_or (λ v. v.items) (get same_key t.lists (key x)) []
 
--- a table has no list that is empty
+-- no list of a table is empty
 abbrev pub HasNoEmpty : TargetLists → Type 0
 HasNoEmpty t = (q : NodeKey) → IfSome (get same_key t.lists q) (λ v. 0 < length v.items)
 
--- the entry of an adapter at a node, if that is a target of it
+-- the entry of an adapter for a node, if the node is a target of the adapter
 abbrev pub entry_of : Node → Listed → Option Entry
 entry_of x r = option_map (λ t. record { no = r.no; deep = t.deep }) (find (is_at x) r.targets)
 
@@ -52,11 +52,11 @@ abbrev pub is_any : List Entry → Bool
 is_any [] = false
 is_any (e ∷ es) = true
 
--- just the objects that have adapters are marked
+-- an object is marked exactly if it has adapters
 abbrev pub AreMarked : List Bool → TargetLists → Type 0
 AreMarked bs t = (o : ObjectNo) → get_or bs o.0 false ≡ is_any (entries_in t (node.Object o))
 
--- a node is marked; resources always are
+-- whether a node is marked; a resource always is
 abbrev pub is_marked : List Bool → Node → Bool
 is_marked bs (node.Object o) = get_or bs o.0 false
 is_marked bs (node.Resource k) = true
@@ -64,7 +64,7 @@ is_marked bs (node.Resource k) = true
 abbrev pub AreSameMarks : List Bool → List Bool → Type 0
 AreSameMarks old new = (i : ℕ) → get_or new i false ≡ get_or old i false
 
--- the marks are those before, but for that of a node
+-- the marks stay, but the mark of a node is b
 abbrev pub AreSetAt : List Bool → Node → Bool → List Bool → Type 0
 AreSetAt old x b new = (o : ObjectNo) → get_or new o.0 false ≡ (if same_node x (node.Object o) then b else get_or old o.0 false)
 
@@ -75,15 +75,15 @@ HasMarkRoom bs (node.Resource k) = ⊤
 
 ---------------------------------------------------------------- indexes in attach order
 
--- the adapter at index k has a number
+-- whether the adapter at index k has a given number
 abbrev pub has_number_at : List Listed → AdapterNo → ℕ → Bool
 has_number_at rs number k = option_map_or (has_no number) (slice_get rs k) false
 
--- a target of an adapter is the node; and is deep, if only deep ones are asked for
+-- whether an adapter has the node as a target; if `only_deep`, as a deep target
 abbrev pub is_attached : Node → Bool → Listed → Bool
 is_attached x only_deep r = option_map_or (λ t. not only_deep || t.deep) (find (is_at x) r.targets) false
 
--- whether a target of the adapter at index k is that node
+-- whether the adapter at index k has the node as a target; if `only_deep`, as a deep target
 abbrev pub is_attached_at : List Listed → Node → Bool → ℕ → Bool
 is_attached_at rs x only_deep k = option_map_or (is_attached x only_deep) (slice_get rs k) false
 
@@ -91,7 +91,7 @@ is_attached_at rs x only_deep k = option_map_or (is_attached x only_deep) (slice
 abbrev pub targets_at : List Listed → ℕ → ℕ
 targets_at rs k = slice_index (map (λ r. length r.targets) rs) k
 
--- an entry is of the adapter at index k, and is asked for
+-- whether an entry is of the adapter at index k; if `only_deep`, the entry must also be deep
 abbrev pub finds : List Listed → Bool → ℕ → Entry → Bool
 finds rs only_deep k e = (not only_deep || e.deep) && has_number_at rs e.no k
 

@@ -9,8 +9,8 @@ use std::collections::VecDeque;
 pub struct Attached<A = Box<dyn Adapter>> {
     /// The number under which it is attached.
     pub no: AdapterNo,
-    /// The nodes of whose changes it is notified, each once, in the order in which it got them. A ring, since a deletion takes
-    /// many of them in that order.
+    /// The nodes whose changes notify it, each once, in the order in which it got them. They are in a ring, since a deletion takes many of
+    /// them out in that order.
     pub targets: VecDeque<Target>,
     /// The adapter itself.
     pub adapter: A,

@@ -1,4 +1,4 @@
-//! What a call that takes one target from an adapter gives.
+//! The result of a call that takes one target from an adapter.
 
 use notice_chain::Notice;
 

@@ -1,4 +1,4 @@
-//! A list while targets go.
+//! A list while targets are taken away.
 ghost use Rattle.std.specs.Prelude.{◌≡◌, ◌≤◌, ◌<◌, ◌+◌, ◌++◌, ◌∷◌, [], None, Some, false, true, length, map, filter, not, position, vec_len, vec_capacity, IfSome, is_some};
 ghost use Rattle.std.specs.List.{IsDistinct};
 ghost use Rattle.indexmap.specs.IndexSet.{index_set_len};
@@ -23,8 +23,8 @@ use std::collections::VecDeque;
 use std::marker::Model;
 use std::mem;
 
-/// The parts of a list while targets go. Meanwhile an adapter may have no target left: an adapter without targets is handed out
-/// before the parts are a list again.
+/// The parts of a list while targets are taken away. Meanwhile an adapter may have no target left. It is given back before the parts become
+/// a list again.
 #[derive(Drop)]
 pub(crate) struct Going<A: Adapter> {
     alloc: Global,
@@ -48,7 +48,7 @@ impl<A: Adapter> Model for Going<A> {
 }
 
 impl<A: Adapter> Going<A> {
-    /// The parts of a list, and its capacity for handing out all of its adapters.
+    /// The parts of a list, and its capacity for giving back all of its adapters.
     pub(crate) fn of(list: AdapterList<A>) -> (Self, Vec<(AdapterNo, A)>)
         ensures now { result.0 ≡ list.0 }
         ensures some { HaveTargets list.0 }
@@ -82,8 +82,8 @@ impl<A: Adapter> Going<A> {
         }
     }
 
-    /// Releases one target: its adapter is notified of that, and no longer has it. Gives that notification, and whether it was the
-    /// adapter's last target; `None`, and nothing changes, if the node is no target of it.
+    /// Releases one target: its adapter is notified, and then no longer has the target. Gives the notification, and whether that was the
+    /// adapter's last target. If the node is no target of the adapter, `None`, and nothing changes.
     fn let_go(&mut self, no: AdapterNo, node: Node) -> Option<(Notice, bool)>
         ensures others { self.new ≡ without (no, node) self.old }
         ensures told { last_told no result ≡ told_of_leaving (no, node) self.old }
@@ -110,7 +110,7 @@ impl<A: Adapter> Going<A> {
         self.numbers.get_index_of(&no)
     }
 
-    /// Hands out the adapters that have no targets.
+    /// Gives back the adapters that have no targets.
     fn hand_out(&mut self, released: &mut Vec<(AdapterNo, A)>)
         requires released_room { vec_len released.old + length (leaving self.old) ≤ vec_capacity released.old }
         ensures others { self.new ≡ staying self.old }
@@ -122,7 +122,7 @@ impl<A: Adapter> Going<A> {
         renumber(&mut self.numbers, &self.attached);
     }
 
-    /// Hands out the adapter that has no target, if there is one, through an empty list. Takes no memory.
+    /// Gives back the adapter that has no target, if there is one, through an empty list. Takes no memory.
     fn hand_out_one(&mut self, room: &mut Vec<(AdapterNo, A)>) -> Option<A>
         requires one { length (leaving self.old) ≤ 1 }
         requires room { IsRoomFor 1 (vec_len room.old) (vec_capacity room.old) }
@@ -134,8 +134,8 @@ impl<A: Adapter> Going<A> {
         room.pop().map(|one| one.1)
     }
 
-    /// Takes one target from an adapter, which is handed out with its last one. That takes no memory: it goes through an empty list that
-    /// has capacity for all adapters.
+    /// Takes one target from an adapter, and gives the adapter back if that was its last one. Takes no memory, since the adapter goes
+    /// through an empty list that has capacity for all adapters.
     pub(crate) fn detach(
         &mut self,
         no: AdapterNo,
@@ -160,7 +160,7 @@ impl<A: Adapter> Going<A> {
         Some(Detached { notice, adapter })
     }
 
-    /// Releases targets, one after another, and then hands out the adapters that have none left.
+    /// Releases targets, one after another, and then gives back the adapters that have none left.
     pub(crate) fn release(
         &mut self,
         spots: &[(AdapterNo, Node)],
@@ -208,8 +208,8 @@ fn index_among(targets: &VecDeque<Target>, node: Node) -> Option<usize>
     targets.iter().position(|target| target.node == node)
 }
 
-/// Takes the adapters that have no targets out of a list, in their order, and gives the others. The list is turned once around in
-/// its own memory.
+/// Takes the adapters that have no targets out of a list, in their order, and returns the others. The list is rotated once in its own
+/// memory.
 fn split<A: Adapter>(
     attached: Vec<Attached<A>>,
     released: &mut Vec<(AdapterNo, A)>,
@@ -249,7 +249,7 @@ pub(crate) fn last_notice(no: AdapterNo, target: Node, index: usize) -> Notice
     }
 }
 
-/// Sets the numbers to those of the adapters, in the same order. It takes no memory: there were no fewer numbers before.
+/// Sets the numbers to those of the adapters, in the same order. It takes no memory, since there were at least as many numbers before.
 fn renumber<A>(numbers: &mut IndexSet<AdapterNo>, attached: &[Attached<A>])
     requires room { length attached.now ≤ index_set_len numbers.old }
     requires distinct { IsDistinct same_no (numbers_of attached.now) }

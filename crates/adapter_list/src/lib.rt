@@ -1,8 +1,8 @@
-//! The list of attached adapters: which of them get a notification, what is reserved for a chain of notifications, and its delivery.
-//! Which ones are above a node, for the deep adapters, is asked of a store of links.
+//! The list of attached adapters: which of them get a notification, what is reserved for a chain of notifications, and its delivery. For
+//! deep adapters, a store of links says which nodes are above a node.
 //!
-//! A list owns its adapters, in attach order, with their targets. It is seen as the list of them by what they were notified of,
-//! beside the capacity that they have reserved; each always has some for its last notification.
+//! A list owns its adapters, in attach order, with their targets. Contracts see the adapters with what each was notified of, and the
+//! capacity that each has reserved. Each always has capacity for its last notification from each target.
 #![tactic(auto)]
 
 mod attach_refused;

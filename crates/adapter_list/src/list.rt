@@ -24,11 +24,11 @@ use std::alloc::Global;
 use std::collections::VecDeque;
 use std::marker::Model;
 
-/// The attached adapters, in attach order (EMF: the adapters of all notifiers). It is seen as two lists: the adapters with their targets,
-/// by what they were notified of, and the capacity of each, which only a delivery mentions.
+/// The attached adapters, in attach order (EMF: the adapters of all notifiers). Contracts see two lists: the adapters with their targets
+/// and with what each was notified of; and the capacity of each, of which only the contract of a delivery speaks.
 ///
-/// Their numbers are distinct. They have at most 100,000 targets, each adapter at least one, and none has one twice. Each has capacity
-/// reserved for its last notification from each of its targets, and can count those notifications.
+/// Their numbers are distinct. They have at most 100,000 targets in all; each adapter has at least one target, and no target twice. Each
+/// has capacity reserved for its last notification from each of its targets, and can count those notifications.
 #[derive(Drop)]
 pub struct AdapterList<A: Adapter> {
     pub(crate) alloc: Global,
@@ -37,7 +37,7 @@ pub struct AdapterList<A: Adapter> {
     pub(crate) numbers: IndexSet<AdapterNo>,
     /// For each node the adapters that have it as a target, in attach order.
     pub(crate) by_target: TargetLists,
-    /// For each object whether it is a target of any.
+    /// For each object whether it is a target of any adapter.
     pub(crate) marks: Vec<bool>,
     /// How many targets there are.
     pub(crate) targets_len: usize,
@@ -120,9 +120,9 @@ impl<A: Adapter> AdapterList<A> {
         }
     }
 
-    /// What holds of every list, for callers whose proofs need it: there are no more targets than there may be, the numbers of the adapters
-    /// are distinct, each has a target, none has one twice, and each has capacity reserved for a last notification from each of its
-    /// targets, and can count those.
+    /// The facts that hold of every list, for callers whose proofs need them. There are no more targets than there may be, and the numbers
+    /// of the adapters are distinct. Each adapter has a target, and no target twice. It has capacity reserved for a last notification from
+    /// each of its targets, and can count these notifications.
     pub fn lemma_keeps_rules(&self)
         ensures few { targets_len self.now.0 ≤ TARGETS }
         ensures distinct { HasDistinctNumbers self.now.0 }

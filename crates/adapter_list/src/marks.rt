@@ -1,11 +1,12 @@
-//! Which objects have adapters: a mark for each object number, so that a walk up passes over the others without a look-up.
+//! Which objects have adapters: a mark for each object number, so that a walk up skips objects without adapters, and needs no look-up for
+//! them.
 ghost use Rattle.std.specs.Prelude.{◌≡◌, ◌≤◌, ◌<◌, ℕ, true, false, get_or, length, nat_eq, OnOk, if◌then◌else◌};
 ghost use Rattle.adapter_list.specs.Targets.{AreSameMarks, AreSetAt, HasMarkRoom, is_marked as is_marked_in};
 
 use mm_types::Node;
 use std::alloc::AllocError;
 
-/// Whether a node is marked. Resources, of which one at most is above a node, always are.
+/// Whether a node is marked. A resource always is; at most one resource is above a node.
 pub(crate) fn is_marked(marks: &[bool], node: Node) -> bool
     ensures { result ≡ is_marked_in marks.now node }
 {

@@ -1,4 +1,4 @@
-//! Targets that are to go, with capacity for what that takes.
+//! Targets that are to be taken away, with capacity for the notifications and the adapters.
 ghost use Rattle.std.specs.Prelude.{◌≡◌, IfOk, length, vec_len, vec_capacity};
 ghost use Rattle.adapter_list.specs.Attached.{IsRoomFor};
 
@@ -7,8 +7,8 @@ use notice_chain::Notice;
 use std::alloc::{AllocError, Global};
 use std::marker::Model;
 
-/// Some targets, each by its adapter's number and its node, in the order in which they are to go. It is made before anything changes and
-/// has capacity for their last notifications and for the adapters that are handed out. So releasing them takes no memory.
+/// Some targets, each by its adapter's number and its node, in the order in which they are to be taken away. It is made before anything
+/// changes, with capacity for their last notifications and for the adapters that are given back. So releasing them takes no memory.
 #[derive(Drop)]
 pub struct Release<A> {
     spots: Vec<(AdapterNo, Node)>,
@@ -42,7 +42,7 @@ impl<A> Release<A> {
         })
     }
 
-    /// How many targets are to go. Takes no memory.
+    /// How many targets are to be taken away. Takes no memory.
     pub fn len(&self) -> usize
         ensures { result ≡ length self.now }
     {

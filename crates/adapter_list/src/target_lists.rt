@@ -1,4 +1,4 @@
-//! The adapters of each node, to find them without looking at the others.
+//! The adapters of each node, so that they are found without a look at other adapters.
 ghost use Rattle.std.specs.Prelude.{◌≡◌, ◌≤◌, ◌<◌, [], length, insert, remove, position, OnOk, OnErr, if◌then◌else◌};
 ghost use Rattle.mm_types.specs.Same.{same_node};
 ghost use Rattle.mm_types.specs.declared.numbers.Node.{Node};
@@ -24,8 +24,8 @@ pub(crate) struct Entry {
     pub deep: bool,
 }
 
-/// The adapters of each node to which some are attached. The list that owns the adapters keeps those of one node in attach order. An
-/// entry has the number of its adapter and not its index, so that none changes if another adapter leaves.
+/// The adapters of each node that has any. The list that owns the adapters keeps the entries of a node in attach order. An entry has the
+/// number of its adapter and not its index, so it stays the same if another adapter leaves.
 #[derive(Drop)]
 pub(crate) struct TargetLists {
     alloc: Global,
@@ -70,21 +70,21 @@ impl TargetLists {
         }
     }
 
-    /// Whether a node has any. Takes no memory.
+    /// Whether a node has any adapters. Takes no memory.
     pub fn has_any(&self, node: Node) -> bool
         ensures { result ≡ is_any (entries_in self.now node) }
     {
         !self.at(node).is_empty()
     }
 
-    /// The index of the adapter of a number among those of a node. Takes no memory.
+    /// The index of the adapter of a number among the adapters of a node. Takes no memory.
     pub fn index_of(&self, node: Node, no: AdapterNo) -> Option<usize>
         ensures { result ≡ position (λ e. same_no no e.no) (entries_in self.now node) }
     {
         self.at(node).iter().position(|entry| no == entry.no)
     }
 
-    /// Adds an adapter at an index among those of a node. If memory is refused, nothing has changed.
+    /// Adds an adapter at an index among the adapters of a node. If memory is refused, nothing has changed.
     pub fn insert(&mut self, node: Node, index: usize, entry: Entry) -> Result<(), AllocError>
         requires { index ≤ length (entries_in self.old node) }
         ensures ok { OnOk result ((x : Node) → entries_in self.new x ≡ (if same_node node x then insert (entries_in self.old x) index entry else entries_in self.old x)) }
@@ -101,7 +101,7 @@ impl TargetLists {
         Ok(())
     }
 
-    /// Takes the adapter at an index out of those of a node, and drops the list if it was the only one. Takes no memory.
+    /// Takes out the adapter at an index among the adapters of a node, and drops the list if it was the only one. Takes no memory.
     pub fn remove(&mut self, node: Node, index: usize)
         requires { index < length (entries_in self.old node) }
         ensures removed { (x : Node) → entries_in self.new x ≡ (if same_node node x then remove (entries_in self.old x) index else entries_in self.old x) }
@@ -115,7 +115,7 @@ impl TargetLists {
         }
     }
 
-    /// Takes the adapter at an index out of those of a node, of which it is not the only one.
+    /// Takes out the adapter at an index among the adapters of a node; it is not the only one.
     fn remove_one(&mut self, node: Node, index: usize)
         requires within { index < length (entries_in self.old node) }
         requires more { 1 < length (entries_in self.old node) }
@@ -127,7 +127,7 @@ impl TargetLists {
         }
     }
 
-    /// Takes out all of a node. Takes no memory.
+    /// Takes out all adapters of a node. Takes no memory.
     pub fn drop_list(&mut self, node: Node)
         ensures dropped { (x : Node) → entries_in self.new x ≡ (if same_node node x then [] else entries_in self.old x) }
         ensures none_empty { HasNoEmpty self.old → HasNoEmpty self.new }

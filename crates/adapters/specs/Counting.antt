@@ -3,11 +3,11 @@ use Rattle.std.specs.Prelude.{◌≡◌, ◌↔◌, ℕ, ◌+◌, ◌-◌, ◌^�
 use Rattle.adapters.specs.declared.adapter.NoRoom.{NoRoom}
 use Rattle.adapters.specs.declared.adapter.NoRoom.TheVariants.{Full, Memory}
 
--- as many as it can still count, if it got this many
+-- how many notifications an adapter can still count, after it got `told`
 abbrev pub places_left : ℕ → ℕ
 places_left told = 2 ^ 64 - (told + 1)
 
--- nothing changes, and it is full exactly if it can't count `n` more; it needs no memory
+-- the adapter stays as it is; the result is `Full` exactly if it can't count `n` more, and never `Memory`
 abbrev pub IsCounted : {X : Type 0} → (X → ℕ) → ℕ → X → X → Result ⊤ NoRoom → Type 0
 IsCounted told n old new result =
     OnOk result (told old + n < 2 ^ 64) × (IsErrOf result Full ↔ (2 ^ 64 ≤ told old + n)) × (IsErrOf result Memory → ⊥) × (new ≡ old) × (told new < 2 ^ 64)

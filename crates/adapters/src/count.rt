@@ -4,7 +4,7 @@ ghost use Rattle.adapters.specs.Counting.{IsCounted};
 
 use crate::adapter::NoRoom;
 
-/// How many notifications an adapter got that needs no memory to get one.
+/// How many notifications an adapter got. It is for adapters that need no memory to get one.
 #[derive(Drop)]
 pub(crate) struct Count {
     told: u64,

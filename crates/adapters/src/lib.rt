@@ -1,8 +1,8 @@
 //! Adapters, which are notified of changes: their interface, and the stock kinds.
 //!
-//! An adapter is seen as what it was notified of (the view of `notice_chain`) and as its capacity: how many notifications it can
-//! get before it has to reserve again. Capacity is reserved before anything changes (`reserve`); `notify_changed` uses one and
-//! can't fail.
+//! Contracts see of an adapter what it was notified of (the view of `notice_chain`), and its capacity: how many notifications it can get
+//! before it has to reserve again. Capacity is reserved before anything changes (`reserve`); `notify_changed` uses capacity for one
+//! notification and can't fail.
 #![tactic(auto)]
 
 mod adapter;

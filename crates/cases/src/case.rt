@@ -8,7 +8,7 @@ use std::alloc::Global;
 pub struct Case<'a> {
     /// What it shows.
     pub name: &'a str,
-    /// The name of its metamodel's file, without `.json`; if there is none, the document is the metamodel.
+    /// The name of its metamodel's file, without `.json`; without a name, the document is the metamodel.
     pub metamodel: Option<&'a str>,
     /// The metamodel's text, if it is in the case.
     pub document: Vec<u8>,

@@ -1,4 +1,4 @@
-//! Marks in a case's text: what is long or can't be seen is written short.
+//! Marks in a case's text, which write long or invisible text in a short way.
 //!
 //! `<<xFF>>` is a byte by its two hexadecimal digits. `<<3* ab%,>>` is a text so many times, each `%` in it being how often
 //! it came before: `ab0,ab1,ab2,`. A `^` in it is one more than that, and a `|` ends a line.

@@ -55,7 +55,7 @@ fn read_file(rt: &HostRuntime, path: &str) -> Result<Vec<u8>, Fault> {
     }
 }
 
-/// Whether a case gives what it expects, with a part of the program that is named; writes a difference.
+/// Whether a case gives what it expects; writes a difference, with the name of the part that ran.
 fn gives_expected<W: Write>(
     writer: &mut W,
     case: &Case<'_>,
@@ -126,7 +126,7 @@ fn parse_and_run<W: Write>(rt: &HostRuntime, writer: &mut W, text: &str) -> Resu
     passes(rt.alloc(), writer, &case, metamodel.as_slice())
 }
 
-/// Runs a case; one that can't be run is written and does not pass.
+/// Runs a case; a case that can't be run is written and does not pass.
 fn run_case<W: Write>(rt: &HostRuntime, writer: &mut W, text: &str) -> Result<bool, io::Error> {
     match parse_and_run(rt, writer, text) {
         Ok(passes) => Ok(passes),

@@ -25,7 +25,7 @@ use Rattle.change_plans.specs.declared.planned.Planned.{Planned}
 use Rattle.handshake.proofs.ResolveAllLemmas.{all-lead}
 use Rattle.change_plans.proofs.StepLemmas.{chain-all, done-count, edits-all, left-count}
 
--- of leads as of locations
+-- the number of leads is the number of locations
 count-leads : (r : Reading) (N : ProxySite → Bool) (ps : List ProxySite) → length (filter (λ (x : Lead). N x.site) (map (lead r) ps)) ≡ length (filter N ps)
 count-leads r N [] = refl
 count-leads r N (p ∷ ps) =
@@ -34,7 +34,7 @@ count-leads r N (p ∷ ps) =
       | false ↦ count-leads r N ps
     ]
 
--- what planning gives that resolves all proxies, by its parts
+-- the result of planning that resolves all proxies, by its parts
 pub all-planned : (is_heard : Bool) (s : Model) (p : Planned) → IsLegal s → (g : Progress) → IsDone (reading s) g → (ls : List Lead) → ls ≡ leads (reading s) → (js : List Joint) → js ≡ g.joints.items
     → p.removal ≡ None → p.target ≡ None
     → p.resolved ≡ Some (record { done = length js; left = length (filter (λ (x : Lead). not (has g.gone (key_of x.site))) ls) })

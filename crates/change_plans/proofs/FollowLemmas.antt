@@ -1,4 +1,4 @@
--- What resolving proxies leaves of what could be read: each value is as it was, or is the object at the address of the proxy that stood there.
+-- A reading after proxies are resolved: each value is as it was, or is the object at the address of the proxy that was there.
 use Rattle.std.proofs.Common.{◌≡◌, inl, inr, ℕ, Bool, true, false, List, [], ◌∷◌, Option, Some, None, length, slice_get, if◌then◌else◌, refl, sym, ap, ◌∙◌, subst}
 use Rattle.std.specs.Prelude.{◌⊎◌, option_and_then, slice_set, unwrap_or}
 use Rattle.std.specs.Option.{option_map_or}
@@ -39,7 +39,7 @@ use Rattle.handshake.specs.Effects.{with_resolution}
 
 ---------------------------------------------------------------- addresses
 
--- where what contains holds the same, each address finds what it found
+-- if the containments are the same, each address leads to the same object
 module _ (r : Reading) (ends : End → List Value) (same : (n : Node) (h : FeatureNo) → is_containment r.metamodel h ≡ true → ends (at_end n h) ≡ r.values (at_end n h)) where
   abbrev now : Reading
   now = record r { values = ends }
@@ -66,7 +66,7 @@ module _ (r : Reading) (ends : End → List Value) (same : (n : Node) (h : Featu
 
 ---------------------------------------------------------------- values
 
--- a proxy stood there, and the object at its address does
+-- a proxy was there, and now the object at its address is
 pub record IsLed (r : Reading) (was now : Option Value) : Type 0 where
   pub text : List ℕ
   pub object : ObjectNo
@@ -95,7 +95,7 @@ led-on r a b c (inr x) (inl y) = inr (record { text = x.text; object = x.object;
 led-on r a b c (inl x) (inr y) = inr (record { text = y.text; object = y.object; proxy = sym x ∙ y.proxy; leads = y.leads; is = y.is })
 led-on r a b c (inr x) (inr y) = absurd (object-apart x.object y.text (sym x.is ∙ y.proxy))
 
--- what follows a model that follows another follows that one
+-- if a reading follows another one, and a third follows it, the third follows the first
 pub follows-on : (r : Reading) (ends more : End → List Value) → Follows r ends → Follows (record r { values = ends }) more → Follows r more
 follows-on r ends more one two =
     record {
@@ -125,7 +125,7 @@ module _ (r : Reading) (ends : End → List Value) (e : End) (i : ℕ) (t : List
         | false ↦ λ _. inl refl
       ] refl
 
--- what leads to an object has its address
+-- a value that leads to an object has its address
 pub leads-at : (r : Reading) (o : ObjectNo) (t : List ℕ) → leads_to r (node.Object o) (value.Proxy t) ≡ true → at r t ≡ Some o
 leads-at r o t h = by (at r t) refl h
   where
@@ -173,7 +173,7 @@ module _ (s : Model) (legal : IsLegal s) (p : ProxySite) (x : Target) (is : reso
       let to = resolved-to r p x is in
       record { long = long-with x.counterpart; contains = contains-with s legal p.object p.feature p.index to.late x to.found; each = each-with x.counterpart refl }
 
--- so does what all resolved proxies leave
+-- the reading after all proxies are resolved follows the reading before
 pub all-follow : (ps : List ProxySite) (s : Model) → IsLegal s → Follows (reading s) (values_left (reading s) ps)
 all-follow [] s legal = follows-itself (reading s)
 all-follow (p ∷ ps) s legal =

@@ -1,9 +1,9 @@
--- What ends hold if objects took the locations of proxies: which proxies are left, and which objects are there.
+-- The ends after objects took the locations of proxies: which proxies are left, and which objects are there.
 use Rattle.std.proofs.Common.{◌≡◌, inl, inr, ℕ, zero, suc, ◌&&◌, ◌||◌, nat_eq, not, Bool, true, false, List, [], ◌∷◌, Option, Some, None, is_some, length, option_map, slice_get, if◌then◌else◌, refl, sym, ap, ◌∙◌, subst, arith}
 use Rattle.std.specs.Prelude.{cond, option_and_then, position, slice_set}
 use Rattle.std.specs.List.{list_any}
 use Rattle.std.specs.Option.{option_map_or}
-use Rattle.std.proofs.lemmas.Bool.{and_parts, false≢true}
+use Rattle.std.proofs.lemmas.Bool.{and_parts, false≢true, eqb-true}
 use Rattle.std.proofs.lemmas.Bool.Decides.{nat_tests}
 use Rattle.std.proofs.lemmas.Option.{none-some, same_Some}
 use Rattle.doc_parts.proofs.WayLemmas.{position_cons}
@@ -28,9 +28,6 @@ use Rattle.proxies.proofs.LeadLemmas.{eq-self}
 eq-swap : (m n : ℕ) → nat_eq m n ≡ true → nat_eq n m ≡ true
 eq-swap m n h = grind (arith, nat_tests)
 
-eq-is : (m n : ℕ) → nat_eq m n ≡ true → m ≡ n
-eq-is m n h = grind (arith, nat_tests)
-
 and-from : (a b c : Bool) → a ≡ true → b ≡ true → c ≡ true → (a && (b && c)) ≡ true
 and-from a b c x y z = λ i. x i && (y i && z i)
 
@@ -42,12 +39,12 @@ site-is : (p q : ProxySite) → same_key (key_of p) (key_of q) ≡ true → p �
 site-is p q h =
     let one = and_parts (nat_eq p.object.0 q.object.0) _ h in
     let two = and_parts (nat_eq p.feature.0 q.feature.0) _ one.1 in
-    let object = eq-is p.object.0 q.object.0 one.0 in
-    let feature = eq-is p.feature.0 q.feature.0 two.0 in
-    let index = eq-is p.index q.index two.1 in
+    let object = eqb-true p.object.0 q.object.0 one.0 in
+    let feature = eqb-true p.feature.0 q.feature.0 two.0 in
+    let index = eqb-true p.index q.index two.1 in
     λ i. record { object = record { 0 = object i }; feature = record { 0 = feature i }; index = index i }
 
--- locations at one end that have one index have one key
+-- locations at one end with the same index have the same key
 key-from : (p q : ProxySite) → same_end (end_of q) (end_of p) ≡ true → p.index ≡ q.index → same_key (key_of p) (key_of q) ≡ true
 key-from p q same index =
     let both = and_parts (nat_eq q.object.0 p.object.0) _ same in
@@ -91,7 +88,7 @@ module _ (ends : End → List Value) (q : ProxySite) (o : ObjectNo) (t : List �
         | false ↦ λ _. refl
       ] refl
 
-  -- the proxies that stood there still do, but the one
+  -- the proxies that were there are still there, except the one that is replaced
   pub proxy-replaced : (p : ProxySite) → is_proxy_in (replaced ends (end_of q) q.index (value.Object o)) p ≡ (is_proxy_in ends p && not (same_key (key_of p) (key_of q)))
   proxy-replaced p =
       elim (same_key (key_of p) (key_of q)) as (λ b. same_key (key_of p) (key_of q) ≡ b → is_proxy_in (replaced ends (end_of q) q.index (value.Object o)) p ≡ (is_proxy_in ends p && not b)) [
@@ -126,7 +123,7 @@ has-set (v ∷ vs) (suc i) w b t at = ap (λ (c : Bool). same_value (value.Objec
     group true y z = refl
     group false y z = refl
 
--- the objects that stood at an end still do, and the one
+-- the objects that were at an end are still there, and so is the new one
 pub has-replaced : (ends : End → List Value) (q : ProxySite) (w : ObjectNo) (t : List ℕ) → slice_get (ends (end_of q)) q.index ≡ Some (value.Proxy t) → (o : ObjectNo) (f : FeatureNo) (b : ObjectNo)
     → has_value (replaced ends (end_of q) q.index (value.Object w) (at_end (node.Object o) f)) (value.Object b) ≡ (has_value (ends (at_end (node.Object o) f)) (value.Object b) || same_key (key o f b.0) (key q.object q.feature w.0))
 has-replaced ends q w t there o f b =
@@ -154,7 +151,7 @@ has-replaced ends q w t there o f b =
 
 ---------------------------------------------------------------- positions
 
--- lists whose values pass and fail in the same way have the first that passes at the same index
+-- if the values of two lists pass and fail in the same way, the first that passes is at the same index
 pub positions-alike : (p q : Value → Bool) (xs ys : List Value) → length xs ≡ length ys → ((j : ℕ) → option_map_or p (slice_get xs j) false ≡ option_map_or q (slice_get ys j) false) → position p xs ≡ position q ys
 positions-alike p q [] [] same each = refl
 positions-alike p q [] (y ∷ ys) same each = absurd (omega (arith, same))
@@ -166,7 +163,7 @@ later-any : (b : Bool) (q : Option ℕ) (i : ℕ) → ((j : ℕ) → q ≡ Some 
 later-any b None i each h = absurd (none-some i h)
 later-any b (Some j) i each h = each j refl
 
--- if there is a first that passes, one passes
+-- if there is a first value that passes, some value passes
 pub position-any : {X : Type 0} (test : X → Bool) (xs : List X) (i : ℕ) → position test xs ≡ Some i → list_any test xs ≡ true
 position-any test [] i h = absurd (none-some i h)
 position-any test (x ∷ xs) i h =

@@ -1,9 +1,9 @@
--- What is planned of a change that puts one link, and edits nothing else.
+-- The plan of a change that puts one link and edits nothing else.
 use Rattle.std.proofs.Common.{arith, eq-eqb, not, ◌≡◌, ◌++◌, ◌||◌, ◌&&◌, ℕ, suc, Bool, true, false, List, [], ◌∷◌, length, map, flat_map, nat_lt, is_some, option_map, option_to_list, IfSome, Option, Some, None, if◌then◌else◌, refl, sym, ap, subst, ◌∙◌}
 use Rattle.std.specs.List.{AllByRecursion}
 use Rattle.std.specs.Option.{option_map_or}
 use Rattle.std.proofs.Math.Bool.{and-false}
-use Rattle.std.proofs.lemmas.Bool.{true≢false}
+use Rattle.std.proofs.lemmas.Bool.{true≢false, or_parts}
 use Rattle.std.proofs.lemmas.Bool.Decides.{nat_tests}
 use Rattle.std.proofs.lemmas.Option.{none-some}
 use Rattle.mm_types.specs.declared.end.End.{End}
@@ -44,7 +44,6 @@ use Rattle.change_plans.specs.Plans.{IsPlanOf}
 use Rattle.handshake.specs.Refusals.{early_refusal, late_refusal}
 use Rattle.proxies.specs.Resolving.{opposite_end}
 use Rattle.handshake.proofs.CutLinkEndLemmas.{plain-not}
-use Rattle.handshake.proofs.KnownLemmas.{or-none}
 use Rattle.change_plans.proofs.PlannedLemmas.{planned}
 use Rattle.change_plans.proofs.NotifierLemmas.{told-notifiers}
 
@@ -78,8 +77,8 @@ none-holding r None h = refl
 
 pub yields-none : (r : Reading) (e : End) (o : ObjectNo) → displaces r e o ≡ false → yields r e o ≡ []
 yields-none r e o h =
-    let first = or-none (is_taken r e) _ h in
-    let second = or-none (option_map_or (is_taken r) (opposite_end r e o) false) _ first.1 in
+    let first = or_parts (is_taken r e) _ h in
+    let second = or_parts (option_map_or (is_taken r) (opposite_end r e o) false) _ first.1 in
     let near = none-held r e first.0 in
     let far = none-far r (opposite_end r e o) second.0 in
     let up = none-holding r (contained e o (shape_at r e).containing) second.1 in
@@ -87,7 +86,7 @@ yields-none r e o h =
 
 ---------------------------------------------------------------- an object that nothing contains
 
--- it is at no end that would contain it
+-- an object that nothing contains is at no containment end
 uncontained-absent : (s : Model) (e : End) (o : ObjectNo) → IsLegal s → is_containment s.metamodel e.feature ≡ true → is_some (holder s.links (node.Object o)) ≡ false → has_value (values_at s e) (value.Object o) ≡ false
 uncontained-absent s e o legal contains unheld =
     let vs = values_at s e in
@@ -102,19 +101,19 @@ unheld-part s e o h is unheld =
     let self : same_feature e.feature e.feature ≡ true = eq-eqb e.feature.0 e.feature.0 refl in
     sym (ap (λ q. option_map_or (λ n. is_some (holder s.links n)) (contained e o q) false) is ∙ ap (λ (b : Bool). is_some (holder s.links (if b then node.Object o else e.node))) self) ∙ unheld
 
--- so an end that contains its objects has none that displaces nothing
+-- so a containment end does not have an object that displaces nothing
 pub lone-absent : (s : Model) (e : End) (o : ObjectNo) → IsLegal s → is_containment s.metamodel e.feature ≡ true → displaces (reading s) e o ≡ false → is_plain_add (reading s) e (value.Object o) ≡ false
 lone-absent s e o legal contains h =
     let a = shape s.metamodel e.feature in
     let own = contains-itself e.feature a.containing contains in
     let refers = contains-reference s.metamodel e.feature e.feature own in
-    let nowhere = (or-none _ _ (or-none (is_taken (reading s) e) _ h).1).1 in
+    let nowhere = (or_parts _ _ (or_parts (is_taken (reading s) e) _ h).1).1 in
     let absent = uncontained-absent s e o legal contains (unheld-part s e o a.containing own nowhere) in
     ap (λ b. not b || (a.is_unique && has_value (values_at s e) (value.Object o))) refers ∙ ap (λ b. a.is_unique && b) absent ∙ and-false a.is_unique
 
 ---------------------------------------------------------------- the plan
 
--- what is known where all that is asked is so
+-- facts that hold if all tests pass
 record Chosen (a b c : Bool) (x p : NewLink) : Type 0 where
   displaced : a ≡ false
   plain : b ≡ false

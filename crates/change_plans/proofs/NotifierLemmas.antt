@@ -1,4 +1,4 @@
--- At which nodes there are notifications of what happens to ends.
+-- The nodes at which feature changes have notifications.
 use Rattle.std.proofs.Common.{◌≡◌, Bool, true, false, List, [], ◌∷◌, if◌then◌else◌, refl, sym, subst}
 use Rattle.std.specs.List.{AllByRecursion}
 use Rattle.mm_types.specs.Ends.{Ends, Held}
@@ -27,7 +27,7 @@ notifier-of a e Unsets h = refl
 notifier-of a e (Moves to from) h = refl
 notifier-of a e (Resolves i v) h = refl
 
--- what is so of the nodes to whose ends something happens is so of those of the notifications
+-- a property of the nodes of feature changes holds for the notifiers of their notifications
 pub told-notifiers : (P : Node → Type 0) (m : Metamodel) (e : Ends) (ts : List FeatureChange) → AllByRecursion (λ (t : FeatureChange). P t.at.node) ts → AllByRecursion (λ (n : Notice). P n.notifier) (told m e ts)
 told-notifiers P m e [] h = tt
 told-notifiers P m e (t ∷ ts) h =

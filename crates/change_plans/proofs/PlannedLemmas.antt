@@ -1,4 +1,4 @@
--- What planning gives, by its parts.
+-- The result of planning, by its parts.
 use Rattle.std.proofs.Common.{◌≡◌, Bool, false, [], None, if◌then◌else◌, refl, sym, ap, subst}
 use Rattle.std.proofs.lemmas.Bool.{true≢false}
 use Rattle.links.specs.Plans.{applied}
@@ -22,7 +22,7 @@ pub none-counted : (r : Reading) (c : Change) → resolves_all c ≡ false → N
 none-counted r ResolveAll one = absurd (true≢false one)
 none-counted r _ one = refl
 
--- what planning gives, by its parts
+-- the result of planning, by its parts
 pub planned : (is_heard : Bool) (s : Model) (c : Change) (p : Planned) → resolves_all c ≡ false → IsLegal s → early_refusal (reading s) c ≡ None → late_refusal (reading s) c ≡ None → HasReadDocument s.metamodel c → IsRemovalOf (reading s) c p.removal → p.target ≡ target_of (reading s) c → p.resolved ≡ resolved_by (reading s) c
     → p.edits ≡ link_edits (reading s) c → p.values ≡ value_edits (reading s) c → p.chain ≡ (if is_heard then chain (reading s) c else []) → IsPlanOf is_heard s c p
 planned is_heard s c p one legal early late read removed found resolved edits lists tells =

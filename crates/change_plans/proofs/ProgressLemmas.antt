@@ -1,11 +1,11 @@
--- What is known beforehand, and of what was resolved so far, determines what each proxy is resolved to.
+-- The tables that were made beforehand, and the proxies that were resolved so far, determine the target of each proxy.
 use Rattle.std.proofs.Common.{◌≡◌, inl, inr, ℕ, ◌<◌, ◌&&◌, ◌||◌, nat_eq, nat_lt, not, Bool, true, false, List, flat_map, fold, Option, Some, None, is_some, length, option_map, slice_get, if◌then◌else◌, refl, sym, ap, ◌∙◌, arith}
 use Rattle.std.specs.Prelude.{option_and_then, position}
 use Rattle.std.specs.Option.{option_map_or}
 use Rattle.std.specs.Str.{bytes_eq}
 use Rattle.std.proofs.lemmas.Bool.{false≢true}
 use Rattle.std.proofs.lemmas.Bool.Decides.{nat_tests}
-use Rattle.std.proofs.lemmas.Option.{none-some}
+use Rattle.std.proofs.lemmas.Option.{none-some, slice_get_within}
 use Rattle.mm_types.specs.Conditions.{◌unless◌, ◌where_so◌, ◌else_by◌}
 use Rattle.mm_types.specs.Ends.{has_value}
 use Rattle.mm_types.specs.Shapes.{shape}
@@ -48,18 +48,17 @@ use Rattle.proxies.proofs.LeadLemmas.{first-is}
 use Rattle.handshake.proofs.LinkLemmas.{lacks-far}
 use Rattle.handshake.proofs.ResolveAllLemmas.{Leads, all-lead}
 use Rattle.handshake.proofs.ResolvedReadingLemmas.{with_links}
-use Rattle.handshake.proofs.ResolveLemmas.{site-below}
 
 ---------------------------------------------------------------- refusals
 
--- where a proxy is at a position of a list and has a URI that is there, three reasons are left
+-- if a proxy is at a position of a list and its resource exists, three reasons for a refusal are left
 three-left : (m d w : Bool) → is_some (WrongType where_so m else_by Index unless true else_by Duplicate where_so d else_by NotProxy unless true else_by Unloaded where_so false else_by Unresolved unless true else_by Unmatched where_so w) ≡ (m || (d || w))
 three-left true d w = refl
 three-left false true w = refl
 three-left false false true = refl
 three-left false false false = refl
 
--- what is at an address is in a resource of its URI
+-- an object at an address is in a resource with the URI of the address
 uri-there : (r : Reading) (t : List ℕ) (o : ObjectNo) → at r t ≡ Some o → has_uri r (uri_part t) ≡ true
 uri-there r t o h = marked (has_mark t) h
   where
@@ -71,11 +70,11 @@ uri-there r t o h = marked (has_mark t) h
     marked true found = named (position (bytes_eq (uri_part t)) r.uris) refl found
     marked false found = absurd (none-some o found)
 
--- no proxy, no target, and nothing is resolved
+-- without a proxy there is no target, and nothing is resolved
 none-resolved : (r : Reading) (p : ProxySite) → target_at r (end_of p) p.index ≡ None → resolved_to r p ≡ None
 none-resolved r p none = elim (is_some (resolve_refusal r (end_of p) p.index)) as (λ b. (if b then None else target_at r (end_of p) p.index) ≡ None) [ true ↦ refl | false ↦ none ]
 
--- the tests agree where the targets do
+-- the tests agree if the targets agree
 tests-agree : (m d l : Bool) (W : Target → Bool) (x y : Target) → (m ≡ false → (d || l) ≡ false → x ≡ y) → (if (m || (d || (l || W x))) then None else Some x) ≡ (if (m || ((d || l) || W y)) then None else Some y)
 tests-agree true d l W x y same = refl
 tests-agree false true l W x y same = refl
@@ -103,7 +102,7 @@ module _ (s : Model) (legal : IsLegal s) (ps : List ProxySite) where
   at-now : (text : List ℕ) → at now text ≡ at r text
   at-now text = at-stays r (values_left r ps) follows.contains text
 
-  -- a value leads where it led
+  -- a value leads to the same object as before
   leads-now : (a : ObjectNo) (v : Value) → leads_to now (node.Object a) v ≡ leads_to r (node.Object a) v
   leads-now a v = by (text_of v)
     where
@@ -147,7 +146,7 @@ module _ (s : Model) (legal : IsLegal s) (ps : List ProxySite) where
       same-alike None = refl
       same-alike (Some v) = leads-now p.object v
 
-      -- no proxy is gone at the opposite end that led back
+      -- if no proxy that leads back is gone at the opposite end, the search there finds the same
       alike : (j : ℕ) (was is : Option Value) → slice_get (now.values far) j ≡ is → IsSameOrLed r was is → option_map_or (leads_to now (node.Object p.object)) is false ≡ option_map_or back was false
       alike j was is here (inl same) = ap (λ (q : Option Value). option_map_or (leads_to now (node.Object p.object)) q false) same ∙ same-alike was
       alike j was is here (inr x) =
@@ -247,7 +246,7 @@ module _ (s : Model) (legal : IsLegal s) (ps : List ProxySite) where
             sym (λ k. record { object = o; counterpart = same k })
 
         low : nat_lt i (length (now.values here)) ≡ true
-        low = below i (length (now.values here)) (site-below (now.values here) i (value.Proxy text) is)
+        low = below i (length (now.values here)) (slice_get_within (now.values here) i (value.Proxy text) is)
           where
             below : (k n : ℕ) → k < n → nat_lt k n ≡ true
             below k n h = grind (arith, nat_tests)

@@ -26,7 +26,7 @@ use Rattle.handshake.specs.declared.act.Act.TheVariants.{Set, Add, Remove, Remov
 use Rattle.proxies.specs.Resolving.{is_unmatched, proxy_at, target_at}
 use Rattle.proxies.specs.declared.target.Target.{Target}
 
--- no refusal of these
+-- a result that is none of some refusals
 abbrev pub IsNot : (Refused → Bool) → Option Refused → Type 0
 IsNot q o = option_map_or q o false ≡ false
 
@@ -131,7 +131,7 @@ module _ (q : Refused → Bool) (never : IsNeverLate q) where
 pub late-not-memory : (r : Reading) (c : Change) → IsNot is_memory_refusal (late_refusal r c)
 late-not-memory r c = late-not is_memory_refusal (record { wrong_type = refl; text_length = refl; index = refl; duplicate = refl; bound = refl; recursive = refl; limit = refl; resource_exists = refl; not_empty = refl; not_proxy = refl; unloaded = refl; unresolved = refl; unmatched = refl }) r c
 
--- what planning finds is what it answers
+-- the refusal that planning finds is the one that it returns
 pub late-refused : (r : Reading) (c : Change) (x : Refused) → late_refusal r c ≡ Some x → late_refusal r c ≡ (if is_memory_refusal x then None else Some x)
 late-refused r c x found = found ∙ ap (λ (b : Bool). if b then None else Some x) (sym (subst (IsNot is_memory_refusal) found (late-not-memory r c)))
 

@@ -1,11 +1,11 @@
--- What each proxy that is resolved asks of the model that the earlier ones left can be read in the model of before.
+-- What resolving a proxy reads in the model that the earlier ones left can be read in the model before all of them.
 use Rattle.std.proofs.Common.{◌≡◌, inl, inr, ℕ, suc, ◌-◌, ◌&&◌, pos, arith, filter, Bool, true, false, not, List, [], ◌∷◌, ◌++◌, flat_map, map, Option, Some, None, length, option_map, option_to_list, slice_get, if◌then◌else◌, refl, sym, ap, ◌∙◌, subst}
 use Rattle.std.specs.Prelude.{cond, unwrap_or}
 use Rattle.std.specs.List.{AllByRecursion, range_with_len}
 use Rattle.std.specs.Option.{option_map_or}
 use Rattle.std.proofs.lemmas.List.{map-append}
 use Rattle.std.proofs.lemmas.List.Elements.{filter-append}
-use Rattle.std.proofs.lemmas.Option.{none-some}
+use Rattle.std.proofs.lemmas.Option.{none-some, slice_get_within}
 use Rattle.mm_types.specs.Ends.{is_set, shown, value_in}
 use Rattle.mm_types.specs.Same.{is_nil, same_value}
 use Rattle.mm_types.specs.Shapes.{Shape, shape}
@@ -48,13 +48,12 @@ use Rattle.handshake.proofs.HappenedLemmas.{happened_all-at}
 use Rattle.handshake.proofs.KnownLemmas.{far-reference, resolvable}
 use Rattle.handshake.proofs.ResolveAllLemmas.{early, one-resolved, resolved-to}
 use Rattle.handshake.proofs.ResolvedReadingLemmas.{with_links as relinked}
-use Rattle.handshake.proofs.ResolveLemmas.{site-below}
 use Rattle.proxies.proofs.TargetLemmas.{found-is, match-is}
 use Rattle.change_plans.proofs.UnderwayLemmas.{values-append}
 
 ---------------------------------------------------------------- where each is resolved
 
--- it is resolved in the model that some locations left
+-- a proxy that is resolved in the model that some locations left
 pub record IsStep (r : Reading) (y : Resolution) : Type 0 where
   pub past : List ProxySite
   pub is : y.reads ≡ left_by r past
@@ -75,7 +74,7 @@ all-steps r (p ∷ ps) qs =
           )
     ] refl
 
--- what is the same of each is the same of all
+-- if a function is the same for each, it is the same for all
 pub flat-same : {X : Type 0} (P : Resolution → Type 0) (f : Resolution → List X) (g : Joint → List X) → ((y : Resolution) → P y → f y ≡ g (joint_of y)) → (ys : List Resolution) → AllByRecursion P ys
     → flat_map f ys ≡ flat_map g (map joint_of ys)
 flat-same P f g same [] all = refl
@@ -83,7 +82,7 @@ flat-same P f g same (y ∷ ys) all = λ i. same y all.0 i ++ flat-same P f g sa
 
 ---------------------------------------------------------------- a proxy that is still
 
--- it stood there before
+-- the proxy was at the same position before
 slot-same : (r : Reading) (ends : End → List Value) → Follows r ends → (d : End) (j : ℕ) (t : List ℕ) → slice_get (ends d) j ≡ Some (value.Proxy t) → slice_get (r.values d) j ≡ Some (value.Proxy t)
 slot-same r ends follows d j t at = by (follows.each d j)
   where
@@ -128,7 +127,7 @@ module _ (s : Model) (legal : IsLegal s) (ps : List ProxySite) (p : ProxySite) (
 
   ---------------------------------------------------------------- notifications
 
-  -- what a position shows that has something
+  -- a position with a value shows this value
   shown-in : (b : Bool) (vs : List Value) (j : ℕ) (v : Value) → slice_get vs j ≡ Some v → shown b vs ≡ vs
   shown-in true [] j v at = absurd (none-some v at)
   shown-in true (w ∷ ws) j v at = refl
@@ -138,7 +137,7 @@ module _ (s : Model) (legal : IsLegal s) (ps : List ProxySite) (p : ProxySite) (
   not-nil [] j v at = absurd (none-some v at)
   not-nil (w ∷ ws) j v at = refl
 
-  -- what holds a proxy is set
+  -- an end that has a proxy is set
   set-same : (a : Shape) (vs ws : List Value) (j : ℕ) (t : List ℕ) (flag : Bool) → a.is_unsettable ≡ false → (a.is_single ≡ true → j ≡ 0) → slice_get vs j ≡ Some (value.Proxy t) → slice_get ws j ≡ Some (value.Proxy t)
       → is_set a (record { values = vs; flag = flag }) ≡ is_set a (record { values = ws; flag = flag })
   set-same a vs ws j t flag plain alone v w =
@@ -160,7 +159,7 @@ module _ (s : Model) (legal : IsLegal s) (ps : List ProxySite) (p : ProxySite) (
       let alone : a.is_single ≡ true → j ≡ 0 = λ single.
       let few = (all-left s legal).one d single in
       let long = ap (λ (xs : List Value). length xs) (values-linked s d reference) in
-      let low = site-below (r.values d) j (value.Proxy t) was in
+      let low = slice_get_within (r.values d) j (value.Proxy t) was in
       omega (arith, few, long, low) in
       let old = ap (λ (xs : List Value). value_in xs j) vs ∙ ap (λ (q : Option Value). unwrap_or q value.Null) (at ∙ sym was) ∙ sym (ap (λ (xs : List Value). value_in xs j) ws) in
       let set =
@@ -191,7 +190,7 @@ module _ (s : Model) (legal : IsLegal s) (ps : List ProxySite) (p : ProxySite) (
 
 ---------------------------------------------------------------- all of them
 
--- a step says the same of its own model and of the one of before
+-- a step has the same edits in its own model and in the model before
 edits-step : (s : Model) → IsLegal s → (y : Resolution) → IsStep (reading s) y → edits_of y ≡ edits_by (reading s) (joint_of y)
 edits-step s legal y step =
     (λ i. edits_of (record { reads = step.is i; site = y.site; target = y.target })) ∙ edits-same s legal step.past y.site y.target step.to
@@ -199,11 +198,11 @@ edits-step s legal y step =
 told-step : (s : Model) → IsLegal s → (y : Resolution) → IsStep (reading s) y → map (notice_at y.reads) (resolution_told y) ≡ map (notice_at (reading s)) (told_by (joint_of y))
 told-step s legal y step = ap (λ (z : Reading). map (notice_at z) (resolution_told y)) step.is ∙ told-same s legal step.past y.site y.target step.to
 
--- the edits of all, as they are read in the model of before
+-- the edits of all steps, as they are computed in the model before
 pub edits-all : (s : Model) → IsLegal s → (ps : List ProxySite) → flat_map edits_of (resolutions (reading s) ps) ≡ flat_map (edits_by (reading s)) (map joint_of (resolutions (reading s) ps))
 edits-all s legal ps = flat-same (IsStep (reading s)) edits_of (edits_by (reading s)) (edits-step s legal) (resolutions (reading s) ps) (all-steps (reading s) ps [])
 
--- the notifications of all are read each in the model that the earlier ones left
+-- the notifications of all steps, each computed in the model that the earlier steps left
 chain-each : (ps : List ProxySite) (s : Model) → IsLegal s
     → told s.metamodel (held_at (reading s)) (flat_map resolution_told (resolutions (reading s) ps)) ≡ flat_map (λ y. map (notice_at y.reads) (resolution_told y)) (resolutions (reading s) ps)
 chain-each [] s legal = refl
@@ -235,7 +234,7 @@ map-flat : {X Y Z : Type 0} (f : Y → Z) (g : X → List Y) (xs : List X) → f
 map-flat f g [] = refl
 map-flat f g (x ∷ xs) = ap (λ zs. map f (g x) ++ zs) (map-flat f g xs) ∙ sym (map-append f (g x) (flat_map g xs))
 
--- so they are, as they are read in the model of before
+-- the notifications are the same if they are computed in the model before
 pub chain-all : (s : Model) → IsLegal s → (ps : List ProxySite)
     → told s.metamodel (held_at (reading s)) (flat_map resolution_told (resolutions (reading s) ps)) ≡ map (notice_at (reading s)) (flat_map told_by (map joint_of (resolutions (reading s) ps)))
 chain-all s legal ps =
@@ -259,7 +258,7 @@ flat-filter : {X Y : Type 0} (N : Y → Bool) (f g : X → List Y) → ((x : X) 
 flat-filter N f g same [] = refl
 flat-filter N f g same (x ∷ xs) = (λ i. same x i ++ flat-filter N f g same xs i) ∙ sym (filter-append N (g x) (flat_map g xs))
 
--- the proxies that are afterwards are those of before that are not gone
+-- the proxies afterwards are the proxies of before that are not gone
 pub left-sites : (r : Reading) (ends : End → List Value) (N : ProxySite → Bool) → ((d : End) → length (ends d) ≡ length (r.values d)) → ((p : ProxySite) → is_proxy_site (record r { values = ends }) p ≡ (is_proxy_site r p && N p))
     → sites (record r { values = ends }) ≡ filter N (sites r)
 left-sites r ends N long same =
@@ -270,7 +269,7 @@ left-sites r ends N long same =
     ∙ kept-filter (is_proxy_site r) N (is_proxy_site now) same (map (site o f) (range_with_len 0 (length (r.values (at_end (node.Object o) f))))))
     (all_features_of r (node.Object o)))) (range_with_len 0 r.next)
 
--- how many they are
+-- the number of proxies that are left
 pub left-count : (s : Model) → IsLegal s → (g : Progress) → IsDone (reading s) g → left (reading s) ≡ length (filter (λ p. not (has g.gone (key_of p))) (sites (reading s)))
 left-count s legal g known =
     let r = reading s in
@@ -280,6 +279,6 @@ length-joints : (ys : List Resolution) → length (map joint_of ys) ≡ length y
 length-joints [] = refl
 length-joints (y ∷ ys) = ap suc (length-joints ys)
 
--- and how many were resolved
+-- the number of proxies that were resolved
 pub done-count : (r : Reading) (g : Progress) → IsDone r g → length g.joints.items ≡ done r
 done-count r g known = ap (λ (js : List Joint). length js) known.joints ∙ length-joints (resolutions r (sites r))

@@ -1,4 +1,4 @@
--- The proxies are resolved one after another, and what is known of them goes along.
+-- The proxies are resolved one after another, and the sets of resolved proxies grow with them.
 use Rattle.std.proofs.Common.{◌≡◌, ℕ, ◌+◌, ◌<◌, ◌≤◌, drop, get_or, ◌&&◌, ◌||◌, not, Bool, true, false, List, [], ◌∷◌, ◌++◌, append_assoc, filter, map, Option, Some, None, length, slice_get, if◌then◌else◌, refl, sym, ap, ◌∙◌, subst}
 use Rattle.std.specs.Prelude.{slice_set}
 use Rattle.std.specs.List.{AllByRecursion, range_with_len}
@@ -178,7 +178,7 @@ module _ (s : Model) (legal : IsLegal s) (ps : List ProxySite) (p : ProxySite) (
         linked = λ o f b. linked-more x.counterpart refl o f b ∙ ap (λ (c : Bool). has_value (r.values (at_end (node.Object o) f)) (value.Object b) || c) (sym (adds.linked (key o f b.0)));
       }
 
--- what is known of these locations and one more
+-- the sets for these locations and one more
 known-on : (s : Model) → IsLegal s → (ps : List ProxySite) (p : ProxySite) (g h : Progress) → IsProgress (reading s) ps g → Resolves g h p (resolved_to (left_by (reading s) ps) p) → IsProgress (reading s) (ps ++ p ∷ []) h
 known-on s legal ps p g h known resolves =
     let r = reading s in

@@ -1,8 +1,8 @@
--- A change that edits values alone has a plan without edits of links.
+-- A change that edits only values has a plan without edits of links, and a change that edits only links has a plan without edits of values.
 use Rattle.std.proofs.Common.{◌≡◌, ◌∙◌, ◌++◌, ◌∷◌, ℕ, zero, suc, Bool, true, false, not, ◌||◌, List, [], length, map, option_map, option_to_list, Option, Some, None, if◌then◌else◌, refl, sym, ap, subst}
 use Rattle.std.specs.List.{AllByRecursion}
 use Rattle.std.specs.Option.{option_map_or}
-use Rattle.std.proofs.lemmas.Bool.{false≢true}
+use Rattle.std.proofs.lemmas.Bool.{false≢true, not-true}
 use Rattle.mm_types.specs.Resolved.{Metamodel}
 use Rattle.mm_types.specs.Same.{node_value}
 use Rattle.mm_types.specs.Shapes.{shape}
@@ -13,6 +13,7 @@ use Rattle.mm_types.specs.declared.value.Value.{Value}
 use Rattle.mm_types.specs.declared.value.Value.TheVariants as value
 use Rattle.mm_values.specs.declared.edit.ValueEdit.{ValueEdit}
 use Rattle.links.specs.Links.{far_end}
+use Rattle.links.specs.declared.plan.Edit.{Edit}
 use Rattle.links.specs.declared.plan.Edit.TheVariants as edit
 use Rattle.models.specs.Legal.{IsLegal}
 use Rattle.models.specs.Model.{Model, reading}
@@ -21,7 +22,7 @@ use Rattle.removal.specs.declared.link_end.LinkEnd.{LinkEnd}
 use Rattle.doc_loader.proofs.SideLemmas.{opposite-reference}
 use Rattle.handshake.specs.declared.change.Change.{Change}
 use Rattle.handshake.specs.declared.change.Change.TheVariants.{At, Create}
-use Rattle.handshake.specs.FeatureChange.{feature_change}
+use Rattle.handshake.specs.FeatureChange.{feature_change, notice_at, told}
 use Rattle.handshake.specs.declared.change_kind.ChangeKind.{ChangeKind}
 use Rattle.handshake.specs.declared.change_kind.ChangeKind.TheVariants.{Gains, Unsets}
 use Rattle.handshake.specs.declared.change_kind.FeatureChange.{FeatureChange}
@@ -29,17 +30,13 @@ use Rattle.handshake.specs.declared.act.Act.TheVariants.{Add, Move, Remove, Remo
 use Rattle.notice_chain.specs.declared.notice.Notice.{Notice}
 use Rattle.handshake.specs.Displaced.{cut_by_new, cut_by_set, cut_link_ends, has_already, link_end_in, link_ends_backwards}
 use Rattle.handshake.specs.Edits.{cut_of, link_edits, new_put}
-use Rattle.handshake.specs.Effects.{value_edits}
-use Rattle.handshake.specs.Changes.{HasFittingDocument, HasReadDocument, edits_values_alone}
-use Rattle.change_plans.specs.Plans.{IsPlanOf, of_values}
+use Rattle.handshake.specs.Effects.{act_edits, value_edits}
+use Rattle.handshake.specs.Changes.{HasFittingDocument, HasReadDocument, edits_links_alone, edits_values_alone}
+use Rattle.change_plans.specs.Plans.{IsPlanOf, of_links, of_values}
 use Rattle.handshake.specs.Refusals.{early_refusal, late_refusal}
 use Rattle.handshake.specs.FeatureChanges.{all_lost, before_gain, chain, destroyed_by, emptied, feature_changes, feature_changes_with, gain_at, resolved_by, resolves_all, taken_out, target_of}
 use Rattle.change_plans.proofs.NotifierLemmas.{told-notifiers}
 use Rattle.change_plans.proofs.PlannedLemmas.{planned}
-
-turned : (b : Bool) → not b ≡ true → b ≡ false
-turned true h = absurd (false≢true h)
-turned false h = refl
 
 -- it loads nothing, destroys nothing, and resolves nothing
 pub record IsPlain (r : Reading) (c : Change) : Type 0 where
@@ -56,14 +53,32 @@ is-plain r (At e (Resolve i)) h = absurd (false≢true h)
 is-plain r (At e a) h = record { one = refl; read = tt; fits = tt; whose = refl; found = refl; resolved = refl }
 is-plain r _ h = absurd (false≢true h)
 
--- it cuts no link
+-- the same for a change that edits only links
+pub is-plain-link : (r : Reading) (c : Change) → edits_links_alone r.metamodel c ≡ true → IsPlain r c
+is-plain-link r (At e (Resolve i)) h = absurd (false≢true h)
+is-plain-link r (At e a) h = record { one = refl; read = tt; fits = tt; whose = refl; found = refl; resolved = refl }
+is-plain-link r _ h = absurd (false≢true h)
+
+no-values : (r : Reading) (c : Change) → edits_links_alone r.metamodel c ≡ true → [] ≡ value_edits r c
+no-values r (At e (Resolve i)) h = absurd (false≢true h)
+no-values r (At e a) h = sym (ap (λ (b : Bool). let vs : List ValueEdit = if b then [] else act_edits r e a in vs) h)
+no-values r _ h = absurd (false≢true h)
+
+pub links-planned : (is_heard : Bool) (s : Model) (c : Change) (es : List Edit) (ns : List Notice) → edits_links_alone s.metamodel c ≡ true → IsLegal s → early_refusal (reading s) c ≡ None → late_refusal (reading s) c ≡ None
+    → es ≡ link_edits (reading s) c → ns ≡ (if is_heard then chain (reading s) c else []) → IsPlanOf is_heard s c (of_links es ns)
+links-planned is_heard s c es ns h legal early late edits tells =
+    let r = reading s in
+    let plain = is-plain-link r c h in
+    planned is_heard s c (of_links es ns) plain.one legal early late plain.read (record { whose = plain.whose; found = tt }) plain.found plain.resolved edits (no-values r c h) tells
+
+-- a change that edits only values cuts no link
 pub no-cuts : (r : Reading) (c : Change) → edits_values_alone r.metamodel c ≡ true → [] ≡ cut_link_ends r c
 no-cuts r (Create k) h = refl
 no-cuts r (At e (Set v)) h = sym (ap (λ (b : Bool). if b || has_already r e v then [] else cut_by_set r e v) h)
-no-cuts r (At e Unset) h = sym (ap (λ (b : Bool). if b then link_ends_backwards e (r.values e) else []) (turned (shape r.metamodel e.feature).is_reference h))
+no-cuts r (At e Unset) h = sym (ap (λ (b : Bool). if b then link_ends_backwards e (r.values e) else []) (not-true (shape r.metamodel e.feature).is_reference h))
 no-cuts r (At e (Add v i)) h = sym (ap (λ (b : Bool). if b || is_repeat r e v then [] else cut_by_new r e v) h)
-no-cuts r (At e (Remove i)) h = sym (ap (λ (b : Bool). if b then link_end_in r e i else []) (turned (shape r.metamodel e.feature).is_reference h))
-no-cuts r (At e (RemoveValue v)) h = sym (ap (λ (b : Bool). if b then option_map_or (link_end_in r e) (first_at r e v) [] else []) (turned (shape r.metamodel e.feature).is_reference h))
+no-cuts r (At e (Remove i)) h = sym (ap (λ (b : Bool). if b then link_end_in r e i else []) (not-true (shape r.metamodel e.feature).is_reference h))
+no-cuts r (At e (RemoveValue v)) h = sym (ap (λ (b : Bool). if b then option_map_or (link_end_in r e) (first_at r e v) [] else []) (not-true (shape r.metamodel e.feature).is_reference h))
 no-cuts r (At e (Move to from)) h = refl
 no-cuts r _ h = absurd (false≢true h)
 
@@ -71,13 +86,13 @@ no-links : (r : Reading) (c : Change) → edits_values_alone r.metamodel c ≡ t
 no-links r (Create k) h = refl
 no-links r (At e (Set v)) h =
     sym (ap (λ (b : Bool). let c = b || has_already r e v in map cut_of (if c then [] else cut_by_set r e v) ++ option_to_list (if c then None else new_put r e 0 v)) h)
-no-links r (At e Unset) h = sym (ap (λ (b : Bool). map cut_of (if b then link_ends_backwards e (r.values e) else []) ++ []) (turned (shape r.metamodel e.feature).is_reference h))
+no-links r (At e Unset) h = sym (ap (λ (b : Bool). map cut_of (if b then link_ends_backwards e (r.values e) else []) ++ []) (not-true (shape r.metamodel e.feature).is_reference h))
 no-links r (At e (Add v i)) h =
     sym (ap (λ (b : Bool). let c = b || is_repeat r e v in map cut_of (if c then [] else cut_by_new r e v) ++ option_to_list (if c then None else new_put r e (position_for r e i) v)) h)
-no-links r (At e (Remove i)) h = sym (ap (λ (b : Bool). map cut_of (if b then link_end_in r e i else []) ++ []) (turned (shape r.metamodel e.feature).is_reference h))
+no-links r (At e (Remove i)) h = sym (ap (λ (b : Bool). map cut_of (if b then link_end_in r e i else []) ++ []) (not-true (shape r.metamodel e.feature).is_reference h))
 no-links r (At e (RemoveValue v)) h =
-    sym (ap (λ (b : Bool). map cut_of (if b then option_map_or (link_end_in r e) (first_at r e v) [] else []) ++ []) (turned (shape r.metamodel e.feature).is_reference h))
-no-links r (At e (Move to from)) h = sym (ap (λ (b : Bool). option_to_list (if b then Some (edit.Shift e to from) else None)) (turned (shape r.metamodel e.feature).is_reference h))
+    sym (ap (λ (b : Bool). map cut_of (if b then option_map_or (link_end_in r e) (first_at r e v) [] else []) ++ []) (not-true (shape r.metamodel e.feature).is_reference h))
+no-links r (At e (Move to from)) h = sym (ap (λ (b : Bool). option_to_list (if b then Some (edit.Shift e to from) else None)) (not-true (shape r.metamodel e.feature).is_reference h))
 no-links r _ h = absurd (false≢true h)
 
 pub values-planned : (is_heard : Bool) (s : Model) (c : Change) (vs : List ValueEdit) (ns : List Notice) → edits_values_alone s.metamodel c ≡ true → IsLegal s → early_refusal (reading s) c ≡ None → late_refusal (reading s) c ≡ None
@@ -88,6 +103,11 @@ values-planned is_heard s c vs ns h legal early late lists tells =
     planned is_heard s c (of_values vs ns) plain.one legal early late plain.read (record { whose = plain.whose; found = tt }) plain.found plain.resolved (no-links r c h) lists tells
 
 ---------------------------------------------------------------- its notifications
+
+-- the notification of a set of an attribute is the notification of its gain
+pub set-told : (r : Reading) (e : End) (v : Value) → (shape_at r e).is_reference ≡ false → notice_at r (feature_change e (Gains v)) ∷ [] ≡ chain r (At e (Set v))
+set-told r e v attribute =
+    sym (ap (λ (b : Bool). told r.metamodel (held_at r) ((if b || has_already r e v then [] else before_gain r e v (cut_link_ends r (At e (Set v)))) ++ feature_change e (Gains v) ∷ [])) (ap not attribute))
 
 lost-near : (P : Node → Type 0) (e : End) (n : ℕ) → P e.node → AllByRecursion (λ (t : FeatureChange). P t.at.node) (all_lost e n)
 lost-near P e zero near = tt
@@ -107,13 +127,13 @@ no-opposite m f attribute = by (shape m f).opposite refl
     by None is = refl
     by (Some g) is = absurd (false≢true (sym attribute ∙ opposite-reference m f g is))
 
--- if no link is cut, and no opposite gains, there are notifications at the end alone
+-- if no link is cut, and no opposite end gains, there are notifications only at the end itself
 gain-near : (P : Node → Type 0) (r : Reading) (e : End) (v : Value) (k : ChangeKind) → (shape_at r e).is_reference ≡ false → P e.node → AllByRecursion (λ (t : FeatureChange). P t.at.node) (before_gain r e v [] ++ feature_change e k ∷ [])
 gain-near P r e (value.Object o) k attribute near =
     subst (λ (q : Option FeatureNo). AllByRecursion (λ (t : FeatureChange). P t.at.node) (option_map_or (λ d. feature_change d (Gains (node_value e.node)) ∷ []) (option_map (far_end o) q) [] ++ feature_change e k ∷ [])) (sym (no-opposite r.metamodel e.feature attribute)) (near, tt)
 gain-near P r e _ k attribute near = (near, tt)
 
--- something is so of the node at whose end something is done
+-- a property of the node of the end at which a change acts
 abbrev pub near_at : (Node → Type 0) → Change → Type 0
 near_at P (At e a) = P e.node
 near_at P _ = Unit {0}
@@ -127,7 +147,7 @@ near-changes P r (At e Unset) h near = emptied-near P r e near
 near-changes P r (At e (Add v i)) h near =
     elim (is_repeat r e v) as (λ b. AllByRecursion (λ (t : FeatureChange). P t.at.node) (if b then [] else before_gain r e v [] ++ feature_change e (gain_at i v) ∷ [])) [
       | true ↦ tt
-      | false ↦ gain-near P r e v (gain_at i v) (turned (shape r.metamodel e.feature).is_reference h) near
+      | false ↦ gain-near P r e v (gain_at i v) (not-true (shape r.metamodel e.feature).is_reference h) near
     ]
 near-changes P r (At e (Remove i)) h near = (near, tt)
 near-changes P r (At e (RemoveValue v)) h near = by (first_at r e v)

@@ -1,4 +1,5 @@
--- The proxies of a model are resolved one after another, by what is known of them beforehand and of what was resolved so far.
+-- The proxies of a model are resolved one after another. Each is resolved by tables that were made of all proxies beforehand, and by the
+-- sets of what was resolved so far.
 use Rattle.std.specs.Prelude.{◌≡◌, ◌&&◌, ◌||◌, Bool, false, not, List, [], ◌∷◌, ◌++◌, map, Option, Some, None, option_and_then, option_map, if◌then◌else◌}
 use Rattle.std.specs.Option.{option_map_or}
 use Rattle.mm_types.specs.Ends.{has_value}
@@ -31,7 +32,7 @@ use Rattle.proxies.specs.declared.target.Target.{Target}
 
 ---------------------------------------------------------------- what a proxy is resolved to
 
--- the first proxy at the opposite end that leads back
+-- the counterpart of a proxy: the first proxy at the opposite end that leads back
 abbrev pub counterpart_by : Reading → FirstLeads → ProxySite → ObjectNo → Option Counterpart
 counterpart_by r t p o =
     option_and_then (λ d. option_map (λ j. record { end = d; index = j }) (index_at t (key o d.feature p.object.0))) (opposite_end r (end_of p) o)
@@ -55,7 +56,7 @@ target_by r g t x = option_and_then (λ o. unless_refused r g x.site (found_by r
 abbrev pub joint : ProxySite → Target → Joint
 joint p x = record { site = p; target = x }
 
--- the position of the counterpart, and the object that is there then
+-- whether a key is of the counterpart's location; and `is_far_link`, of the object that is there afterwards
 abbrev pub is_far_site : Target → Counterpart → Key → Bool
 is_far_site x c k = same_key k (key x.object c.end.feature c.index)
 
@@ -84,7 +85,7 @@ pub record IsNothing (g : Progress) : Type 0 where
 abbrev pub joint_of : Resolution → Joint
 joint_of y = joint y.site y.target
 
--- its edits, and its notifications
+-- the edits of a resolved proxy; and `told_by`, its feature changes
 abbrev pub edits_by : Reading → Joint → List Edit
 edits_by r j =
     let e = end_of j.site in
@@ -93,15 +94,15 @@ edits_by r j =
 abbrev pub told_by : Joint → List FeatureChange
 told_by j = resolved (end_of j.site) j.site.index j.target
 
--- these were resolved, and ends hold these values since: a proxy is no longer where one is gone, and the objects that are linked are
--- where they did not
+-- these proxies were resolved, and `ends` are the values since. A proxy is gone from each location in `gone`, and from no other; an object
+-- is at a reference if it was there before, or `linked` has it
 pub record IsKnown (r : Reading) (js : List Joint) (ends : End → List Value) (g : Progress) : Type 0 where
   pub joints : g.joints.items ≡ js
   pub gone : (p : ProxySite) → is_proxy_site (record r { values = ends }) p ≡ (is_proxy_site r p && not (has g.gone (key_of p)))
   pub linked : (o : ObjectNo) (f : FeatureNo) (b : ObjectNo) → (let e = at_end (node.Object o) f in
       has_value (ends e) (value.Object b) ≡ (has_value (r.values e) (value.Object b) || has g.linked (key o f b.0)))
 
--- the proxies at these locations were resolved, as far as they can be
+-- the proxies at these locations were resolved; a proxy that is refused was skipped
 abbrev pub IsProgress : Reading → List ProxySite → Progress → Type 0
 IsProgress r ps g = IsKnown r (map joint_of (resolutions r ps)) (values_left r ps) g
 

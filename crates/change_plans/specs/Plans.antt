@@ -5,6 +5,7 @@ use Rattle.mm_types.specs.declared.refused.Refused.TheVariants.{Memory}
 use Rattle.mm_values.specs.Values as values
 use Rattle.mm_values.specs.declared.edit.ValueEdit.{ValueEdit}
 use Rattle.links.specs.Plans as links
+use Rattle.links.specs.declared.plan.Edit.{Edit}
 use Rattle.models.specs.Legal.{kinds_of}
 use Rattle.models.specs.Model.{Model, reading}
 use Rattle.notice_chain.specs.declared.notice.Notice.{Notice}
@@ -21,8 +22,8 @@ abbrev pub is_memory_refusal : Refused → Bool
 is_memory_refusal Memory = true
 is_memory_refusal _ = false
 
--- what a change destroys or finds, which nothing refuses, what it resolves, the edits that make it, and its chain, if an adapter may have
--- to get it
+-- the plan of a change that is not refused: the objects that it destroys, the target that it finds, the proxies that it resolves, the edits
+-- that make it, and its chain if an adapter may have to get it
 pub record IsPlanOf (is_heard : Bool) (s : Model) (c : Change) (p : Planned) : Type 0 where
   pub allowed : late_refusal (reading s) c ≡ None
   pub removed : IsRemovalOf (reading s) c p.removal
@@ -34,16 +35,20 @@ pub record IsPlanOf (is_heard : Bool) (s : Model) (c : Change) (p : Planned) : T
   pub values_made : values.applied s.values p.values ≡ (after s c).values
   pub tells : p.chain ≡ (if is_heard then chain (reading s) c else [])
 
--- the plan that edits values alone, with the notifications that an adapter may have to get
+-- the plan that edits only values, with the notifications that an adapter may have to get
 abbrev pub of_values : List ValueEdit → List Notice → Planned
 of_values vs ns = record { removal = None; target = None; resolved = None; edits = []; values = vs; chain = ns }
 
--- what a proxy finds is looked for with memory, and before all that refuses it
+-- the plan that edits only links, with the notifications that an adapter may have to get
+abbrev pub of_links : List Edit → List Notice → Planned
+of_links es ns = record { removal = None; target = None; resolved = None; edits = es; values = []; chain = ns }
+
+-- whether planning looks for something with memory before it looks for refusals: for the target of a proxy
 abbrev pub looks_first : Change → Bool
 looks_first (At e (Resolve i)) = true
 looks_first _ = false
 
--- the plan, or the refusal that planning finds; out of memory where it finds none, or while it looks first
+-- the result of planning: the plan, or the refusal that applies. `Memory` comes only if no refusal applies, or while planning looks first
 abbrev pub Plans : Bool → Result Planned Refused → Model → Change → Type 0
 Plans is_heard (Ok p) s c = IsPlanOf is_heard s c p
 Plans is_heard (Err r) s c = IsFalse (is_memory_refusal r && looks_first c) → late_refusal (reading s) c ≡ (if is_memory_refusal r then None else Some r)

@@ -1,4 +1,4 @@
-//! What a change destroys.
+//! The objects that a change destroys.
 ghost use Rattle.std.specs.Prelude.{◌≡◌, None, IfOk};
 ghost use Rattle.models.specs.Model.{reading};
 ghost use Rattle.handshake.specs.Changes.{IsRemovalOf};
@@ -10,8 +10,7 @@ use models::ModelRef;
 use removal::Removal;
 use std::alloc::{AllocError, Global};
 
-/// What goes with the object that a change destroys, if it destroys one. Errs only if memory is
-/// refused.
+/// The removal of the object that a change destroys, if it destroys one. Errs only if memory is refused.
 pub(crate) fn removal_of<L: LinkStore>(
     alloc: Global,
     model: &ModelRef<L>,

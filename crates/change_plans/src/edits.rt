@@ -52,7 +52,7 @@ pub(crate) fn link_edits<L: LinkStore>(
     Ok(Seq::from_vec(edits))
 }
 
-/// Adds the edits after the cuts, of a change that loads nothing and doesn't resolve all proxies.
+/// Adds the edits after the cuts, for a change that loads nothing and doesn't resolve all proxies.
 fn push_made<L: LinkStore>(
     model: &ModelRef<L>,
     change: &Change,
@@ -73,7 +73,7 @@ fn push_made<L: LinkStore>(
     Ok(())
 }
 
-/// Adds the edits that put a link instead of its proxies; none if nothing is at their address.
+/// Adds the edits that put a link in place of its proxies; none if no object is at their address.
 pub(crate) fn push_joining<L: LinkStore>(
     model: &ModelRef<L>,
     end: End,
@@ -93,7 +93,7 @@ pub(crate) fn push_joining<L: LinkStore>(
     Ok(())
 }
 
-/// The edit that moves a new link from the last index of the opposite end to that of its proxy.
+/// The edit that moves a new link, at the opposite end, from the last index to the index of the proxy that it replaces.
 fn back_edit<L: LinkStore>(model: &ModelRef<L>, other: Counterpart) -> Edit
     ensures { result ≡ e.back_edit (reading model.now) other }
 {
@@ -208,7 +208,7 @@ fn other_edits<L: LinkStore>(
     }
 }
 
-/// What an act makes of values: nothing at a reference.
+/// The edits of values of an act; none at a reference.
 fn edits_at<L: LinkStore>(alloc: Global, model: &ModelRef<L>, end: End, act: Act) -> ValuePlan
     ensures { result ≡ value_edits_of (reading model.now) (At end act) }
 {
@@ -218,7 +218,7 @@ fn edits_at<L: LinkStore>(alloc: Global, model: &ModelRef<L>, end: End, act: Act
     act_edits(alloc, model, end, act)
 }
 
-/// What an act makes of the values of an attribute.
+/// The edits of an attribute's values by an act.
 fn act_edits<L: LinkStore>(alloc: Global, model: &ModelRef<L>, end: End, act: Act) -> ValuePlan
     ensures { result ≡ effects.act_edits (reading model.now) end act }
 {
@@ -246,7 +246,7 @@ fn load_edits<L: LinkStore>(
     Ok(ValuePlan::from_seq(Seq::from_vec(edits)))
 }
 
-/// The edits that destroy what goes.
+/// The edits that destroy the objects of a removal.
 fn drop_edits(alloc: Global, removal: &Removal) -> Result<ValuePlan, AllocError>
     ensures { IfOk result (λ p. p ≡ map DropObject removal.now.objects.items) }
 {
@@ -264,7 +264,7 @@ fn drop_each(alloc: Global, objects: &[ObjectNo]) -> Result<Vec<ValueEdit>, Allo
     Ok(edits)
 }
 
-/// The edit that adds a value to an attribute's list, unless the list repeats nothing and has it.
+/// The edit that adds a value to an attribute's list, unless the list is unique and has the value already.
 fn add_value<L: LinkStore>(
     alloc: Global,
     model: &ModelRef<L>,
@@ -289,7 +289,7 @@ fn add_value<L: LinkStore>(
     }
 }
 
-/// Takes out the first value that is the same; no edit if there is none.
+/// The edit that takes out the first occurrence of a value; none if there is none.
 fn take_first<L: LinkStore>(
     alloc: Global,
     model: &ModelRef<L>,
@@ -332,14 +332,19 @@ fn move_value(alloc: Global, end: End, to: u32, from: u32) -> ValuePlan
 }
 
 /// The edits of a set of an attribute.
-fn set_edits<L: LinkStore>(alloc: Global, model: &ModelRef<L>, end: End, value: Value) -> ValuePlan
+pub(crate) fn set_edits<L: LinkStore>(
+    alloc: Global,
+    model: &ModelRef<L>,
+    end: End,
+    value: Value,
+) -> ValuePlan
     ensures { result ≡ put_values end (value ∷ []) (shape model.now.metamodel end.feature).is_unsettable }
 {
     let flag = model.meta().is_unsettable(end.feature);
     put_list(alloc, end, NewValues::one(value), flag)
 }
 
-/// The edits that put a list at an end; none at a resource's, which keeps no values of attributes.
+/// The edits that put a list at an end; none at the end of a resource, which has no attributes.
 fn put_list(alloc: Global, end: End, list: NewValues, flag: bool) -> ValuePlan
     ensures { result ≡ put_values end list flag }
 {

@@ -13,7 +13,7 @@ use proxies::{
 };
 use std::alloc::{AllocError, Global};
 
-/// A proxy that is resolved: its location, and what it finds.
+/// A proxy that is resolved: its location, and its target.
 #[derive(Clone, Copy)]
 pub(crate) struct Joint {
     pub site: ProxySite,
@@ -28,7 +28,7 @@ pub(crate) struct Progress {
     linked: Keys,
 }
 
-/// What is resolved of all proxies of a model. Errs only if memory is refused.
+/// Resolves all proxies of a model. Errs only if memory is refused.
 pub(crate) fn resolve_all<L: LinkStore>(
     alloc: Global,
     model: &ModelRef<L>,
@@ -51,7 +51,7 @@ impl Progress {
     ghost use Rattle.proxies.specs.Keys.{has};
     ghost use Rattle.proxies.specs.declared.keys.Key.{Key};
 
-    /// Nothing. Takes no memory.
+    /// Nothing resolved yet. Takes no memory.
     fn new(alloc: Global) -> Self
         ensures { spec.IsNothing result }
     {
@@ -77,7 +77,7 @@ impl Progress {
         }
     }
 
-    /// What a proxy is resolved to, unless that is refused. Takes no memory.
+    /// The target to which a proxy is resolved; `None` if it is refused. Takes no memory.
     fn target<L: LinkStore>(
         &self,
         model: &ModelRef<L>,
@@ -98,7 +98,7 @@ impl Progress {
         }
     }
 
-    /// Whether a proxy can't be resolved to what it finds. Takes no memory.
+    /// Whether a proxy can't be resolved to the target that it finds. Takes no memory.
     fn is_refused<L: LinkStore>(&self, model: &ModelRef<L>, site: ProxySite, target: Target) -> bool
         ensures { result ≡ spec.is_refused (reading model.now) self.now site target }
     {
@@ -126,7 +126,7 @@ impl Progress {
         }
     }
 
-    /// Adds its counterpart.
+    /// Adds the counterpart of a proxy that is resolved.
     fn add_far(
         &mut self,
         site: ProxySite,

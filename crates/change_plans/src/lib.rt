@@ -1,6 +1,6 @@
 //! The plan of a change: the refusals that planning finds, the edits that make the change, and its notifications.
 //!
-//! `specs/Plans.antt` says what planning gives. Why a change is refused and what it makes of a model is said in `handshake`.
+//! `specs/Plans.antt` says what planning gives. `handshake` says why a change is refused, and how it changes a model.
 #![tactic(auto)]
 
 mod cuts;
@@ -15,7 +15,7 @@ mod resolving_all;
 mod target;
 mod value_planning;
 
-pub use link_planning::{lone_add, lone_set};
+pub use link_planning::{lone_add, lone_set, plan_links};
 pub use planned::Planned;
 pub use planning::plan;
-pub use value_planning::{attribute_refusal, create_refusal, plan_values};
+pub use value_planning::{attribute_refusal, create_refusal, plan_set, plan_values};

@@ -1,22 +1,46 @@
-//! Changes that put one link, and edit nothing else.
-ghost use Rattle.std.specs.Prelude.{◌≡◌, false, true, IfSome, None};
+//! The plans of changes that edit only links; and changes that put one link, and edit nothing else.
+ghost use Rattle.std.specs.Prelude.{◌≡◌, false, true, IfErr, IfOk, IfSome, None, Some, if◌then◌else◌};
 ghost use Rattle.mm_types.specs.Shapes.{shape};
 ghost use Rattle.mm_types.specs.declared.value.Value.TheVariants.{Object};
 ghost use Rattle.models.specs.Model.{reading};
 ghost use Rattle.handshake.specs.Displaced.{displaces, is_plain_add};
 ghost use Rattle.change_plans.specs.LonePuts as lone;
-ghost use Rattle.change_plans.specs.Plans.{IsPlanOf};
-ghost use Rattle.handshake.specs.Refusals.{early_refusal};
+ghost use Rattle.change_plans.specs.Plans.{IsPlanOf, is_memory_refusal, of_links};
+ghost use Rattle.handshake.specs.Changes.{edits_links_alone};
+ghost use Rattle.handshake.specs.Refusals.{early_refusal, late_refusal};
 ghost use Rattle.handshake.specs.declared.act.Act.TheVariants.{Add, Set};
 ghost use Rattle.handshake.specs.declared.change.Change.TheVariants.{At};
 
-use crate::planning::{add_late_refusal, new_set_refusal};
-use handshake::{displaces, is_plain_add};
-use links::{LinkStore, NewLink};
-use mm_types::{End, ObjectNo, Value};
+use crate::planning::{self, add_late_refusal, links_and_notices, new_set_refusal};
+use handshake::{Change, displaces, is_plain_add};
+use links::{LinkStore, NewLink, Plan};
+use mm_types::{End, ObjectNo, Refused, Value};
 use models::ModelRef;
+use notice_chain::Chain;
+use std::alloc::Global;
 
-/// The put of a set of an object, if that is the whole plan: nothing refuses the set, and it displaces no link. Takes no memory.
+/// The edits of links that a change makes, and its notifications if an adapter may have to get them; or the first refusal that planning
+/// finds. This is `plan` for a change that edits only links.
+pub fn plan_links<L: LinkStore>(
+    alloc: Global,
+    model: &ModelRef<L>,
+    change: &Change,
+    is_heard: bool,
+) -> Result<(Plan, Chain), Refused>
+    requires asked { early_refusal (reading model.now) change.now ≡ None }
+    requires links { edits_links_alone model.now.metamodel change.now ≡ true }
+    ensures planned { IfOk result (λ p. IsPlanOf is_heard model.now change.now (of_links p.0 p.1)) }
+    ensures refused { IfErr result (λ r. late_refusal (reading model.now) change.now ≡ (if is_memory_refusal r then None else Some r)) }
+{
+    model.lemma_is_legal();
+    if let Some(refused) = planning::late_refusal(model, change, None) {
+        return Err(refused);
+    }
+    let (edits, chain) = links_and_notices(alloc, model, change, &None, None, is_heard)?;
+    Ok((edits, chain))
+}
+
+/// The put of a set of an object, if that is the whole plan: the set is not refused, and displaces no link. Takes no memory.
 #[inline(always)]
 pub fn lone_set<L: LinkStore>(model: &ModelRef<L>, end: End, value: &Value) -> Option<NewLink>
     requires asked { early_refusal (reading model.now) (At end (Set value.now)) ≡ None }
@@ -27,7 +51,7 @@ pub fn lone_set<L: LinkStore>(model: &ModelRef<L>, end: End, value: &Value) -> O
     put_of_set(model, end, value)
 }
 
-/// The put of an addition of an object, as `lone_set` has it. Takes no memory.
+/// The put of an addition of an object, if that is the whole plan. Takes no memory.
 #[inline(always)]
 pub fn lone_add<L: LinkStore>(
     model: &ModelRef<L>,
@@ -57,7 +81,7 @@ fn put_of_set<L: LinkStore>(model: &ModelRef<L>, end: End, value: &Value) -> Opt
     if !model.meta().is_reference(end.feature) {
         return None;
     }
-    // a single end that displaces nothing has nothing, so it has not this object already
+    // a set that displaces no link is of an empty end, so the end does not have this object already
     if new_set_refusal(model, end, value).is_some() {
         return None;
     }
@@ -88,8 +112,8 @@ fn put_of_add<L: LinkStore>(
     Some(put_at(model, end, model.position_for(end, index), *object))
 }
 
-/// Whether an addition of an object that displaces nothing makes no link. An object that displaces nothing is contained nowhere, so a list
-/// that contains its objects doesn't have it, and need not be looked through.
+/// Whether an addition of an object makes no link, if it displaces none. If the reference is a containment, the object has no container, so
+/// the list does not have it and is not searched.
 #[inline(always)]
 fn adds_no_link<L: LinkStore>(
     model: &ModelRef<L>,

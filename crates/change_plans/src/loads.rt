@@ -1,4 +1,4 @@
-//! What loading a document into a resource makes, its notifications, and why it can't be loaded.
+//! The notifications of a load, and why a document can't be loaded into a resource.
 ghost use Rattle.std.specs.Prelude.{◌≡◌, ◌≤◌, length, map, IfOk};
 ghost use Rattle.std.specs.List.{All, enumerate_from};
 ghost use Rattle.mm_types.specs.declared.limits.TheConstants.{LIST_VALUES};
@@ -52,7 +52,7 @@ pub(crate) fn root_notices(
     Ok(chain)
 }
 
-/// The notification that an end gains a root of a document after so many others.
+/// The notification that an end gains the root of a document at a position, after the roots before it.
 fn root_notice(next: usize, end: End, position: u32, root: ObjectNo) -> Notice
     requires fits { IsNumbered next root }
     ensures { result ≡ root_notice_of next end (position, root) }

@@ -5,8 +5,8 @@ use notice_chain::Chain;
 use proxies::{Resolved, Target};
 use removal::Removal;
 
-/// A change that is not refused: what goes with the object that it destroys, if it destroys one, what the proxy finds that it resolves, if
-/// it resolves one, how many it resolves, if it resolves all, its edits of links and of values, and its notifications.
+/// The plan of a change that is not refused. It has the removal of the object that the change destroys, the target of the proxy that it
+/// resolves, or the counts of a resolve of all proxies, if it does one of these; its edits of links and of values; and its notifications.
 #[derive(Drop)]
 pub struct Planned {
     pub removal: Option<Removal>,

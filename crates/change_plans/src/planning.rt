@@ -37,14 +37,14 @@ use std::alloc::{AllocError, Global};
 /// The plan of a change whose class, nodes and features are there, or the first refusal that planning finds. The notifications are made
 /// only if an adapter may have to get them.
 ///
-/// `WrongType` if the value is not one of the feature's type, `TextLength` above 65,535 bytes, `Index` if nothing is at an index, or
-/// if there would be a gap before a value that is put in, `Duplicate` if a unique list has the value that is added at an index,
-/// `Bound` if an end that has to gain is full, `Recursive` if an object would become a part of itself, `Limit` if 1,000,000 objects or
-/// 100,000 resources were made, or 1,000,000 values are at an end, `ResourceExists` if a resource has the URI; and of a proxy to be
-/// resolved `NotProxy` if something else is there, `Unloaded` if no resource has its URI, `Unresolved` if nothing is at its address,
-/// `Unmatched` if the reference has an opposite and no proxy there has the address of the object that refers; and of a document
-/// `Limit` if its objects would be more than 1,000,000 with those that were made, `NotEmpty` if the resource has roots. `Memory` if
-/// none of these applies; of a proxy, whose target is looked for first, `Memory` may come before.
+/// `WrongType` if the value is not of the feature's type. `TextLength` if a text has more than 65,535 bytes. `Index` if no value is at an
+/// index, or if there would be a gap before a value that is put in. `Duplicate` if a unique list has the value that is added at an index.
+/// `Bound` if an end that has to gain a value is full. `Recursive` if an object would become a part of itself. `Limit` if 1,000,000 objects
+/// or 100,000 resources were made, or an end has 1,000,000 values. `ResourceExists` if a resource has the URI. For a proxy to be resolved:
+/// `NotProxy` if another value is there, `Unloaded` if no resource has its URI, `Unresolved` if no object is at its address, `Unmatched` if
+/// the reference has an opposite and no proxy there has the address of the referring object. For a document: `Limit` if there would be more
+/// than 1,000,000 objects with those that were made, `NotEmpty` if the resource has roots. `Memory` only if none of these applies; but
+/// since the target of a proxy is looked for first, `Memory` may come before its refusals.
 pub fn plan<L: LinkStore>(
     alloc: Global,
     model: &ModelRef<L>,
@@ -62,7 +62,7 @@ pub fn plan<L: LinkStore>(
     Ok(made(alloc, model, change, target, is_heard)?)
 }
 
-/// What a change destroys that nothing refuses, its edits, and its notifications. Errs only if memory is refused.
+/// The plan of a change that is not refused. Errs only if memory is refused.
 fn made<L: LinkStore>(
     alloc: Global,
     model: &ModelRef<L>,
@@ -94,8 +94,8 @@ fn made<L: LinkStore>(
     })
 }
 
-/// The edits of a change that nothing refuses and that doesn't resolve all proxies, of links and of values, and its notifications. Errs
-/// only if memory is refused.
+/// The edits of links and of values, and the notifications, of a change that is not refused and doesn't resolve all proxies. Errs only if
+/// memory is refused.
 fn edits_and_notices<L: LinkStore>(
     alloc: Global,
     model: &ModelRef<L>,
@@ -121,7 +121,7 @@ fn edits_and_notices<L: LinkStore>(
 }
 
 /// The edits of links that make a change, and its notifications; none if no adapter may have to get them.
-fn links_and_notices<L: LinkStore>(
+pub(crate) fn links_and_notices<L: LinkStore>(
     alloc: Global,
     model: &ModelRef<L>,
     change: &Change,
@@ -230,7 +230,7 @@ pub(crate) fn new_set_refusal<L: LinkStore>(
     }
 }
 
-/// `late_refusal` of an addition, of which it is known whether a unique list has the value.
+/// `late_refusal` of an addition; the caller knows whether a unique list has the value already.
 pub(crate) fn add_late_refusal<L: LinkStore>(
     model: &ModelRef<L>,
     end: End,
@@ -256,7 +256,7 @@ pub(crate) fn add_late_refusal<L: LinkStore>(
     }
 }
 
-/// Whether an index is past the position after the last value of an end; none is, if none is named.
+/// Whether an index is past the position after the last value of an end; false without an index.
 fn is_past<L: LinkStore>(model: &ModelRef<L>, end: End, index: Option<u32>) -> bool
     ensures { result ≡ not (nat_le (position_for (reading model.now) end index) (refusals.count_at (reading model.now) end)) }
 {
@@ -266,7 +266,7 @@ fn is_past<L: LinkStore>(model: &ModelRef<L>, end: End, index: Option<u32>) -> b
     }
 }
 
-/// Why no further resource can have a URI: `TextLength`, `Limit` or `ResourceExists`.
+/// Why no resource of a URI can be made: `TextLength`, `Limit` or `ResourceExists`.
 fn uri_refusal<L: LinkStore>(model: &ModelRef<L>, uri: &Text) -> Option<Refused>
     ensures { result ≡ refusals.uri_refusal (reading model.now) uri.now }
 {
@@ -282,7 +282,7 @@ fn uri_refusal<L: LinkStore>(model: &ModelRef<L>, uri: &Text) -> Option<Refused>
     None
 }
 
-/// Why a value is not one of a feature: `WrongType` or `TextLength`.
+/// Why a feature can't hold a value: `WrongType` or `TextLength`.
 fn type_refusal<L: LinkStore>(
     model: &ModelRef<L>,
     feature: FeatureNo,
@@ -305,7 +305,7 @@ fn index_refusal(is_there: bool) -> Option<Refused>
     if is_there { None } else { Some(Refused::Index) }
 }
 
-/// Why a single end can't have a value of its type.
+/// Why a single end can't be set to a value of its type.
 fn set_refusal<L: LinkStore>(model: &ModelRef<L>, end: End, value: &Value) -> Option<Refused>
     requires taken { takes (reading model.now) end.feature value.now ≡ true }
     ensures { result ≡ refusals.set_refusal (reading model.now) end value.now }

@@ -34,7 +34,7 @@ pub(crate) fn all_resolved<L: LinkStore>(
     planned(alloc, model, leads.as_slice(), &progress, is_heard)
 }
 
-/// The plan of what is resolved.
+/// The plan of the proxies that are resolved.
 fn planned<L: LinkStore>(
     alloc: Global,
     model: &ModelRef<L>,
@@ -100,7 +100,7 @@ fn push_edits<L: LinkStore>(
     push_joining(model, end, site.index, Some(target), edits)
 }
 
-/// The notifications that proxies are resolved, each read in the model as it is.
+/// The notifications that proxies are resolved, each read in the model before the change.
 fn joint_notices<L: LinkStore>(
     alloc: Global,
     model: &ModelRef<L>,

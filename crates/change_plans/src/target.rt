@@ -1,4 +1,4 @@
-//! What the proxy finds that a change resolves.
+//! The target of the proxy that a change resolves.
 ghost use Rattle.std.specs.Prelude.{◌≡◌, IfErr, IfOk, IsTrue};
 ghost use Rattle.models.specs.Model.{reading};
 ghost use Rattle.handshake.specs.FeatureChanges as t;
@@ -10,7 +10,7 @@ use models::ModelRef;
 use proxies::{Target, target_at};
 use std::alloc::{AllocError, Global};
 
-/// What the proxy finds that a change resolves, if it resolves one. Errs only if memory is refused, and for no other change.
+/// The target of the proxy that a change resolves, if it resolves one. Errs only for such a change, and only if memory is refused.
 pub(crate) fn target_of<L: LinkStore>(
     alloc: Global,
     model: &ModelRef<L>,

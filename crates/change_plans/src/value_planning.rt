@@ -1,24 +1,25 @@
-//! What a change makes of values alone.
-ghost use Rattle.std.specs.Prelude.{◌≡◌, [], true, None, Some, IfErr, IfOk, OnOk, if◌then◌else◌};
+//! The plans of changes that edit only values.
+ghost use Rattle.std.specs.Prelude.{◌≡◌, [], false, true, None, Some, IfErr, IfOk, OnOk, if◌then◌else◌};
 ghost use Rattle.mm_types.specs.Conditions.{◌else_by◌};
+ghost use Rattle.mm_types.specs.Shapes.{shape};
 ghost use Rattle.models.specs.Model.{reading};
 ghost use Rattle.handshake.specs.Effects.{value_edits as value_edits_of};
 ghost use Rattle.handshake.specs.FeatureChanges.{chain};
 ghost use Rattle.handshake.specs.Changes.{edits_values_alone};
-ghost use Rattle.change_plans.specs.Plans.{is_memory_refusal};
+ghost use Rattle.change_plans.specs.Plans.{IsPlanOf, is_memory_refusal, of_values};
 ghost use Rattle.handshake.specs.Refusals as refusals;
 ghost use Rattle.handshake.specs.declared.act.Act.TheVariants.{Set};
 ghost use Rattle.handshake.specs.declared.change.Change.TheVariants.{At, Create};
 
-use crate::edits::value_edits;
+use crate::edits::{set_edits, value_edits};
 use crate::planning::{create_late_refusal, heard_chain, late_refusal, set_late_refusal};
-use handshake::{Change, set_early_refusal};
+use handshake::{Change, ChangeKind, FeatureChange, notice, set_early_refusal};
 use links::LinkStore;
 use mm_types::{ClassNo, End, Refused, Value};
 use mm_values::ValuePlan;
 use models::{ModelRef, class_refusal};
 use notice_chain::Chain;
-use std::alloc::Global;
+use std::alloc::{AllocError, Global};
 
 /// The edits of values that a change makes, and its notifications if an adapter may have to get them; or the first refusal that planning
 /// finds. This is `plan` for a change that edits no link.
@@ -43,7 +44,31 @@ pub fn plan_values<L: LinkStore>(
     Ok((values, chain))
 }
 
-/// Why a value of an attribute can't be set, if not for memory: the first refusal of a set of it. Takes no memory.
+/// The edit of a set of an attribute that is not refused, and its notification. This is `plan` for a set whose notification an adapter may
+/// have to get. Errs only if memory is refused.
+pub fn plan_set<L: LinkStore>(
+    alloc: Global,
+    model: &ModelRef<L>,
+    end: End,
+    value: Value,
+) -> Result<(ValuePlan, Chain), AllocError>
+    requires attribute { (shape model.now.metamodel end.feature).is_reference ≡ false }
+    requires asked { refusals.early_refusal (reading model.now) (At end (Set value)) ≡ None }
+    requires allowed { refusals.late_refusal (reading model.now) (At end (Set value)) ≡ None }
+    ensures { IfOk result (λ p. IsPlanOf true model.now (At end (Set value)) (of_values p.0 p.1)) }
+{
+    model.lemma_is_legal();
+    let gain = FeatureChange {
+        at: end,
+        does: ChangeKind::Gains(value.clone()?),
+    };
+    let mut notices = Vec::with_capacity(alloc, 1)?;
+    notices.push_reserved(notice(alloc, model, gain)?);
+    let values = set_edits(alloc, model, end, value);
+    Ok((values, Chain::from_vec(notices)))
+}
+
+/// The first refusal of a set of an attribute, other than `Memory`. Takes no memory.
 #[inline(always)]
 pub fn attribute_refusal<L: LinkStore>(
     model: &ModelRef<L>,
@@ -58,7 +83,7 @@ pub fn attribute_refusal<L: LinkStore>(
     set_late_refusal(model, end, value)
 }
 
-/// Why an object of a class can't be made, if not for memory: `NoClass`, `Abstract`, or `Limit` if 1,000,000 objects were made. Takes no
+/// Why an object of a class can't be made, other than `Memory`: `NoClass`, `Abstract`, or `Limit` if 1,000,000 objects were made. Takes no
 /// memory.
 pub fn create_refusal<L: LinkStore>(model: &ModelRef<L>, class: ClassNo) -> Option<Refused>
     ensures { result ≡ (refusals.early_refusal (reading model.now) (Create class) else_by refusals.late_refusal (reading model.now) (Create class)) }

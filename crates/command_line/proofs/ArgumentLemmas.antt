@@ -1,4 +1,4 @@
--- What a parse of the program's command line gives.
+-- The result of parsing the program's command line.
 use Rattle.std.proofs.Common.{◌≡◌, ◌∙◌, ◌<◌, ◌≤◌, ℕ, zero, suc, true, false, inl, inr, is_some, List, [], ◌∷◌, None, ap, arith, codes, length, map, refl, slice_index, subst, sym}
 use Rattle.std.specs.List.{All, list_all, slice_index_or}
 use Rattle.std.specs.Str.{bytes_eq}

@@ -21,7 +21,7 @@ meta = record (new_rule (codes "meta")) {
 abbrev pub file : Text → Rule
 file name = record (new_rule name) { long = Some name; action = Some Set; value_names = 1 }
 
--- an option that takes a URI and a file, as often as it is given
+-- an option that takes a URI and a file, and may be given several times
 abbrev pub each : Text → Rule
 each name = record (new_rule name) { long = Some name; action = Some Append; value_names = 1 }
 
@@ -43,7 +43,7 @@ program = fold with_rule (with_version (new_app (codes "mmrepo"))) options
 abbrev pub texts : List (Bor Text) → List Text
 texts = map (λ s. s.now)
 
--- what the words give sets an option that takes no value
+-- whether the words give an option that takes no value
 abbrev pub is_set : Text → List Row → Bool
 is_set name rows = option_map_or (λ value. bytes_eq value (codes "true")) (first_of name rows) false
 
@@ -51,7 +51,7 @@ is_set name rows = option_map_or (λ value. bytes_eq value (codes "true")) (firs
 abbrev pub values : Text → List Row → List Text
 values name rows = unwrap_or (all_of name rows) []
 
--- options are what the words give them first
+-- the options have what the words give: all values of `--load` and `--save`, and the first value of each other option
 pub record AreGiven (o : Options) (rows : List Row) : Type 0 where
   pub meta : first_of (codes "meta") rows ≡ Some o.meta.now
   pub script : first_of (codes "script") rows ≡ option_map (λ s. s.now) o.script

@@ -1,4 +1,4 @@
-//! What the words of the command line ask for.
+//! The options of a command line.
 ghost use Rattle.std.specs.Prelude.{◌≡◌, Some, false, true, IfOk, IfErr, codes, map};
 ghost use Rattle.clap.specs.Words.{app_of, first_of, found_of, kind_of, matches_of, rows_of, rule_of, takes, with_rule};
 ghost use Rattle.command_line.specs.CommandLine.{AreGiven, each as each_rule, file as file_rule, flag as flag_rule, is_set as sets, meta as meta_rule, program, texts, values};
@@ -12,26 +12,26 @@ use clap::{Arg, ArgAction, ArgMatches, Command, Error};
 use script_answers::Dress;
 use std::alloc::{AllocError, Global};
 
-/// What the words of the command line ask for.
+/// The options of a command line.
 #[derive(Drop)]
 pub struct Options<'a> {
-    /// The file of the metamodel, `--meta`.
+    /// The file of the metamodel (`--meta`).
     pub meta: &'a str,
-    /// The file of the script, `--script`; without it the script is read from standard input.
+    /// The file of the script (`--script`); without it the script is read from standard input.
     pub script: Option<&'a str>,
-    /// What is loaded before the script, `--load`: each as URI=FILE, in the order of the words.
+    /// The resources that are loaded before the script (`--load`), each as URI=FILE, in the order of the words.
     pub load: Vec<&'a str>,
-    /// What is saved after the script, `--save`, in the same form.
+    /// The resources that are saved after the script (`--save`), in the same form.
     pub save: Vec<&'a str>,
     /// The output options: `--echo`, `--number` and `--stop`.
     pub dress: Dress,
-    /// Whether a refused or bad line gives a status of its own, `--strict`.
+    /// Whether a refused or bad line gives an exit status of its own (`--strict`).
     pub strict: bool,
-    /// Whether each line is answered before the next is read, `--live`.
+    /// Whether each line is answered before the next is read (`--live`).
     pub live: bool,
-    /// The file that keeps the lines that change the model, `--journal`.
+    /// The file that keeps the lines that change the model (`--journal`).
     pub journal: Option<&'a str>,
-    /// Whether it says on standard error what to fix, `--explain`.
+    /// Whether the program says on standard error what to fix (`--explain`).
     pub explain: bool,
 }
 
@@ -60,7 +60,7 @@ fn file<'a>(alloc: Global, name: &'a str, help: &'a str) -> Arg<'a>
         .action(ArgAction::Set)
 }
 
-/// An option that takes a URI and a file, as often as it is given.
+/// An option that takes a URI and a file, and may be given several times.
 fn each<'a>(alloc: Global, name: &'a str, help: &'a str) -> Arg<'a>
     ensures rule { rule_of result ≡ each_rule name.entry.now }
     ensures local { result.global ≡ false }
@@ -133,11 +133,11 @@ pub fn usage_of(alloc: Global) -> Result<String, AllocError> {
     command(alloc)?.render_usage()
 }
 
-/// What the words of the command line ask for; the first word is the program's name.
+/// The options that the words of a command line give; the first word is the program's name.
 ///
 /// Errs as `clap` does: with the text of `--help` or `--version`, with what is wrong in the words, or if memory is refused.
 pub fn options_of<'a>(alloc: Global, words: &'a [&'a str]) -> Result<Options<'a>, Error>
-    // Each option is what the words give it first.
+    // The options have what the words give.
     ensures value { IfOk result (λ o. AreGiven o (matches_of program (texts words.entry.now))) }
     // Words that fit the command line are refused only if memory is.
     ensures passes { IfErr result (λ e. takes program (texts words.entry.now) ≡ true → kind_of e ≡ ErrorKind.OutOfMemory) }
@@ -166,7 +166,7 @@ pub fn options_of<'a>(alloc: Global, words: &'a [&'a str]) -> Result<Options<'a>
 ///
 /// Errs as `clap` does: with the text of `--help`, with what is wrong in the words, or if memory is refused.
 pub fn meta_file<'a>(alloc: Global, words: &'a [&'a str]) -> Result<&'a str, Error>
-    // It is the first value that the words give `--meta`.
+    // The file is the first value that the words give `--meta`.
     ensures value { IfOk result (λ file. first_of (codes "meta") (matches_of program (texts words.entry.now)) ≡ Some file.now) }
     // Words that fit the command line are refused only if memory is.
     ensures passes { IfErr result (λ e. takes program (texts words.entry.now) ≡ true → kind_of e ≡ ErrorKind.OutOfMemory) }

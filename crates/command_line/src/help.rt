@@ -7,38 +7,38 @@ pub(crate) const VERSION: &str = "1.0";
 pub(crate) const ABOUT: &str =
     "Runs a script over a repository of objects whose classes a metamodel gives.";
 
-/// What `--help` says of `--script`.
+/// The help text of `--script`.
 pub(crate) const SCRIPT: &str = "The script, instead of standard input";
 
-/// What `--help` says of `--load`.
+/// The help text of `--load`.
 pub(crate) const LOAD: &str =
     "Makes a resource of a URI before the script, and loads the document of a file";
 
-/// What `--help` says of `--save`.
+/// The help text of `--save`.
 pub(crate) const SAVE: &str = "Writes the document of a resource into a file after the script";
 
-/// What `--help` says of `--echo`.
+/// The help text of `--echo`.
 pub(crate) const ECHO: &str = "Writes each line before its answer, as `> LINE`";
 
-/// What `--help` says of `--number`.
+/// The help text of `--number`.
 pub(crate) const NUMBER: &str =
     "Begins each line of an answer with the number of its line, as `7: ok`";
 
-/// What `--help` says of `--stop`.
+/// The help text of `--stop`.
 pub(crate) const STOP: &str = "Ends the run after the first line that is refused or bad";
 
-/// What `--help` says of `--strict`.
+/// The help text of `--strict`.
 pub(crate) const STRICT: &str = "Exits with status 4 if a line was refused or bad";
 
-/// What `--help` says of `--live`.
+/// The help text of `--live`.
 pub(crate) const LIVE: &str =
     "Answers each line before it reads the next, with an empty line after it";
 
-/// What `--help` says of `--journal`.
+/// The help text of `--journal`.
 pub(crate) const JOURNAL: &str =
     "Keeps the lines that change the model in a file, and begins with those kept (with --live)";
 
-/// What `--help` says of `--explain`.
+/// The help text of `--explain`.
 pub(crate) const EXPLAIN: &str = "Says on standard error what to fix";
 
 /// What `--help` says after the options.

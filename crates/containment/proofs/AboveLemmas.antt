@@ -1,4 +1,4 @@
--- What one step up leaves of the nodes above a node.
+-- The nodes above a node after one step up.
 use Rattle.std.proofs.Common.{◌≡◌, suc, ◌<◌, Bool, true, false, ◌||◌, List, [], ◌∷◌, ◌++◌, length, append_assoc, Option, option_map, unwrap_or, is_some, Some, None, refl, sym, ap, ◌∙◌, arith}
 use Rattle.std.specs.List.{last_or, list_any}
 use Rattle.std.specs.Option.{option_map_or}
@@ -39,11 +39,11 @@ above-root s x legal free h =
       | Some e ↦ λ q. absurd (none-some e.node q)
     ] h
 
--- each step up leaves fewer
+-- after each step up fewer nodes are above
 pub fewer_above : (s : Links) (x y : Node) → IsLegalSet s → HasNoCycle s → Some y ≡ parent s x → length (above s y) < length (above s x)
 fewer_above s x y legal free h = let one : length (above s x) ≡ suc (length (above s y)) = ap length (above-parent s x y legal free h) in omega (arith, one)
 
--- the next one up is the first of those above x, and above a root there are none
+-- the next node up is the first of the nodes above x; above a root there are none
 pub found-next : (s : Links) (x y : Node) (found more : List Node) → IsLegalSet s → HasNoCycle s → Some y ≡ parent s x → more ≡ found ++ y ∷ [] → more ++ above s y ≡ found ++ above s x
 found-next s x y found more legal free h made =
     ap (λ (ns : List Node). ns ++ above s y) made ∙ append_assoc found (y ∷ []) (above s y) ∙ ap (λ (ns : List Node). found ++ ns) (sym (above-parent s x y legal free h))
@@ -51,7 +51,7 @@ found-next s x y found more legal free h made =
 pub found-root : (s : Links) (x : Node) (found : List Node) → IsLegalSet s → HasNoCycle s → None ≡ parent s x → found ≡ found ++ above s x
 found-root s x found legal free h = sym (ap (λ (ns : List Node). found ++ ns) (above-root s x legal free h) ∙ append-nil found)
 
--- the next one up is above x, and any other node if it is above that
+-- the next node up is above x; any other node is above x if it is above the next node
 pub is_above-here : (s : Links) (x y z : Node) → IsLegalSet s → HasNoCycle s → Some y ≡ parent s x → same_node z y ≡ true → list_any (same_node z) (above s x) ≡ true
 is_above-here s x y z legal free h same = ap (list_any (same_node z)) (above-parent s x y legal free h) ∙ ap (λ (b : Bool). b || list_any (same_node z) (above s y)) same
 
@@ -65,11 +65,11 @@ none-of : (o : Option Node) → is_some o ≡ false → None ≡ o
 none-of None h = refl
 none-of (Some x) h = absurd (true≢false h)
 
--- so it is if its parent is asked for alone
+-- the same if only the parent is read
 pub is_above-top : (s : Links) (x z : Node) → IsLegalSet s → HasNoCycle s → is_some (parent s x) ≡ false → list_any (same_node z) (above s x) ≡ false
 is_above-top s x z legal free h = is_above-root s x z legal free (none-of (parent s x) h)
 
--- and the topmost is that of the next one up
+-- the topmost node is the topmost node of the next one up
 pub topmost-parent : (s : Links) (x y : Node) → IsLegalSet s → HasNoCycle s → Some y ≡ parent s x → last_or (Some x) (above s x) ≡ last_or (Some y) (above s y)
 topmost-parent s x y legal free h = ap (last_or (Some x)) (above-parent s x y legal free h)
 

@@ -1,7 +1,6 @@
 -- An object is above another node exactly if that node is among the objects that are below it. Some of them wait to be looked at.
-use Rattle.std.proofs.Common.{◌≡◌, ◌∙◌, ◌||◌, ◌++◌, ℕ, nat_eq, Bool, false, List, [], ◌∷◌, flat_map, arith, refl, sym, ap}
+use Rattle.std.proofs.Common.{◌≡◌, ◌∙◌, ◌||◌, ◌++◌, ℕ, Bool, false, List, [], ◌∷◌, flat_map, refl, sym, ap}
 use Rattle.std.specs.List.{list_any}
-use Rattle.std.proofs.lemmas.Bool.Decides.{nat_tests}
 use Rattle.std.proofs.lemmas.Grind.{flat_map-append}
 use Rattle.std.proofs.lemmas.List.{append-nil, map-append}
 use Rattle.std.proofs.lemmas.List.Folds.{list_any-append}
@@ -15,13 +14,11 @@ use Rattle.containment.specs.Forest.{contents, is_node_among, subtree}
 use Rattle.containment.specs.Waiting.{numbered, waiting_objects}
 use Rattle.containment.proofs.MemberLemmas.{subtree-has}
 use Rattle.containment.proofs.TreeLemmas.{subtree-parts}
-
-flipped : (a b : ℕ) → nat_eq a b ≡ nat_eq b a
-flipped a b = grind (arith, nat_tests)
+use Rattle.mm_meta.proofs.OwnerLemmas.{nat_eq-turned}
 
 -- another node is among the rest
 behind-first : (o : ObjectNo) (n : Node) (os : List ObjectNo) → same_node (node.Object o) n ≡ false → is_node_among (o ∷ os) n ≡ is_node_among os n
-behind-first o (node.Object c) os other = ap (λ (b : Bool). b || list_any (same_object c) os) (flipped c.0 o.0 ∙ other)
+behind-first o (node.Object c) os other = ap (λ (b : Bool). b || list_any (same_object c) os) (nat_eq-turned c.0 o.0 ∙ other)
 behind-first o (node.Resource k) os other = refl
 
 among-append : (os ps : List ObjectNo) (n : Node) → is_node_among (os ++ ps) n ≡ (is_node_among os n || is_node_among ps n)
@@ -29,11 +26,11 @@ among-append os ps (node.Object c) = list_any-append (same_object c) os ps
 among-append os ps (node.Resource k) = refl
 
 module _ (s : Model) (legal : IsLegal s) where
-  -- the objects below some, and those themselves
+  -- some objects and all objects below them
   abbrev trees : List ObjectNo → List ObjectNo
   trees os = flat_map (subtree (reading s)) os
 
-  -- what an object contains, and all that is below that, has each node that the object is above
+  -- if an object is above a node, the node is among the contents of the object and the objects below them
   pub parts-have : (o : ObjectNo) (n : Node) → same_node (node.Object o) n ≡ false
       → is_node_among (trees (contents (reading s) (node.Object o))) n ≡ list_any (same_node (node.Object o)) ((reading s).above n)
   parts-have o n apart =
@@ -47,7 +44,7 @@ module _ (s : Model) (legal : IsLegal s) where
       ap (λ (os : List ObjectNo). is_node_among os n) (flat_map-append (subtree (reading s)) rest (o ∷ []) ∙ ap (λ (os : List ObjectNo). trees rest ++ os) (append-nil (subtree (reading s) o)))
       ∙ among-append (trees rest) (subtree (reading s) o) n
 
-  -- the last one that waits gives way to its parts, if it is another node
+  -- the last waiting object is replaced by its parts, if it is not the node
   pub one-seen : (old rest now : List ℕ) (k : ℕ) (n : Node) (b : Bool) → old ≡ rest ++ k ∷ [] → same_node (node.Object (numbered k)) n ≡ false
       → waiting_objects now ≡ waiting_objects rest ++ contents (reading s) (node.Object (numbered k)) → is_node_among (trees (waiting_objects old)) n ≡ b → is_node_among (trees (waiting_objects now)) n ≡ b
   one-seen old rest now k n b was other is whole =
@@ -69,7 +66,7 @@ module _ (s : Model) (legal : IsLegal s) where
   parts-wait none now o n empty apart is =
       ap (λ (os : List ObjectNo). is_node_among (trees os) n) (is ∙ ap (λ (ns : List ℕ). waiting_objects ns ++ contents (reading s) (node.Object o)) empty) ∙ parts-have o n apart
 
-  -- no node is below none
+  -- no node is below an empty list of objects
   pub nothing-waits : (none : List ObjectNo) (n : Node) → none ≡ [] → is_node_among (trees none) n ≡ false
   nothing-waits none n empty = ap (λ (os : List ObjectNo). is_node_among (trees os) n) empty ∙ by n
     where

@@ -1,4 +1,4 @@
--- A part and the objects above it are no more than were made, since they are made and none is met twice.
+-- A part and the objects above it are at most as many as the objects that were made, since each was made and none is met twice.
 use Rattle.std.proofs.Common.{◌≡◌, ℕ, zero, suc, ◌<◌, ◌≤◌, Bool, true, false, ◌||◌, eqb, length, List, [], ◌∷◌, Option, Some, None, refl, sym, ap, ◌∙◌, subst, inl, inr, arith}
 use Rattle.std.specs.List.{AllByRecursion, IsDistinct, list_any}
 use Rattle.std.specs.Option.{option_map_or}
@@ -47,7 +47,7 @@ numbers-below s (node.Object o ∷ ys) all q h = elim (or_cases (eqb q o.0) (lis
 ]
 numbers-below s (node.Resource k ∷ ys) all q h = numbers-below s ys all.1 q h
 
--- nodes of which the objects were made, none twice
+-- nodes whose objects were made, none of them twice
 record IsChain (s : Model) (ns : List Node) : Type 0 where
   made : AllByRecursion (IsMade s) ns
   apart : IsDistinct eqb (numbers ns)

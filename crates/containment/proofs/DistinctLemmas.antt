@@ -2,7 +2,7 @@
 use Rattle.std.proofs.Common.{◌≡◌, ℕ, zero, suc, ◌+◌, Bool, true, false, cond, length, List, [], ◌∷◌, ◌++◌, map, filter, flat_map, Option, Some, None, unwrap_or, slice_get, nat_eq, eqb-true, eq-eqb, if◌then◌else◌, refl, sym, ap, ◌∙◌, subst, inl, inr, arith}
 use Rattle.std.specs.Prelude.{option_and_then, option_map}
 use Rattle.std.specs.List.{AllByRecursion, IsDistinct, list_any}
-use Rattle.std.proofs.lemmas.Bool.{false≢true, or_cases, or_left, or_right}
+use Rattle.std.proofs.lemmas.Bool.{false≢true, or_cases, or_left, or_right, false_from_ne_true}
 use Rattle.std.proofs.lemmas.List.Folds.{list_any-append}
 use Rattle.std.proofs.lemmas.Option.{none-some, same_Some}
 use Rattle.mm_types.specs.Features.{all_features, listed, with_new}
@@ -36,13 +36,9 @@ use Rattle.containment.specs.Forest.{contents, node_subtree, subtree, tree}
 
 ---------------------------------------------------------------- lists
 
-not-true : (b : Bool) → (b ≡ true → ⊥) → b ≡ false
-not-true true h = absurd (h refl)
-not-true false h = refl
-
 all-apart : (x : ObjectNo) (ys : List ObjectNo) → (list_any (same_object x) ys ≡ true → ⊥) → AllByRecursion (λ y. same_object x y ≡ false) ys
 all-apart x [] h = tt
-all-apart x (y ∷ ys) h = (not-true (same_object x y) (λ q. h (or_left _ _ q)), all-apart x ys (λ q. h (or_right _ _ q)))
+all-apart x (y ∷ ys) h = (false_from_ne_true (same_object x y) (λ q. h (or_left _ _ q)), all-apart x ys (λ q. h (or_right _ _ q)))
 
 -- lists of different objects that share none
 pub distinct-++ : (xs ys : List ObjectNo) → IsDistinct same_object xs → IsDistinct same_object ys
@@ -100,8 +96,8 @@ distinct-last : (seen : List ℕ) (x : ℕ) → IsDistinct nat_eq seen → list_
 unfolding IsDistinct
 distinct-last [] x d h = (tt, tt)
 distinct-last (y ∷ ys) x d h = (
-  all-append (λ z. nat_eq y z ≡ false) ys (x ∷ []) d.0 (not-true (nat_eq y x) (λ q. false≢true (sym h ∙ or_left _ _ (eq-eqb x y (sym (eqb-true y x q))))), tt),
-  distinct-last ys x d.1 (not-true (list_any (nat_eq x) ys) (λ q. false≢true (sym h ∙ or_right _ _ q))),
+  all-append (λ z. nat_eq y z ≡ false) ys (x ∷ []) d.0 (false_from_ne_true (nat_eq y x) (λ q. false≢true (sym h ∙ or_left _ _ (eq-eqb x y (sym (eqb-true y x q))))), tt),
+  distinct-last ys x d.1 (false_from_ne_true (list_any (nat_eq x) ys) (λ q. false≢true (sym h ∙ or_right _ _ q))),
 )
 
 distinct-new : (seen xs : List ℕ) → IsDistinct nat_eq seen → IsDistinct nat_eq (with_new seen xs)
@@ -156,7 +152,7 @@ pub objects-distinct : (vs : List Value) → sets.IsDistinct vs → IsDistinct s
 unfolding IsDistinct
 objects-distinct [] d = tt
 objects-distinct (value.Object c ∷ vs) d = (
-  all-objects (λ y. same_object c y ≡ false) vs (λ k y at. not-true (same_object c y) (λ q.
+  all-objects (λ y. same_object c y ≡ false) vs (λ k y at. false_from_ne_true (same_object c y) (λ q.
       let again = d 0 (suc k) (value.Object c) refl (at ∙ ap (λ (x : ObjectNo). Some (value.Object x)) (sym (same-object c y q))) in
       absurd (omega (arith, again)))),
   objects-distinct vs (λ j k v a b. (let same = d (suc j) (suc k) v a b in omega (arith, same))),
@@ -197,7 +193,7 @@ module _ (s : Model) (legal : IsLegal s) where
 
   ---------------------------------------------------------------- trees
 
-  -- each step up has one node fewer above it
+  -- after each step up there is one node fewer above
   climb-depth : (n : ℕ) (x y : Node) → climb s.links n x ≡ Some y → length (above s.links x) ≡ n + length (above s.links y)
   climb-depth zero x y h = let same = ap (λ (z : Node). length (above s.links z)) (same_Some x y h) in omega (arith, same)
   climb-depth (suc n) x y h =
@@ -212,7 +208,7 @@ module _ (s : Model) (legal : IsLegal s) where
   part-climbs : (n : Node) (c : ObjectNo) → IsPart s n c → climb s.links 1 (node.Object c) ≡ Some n
   part-climbs n c part = climb_step s.links (node.Object c) part.by zero part.held ∙ ap Some part.here
 
-  -- an object is reached from all in its tree
+  -- an object is reached from all objects of its tree
   tree-climbs : (k : ℕ) (o c : ObjectNo) → list_any (same_object c) (tree (reading s) k o) ≡ true → (n : ℕ) × (climb s.links n (node.Object c) ≡ Some (node.Object o))
   tree-climbs zero o c h = absurd (false≢true h)
   tree-climbs (suc k) o c h =

@@ -1,4 +1,4 @@
--- What is known of a few nodes.
+-- Examples with a few nodes.
 use Rattle.std.proofs.Common.{◌≡◌, ℕ, suc, List, [], ◌∷◌, drop, Some, None, refl}
 use Rattle.std.specs.List.{position_or_len}
 use Rattle.mm_types.specs.Same.{same_node}
@@ -17,7 +17,7 @@ behind row n = drop (suc (position_or_len (same_node n) row)) row
 abbrev placed : Node → List Node
 placed = behind (object 2 ∷ object 1 ∷ object 0 ∷ Resource (record { 0 = 7 }) ∷ [])
 
--- the same in no resource
+-- the same without a resource
 abbrev loose : Node → List Node
 loose = behind (object 2 ∷ object 1 ∷ object 0 ∷ [])
 

@@ -1,6 +1,7 @@
 -- What a node contains, feature by feature.
-use Rattle.std.proofs.Common.{◌≡◌, ◌<◌, ◌≤◌, ◌+◌, ℕ, zero, suc, Option, Some, arith, slice_get, option_and_then, option_to_list, true, false, cond, length, drop, slice_index_or, append_assoc, List, [], ◌∷◌, ◌++◌, filter, flat_map, refl, ap, sym, ◌∙◌}
+use Rattle.std.proofs.Common.{◌≡◌, ◌<◌, ◌≤◌, ◌+◌, ℕ, Option, slice_get, option_and_then, option_to_list, true, false, cond, length, drop, slice_index_or, append_assoc, List, [], ◌∷◌, ◌++◌, filter, flat_map, refl, ap, sym, ◌∙◌}
 use Rattle.std.proofs.lemmas.List.{append-nil, drop_all, drop_more}
+use Rattle.std.proofs.lemmas.Option.{slice_get-get_or}
 use Rattle.mm_types.specs.Shapes.{is_containment}
 use Rattle.mm_types.specs.declared.numbers.FeatureNo.{FeatureNo}
 use Rattle.mm_types.specs.declared.numbers.ObjectNo.{ObjectNo}
@@ -32,11 +33,6 @@ parts-step r n fs i d out new all low made whole =
 
 ---------------------------------------------------------------- the objects of one end
 
-pub get-within : (vs : List Value) (k : ℕ) (d : Value) → k < length vs → slice_get vs k ≡ Some (slice_index_or vs k d)
-get-within [] k d h = absurd (omega (arith, h))
-get-within (w ∷ ws) zero d h = refl
-get-within (w ∷ ws) (suc k) d h = get-within ws k d (omega (arith, h))
-
 objects-first : (v : Value) (vs : List Value) → objects_of (v ∷ vs) ≡ option_to_list (links.object_of v) ++ objects_of vs
 objects-first (value.Object o) vs = refl
 objects-first _ vs = refl
@@ -46,7 +42,7 @@ pub objects-step : (vs : List Value) (k : ℕ) (out new all : List ObjectNo) →
     → out ++ objects_of (drop k vs) ≡ all → new ++ objects_of (drop (k + 1) vs) ≡ all
 objects-step vs k out new all low made whole =
     let v = slice_index_or vs k value.Null in
-    ap (λ os. os ++ objects_of (drop (k + 1) vs)) (made ∙ ap (λ (x : Option Value). out ++ option_to_list (option_and_then links.object_of x)) (get-within vs k value.Null low))
+    ap (λ os. os ++ objects_of (drop (k + 1) vs)) (made ∙ ap (λ (x : Option Value). out ++ option_to_list (option_and_then links.object_of x)) (slice_get-get_or vs k value.Null low))
     ∙ append_assoc out (option_to_list (links.object_of v)) (objects_of (drop (k + 1) vs))
     ∙ ap (λ os. out ++ os) (sym (objects-first v (drop (k + 1) vs)) ∙ ap objects_of (sym (drop_more vs k value.Null low)))
     ∙ whole

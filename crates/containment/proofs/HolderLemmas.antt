@@ -1,4 +1,4 @@
--- What is in an end of a containment is contained through it.
+-- The objects in an end of a containment are contained through it.
 use Rattle.std.proofs.Common.{◌≡◌, false, if◌then◌else◌, ◌≢◌, ℕ, Option, Some, None, true, refl, sym, ap, ◌∙◌, subst, inl, inr}
 use Rattle.std.specs.Prelude.{◌&&◌}
 use Rattle.std.proofs.lemmas.Bool.{and_parts, eq-eqb, eqb-true, ne_eqb}

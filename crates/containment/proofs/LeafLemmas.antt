@@ -1,7 +1,7 @@
 -- An object whose containing ends are empty is above no node.
-use Rattle.std.proofs.Common.{◌≡◌, ◌∙◌, ◌&&◌, ◌||◌, ◌++◌, nat_lt, Bool, true, false, List, [], ◌∷◌, cond, flat_map, length, arith, refl, sym, ap}
+use Rattle.std.proofs.Common.{◌≡◌, ◌∙◌, ◌&&◌, ◌++◌, nat_lt, Bool, true, false, List, [], ◌∷◌, cond, flat_map, length, arith, refl, sym, ap}
 use Rattle.std.specs.List.{list_any}
-use Rattle.std.proofs.lemmas.Bool.{true≢false}
+use Rattle.std.proofs.lemmas.Bool.{true≢false, or_parts}
 use Rattle.std.proofs.lemmas.Bool.Decides.{nat_tests}
 use Rattle.mm_types.specs.Same.{same_node}
 use Rattle.mm_types.specs.Shapes.{is_containment}
@@ -28,17 +28,13 @@ none-at r n f h = by (is_containment r.metamodel f) h
     by true none = ap (λ (vs : List Value). objects_of vs ++ []) (empty (r.values (at_end n f)) none)
     by false none = refl
 
-both-false : (a b : Bool) → (a || b) ≡ false → (a ≡ false) × (b ≡ false)
-both-false true b h = absurd (true≢false h)
-both-false false b h = (refl, h)
-
 none-in : (r : Reading) (n : Node) (fs : List FeatureNo) → list_any (has_parts_at r n) fs ≡ false → parts r n fs ≡ []
 none-in r n [] h = refl
 none-in r n (f ∷ fs) h =
-    let both = both-false (has_parts_at r n f) (list_any (has_parts_at r n) fs) h in
+    let both = or_parts (has_parts_at r n f) (list_any (has_parts_at r n) fs) h in
     parts-first r n f fs ∙ (λ i. none-at r n f both.0 i ++ none-in r n fs both.1 i)
 
--- what contains nothing is above no other node
+-- an object that contains nothing is above no other node
 pub leaf-above : (s : Model) → IsLegal s → (o : ObjectNo) (n : Node) → same_node (node.Object o) n ≡ false → has_parts (reading s) (node.Object o) ≡ false → list_any (same_node (node.Object o)) ((reading s).above n) ≡ false
 leaf-above s legal o n apart none =
     sym (parts-have s legal o n apart) ∙ nothing-waits s legal _ n (none-in (reading s) (node.Object o) (all_features_of (reading s) (node.Object o)) none)

@@ -1,4 +1,4 @@
--- A subtree has an object and all that is below it, and nothing else.
+-- A subtree has exactly an object and all objects below it.
 use Rattle.std.proofs.Common.{◌&&◌, if◌then◌else◌, ◌≡◌, ℕ, zero, suc, Bool, true, false, cond, length, List, [], ◌∷◌, filter, flat_map, Option, Some, None, unwrap_or, slice_get, nat_eq, eqb-true, eq-eqb, refl, sym, ap, ◌∙◌, subst, inl, inr}
 use Rattle.std.specs.Prelude.{option_and_then}
 use Rattle.std.specs.List.{AllByRecursion, list_any}
@@ -23,6 +23,7 @@ use Rattle.links.proofs.ClimbLemmas.{climb_step, climb_stop, under_holder, under
 use Rattle.links.proofs.HolderLemmas.{holder-some, indexed_held}
 use Rattle.links.specs.Holders.{IsUnder, above, climb, holder}
 use Rattle.links.specs.Links.{Links, end}
+use Rattle.links.proofs.PlaceLemmas.{same_feature-true}
 use Rattle.models.specs.Legal.{IsLegal, kinds_of}
 use Rattle.models.specs.Model.{Model, reading, values_at}
 use Rattle.models.specs.Reading.{Reading, all_features_of, at_end, has_feature, has_resource, is_within, objects_of}
@@ -35,9 +36,6 @@ use Rattle.containment.specs.Forest.{contents, is_node_among, node_subtree, subt
 
 pub same-object : (x y : ObjectNo) → same_object x y ≡ true → x ≡ y
 same-object x y h = let e = eqb-true x.0 y.0 h in λ i. record { 0 = e i }
-
-pub same-feature : (x y : FeatureNo) → same_feature x y ≡ true → x ≡ y
-same-feature x y h = let e = eqb-true x.0 y.0 h in λ i. record { 0 = e i }
 
 in-flat_map : {X : Type 0} (same : X → X → Bool) → ((x y : X) → same x y ≡ true → x ≡ y) → (f : X → List ObjectNo) (xs : List X) (x : X) (c : ObjectNo)
     → list_any (same x) xs ≡ true → list_any (same_object c) (f x) ≡ true → list_any (same_object c) (flat_map f xs) ≡ true
@@ -78,7 +76,7 @@ in-filter p (g ∷ gs) f h passes =
         | inr later ↦ or_right _ _ (in-filter p gs f later passes)
       ]
       | false ↦ λ q. elim (or_cases (same_feature f g) (list_any (same_feature f) gs) h) [
-        | inl here ↦ absurd (false≢true (sym q ∙ ap p (sym (same-feature f g here)) ∙ passes))
+        | inl here ↦ absurd (false≢true (sym q ∙ ap p (sym (same_feature-true f g here)) ∙ passes))
         | inr later ↦ in-filter p gs f later passes
       ]
     ] refl
@@ -131,7 +129,7 @@ under-on s (suc n) x y z h u =
     ] refl
 
 module _ (s : Model) (legal : IsLegal s) where
-  -- what is held by a node is among what it contains
+  -- an object whose holder is an end of a node is among the contents of the node
   held-contents : (c : ObjectNo) (e : End) → holder s.links (node.Object c) ≡ Some e → list_any (same_object c) (contents (reading s) e.node) ≡ true
   held-contents c e h =
       let m = s.metamodel in
@@ -144,9 +142,9 @@ module _ (s : Model) (legal : IsLegal s) where
       let contains : is_containment m e.feature ≡ true = ap (is_feature e.feature) whose ∙ eq-eqb e.feature.0 by.0.0 by.2 in
       let listed = in-filter (is_containment m) (all_features_of (reading s) e.node) e.feature own contains in
       let values = ap (λ (vs : List Value). list_any (same_object c) (objects_of vs)) (values-linked s e (contains-reference m e.feature by.0 whose)) ∙ in-objects (end s.links e) at.0 c there in
-      in-flat_map same_feature same-feature (λ f. objects_of (values_at s (at_end e.node f))) (filter (is_containment m) (all_features_of (reading s) e.node)) e.feature c listed values
+      in-flat_map same_feature same_feature-true (λ f. objects_of (values_at s (at_end e.node f))) (filter (is_containment m) (all_features_of (reading s) e.node)) e.feature c listed values
 
-  -- a tree with one more level has the parts of all in it
+  -- a tree with one more level has the parts of all its objects
   parts-in : (k : ℕ) (o p c : ObjectNo) → list_any (same_object p) (tree (reading s) k o) ≡ true → list_any (same_object c) (contents (reading s) (node.Object p)) ≡ true → list_any (same_object c) (tree (reading s) (suc k) o) ≡ true
   parts-in zero o p c h q = absurd (false≢true h)
   parts-in (suc k) o p c h q =
@@ -160,14 +158,14 @@ module _ (s : Model) (legal : IsLegal s) where
             or_right _ _ (in-flat_map same_object same-object (tree (reading s) (suc k)) parts r.from c r.among (parts-in k r.from p c r.gives q))
       ]
 
-  -- what is at or below an object is below what the object is below
+  -- a node at or below an object is below each node that the object is below
   below : (n : Node) (p c : ObjectNo) → IsUnder s.links (node.Object p) n → is_within (reading s) (node.Object p) (node.Object c) ≡ true → IsUnder s.links (node.Object c) n
   below n p c up q = elim (or_cases (same_object p c) (list_any (same_node (node.Object p)) (above s.links (node.Object c))) q) [
     | inl same ↦ subst (λ x. IsUnder s.links (node.Object x) n) (same-object p c same) up
     | inr low ↦ let u = above-under s.links (node.Object c) (node.Object p) low in under-on s.links u.0 (node.Object c) (node.Object p) n u.1 up
   ]
 
-  -- all in a tree is below its object
+  -- all objects of a tree are at or below its object
   tree-within : (k : ℕ) (o c : ObjectNo) → list_any (same_object c) (tree (reading s) k o) ≡ true → is_within (reading s) (node.Object o) (node.Object c) ≡ true
   tree-within zero o c h = absurd (false≢true h)
   tree-within (suc k) o c h =
@@ -181,7 +179,7 @@ module _ (s : Model) (legal : IsLegal s) where
             or_right _ _ ((above_under s.links legal.links.set legal.links.forest (node.Object c) (node.Object o)).1 (below (node.Object o) r.from c up (tree-within k r.from c r.gives)))
       ]
 
-  -- all from which an object is reached is in its subtree
+  -- all nodes from which an object is reached are in its subtree
   reaches-in : (o : ObjectNo) (n : ℕ) (x : Node) → climb s.links n x ≡ Some (node.Object o) → is_node_among (subtree (reading s) o) x ≡ true
   reaches-in o zero x at = subst (λ (y : Node). is_node_among (subtree (reading s) o) y ≡ true) (sym (same_Some x (node.Object o) at)) (or_left _ _ (eq-eqb o.0 o.0 refl))
   reaches-in o (suc n) (node.Resource k) at = absurd (none-some _ (sym (climb_stop s.links (node.Resource k) n (resource_top s.links k legal.links.set)) ∙ at))
@@ -213,7 +211,7 @@ module _ (s : Model) (legal : IsLegal s) where
 
   ---------------------------------------------------------------- resources
 
-  -- what is in a resource is reached through one of its roots
+  -- an object in a resource is reached through one of its roots
   through-root : (k : ResourceNo) (n : ℕ) (x : Node) → climb s.links (suc n) x ≡ Some (node.Resource k)
       → (p : ObjectNo) × (climb s.links n x ≡ Some (node.Object p)) × (list_any (same_object p) (contents (reading s) (node.Resource k)) ≡ true)
   through-root k n (node.Resource j) at = absurd (none-some _ (sym (climb_stop s.links (node.Resource j) n (resource_top s.links j legal.links.set)) ∙ at))

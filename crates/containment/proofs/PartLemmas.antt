@@ -1,4 +1,4 @@
--- What a node contains in a legal model lives, is held by that node, and that node lives.
+-- In a legal model an object that a node contains lives, its holder is that node, and that node lives.
 use Rattle.std.proofs.Common.{◌≡◌, ℕ, zero, suc, ◌<◌, Bool, true, false, cond, ltb, length, List, [], ◌∷◌, ◌++◌, flat_map, Option, option_map, Some, None, IsTrue, slice_get, refl, sym, ap, ◌∙◌, subst}
 use Rattle.std.specs.Prelude.{is_some}
 use Rattle.std.specs.List.{AllByRecursion, list_all}
@@ -48,7 +48,7 @@ all-objects P [] h = tt
 all-objects P (value.Object c ∷ vs) h = (h 0 c refl, all-objects P vs (λ k d q. h (suc k) d q))
 all-objects P (v ∷ vs) h = all-objects P vs (λ k d q. h (suc k) d q)
 
-all-get : (p : Value → Bool) (vs : List Value) (k : ℕ) (v : Value) → list_all p vs ≡ true → slice_get vs k ≡ Some v → p v ≡ true
+pub all-get : (p : Value → Bool) (vs : List Value) (k : ℕ) (v : Value) → list_all p vs ≡ true → slice_get vs k ≡ Some v → p v ≡ true
 all-get p [] k v h at = absurd (none-some v at)
 all-get p (w ∷ ws) zero v h at = subst (λ (x : Value). p x ≡ true) (same_Some w v at) (and_parts _ _ h).0
 all-get p (w ∷ ws) (suc k) v h at = all-get p ws k v (and_parts _ _ h).1 at
@@ -97,7 +97,7 @@ kind-same : (m : Metamodel) (x y : ObjectNo → Option ClassNo) (single : Bool) 
 kind-same m x y single (Attribute t unique unsettable default) a b q = object-typed m single t a ∙ sym (object-typed m single t b)
 kind-same m x y single (Reference target containment opposite) a b q = ap (λ (c : Option ClassNo). option_map_or (λ c. lookups.conforms m c target) c false) q
 
--- what takes an object takes each of the same class
+-- a feature that takes an object takes each object of the same class
 pub takes-same : (m : Metamodel) (x y : ObjectNo → Option ClassNo) (f : FeatureNo) (a b : ObjectNo) → x a ≡ y b → lookups.takes m x f (value.Object a) ≡ lookups.takes m y f (value.Object b)
 takes-same m x y f a b q = by (lookups.feature m f)
   where
@@ -106,7 +106,7 @@ takes-same m x y f a b q = by (lookups.feature m f)
     by None = ap (λ (c : Option ClassNo). is_some c) q
     by (Some g) = kind-same m x y (lookups.is_single g) g.kind a b q
 
--- what a feature takes lives
+-- an object that a feature takes lives
 pub taken-live : (m : Metamodel) (class : ObjectNo → Option ClassNo) (f : FeatureNo) (o : ObjectNo) → lookups.takes m class f (value.Object o) ≡ true → is_some (class o) ≡ true
 taken-live m class f o = by (lookups.feature m f)
   where
@@ -118,7 +118,7 @@ taken-live m class f o = by (lookups.feature m f)
     by None h = h
     by (Some g) h = by_kind (lookups.is_single g) g.kind h
 
--- what takes an object is a reference
+-- a feature that takes an object is a reference
 pub object-reference : (m : Metamodel) (class : ObjectNo → Option ClassNo) (f : FeatureNo) (o : ObjectNo) → lookups.takes m class f (value.Object o) ≡ true → (shape m f).is_reference ≡ true
 object-reference m class f o h = by (lookups.feature m f) h
   where
@@ -158,7 +158,7 @@ pub contains-itself : (f : FeatureNo) (x : Option FeatureNo) → is_feature f x 
 contains-itself f None h = absurd (false≢true h)
 contains-itself f (Some g) h = let same = eqb-true f.0 g.0 h in λ i. Some (record { 0 = sym same i })
 
--- a feature of a pair that contains is a reference
+-- a feature of a pair with a containment is a reference
 pub contains-reference : (m : Metamodel) (f h : FeatureNo) → (shape m f).containing ≡ Some h → (shape m f).is_reference ≡ true
 contains-reference m f h = by (lookups.feature m f)
   where

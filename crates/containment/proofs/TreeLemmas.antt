@@ -39,7 +39,7 @@ module _ (s : Model) (legal : IsLegal s) where
   unfolding depth
   part-shallow o c part = part-depth s legal (node.Object o) c part
 
-  -- once the levels go past the deepest object, one more adds nothing
+  -- if there are more levels than the deepest object has, one more level adds nothing
   more-levels : (k : ℕ) (o : ObjectNo) → 0 < k → length s.values.objects ≤ k + depth o → tree (reading s) (suc k) o ≡ tree (reading s) k o
   more-levels zero o some far = absurd (omega (arith, some))
   more-levels (suc k) o some far =
@@ -51,17 +51,17 @@ module _ (s : Model) (legal : IsLegal s) where
   pub subtree-levels : (o : ObjectNo) → tree (reading s) (suc (suc (length s.values.objects))) o ≡ subtree (reading s) o
   subtree-levels o = more-levels (suc (length s.values.objects)) o (omega arith) (omega arith)
 
-  -- if objects were made, as many levels are enough
+  -- as many levels as objects were made are enough
   pub enough-levels : (o : ObjectNo) → 0 < length s.values.objects → tree (reading s) (length s.values.objects) o ≡ subtree (reading s) o
   enough-levels o some = sym (more-levels (length s.values.objects) o some (omega arith))
 
-  -- an object, and then the subtrees of what it contains
+  -- a subtree is an object and then the subtrees of its contents
   pub subtree-parts : (o : ObjectNo) → subtree (reading s) o ≡ o ∷ flat_map (subtree (reading s)) (contents (reading s) (node.Object o))
   subtree-parts o = sym (subtree-levels o)
 
   ---------------------------------------------------------------- the walk
 
-  -- the next one is found, and its parts wait in its place
+  -- the next object is found, and its parts wait in its place
   next-tree : (os : List ObjectNo) (o : ObjectNo) → waiting-trees s (os ++ o ∷ []) ≡ o ∷ waiting-trees s (os ++ reverse (contents (reading s) (node.Object o)))
   next-tree os o =
       let trees = flat_map (subtree (reading s)) in
@@ -71,7 +71,7 @@ module _ (s : Model) (legal : IsLegal s) where
       ∙ ap (λ ts. o ∷ ts) (sym (flat_map-append (subtree (reading s)) parts (reverse os))
       ∙ ap trees (sym (reverse-append os (reverse parts) ∙ ap (λ ps. ps ++ reverse os) (reverse-reverse parts))))
 
-  -- the last one that waits gives way to its parts
+  -- the last waiting object is replaced by its parts
   step : (old rest parts back now : List ObjectNo) (o : ObjectNo) → old ≡ rest ++ o ∷ [] → now ≡ rest ++ back → back ≡ reverse parts → parts ≡ contents (reading s) (node.Object o)
       → waiting-trees s old ≡ o ∷ waiting-trees s now
   step old rest parts back now o was is turned here =
@@ -91,19 +91,19 @@ module _ (s : Model) (legal : IsLegal s) where
       ∙ ap (λ os. found ++ os) (sym (step old rest parts back now o was is turned here))
       ∙ whole
 
--- at first none is found
+-- at first no object is found
 pub walk-starts : (s : Model) (found waiting : List ObjectNo) → found ≡ [] → found ++ waiting-trees s waiting ≡ waiting-trees s waiting
 walk-starts s found waiting none = ap (λ os. os ++ waiting-trees s waiting) none
 
--- if none waits, all are found
+-- if no object waits, all are found
 pub walk-ends : (s : Model) (found waiting all : List ObjectNo) → waiting ≡ [] → found ++ waiting-trees s waiting ≡ all → found ≡ all
 walk-ends s found waiting all none whole = sym (append-nil found) ∙ ap (λ os. found ++ waiting-trees s os) (sym none) ∙ whole
 
--- if one object waits, what is found is its subtree
+-- if one object waits, its subtree will be found
 pub one-waits : (s : Model) (waiting : List ObjectNo) (o : ObjectNo) → waiting ≡ o ∷ [] → waiting-trees s waiting ≡ subtree (reading s) o
 one-waits s waiting o one = ap (waiting-trees s) one ∙ append-nil (subtree (reading s) o)
 
--- if the roots of a resource wait, it is all objects in it
+-- if the roots of a resource wait, all objects in it will be found
 pub roots-wait : (s : Model) (n : Node) (k : ResourceNo) (waiting roots : List ObjectNo) → n ≡ node.Resource k → waiting ≡ reverse roots → roots ≡ contents (reading s) n → waiting-trees s waiting ≡ node_subtree (reading s) n
 roots-wait s n k waiting roots is turned here =
     let trees = flat_map (subtree (reading s)) in

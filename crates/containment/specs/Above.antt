@@ -1,4 +1,4 @@
--- What the nodes above a node show of it: the topmost, and the resource that it is in.
+-- Read from the nodes above a node: the topmost node, and the resource that an object is in.
 use Rattle.std.specs.Prelude.{List, Option, Some, None, unwrap_or}
 use Rattle.std.specs.List.{last_or}
 use Rattle.mm_types.specs.declared.numbers.ObjectNo.{ObjectNo}
@@ -6,7 +6,7 @@ use Rattle.mm_types.specs.declared.numbers.ResourceNo.{ResourceNo}
 use Rattle.mm_types.specs.declared.numbers.Node.{Node}
 use Rattle.mm_types.specs.declared.numbers.Node.TheVariants as node
 
--- the topmost of a node and the nodes above it
+-- the topmost node among a node and the nodes above it
 abbrev pub root_of : (Node → List Node) → Node → Node
 root_of up n = unwrap_or (last_or (Some n) (up n)) n
 

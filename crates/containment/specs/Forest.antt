@@ -1,4 +1,4 @@
--- The containment forest, read off a model: what contains an object, and what a node contains (EMF: EObject.eContainer, eContents,
+-- The containment forest, read off a model: the container of an object, and the contents of a node (EMF: EObject.eContainer, eContents,
 -- eAllContents).
 use Rattle.std.specs.Prelude.{ℕ, zero, suc, Bool, false, ◌&&◌, nat_lt, length, List, [], ◌∷◌, filter, flat_map, Option, Some, None, option_and_then}
 use Rattle.std.specs.List.{list_any}
@@ -19,7 +19,7 @@ parts r n fs = flat_map (λ f. objects_of (r.values (at_end n f))) (filter (is_c
 abbrev pub contents : Reading → Node → List ObjectNo
 contents r n = parts r n (all_features_of r n)
 
--- values are at an end that contains
+-- whether a feature is a containment, and the node has values under it
 abbrev pub has_parts_at : Reading → Node → FeatureNo → Bool
 has_parts_at r n f = is_containment r.metamodel f && nat_lt 0 (length (r.values (at_end n f)))
 
@@ -34,22 +34,21 @@ object_node (node.Resource k) = None
 abbrev pub container : Reading → ObjectNo → Option ObjectNo
 container r o = option_and_then (λ (e : End). object_node e.node) (r.holder (node.Object o))
 
--- an object and all that is below it, each before what it contains, for so many levels
+-- an object and all objects below it, for so many levels; each object comes before its contents
 abbrev pub tree : Reading → ℕ → ObjectNo → List ObjectNo
 tree r zero o = []
 tree r (suc k) o = o ∷ flat_map (tree r k) (contents r (node.Object o))
 
--- an object and all that is below it: no object has more levels below it than objects were made. Nothing is below a number that no
--- object has
+-- an object and all objects below it; no tree has more levels than objects were made. Nothing is below a number that no object has
 abbrev pub subtree : Reading → ObjectNo → List ObjectNo
 subtree r o = tree r (suc r.next) o
 
--- of an object, it and all that is below it; of a resource, all objects in it
+-- for an object, the object and all objects below it; for a resource, all objects in it
 abbrev pub node_subtree : Reading → Node → List ObjectNo
 node_subtree r (node.Object o) = subtree r o
 node_subtree r (node.Resource k) = flat_map (subtree r) (contents r (node.Resource k))
 
--- a node is an object of a list
+-- whether a node is an object of a list
 abbrev pub is_node_among : List ObjectNo → Node → Bool
 is_node_among os (node.Object o) = list_any (same_object o) os
 is_node_among os (node.Resource k) = false

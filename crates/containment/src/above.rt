@@ -1,4 +1,4 @@
-//! The nodes above a node: whether one is among them, the topmost, and the resource that it is.
+//! The nodes above a node: whether a given node is among them, the topmost one, and the resource if the topmost one is a resource.
 ghost use Rattle.std.specs.Prelude.{◌≡◌};
 ghost use Rattle.std.specs.List.{list_any};
 ghost use Rattle.std.specs.Option.{option_map};
@@ -28,8 +28,8 @@ pub fn is_under<L: LinkStore>(store: &L, node: Node, above: Node) -> bool
     false
 }
 
-/// The topmost of a node and the nodes above it: the node itself if nothing contains it (EMF: EcoreUtil.getRootContainer, but
-/// here a resource is a root). Takes no memory.
+/// The topmost among a node and the nodes above it: the node itself if nothing contains it (EMF: EcoreUtil.getRootContainer, but here a
+/// resource is a root). Takes no memory.
 pub fn root_of<L: LinkStore>(store: &L, node: Node) -> Node
     requires legal { IsLegalSet (L.links store.now) }
     requires no_cycle { HasNoCycle (L.links store.now) }
@@ -42,8 +42,7 @@ pub fn root_of<L: LinkStore>(store: &L, node: Node) -> Node
     top
 }
 
-/// The resource that an object is in, through however many objects; `None` if it is in none (EMF: EObject.eResource). Takes no
-/// memory.
+/// The resource that an object is in, directly or below other objects; `None` if it is in none (EMF: EObject.eResource). Takes no memory.
 pub fn holder_resource<L: LinkStore>(store: &L, object: ObjectNo) -> Option<ResourceNo>
     requires legal { IsLegalSet (L.links store.now) }
     requires no_cycle { HasNoCycle (L.links store.now) }

@@ -15,14 +15,14 @@ use links::LinkStore;
 use mm_types::{End, FeatureNo, Node, ObjectNo};
 use models::ModelRef;
 
-/// How many objects can wait on the way down. If more would have to, only the way up is left.
+/// How many objects can wait on the way down. If more would have to wait, only the way up is left.
 const MOST_WAITING: usize = 32;
 
-/// The numbers of objects that are still to be looked at, with all that is below them.
+/// The numbers of objects that are still to be looked at, together with the objects below them.
 type Waiting = ArrayVec<u32, MOST_WAITING>;
 
-/// Whether an object is above a node. The nodes above the node and the objects below the object are looked at in turn, so an object
-/// with little below it is found to be above nothing else in few steps, however deep the node is. Takes no memory.
+/// Whether an object is above a node. The nodes above the node and the objects below the object are looked at in turn. So if few objects
+/// are below the object, few steps show that it is not above the node, however deep the node is. Takes no memory.
 pub(crate) fn is_object_above<L: LinkStore>(
     model: &ModelRef<L>,
     object: ObjectNo,
@@ -57,7 +57,7 @@ pub(crate) fn is_object_above<L: LinkStore>(
     false
 }
 
-/// Adds what an object contains, and returns whether there was capacity for all of it.
+/// Adds the objects that an object contains, and returns whether there was capacity for all of them.
 fn add_contents<L: LinkStore>(model: &ModelRef<L>, object: ObjectNo, waiting: &mut Waiting) -> bool
     ensures { result ≡ true → waiting_objects waiting.new.items ≡ waiting_objects waiting.old.items ++ forest.contents (reading model.now) (node_as.Object object) }
 {
@@ -71,7 +71,7 @@ fn add_contents<L: LinkStore>(model: &ModelRef<L>, object: ObjectNo, waiting: &m
     true
 }
 
-/// Adds what a node contains by one feature, and returns whether there was capacity for all of it.
+/// Adds the objects that a node contains by one feature, and returns whether there was capacity for all of them.
 fn add_parts<L: LinkStore>(
     model: &ModelRef<L>,
     node: Node,

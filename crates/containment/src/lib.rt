@@ -1,4 +1,4 @@
-//! Containment: what is above a node, in which resource an object is, what a node contains, all that is below a node, and
+//! Containment: the nodes above a node, the resource that an object is in, the objects that a node contains, all objects below a node, and
 //! whether a node is below another.
 #![tactic(auto)]
 

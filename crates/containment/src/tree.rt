@@ -1,4 +1,4 @@
-//! All that is below a node, and whether a node is below another.
+//! All objects below a node, and whether a node is below another.
 ghost use Rattle.std.specs.Prelude.{◌≡◌, false, flat_map, reverse, IfOk};
 ghost use Rattle.std.specs.List.{list_any};
 ghost use Rattle.mm_types.specs.Same.{same_node};
@@ -14,8 +14,8 @@ use mm_types::{FeatureNo, Node, ObjectNo};
 use models::{ModelRef, at_end};
 use std::alloc::{AllocError, Global};
 
-/// An object and all that is below it, each before what it contains (EMF: the object, then EObject.eAllContents). Of a number that no
-/// object has, it alone. Errs only if memory is refused.
+/// An object and all objects below it, each before its contents (EMF: the object, then EObject.eAllContents). For a number that no object
+/// has, just the number. Errs only if memory is refused.
 pub fn subtree<L: LinkStore>(
     alloc: Global,
     model: &ModelRef<L>,
@@ -27,8 +27,8 @@ pub fn subtree<L: LinkStore>(
     all_below(alloc, model, waiting)
 }
 
-/// All objects of a node: an object and all that is below it, or all objects in a resource, each before what it contains. Errs only
-/// if memory is refused.
+/// All objects of a node: an object and all objects below it, or all objects in a resource; each before its contents. Errs only if memory
+/// is refused.
 pub fn node_subtree<L: LinkStore>(
     alloc: Global,
     model: &ModelRef<L>,
@@ -46,7 +46,7 @@ pub fn node_subtree<L: LinkStore>(
     }
 }
 
-/// Objects and all that is below them; the last object comes first. Errs only if memory is refused.
+/// Objects and all objects below them; the last of these objects comes first. Errs only if memory is refused.
 fn all_below<L: LinkStore>(
     alloc: Global,
     model: &ModelRef<L>,
@@ -65,16 +65,16 @@ fn all_below<L: LinkStore>(
     Ok(found)
 }
 
-/// Whether a node is a given one, or is below it. Takes no memory, and few steps if the given one has little below it.
+/// Whether `node` is `above`, or is below it. Takes no memory, and few steps if `above` has few objects below it.
 pub fn is_within<L: LinkStore>(model: &ModelRef<L>, above: Node, node: Node) -> bool
     ensures { result ≡ r.is_within (reading model.now) above node }
 {
     above == node || is_below(model, above, node)
 }
 
-/// Whether a node is below another one. A node at the top is below none, an object that contains nothing is above none, and an object
-/// that has little below it is soon seen to be above no other: so a chain that grows at its lower end is not climbed to its top for each
-/// new object.
+/// Whether a node is below another one. A node at the top is below none, and an object that contains nothing is above none. If an object
+/// has few objects below it, few steps show that it is above no other. So a chain that grows at its lower end is not climbed to its top for
+/// each new object.
 fn is_below<L: LinkStore>(model: &ModelRef<L>, above: Node, node: Node) -> bool
     requires apart { same_node above node ≡ false }
     ensures { result ≡ list_any (same_node above) ((reading model.now).above node) }
@@ -90,7 +90,7 @@ fn is_below<L: LinkStore>(model: &ModelRef<L>, above: Node, node: Node) -> bool
     }
 }
 
-/// Whether an end of a node that contains has a value.
+/// Whether a node contains an object.
 fn has_parts<L: LinkStore>(model: &ModelRef<L>, node: Node) -> bool
     ensures { result ≡ forest.has_parts (reading model.now) node }
 {

@@ -1,4 +1,4 @@
--- The links that are put again: these edits fit, and give each end of a higher feature the order that the document has there.
+-- The links that are put in again: these edits fit, and give each end of a higher feature the order of the document.
 use Rattle.std.proofs.Common.{◌≡◌, ◌≢◌, ◌∙◌, ◌<◌, ◌++◌, ℕ, Bool, true, false, cond, if◌then◌else◌, List, [], ◌∷◌, Option, Some, None, refl, sym, ap, subst, arith}
 use Rattle.std.specs.Prelude.{◌&&◌, flat_map, nat_eq, slice_get}
 use Rattle.std.specs.List.{AllByRecursion, enumerate_from}
@@ -30,10 +30,12 @@ use Rattle.doc_loader.proofs.GatherLemmas.{by-contents, gathered-none, gathered-
 use Rattle.doc_loader.proofs.PairLemmas.{all-at, all-flat_map, all-from_at, all-more}
 use Rattle.doc_loader.proofs.PlacedLemmas.{lower-feature, index_of-is}
 use Rattle.doc_loader.proofs.RotateLemmas.{Again, IsGoodAgain, all_again, again_at, again_edits}
-use Rattle.doc_loader.proofs.SideLemmas.{IsHigher, IsNearSide, feature-same, opposite-reference, higher, higher-near, lower-is}
+use Rattle.doc_loader.proofs.SideLemmas.{IsHigher, IsNearSide, opposite-reference, higher, higher-near, lower-is}
 use Rattle.doc_loader.proofs.SoundLemmas.{AreSoundContents, IsSort, IsSound, IsSoundContent, has-content}
 use Rattle.doc_loader.proofs.SourceLemmas.{loaded-at, loaded_values}
-use Rattle.doc_loader.proofs.TotalLemmas.{add-eq, nested, turned-eq}
+use Rattle.doc_loader.proofs.TotalLemmas.{add-eq, nested}
+use Rattle.mm_meta.proofs.ByNameLemmas.{numbered_alike}
+use Rattle.mm_meta.proofs.OwnerLemmas.{nat_eq-turned}
 
 ---------------------------------------------------------------- values of pairs
 
@@ -43,7 +45,7 @@ IsTarget (value.Object a) = Unit {0}
 IsTarget (value.Proxy t) = Unit {0}
 IsTarget _ = ⊥
 
--- under a reference is nothing else
+-- the values of a reference are objects and proxies
 pub reference-target : (a : Shape) (v : Value) → a.is_reference ≡ true → IsSort a v → IsTarget v
 reference-target a (value.Object b) reference sort = tt
 reference-target a (value.Proxy t) reference sort = tt
@@ -54,7 +56,7 @@ reference-target a (value.Text x) reference sort = absurd (true≢false (sym ref
 reference-target a (value.Literal x) reference sort = absurd (true≢false (sym reference ∙ sort))
 reference-target a (value.Adapter x) reference sort = absurd (true≢false (sym reference ∙ sort))
 
--- and among what is no proxy nothing but objects
+-- a value of a reference that is no proxy is an object
 pub target-object : (v : Value) → IsTarget v → is_no_proxy v ≡ true → (a : ObjectNo) × (v ≡ value.Object a)
 target-object (value.Object a) target plain = (a, refl)
 target-object (value.Proxy t) target plain = absurd (false≢true plain)
@@ -118,7 +120,7 @@ module _ (m : Metamodel) (n : ℕ) (doc : Doc) (sound : IsSound m doc) where
       by None = refl
       by (Some f) = by_order f (is_ascending_from 0 c.values)
 
-  -- they are the edits of the document
+  -- these are the edits of the document
   pub again-edits : all_again (kinds_of m) agains ≡ of_contents (far_edits m n (index_among m doc.objects)) doc
   again-edits =
       by-contents content_again (again_edits (kinds_of m)) doc
@@ -188,7 +190,7 @@ module _ (m : Metamodel) (n : ℕ) (doc : Doc) (sound : IsSound m doc) where
 
   ---------------------------------------------------------------- what comes to be last
 
-  -- under an end of the higher feature all objects that are put again, in their order
+  -- at an end of the higher feature: all objects whose links are put in again, in their order
   values-last : (d : End) (f g : FeatureNo) (o : ObjectNo) (vs : List Value) → AllByRecursion IsTarget vs
       → flat_map (again_at d) (flat_map (value_again f g o) vs) ≡ cond (same_end (object_end n o g) d) (loaded_values n (others vs)) []
   values-last d f g o [] all = both (same_end (object_end n o g) d)
@@ -213,7 +215,7 @@ module _ (m : Metamodel) (n : ℕ) (doc : Doc) (sound : IsSound m doc) where
   all-targets : (o : ObjectNo) (c : Content) → IsSoundContent m doc o c → (f : FeatureNo) → IsHigher m sound.kinds c.feature f → AllByRecursion IsTarget c.values
   all-targets o c s f high = all-more (IsSort (shape m c.feature)) IsTarget c.values (λ v sort. reference-target (shape m c.feature) v (opposite-reference m c.feature f high.pair) sort) s.sorts
 
-  -- what is put again at an end, by its values
+  -- the values that are put in again at an end, by its values
   abbrev pub last_of : List Value → List Value
   last_of vs = cond (is_ascending_from 0 vs) [] (loaded_values n (others vs))
 
@@ -231,19 +233,19 @@ module _ (m : Metamodel) (n : ℕ) (doc : Doc) (sound : IsSound m doc) where
       by_order h is true = all-nil (same_feature g c.feature) (nat_eq o.0 b.0) []
       by_order h is false =
           values-last (object_end n b g) h c.feature o c.values (all-targets o c s h is)
-          ∙ nested (nat_eq o.0 b.0) (same_feature g c.feature) (same_end (object_end n o c.feature) (object_end n b g)) (loaded_values n (others c.values)) (λ i. (sym (add-eq n o.0 b.0) i) && (turned-eq g.0 c.feature.0 i))
+          ∙ nested (nat_eq o.0 b.0) (same_feature g c.feature) (same_end (object_end n o c.feature) (object_end n b g)) (loaded_values n (others c.values)) (λ i. (sym (add-eq n o.0 b.0) i) && (nat_eq-turned g.0 c.feature.0 i))
 
       by : (h : Option FeatureNo) → lower_of (shape m c.feature) c.feature ≡ h
           → flat_map (again_at (object_end n b g)) (option_map_or (values_again c.feature o c.values) h []) ≡ cond (same_feature g c.feature) (cond (nat_eq o.0 b.0) (last_of c.values) []) []
       by None none =
-          let other = false_from_ne_true (same_feature g c.feature) (λ q. none-some f (sym none ∙ subst (λ (x : FeatureNo). lower_of (shape m x) x ≡ Some f) (feature-same g c.feature (eqb-true g.0 c.feature.0 q)) (lower-is m sound.kinds g f high))) in
+          let other = false_from_ne_true (same_feature g c.feature) (λ q. none-some f (sym none ∙ subst (λ (x : FeatureNo). lower_of (shape m x) x ≡ Some f) (numbered_alike g c.feature (eqb-true g.0 c.feature.0 q)) (lower-is m sound.kinds g f high))) in
           ap (λ (t : Bool). cond t (cond (nat_eq o.0 b.0) (last_of c.values) []) []) (sym other)
       by (Some h) is = by_order h (higher m sound.kinds c.feature h is) (is_ascending_from 0 c.values)
 
   pub last-higher : (b : ObjectNo) (g f : FeatureNo) → IsHigher m sound.kinds g f → flat_map (again_at (object_end n b g)) agains ≡ last_of (values_in doc b g)
   last-higher b g f high = gathered-one content_again (again_at (object_end n b g)) m doc sound b g last_of refl (content-last b g f high)
 
-  -- no end of a higher feature
+  -- an end that is not of a higher feature
   abbrev pub IsNotHigher : End → Type 0
   IsNotHigher d = (b : ObjectNo) (g f : FeatureNo) → IsHigher m sound.kinds g f → object_end n b g ≢ d
 

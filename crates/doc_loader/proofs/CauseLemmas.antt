@@ -39,7 +39,7 @@ not-last : (f : DocFault) (b : Bool) → cond b (Some f) None ≡ None → b ≡
 not-last f true none = absurd (cc)
 not-last f false none = refl
 
--- what is written as an object is one, of a class that has objects; each content is of its feature's type
+-- each object is written as a JSON object, of a class that is not abstract; each content is of its feature's type
 pub record IsShapely (m : Metamodel) (d : Data) : Type 0 where
   pub layout : list_any is_misshapen (parts m d) ≡ false
   pub classes : of_written (has_no_class m) (parts m d) ≡ false
@@ -63,7 +63,7 @@ shapely m d none =
       content = not-last cause.Value untyped (later keys values (later classes (keys else_by values) from_class));
     }
 
--- nothing repeats that may not, no list is too long, and both ends of a pair name each other
+-- no unique list has a value twice, no list is too long, and both ends of a pair name each other
 pub record IsFaultless (m : Metamodel) (d : Data) (doc : Doc) : Type 0 where
   pub form : IsShapely m d
   pub repeats : of_content (λ o c. has_repeat m c) doc ≡ false
@@ -95,7 +95,7 @@ faultless m b d none =
       sided = not-so cause.OneSided unanswered from_cross from_sided;
     }
 
--- a document that is read is what its source is read as, and faultless
+-- a document that is read has no faults, and is the document that its source is read as
 pub read-faultless : (m : Metamodel) (uri : List ℕ) (doc : Doc) (read : IsRead m uri doc) → (doc_read m (base_of uri) read.source ≡ doc) × IsFaultless m read.source (doc_read m (base_of uri) read.source)
 read-faultless m uri doc read =
     let b = base_of uri in

@@ -1,4 +1,4 @@
--- What is known of a content of a document that is read, by the shape of its feature.
+-- Facts about a content of a document that is read, by the shape of its feature.
 use Rattle.std.proofs.Common.{◌≡◌, ◌∙◌, ℕ, zero, suc, Bool, true, false, cond, List, [], ◌∷◌, Option, Some, None, refl, sym, ap, subst}
 use Rattle.std.specs.Prelude.{IfSome, filter_map, option_map, slice_get}
 use Rattle.std.specs.List.{AllByRecursion, enumerate_from, list_any}
@@ -82,7 +82,7 @@ IsLinked (value.Object o) = Unit {0}
 IsLinked (value.Proxy t) = Unit {0}
 IsLinked _ = ⊥
 
--- what holds of each object of the document, and of the proxy of a target elsewhere, holds of what a target leads to
+-- a property of each object of the document, and of the proxy of each target elsewhere, holds for the value to which a target leads
 module _ (P : Value → Type 0) (each : (n : ℕ) → P (object_of n)) (m : Metamodel) (ps : List Part) (class : ClassNo) where
   found-each : (n : ℕ) (o : Option Part) → IfSome (o >>= (λ q. cond (conforms_to m class q.json) (Some (object_of n)) None)) P
   found-each n None = tt
@@ -131,7 +131,7 @@ number-of-object (Some n) b h = let e = same_Some (object_of n) (value.Object b)
         number (value.Object o) = o.0
         number _ = 0
 
--- what is known of a content that was read from an entry, by the shape of its feature
+-- facts about a content that was read from an entry, by the shape of its feature
 pub record IsKnown (m : Metamodel) (ps : List Part) (path : Path) (f : FeatureNo) (vs : List Value) : Type 0 where
   pub plain : (h : FeatureNo) → (shape m f).containing ≡ Some h → h ≡ f
   pub sorts : AllByRecursion (IsSort (shape m f)) vs

@@ -115,7 +115,7 @@ module _ (m : Metamodel) (names : NamesAreApart m) (b : Base) (d : Data) (doc : 
 
   ---------------------------------------------------------------- parts
 
-  -- where an object is under a containment, and by which step
+  -- the position of an object under a containment, and the step that leads to it
   record IsPart (o : ObjectNo) (f : FeatureNo) (a : ObjectNo) : Type 0 where
     content : Content
     of : content.feature ≡ f

@@ -1,4 +1,4 @@
--- What each end has once a document's edits are made.
+-- The values of each end after the edits of a document.
 use Rattle.std.proofs.Common.{◌≡◌, ◌≢◌, ◌∙◌, ◌+◌, ◌≤◌, ◌++◌, ℕ, Bool, true, false, cond, List, [], Option, Some, None, append-nil, append_assoc, arith, length, refl, sym, ap, subst}
 use Rattle.std.specs.Prelude.{slice_get}
 use Rattle.std.proofs.lemmas.List.{length-map}
@@ -247,13 +247,13 @@ module _ (m : Metamodel) (n : ℕ) (k : ResourceNo) (doc : Doc) (sound : IsSound
   pub end-roots : end loaded_set (contents_end m k) ≡ roots_loaded n doc
   end-roots = end-stays (contents_end m k) (λ b g f high q. not-contents m n k b g q) ∙ near_end-roots m n k doc sound s legal kinds free room fit
 
-  -- a near feature has what the document has there
+  -- an end of a near feature has the values of the document
   pub end-near : (o : ObjectNo) (f : FeatureNo) → IsNearSide m f → end loaded_set (object_end n o f) ≡ loaded_values n (values_in doc o f)
   end-near o f side =
       end-stays (object_end n o f) (near-stays o f side)
       ∙ near_end-own m n k doc sound s legal kinds free room fit o f side
 
-  -- so has each reference that is no container
+  -- each reference that is no container reference has the values of the document
   pub end-values : (o : ObjectNo) (f : FeatureNo) → (shape m f).is_reference ≡ true → IsPlainFeature m f → end loaded_set (object_end n o f) ≡ loaded_values n (values_in doc o f)
   end-values o f reference plain = by (lower_of (shape m f) f) refl
     where
@@ -264,7 +264,7 @@ module _ (m : Metamodel) (n : ℕ) (k : ResourceNo) (doc : Doc) (sound : IsSound
   same-source : (u v : Value) (a c : ObjectNo) → u ≡ value.Object (loaded n a) → v ≡ value.Object (loaded n c) → a ≡ c → u ≡ v
   same-source u v a c p q same = p ∙ ap (λ (x : ObjectNo). value.Object (loaded n x)) same ∙ sym q
 
-  -- all that name an object under a feature that contains are one
+  -- at most one object names an object under a containment
   pub one-source : (b : ObjectNo) (f h : FeatureNo) → (shape m f).containing ≡ Some h → (i j : ℕ) (u v : Value)
       → slice_get (sources_from n (λ (x : DocObject). values_under x f) b 0 doc.objects) i ≡ Some u → slice_get (sources_from n (λ (x : DocObject). values_under x f) b 0 doc.objects) j ≡ Some v → u ≡ v
   one-source b f h contains i j u v x y =
@@ -273,7 +273,7 @@ module _ (m : Metamodel) (n : ℕ) (k : ResourceNo) (doc : Doc) (sound : IsSound
       let only = sound.once p.0 q.0 f f h h p.4.0 q.4.0 b contains contains (there-object doc p.0 f p.1 p.4.0 (value.Object b) p.2 p.4.1) (there-object doc q.0 f q.1 q.4.0 (value.Object b) q.2 q.4.1) in
       same-source u v p.0 q.0 p.3 q.3 only.0
 
-  -- a container has those that name the object
+  -- a container reference has the object that names its object
   pub end-held : (b : ObjectNo) (g f h : FeatureNo) → IsFarSide m g f → (shape m g).containing ≡ Some h → end loaded_set (object_end n b g) ≡ sources_from n (λ (x : DocObject). values_under x f) b 0 doc.objects
   end-held b g f h side contains =
       end-stays (object_end n b g) (λ c i j high q. none-some h (sym high.plain ∙ ap (λ (x : End). (shape m x.feature).containing) q ∙ contains))

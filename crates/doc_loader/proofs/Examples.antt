@@ -59,7 +59,7 @@ knows a i b = Put (under a 1) i (oid b) (Some (fid 2)) None
 its-values : loaded_values people 5 doc ≡ NewObject (record { 0 = 0 }) ∷ NewObject (record { 0 = 0 }) ∷ PutList (oid 5) (fid 0) ann true ∷ []
 its-values = refl
 
--- all are put as the first ends have them, and then those that know the first one once more, in the order in which she is known
+-- all links are put in the order of the first ends, and then the links to the first person once more, in the order in which she is known
 its-edits : load_edits people 5 (record { 0 = 0 }) doc ≡
     Put roots 0 (oid 5) None (Some (fid 3)) ∷ Put roots 1 (oid 6) None (Some (fid 3))
     ∷ knows 5 0 6 ∷ knows 5 1 5 ∷ knows 6 0 5 ∷ knows 6 1 6
@@ -71,7 +71,7 @@ its-edits = refl
 abbrev links : List Link
 links = loaded_links people 5 (record { 0 = 0 }) doc
 
--- each end of the links has what the document has there
+-- each end of the links has the values of the document
 roots-loaded : values links roots ≡ roots_loaded 5 doc
 roots-loaded = refl
 

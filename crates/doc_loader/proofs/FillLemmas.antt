@@ -1,4 +1,4 @@
--- Proxies that are put at their indexes among the objects of an end, in the order of the indexes, make the end complete.
+-- An end is complete after its proxies are put at their indexes among its objects, in the order of the indexes.
 use Rattle.std.proofs.Common.{◌≡◌, ◌≢◌, ◌∙◌, ◌+◌, ◌<◌, ◌≤◌, ◌++◌, ℕ, zero, suc, Bool, true, false, List, [], ◌∷◌, Some, None, if◌then◌else◌, length, append_assoc, refl, sym, ap, subst, arith}
 use Rattle.std.specs.Prelude.{◌&&◌, cond, filter, flat_map, nat_le}
 use Rattle.std.specs.List.{AllByRecursion, insert, slice_get}
@@ -25,7 +25,7 @@ use Rattle.doc_loader.proofs.SourceLemmas.{loaded_values}
 
 ---------------------------------------------------------------- lists
 
--- a value but a proxy
+-- a value that is no proxy
 abbrev pub is_no_proxy : Value → Bool
 is_no_proxy (value.Proxy t) = false
 is_no_proxy _ = true
@@ -40,7 +40,7 @@ proxies_from i [] = []
 proxies_from i (value.Proxy t ∷ vs) = (i, t) ∷ proxies_from (i + 1) vs
 proxies_from i (v ∷ vs) = proxies_from (i + 1) vs
 
--- if no proxy is left, nothing is left out
+-- if no proxy is left, no value is left out
 without_proxies : (i : ℕ) (vs : List Value) → proxies_from i vs ≡ [] → others vs ≡ vs
 without_proxies i [] is = refl
 without_proxies i (value.Proxy t ∷ vs) is = cc
@@ -52,7 +52,7 @@ without_proxies i (value.Text b ∷ vs) is = ap (λ (xs : List Value). value.Tex
 without_proxies i (value.Literal b ∷ vs) is = ap (λ (xs : List Value). value.Literal b ∷ xs) (without_proxies (i + 1) vs is)
 without_proxies i (value.Adapter b ∷ vs) is = ap (λ (xs : List Value). value.Adapter b ∷ xs) (without_proxies (i + 1) vs is)
 
--- the first proxy of a list: what is before it, and what after
+-- the first proxy of a list, and the values before and after it
 record IsFirst (k i : ℕ) (p : List ℕ) (rest : List (ℕ × List ℕ)) (zs : List Value) : Type 0 where
   front : List Value
   behind : List Value
@@ -96,11 +96,11 @@ first-proxy k i p rest (value.Text b ∷ zs) is = first-more k i p rest (value.T
 first-proxy k i p rest (value.Literal b ∷ zs) is = first-more k i p rest (value.Literal b) zs refl (first-proxy (k + 1) i p rest zs is)
 first-proxy k i p rest (value.Adapter b ∷ zs) is = first-more k i p rest (value.Adapter b) zs refl (first-proxy (k + 1) i p rest zs is)
 
--- no proxy is among the others
+-- none of the other values is a proxy
 others-plain : (vs : List Value) (j : ℕ) (t : List ℕ) → slice_get (others vs) j ≡ Some (value.Proxy t) → ⊥
 others-plain vs j t at = false≢true (filter-at is_no_proxy vs j (value.Proxy t) at).2
 
--- what is among the others is in the list
+-- the other values are in the list
 pub others-at : (vs : List Value) (j : ℕ) (v : Value) → slice_get (others vs) j ≡ Some v → (i : ℕ) × (slice_get vs i ≡ Some v)
 others-at vs j v at = let r = filter-at is_no_proxy vs j v at in (r.0, r.1)
 
@@ -113,7 +113,7 @@ at-others (w ∷ vs) (suc i) v plain at =
     let r = at-others vs i v plain at in
     elim (is_no_proxy w) as (λ b. (j : ℕ) × (slice_get (cond b (w ∷ others vs) (others vs)) j ≡ Some v)) [ true ↦ (suc r.0, r.1) | false ↦ r ]
 
-distinct-tail : (v : Value) (vs : List Value) → IsDistinct (v ∷ vs) → IsDistinct vs
+pub distinct-tail : (v : Value) (vs : List Value) → IsDistinct (v ∷ vs) → IsDistinct vs
 distinct-tail v vs d j k w a b = let e = d (suc j) (suc k) w a b in omega (arith, e)
 
 distinct-more : (v : Value) (vs : List Value) → IsDistinct (v ∷ vs) → IsDistinct (others vs) → IsDistinct (v ∷ others vs)
@@ -134,7 +134,7 @@ others-distinct (v ∷ vs) d =
     let rest = others-distinct vs (distinct-tail v vs d) in
     elim (is_no_proxy v) as (λ b. IsDistinct (cond b (v ∷ others vs) (others vs))) [ true ↦ distinct-more v vs d rest | false ↦ rest ]
 
--- leaving proxies out changes neither whether the objects are in order
+-- leaving proxies out does not change whether the objects are in order
 pub others-ascending : (k : ℕ) (vs : List Value) → is_ascending_from k (others vs) ≡ is_ascending_from k vs
 others-ascending k [] = refl
 others-ascending k (value.Proxy t ∷ vs) = others-ascending k vs
@@ -146,7 +146,7 @@ others-ascending k (value.Text b ∷ vs) = others-ascending k vs
 others-ascending k (value.Literal b ∷ vs) = others-ascending k vs
 others-ascending k (value.Adapter b ∷ vs) = others-ascending k vs
 
--- nor which numbers the objects get
+-- leaving proxies out does not change which numbers the objects get
 pub others-loaded : (n : ℕ) (vs : List Value) → others (loaded_values n vs) ≡ loaded_values n (others vs)
 others-loaded n [] = refl
 others-loaded n (value.Proxy t ∷ vs) = others-loaded n vs
@@ -193,7 +193,7 @@ split-at (x ∷ xs) ys (suc k) v at other = split-at xs ys k v at other
 
 ---------------------------------------------------------------- a plan of proxies
 
--- what an edit puts at an end
+-- the proxies that an edit puts at an end
 abbrev pub fills : End → Edit → List (ℕ × List ℕ)
 fills d (edit.PutProxy e i t) = if same_end e d then (i, t) ∷ [] else []
 fills d _ = []
@@ -210,7 +210,7 @@ fills-kinds m (edit.Cut e o ∷ ys) all = absurd all.0
 fills-kinds m (edit.CutProxy e p ∷ ys) all = absurd all.0
 fills-kinds m (edit.Shift e to from ∷ ys) all = absurd all.0
 
--- an end that waits for proxies: its first values are there, of the others all but the proxies
+-- an end that waits for proxies: its first values are complete, and of the later values all except the proxies are there
 pub record Waits (t : Links) (ys : List Edit) (d : End) (vs : List Value) : Type 0 where
   pub there : List Value
   pub waiting : List Value
@@ -297,7 +297,7 @@ fill-other t legal ys e i p fits d vs other w =
 
 ---------------------------------------------------------------- a plan
 
--- an end that waits for proxies, and what it comes to, which repeats nothing and is short
+-- an end that waits for proxies, and its final list, which has no value twice and is short
 pub record IsReady (t : Links) (ys : List Edit) (d : End) : Type 0 where
   pub last : List Value
   pub distinct : IsDistinct last
@@ -329,7 +329,7 @@ all_filled m (edit.Cut e o ∷ ys) t legal all ready = absurd all.0
 all_filled m (edit.CutProxy e p ∷ ys) t legal all ready = absurd all.0
 all_filled m (edit.Shift e to from ∷ ys) t legal all ready = absurd all.0
 
--- each end comes to what it waits for
+-- each end gets its final list
 pub end_filled : (m : Kinds) (ys : List Edit) (t : Links) → IsLegalSet t → AllByRecursion (IsFill m) ys → PlanFits t ys → (d : End) (r : IsReady t ys d) → end (applied t ys) d ≡ r.last
 end_filled m [] t legal all fits d r = let w = r.waits in w.now ∙ ap (λ (xs : List Value). w.there ++ xs) (without_proxies (length w.there) w.waiting (sym w.next)) ∙ sym w.whole
 end_filled m (edit.PutProxy e i p ∷ ys) t legal all fits d r =

@@ -1,4 +1,4 @@
--- A document that is read has no longer lists than it may have, and names no object that it does not have.
+-- In a document that is read no list is longer than it may be, and only objects of the document are named.
 use Rattle.std.proofs.Common.{◌≡◌, ◌+◌, ◌<◌, ◌≤◌, Bool, true, false, List, [], ◌∷◌, Option, Some, None, ℕ, arith, cond, length, map, refl, subst, sym}
 use Rattle.std.specs.Prelude.{◌&&◌, ◌||◌, filter_map, int_le, nat_le, not, option_map, pos, slice_get, IfSome}
 use Rattle.std.specs.List.{All, cons_option, enumerate_from, list_any}

@@ -1,4 +1,4 @@
--- A plan that puts values last in their ends fits where the ends that it comes to are good.
+-- A plan that appends values to ends fits if the resulting ends are good.
 use Rattle.std.proofs.Common.{◌≡◌, ◌≢◌, ◌∙◌, ◌<◌, ◌≤◌, ◌++◌, ℕ, zero, suc, true, false, List, [], ◌∷◌, Option, Some, None, if◌then◌else◌, length, append_assoc, append-nil, refl, sym, ap, subst, arith}
 use Rattle.std.specs.Prelude.{flat_map}
 use Rattle.std.specs.List.{AllByRecursion, insert, list_any, slice_get}
@@ -62,7 +62,7 @@ module _ (xs : List Value) (v : Value) (ys all : List Value) (is : xs ++ v ∷ y
 
 ---------------------------------------------------------------- what an edit adds
 
--- what an end gains last by an edit
+-- the values that an edit appends to an end
 abbrev pub gains : End → Edit → List Value
 gains d (edit.Put e i o g c) = if same_end e d then value.Object o ∷ [] else (if is_far o g d then node_value e.node ∷ [] else [])
 gains d (edit.PutProxy e i t) = if same_end e d then value.Proxy t ∷ [] else []
@@ -73,14 +73,15 @@ abbrev pub IsBefore : ℕ → Node → ObjectNo → Type 0
 IsBefore n (node.Object a) b = (n ≤ a.0) × (a.0 < b.0)
 IsBefore n (node.Resource r) b = Unit {0}
 
--- ends that repeat nothing and are short, where each object from number n on is contained once at most, after what contains it
+-- the lists of ends have no value twice and are short, and each object from number n on is contained at most once, by a node that comes
+-- before it
 pub record AreGood (m : Kinds) (n : ℕ) (T : End → List Value) : Type 0 where
   pub distinct : (d : End) → IsDistinct (T d)
   pub few : (d : End) → length (T d) ≤ most
   pub one : (d e : End) (b : ObjectNo) (j k : ℕ) → n ≤ b.0 → m.container d.feature ≡ Some d.feature → m.container e.feature ≡ Some e.feature → slice_get (T d) j ≡ Some (value.Object b) → slice_get (T e) k ≡ Some (value.Object b) → d ≡ e
   pub before : (d : End) (b : ObjectNo) (k : ℕ) → n ≤ b.0 → m.container d.feature ≡ Some d.feature → slice_get (T d) k ≡ Some (value.Object b) → IsBefore n d.node b
 
--- a put of the kind of its feature, which doesn't contain what it is put into, and which is there in the end
+-- a put that agrees with the kind of its feature and whose object doesn't contain the node of its end; the object is in the resulting end
 pub record IsGoodPut (m : Kinds) (n : ℕ) (T : End → List Value) (e : End) (i : ℕ) (o : ObjectNo) (g c : Option FeatureNo) : Type 0 where
   pub opposite : g ≡ m.opposite e.feature
   pub container : c ≡ m.container e.feature
@@ -94,7 +95,7 @@ IsGood m n T (edit.Put e i o g c) = IsGoodPut m n T e i o g c
 IsGood m n T (edit.PutProxy e i t) = (m.container e.feature ≡ None) × (slice_get (T e) i ≡ Some (value.Proxy t))
 IsGood m n T _ = ⊥
 
--- such edits are of the kinds of their features
+-- these edits agree with the kinds of their features
 pub good_kinds : (m : Kinds) (n : ℕ) (T : End → List Value) (ys : List Edit) → AllByRecursion (IsGood m n T) ys → IsPlanOfKind m ys
 good_kinds m n T [] all = tt
 good_kinds m n T (edit.Put e i o g c ∷ ys) all = ((all.0.opposite, all.0.container), good_kinds m n T ys all.1)
@@ -122,7 +123,7 @@ module _ (m : Kinds) (ok : AreKinds m) (n : ℕ) (T : End → List Value) (good 
   before-less (node.Object y) a b less lt = (less.0, omega (arith, less.1, lt))
   before-less (node.Resource r) a b less lt = tt
 
-  -- the end is what it comes to with what is still to come
+  -- the end with the values that are still to come is the resulting end
   abbrev Comes : Links → List Edit → Type 0
   Comes t ys = (d : End) → end t d ++ flat_map (gains d) ys ≡ T d
 
@@ -130,7 +131,7 @@ module _ (m : Kinds) (ok : AreKinds m) (n : ℕ) (T : End → List Value) (good 
     later : (d : End) (k : ℕ) (v : Value) → slice_get (end t d) k ≡ Some v → slice_get (T d) k ≡ Some v
     later d k v at = sym (ap (λ (zs : List Value). slice_get zs k) (comes d)) ∙ got_left (end t d) (flat_map (gains d) ys) k v at
 
-    -- what is above a node that comes before b comes before b
+    -- the nodes above a node that comes before b come before b
     above-before : (j : ℕ) (x z : Node) (b : ObjectNo) → IsBefore n x b → climb t j x ≡ Some z → IsBefore n z b
     above-before zero x z b less up = subst (λ (y : Node). IsBefore n y b) (same_Some x z up) less
     above-before (suc j) (node.Resource r) z b less up = absurd (none-some z (sym (climb_stop t (node.Resource r) j (resource_top t r legal)) ∙ up))

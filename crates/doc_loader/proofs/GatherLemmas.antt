@@ -1,4 +1,4 @@
--- What all contents of a document give an end, gathered in the order of its objects.
+-- The values that all contents of a document give an end, in the order of the objects.
 use Rattle.std.proofs.Common.{◌≡◌, ◌∙◌, ◌+◌, ℕ, Bool, true, false, cond, List, [], Option, Some, None, refl, sym, ap, arith}
 use Rattle.std.specs.Prelude.{flat_map, nat_eq, slice_get}
 use Rattle.std.specs.List.{AllByRecursion, enumerate_from}
@@ -33,7 +33,7 @@ module _ {X Y : Type 0} (make : ObjectNo → Content → List X) (h : X → List
       (all-every (λ (y : ℕ × DocObject). flat_map h (of_object make y) ≡ of_object gained y) (enumerate_from 0 doc.objects) (λ y. flat_map-flat_map h (make (record { 0 = y.0 })) y.1.contents))
 
   module _ (m : Metamodel) (doc : Doc) (sound : IsSound m doc) where
-    -- where a content gives something by its values, if it is of one feature
+    -- the case that a content gives values if it is of a given feature
     pub gathered : (f : FeatureNo) (g : ℕ → List Value → List Y) → ((i : ℕ) → g i [] ≡ []) → ((o : ObjectNo) (c : Content) → IsSoundContent m doc o c → flat_map h (make o c) ≡ cond (same_feature f c.feature) (g o.0 c.values) [])
         → flat_map h (of_contents make doc) ≡ flat_map (λ (y : ℕ × DocObject). g y.0 (values_under y.1 f)) (enumerate_from 0 doc.objects)
     gathered f g nil each =
@@ -45,7 +45,7 @@ module _ {X Y : Type 0} (make : ObjectNo → Content → List X) (h : X → List
         (all-more (IsSoundContent m doc (record { 0 = y.0 })) (λ c. gained (record { 0 = y.0 }) c ≡ cond (same_feature f c.feature) (g y.0 c.values) []) y.1.contents (λ c t. each (record { 0 = y.0 }) c t) s.0)
         ∙ one-content f (g y.0) y.1.contents (nil y.0) s.1) (all-apart m doc sound))
 
-    -- and if it is of one object
+    -- the case that a content gives values if it is also of a given object
     pub gathered-one : (a : ObjectNo) (f : FeatureNo) (g : List Value → List Y) → g [] ≡ [] → ((o : ObjectNo) (c : Content) → IsSoundContent m doc o c → flat_map h (make o c) ≡ cond (same_feature f c.feature) (cond (nat_eq o.0 a.0) (g c.values) []) [])
         → flat_map h (of_contents make doc) ≡ g (values_in doc a f)
     gathered-one a f g nil each =

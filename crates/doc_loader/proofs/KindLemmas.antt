@@ -1,4 +1,4 @@
--- The edits of a document that is read are of the kinds of their features: a proxy is under no reference of a pair that contains.
+-- The edits of a document that is read agree with the kinds of their features: no proxy is under a reference of a pair with a containment.
 use Rattle.std.proofs.Common.{◌≡◌, ◌∙◌, ◌+◌, ◌++◌, Bool, true, false, List, [], ◌∷◌, Option, Some, None, ℕ, cond, map, ap, refl, subst, sym}
 use Rattle.std.specs.Prelude.{filter_map, flat_map, is_some, not, option_map, IfSome, if◌then◌else◌}
 use Rattle.std.specs.List.{All, AllByRecursion, enumerate_from}
@@ -43,7 +43,7 @@ use Rattle.doc_loader.proofs.FitLemmas.{all-filtered}
 use Rattle.doc_loader.proofs.WrittenLemmas.{plain-entries}
 use Rattle.models.specs.Reading.{contents_end}
 
--- a proxy is there only if nothing of the pair contains
+-- a proxy is there only if neither reference of the pair is a containment
 abbrev Place : Option FeatureNo → Value → Type 0
 Place h (value.Proxy t) = h ≡ None
 Place h _ = Unit {0}
@@ -74,7 +74,7 @@ part-index_of : (h : Option FeatureNo) (o : Option ℕ) → IfSome (option_map o
 part-index_of h None = tt
 part-index_of h (Some k) = tt
 
--- what is written is under no container reference
+-- no value is written under a container reference
 abbrev IsPlain : Metamodel → Entry → Type 0
 IsPlain m e = lookups.is_container m e.feature ≡ false
 
@@ -191,7 +191,7 @@ puts-kind m e plain i (value.Text t ∷ vs) = puts-kind m e plain (i + 1) vs
 puts-kind m e plain i (value.Literal x ∷ vs) = puts-kind m e plain (i + 1) vs
 puts-kind m e plain i (value.Adapter x ∷ vs) = puts-kind m e plain (i + 1) vs
 
--- neither feature of a pair with a lower one contains
+-- neither feature of a pair with a lower one is a containment
 lower-contains : (o c h : Option FeatureNo) → (if is_some c then None else h) ≡ o → is_some o ≡ true → c ≡ None
 lower-contains o None h is some = refl
 lower-contains o (Some c) h is some = absurd (true≢false (sym some ∙ ap (λ (x : Option FeatureNo). is_some x) (sym is)))

@@ -1,4 +1,4 @@
--- The edits that are made so far, and those that are left to make.
+-- The edits that were made, and the edits that are left to make.
 use Rattle.std.proofs.Common.{◌≡◌, ◌∙◌, ◌+◌, ◌<◌, ◌++◌, Bool, true, false, List, [], ◌∷◌, Option, Some, None, ℕ, ap, append_assoc, append-nil, cond, drop, get_or, length, map, refl, sym}
 use Rattle.std.specs.Prelude.{◌&&◌, flat_map, is_some, not, unwrap_or}
 use Rattle.std.specs.List.{enumerate_from, list_any}
@@ -56,7 +56,7 @@ objects-in-order m n index_of i (o ∷ os) none =
     ap (λ es. es ++ flat_map (of_object (far_edits m n index_of)) (enumerate_from (i + 1) os)) (contents-in-order m n index_of (record { 0 = i }) o.contents (or-left (list_any (is_unordered m) o.contents) rest none))
     ∙ objects-in-order m n index_of (i + 1) os (or-right (list_any (is_unordered m) o.contents) rest none)
 
--- where all ends are in order, no edit is left to make
+-- if all ends are in order, no edit is left to make
 pub nothing-left : (m : Metamodel) (n : ℕ) (index_of : ReferenceKey → ℕ) (os : List DocObject) (old : List Edit) → list_any (λ o. list_any (is_unordered m) o.contents) os ≡ false
     → old ≡ old ++ flat_map (of_object (far_edits m n index_of)) (enumerate_from 0 os)
 nothing-left m n index_of os old none = sym (append-nil old) ∙ ap (λ es. old ++ es) (sym (objects-in-order m n index_of 0 os none))

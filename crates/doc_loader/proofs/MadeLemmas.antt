@@ -1,4 +1,4 @@
--- Each link that a document says is in the set that its edits make.
+-- Each link of a document is in the set that its edits make.
 use Rattle.std.proofs.Common.{◌≡◌, ◌∙◌, ◌+◌, ◌≤◌, ℕ, zero, suc, Bool, true, false, cond, ltb, if◌then◌else◌, List, [], ◌∷◌, Option, Some, None, length, map, refl, sym, ap, subst, inl, inr, arith}
 use Rattle.std.specs.Prelude.{◌⊎◌, fold, option_map, position, slice_get, unwrap_or}
 use Rattle.std.specs.FinSet as set
@@ -69,7 +69,7 @@ at-end d e j i h = cc
 at-index : (d e : End) (j i : ℕ) → At d j ≡ At e i → j ≡ i
 at-index d e j i h = cc
 
--- a joined link is shown where both ends have it
+-- a link with two ends is in the set if both ends have it
 shown-joined : (kinds : Kinds) → AreKinds kinds → (t : Links) (x y : End) (i j : ℕ) → kinds.opposite x.feature ≡ Some y.feature → IsObject x.node → IsObject y.node
     → slice_get (end t x) i ≡ Some (node_value y.node) → slice_get (end t y) j ≡ Some (node_value x.node) → IsShown kinds t (joined x i y j (kinds.container x.feature))
 shown-joined kinds ok t x y i j pair ox oy near far =
@@ -93,7 +93,7 @@ shown-joined kinds ok t x y i j pair ox oy near far =
     ] refl
 
 -- the first index at which a test holds
-first-at : {X : Type 0} (p : X → Bool) (xs : List X) (k : ℕ) (x : X) → slice_get xs k ≡ Some x → p x ≡ true → (i : ℕ) × (y : X) × (position p xs ≡ Some i) × (slice_get xs i ≡ Some y) × (p y ≡ true)
+pub first-at : {X : Type 0} (p : X → Bool) (xs : List X) (k : ℕ) (x : X) → slice_get xs k ≡ Some x → p x ≡ true → (i : ℕ) × (y : X) × (position p xs ≡ Some i) × (slice_get xs i ≡ Some y) × (p y ≡ true)
 first-at p [] k x at h = absurd (none-some x at)
 first-at {X = X} p (z ∷ zs) zero x at h =
     let here : p z ≡ true = subst (λ (w : X). p w ≡ true) (sym (same_Some z x at)) h in
@@ -159,7 +159,7 @@ module _ (m : Metamodel) (n : ℕ) (k : ResourceNo) (doc : Doc) (sound : IsSound
       alone-at : (o : ObjectNo) (d : End) (j : ℕ) → Alone o ≡ At d j → ⊥
       alone-at o d j h = cc
 
-  -- where the object is at the end of the other
+  -- the position of the object at the end of the other object
   far-there : (o : ObjectNo) (f : FeatureNo) (b : ObjectNo) (g : FeatureNo) (i : ℕ) → (shape m f).is_reference ≡ true → IsPlainFeature m f → (shape m f).opposite ≡ Some g → slice_get (values_in doc o f) i ≡ Some (value.Object b)
       → slice_get (end t (object_end n b g)) (far_index (shape m f) doc o f b g) ≡ Some (value.Object (loaded n o))
   far-there o f b g i reference plain pair at = by (shape m f).containing refl

@@ -75,7 +75,7 @@ class-features m c = by (lookups.features m c)
     by None = tt
     by (Some fs) = all-there fs
 
--- the features of a class have other names each
+-- the features of a class have different names
 pub names-apart : (m : Metamodel) → IsOfDocument m → NamesAreApart m
 names-apart m d c =
     let fs = unwrap_or (lookups.features m c) [] in

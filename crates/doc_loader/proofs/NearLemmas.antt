@@ -1,4 +1,4 @@
--- The roots and the values that are put from their own ends: these edits fit, and give each end what it gains.
+-- The roots and the values that are put from their own ends: these edits fit, and give each end its values.
 use Rattle.std.proofs.Common.{◌≡◌, ◌≢◌, ◌∙◌, ◌+◌, ◌-◌, ◌≤◌, ◌++◌, ℕ, Bool, true, false, List, [], ◌∷◌, Some, if◌then◌else◌, append-nil, length, refl, sym, ap, subst, inl, inr, arith}
 use Rattle.std.specs.Prelude.{flat_map, slice_get}
 use Rattle.std.specs.List.{AllByRecursion, enumerate_from}
@@ -23,6 +23,7 @@ use Rattle.links.specs.Holders.{HasNoCycle}
 use Rattle.links.specs.LegalSets.{AreOfKind, IsDistinct, IsLegalSet, most}
 use Rattle.links.specs.Links.{Links, end}
 use Rattle.links.specs.declared.plan.Edit.{Edit}
+use Rattle.links.proofs.ShownLemmas.{object_value}
 use Rattle.models.specs.Legal.{kinds_of}
 use Rattle.resource_docs.specs.Read.{values_in, values_under}
 use Rattle.resource_docs.specs.declared.doc.Content.{Content}
@@ -36,7 +37,7 @@ use Rattle.doc_loader.proofs.GainLemmas.{AreGood, IsBefore, IsGood, IsMade, gain
 use Rattle.doc_loader.proofs.PairLemmas.{all-more, numbered-all, all-append, all-at, all-flat_map, all-map}
 use Rattle.doc_loader.proofs.SideLemmas.{IsFarSide, IsNearSide, contents-shape, near-side, sides}
 use Rattle.doc_loader.proofs.SoundLemmas.{at-map, AreSoundContents, IsSort, IsSound, IsSoundContent, has-content, map-at}
-use Rattle.doc_loader.proofs.SourceLemmas.{ascending-distinct, at-loaded, loaded-at, loaded-distinct, loaded-same, loaded-value-object, loaded_values, same-object, sources-ascending, sources-few, sources_from}
+use Rattle.doc_loader.proofs.SourceLemmas.{ascending-distinct, at-loaded, loaded-at, loaded-distinct, loaded-same, loaded-value-object, loaded_values, sources-ascending, sources-few, sources_from}
 use Rattle.doc_loader.proofs.TotalLemmas.{IsElsewhere, near-far, near-none, near-own, root-gain-none, root-gain-own}
 use Rattle.models.specs.Reading.{contents_end}
 
@@ -51,7 +52,7 @@ module _ (m : Metamodel) (n : ℕ) (k : ResourceNo) (doc : Doc) (sound : IsSound
   abbrev pub near_plan : List Edit
   near_plan = root_puts m n k doc ++ of_contents (near_edits m n) doc
 
-  -- what each end comes to
+  -- the resulting list of each end
   abbrev pub near_end : End → List Value
   near_end d = end s d ++ flat_map (gains d) (root_puts m n k doc ++ of_contents (near_edits m n) doc)
 
@@ -146,7 +147,7 @@ module _ (m : Metamodel) (n : ℕ) (k : ResourceNo) (doc : Doc) (sound : IsSound
   roots-distinct i j v x y =
       let a = map-at (λ o. value.Object (loaded n o)) doc.roots i v x in
       let b = map-at (λ o. value.Object (loaded n o)) doc.roots j v y in
-      let same = loaded-same n b.0 a.0 (same-object (loaded n b.0) (loaded n a.0) (b.2 ∙ sym a.2)) in
+      let same = loaded-same n b.0 a.0 (object_value (loaded n b.0) (loaded n a.0) (b.2 ∙ sym a.2)) in
       sound.roots_distinct i j a.0 a.1 (b.1 ∙ ap Some same)
 
   distinct-at : (d : End) → IsPlaceOf d → IsDistinct (near_end d)
@@ -176,7 +177,7 @@ module _ (m : Metamodel) (n : ℕ) (k : ResourceNo) (doc : Doc) (sound : IsSound
   held-at d b j (at_roots q) new contains at =
       let here = subst (λ (vs : List Value). slice_get vs j ≡ Some (value.Object b)) (ap near_end (sym q) ∙ near_end-roots) at in
       let r = map-at (λ o. value.Object (loaded n o)) doc.roots j (value.Object b) here in
-      (r.0, sym (same-object (loaded n r.0) b r.2), as_root j q r.1)
+      (r.0, sym (object_value (loaded n r.0) b r.2), as_root j q r.1)
   held-at d b j (at_near a f q side) new contains at =
       let here = subst (λ (vs : List Value). slice_get vs j ≡ Some (value.Object b)) (ap near_end (sym q) ∙ near_end-own a f side) at in
       let r = at-loaded n (values_in doc a f) j (value.Object b) here in

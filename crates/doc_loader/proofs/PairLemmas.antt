@@ -1,4 +1,4 @@
--- What holds of each element of lists that are put together, and of each two.
+-- Properties of each element of lists that are joined, and of each two elements.
 use Rattle.std.proofs.Common.{◌≡◌, ◌+◌, ◌++◌, ℕ, zero, suc, Bool, true, false, cond, List, [], ◌∷◌, Option, Some, None, map, refl, ap, subst, arith}
 use Rattle.std.specs.Prelude.{filter, filter_map, flat_map, slice_get}
 use Rattle.std.specs.List.{AllByRecursion, cons_option, enumerate_from}
@@ -117,7 +117,7 @@ module _ {X Y : Type 0} where
       apart-append S (f x) (flat_map f xs) (each x) (apart-flat_map R S f xs each across a.1)
       (pairs-flat_map S f (f x) xs (all-more (R x) (λ z. AllPairs S (f x) (f z)) xs (λ z r. across x z r) a.0))
 
--- what is at an index of a list is there with its number
+-- the element at an index of a list has that number
 pub numbered-at : {X : Type 0} (xs : List X) (i k : ℕ) (y : ℕ × X) → slice_get (enumerate_from i xs) k ≡ Some y → (y.0 ≡ i + k) × (slice_get xs k ≡ Some y.1)
 numbered-at [] i k y h = absurd (none-some y h)
 numbered-at {X = X} (x ∷ xs) i zero y h =

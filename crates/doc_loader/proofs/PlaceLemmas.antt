@@ -1,4 +1,4 @@
--- The indexes that are noted so far, and those that are left to note.
+-- The indexes that were noted, and the indexes that are left to note.
 use Rattle.std.proofs.Common.{◌≡◌, ◌∙◌, ◌+◌, ◌<◌, ◌++◌, List, [], ◌∷◌, Option, Some, None, ℕ, ap, cond, drop, get_or, length, refl, sym}
 use Rattle.std.specs.Prelude.{flat_map}
 use Rattle.std.specs.List.{enumerate_from}
@@ -21,7 +21,7 @@ last_index-append (x ∷ xs) ys k =
     let here = cond (same_reference_key x.0 k) (Some x.1) None in
     ap (λ o. option_or o here) (last_index-append xs ys k) ∙ or_or (last_index ys k) (last_index xs k) here
 
--- some more indexes are noted, of those that are left
+-- some of the indexes that are left are noted
 noted : (all xs ys : List (ReferenceKey × ℕ)) (k : ReferenceKey) (old new whole : Option ℕ) → all ≡ xs ++ ys → new ≡ option_or (last_index xs k) old → option_or (last_index all k) old ≡ whole
     → option_or (last_index ys k) new ≡ whole
 noted all xs ys k old new whole split more so_far =

@@ -1,4 +1,4 @@
--- The index that is noted for an object under the lower feature of a pair is the one at which it is there.
+-- The index that is noted for an object under the lower feature of a pair is its index there.
 use Rattle.std.proofs.Common.{◌≡◌, ◌∙◌, ◌<◌, ℕ, zero, suc, Bool, true, false, cond, List, [], ◌∷◌, Option, Some, None, if◌then◌else◌, refl, sym, ap, subst, inl, inr, arith}
 use Rattle.std.specs.Prelude.{◌⊎◌, ◌&&◌, flat_map, is_some, nat_eq, not, slice_get, unwrap_or}
 use Rattle.std.specs.List.{AllByRecursion, enumerate_from}
@@ -20,8 +20,8 @@ use Rattle.doc_loader.specs.Pairs.{is_below, is_lower}
 use Rattle.doc_loader.specs.ListIndexes.{all_indexes, content_indexes, last_index, reference_key, index_among, placed, same_reference_key}
 use Rattle.doc_loader.specs.declared.indexes.ReferenceKey.{ReferenceKey}
 use Rattle.doc_loader.proofs.PairLemmas.{numbered-all, all-flat_map}
-use Rattle.doc_loader.proofs.SideLemmas.{feature-same}
 use Rattle.doc_loader.proofs.SoundLemmas.{AreSoundContents, IsSound, IsSoundContent, at-flat_map, at-numbered, has-content}
+use Rattle.mm_meta.proofs.ByNameLemmas.{numbered_alike}
 
 ---------------------------------------------------------------- the last index
 
@@ -41,7 +41,7 @@ last-here : (o : Option ℕ) (t : Bool) (i j : ℕ) → (o ≡ None) ⊎ (o ≡ 
 last-here o t i j (inr some) is same = ap (λ (x : Option ℕ). option_or x (cond t (Some j) None)) some
 last-here o t i j (inl none) is same = (λ l. option_or (none l) (cond (is l) (Some j) None)) ∙ ap Some same
 
--- if all indexes of a naming are one, and there is one, it is the last
+-- if all indexes under a key are equal, and there is one, it is the last
 last-is : (k : ReferenceKey) (i : ℕ) (xs : List (ReferenceKey × ℕ)) (j : ℕ) (x : ReferenceKey × ℕ) → AllByRecursion (IsPlaced k i) xs → slice_get xs j ≡ Some x → same_reference_key x.0 k ≡ true → last_index xs k ≡ Some i
 last-is k i [] j x all at same = absurd (none-some x at)
 last-is k i (y ∷ ys) zero x all at same =
@@ -63,7 +63,7 @@ module _ (m : Metamodel) (doc : Doc) (sound : IsSound m doc) (a : ObjectNo) (f :
         let second = and_parts (nat_eq c.feature.0 f.0) (nat_eq d.0 b.0) first.1 in
         let object : o ≡ a = let e = eqb-true o.0 a.0 first.0 in λ l. record { 0 = e l } in
         let named : d ≡ b = let e = eqb-true d.0 b.0 second.1 in λ l. record { 0 = e l } in
-        let values : values_in doc a f ≡ c.values = (λ l. values_in doc (sym object l) (sym (feature-same c.feature f (eqb-true c.feature.0 f.0 second.0)) l)) ∙ s.own in
+        let values : values_in doc a f ≡ c.values = (λ l. values_in doc (sym object l) (sym (numbered_alike c.feature f (eqb-true c.feature.0 f.0 second.0)) l)) ∙ s.own in
         distinct j i (value.Object b) (ap (λ (vs : List Value). slice_get vs j) values ∙ there ∙ ap (λ (x : ObjectNo). Some (value.Object x)) named) at)),
     tt,
   )
@@ -114,7 +114,7 @@ module _ (m : Metamodel) (doc : Doc) (sound : IsSound m doc) (a : ObjectNo) (f :
       let p = there-placed lower in
       ap (λ (o : Option ℕ). unwrap_or o 0) (last-is (reference_key a f b) i (all_indexes m doc.objects) p.0 p.1 all-placed p.2 p.3)
 
--- the lower feature of a pair of which neither contains
+-- the lower feature of a pair without containment
 pub lower-feature : (m : Metamodel) (f g : FeatureNo) → (shape m f).containing ≡ None → (shape m f).opposite ≡ Some g → f.0 < g.0 → is_lower (shape m f) f ≡ true
 lower-feature m f g plain pair low =
     (λ i. not (is_some (plain i)) && option_map_or (is_below f) (pair i) false) ∙ lt-ltb f.0 g.0 low

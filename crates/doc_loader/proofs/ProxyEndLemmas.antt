@@ -1,4 +1,4 @@
--- The proxies under the higher features of pairs: what their edits put at each end.
+-- The proxies under the higher features of pairs, which their edits put at each end.
 use Rattle.std.proofs.Common.{◌≡◌, ◌∙◌, ◌+◌, ◌++◌, ℕ, Bool, true, false, cond, if◌then◌else◌, List, [], ◌∷◌, Option, Some, None, refl, sym, ap, subst}
 use Rattle.std.specs.Prelude.{◌&&◌, flat_map, is_some, nat_eq}
 use Rattle.std.specs.List.{AllByRecursion, enumerate_from}
@@ -25,14 +25,16 @@ use Rattle.doc_loader.proofs.AgainLemmas.{IsNotHigher}
 use Rattle.doc_loader.proofs.FillLemmas.{IsFill, fills, proxies_from}
 use Rattle.doc_loader.proofs.GatherLemmas.{gathered-none, gathered-one}
 use Rattle.doc_loader.proofs.PairLemmas.{all-every, all-flat_map}
-use Rattle.doc_loader.proofs.SideLemmas.{IsHigher, feature-same, higher, lower-is}
+use Rattle.doc_loader.proofs.SideLemmas.{IsHigher, higher, lower-is}
 use Rattle.doc_loader.proofs.SoundLemmas.{AreSoundContents, IsSound, IsSoundContent}
-use Rattle.doc_loader.proofs.TotalLemmas.{add-eq, nested, turned-eq}
+use Rattle.doc_loader.proofs.TotalLemmas.{add-eq, nested}
+use Rattle.mm_meta.proofs.ByNameLemmas.{numbered_alike}
+use Rattle.mm_meta.proofs.OwnerLemmas.{nat_eq-turned}
 
 abbrev Filled : Type 0
 Filled = List (ℕ × List ℕ)
 
--- what the proxies among values put at an end
+-- the proxies among values that are put at an end
 values-filled : (d e : End) (i : ℕ) (vs : List Value) → flat_map (fills d) (flat_map (proxy_puts e) (enumerate_from i vs)) ≡ cond (same_end e d) (proxies_from i vs) []
 values-filled d e i [] = both (same_end e d)
   where
@@ -64,11 +66,11 @@ module _ (m : Metamodel) (n : ℕ) (doc : Doc) (sound : IsSound m doc) where
       by : (h : Option FeatureNo) → lower_of (shape m c.feature) c.feature ≡ h
           → flat_map (fills (object_end n b g)) (puts_if o c h) ≡ cond (same_feature g c.feature) (cond (nat_eq o.0 b.0) (proxies_from 0 c.values) []) []
       by None none =
-          let other = false_from_ne_true (same_feature g c.feature) (λ q. none-some f (sym none ∙ subst (λ (x : FeatureNo). lower_of (shape m x) x ≡ Some f) (feature-same g c.feature (eqb-true g.0 c.feature.0 q)) (lower-is m sound.kinds g f high))) in
+          let other = false_from_ne_true (same_feature g c.feature) (λ q. none-some f (sym none ∙ subst (λ (x : FeatureNo). lower_of (shape m x) x ≡ Some f) (numbered_alike g c.feature (eqb-true g.0 c.feature.0 q)) (lower-is m sound.kinds g f high))) in
           ap (λ (t : Bool). cond t (cond (nat_eq o.0 b.0) (proxies_from 0 c.values) []) []) (sym other)
       by (Some h) is =
           values-filled (object_end n b g) (object_end n o c.feature) 0 c.values
-          ∙ nested (nat_eq o.0 b.0) (same_feature g c.feature) (same_end (object_end n o c.feature) (object_end n b g)) (proxies_from 0 c.values) (λ i. (sym (add-eq n o.0 b.0) i) && (turned-eq g.0 c.feature.0 i))
+          ∙ nested (nat_eq o.0 b.0) (same_feature g c.feature) (same_end (object_end n o c.feature) (object_end n b g)) (proxies_from 0 c.values) (λ i. (sym (add-eq n o.0 b.0) i) && (nat_eq-turned g.0 c.feature.0 i))
 
   pub filled-higher : (b : ObjectNo) (g f : FeatureNo) → IsHigher m sound.kinds g f → flat_map (fills (object_end n b g)) (of_contents (proxy_edits m n) doc) ≡ proxies_from 0 (values_in doc b g)
   filled-higher b g f high = gathered-one (proxy_edits m n) (fills (object_end n b g)) m doc sound b g (proxies_from 0) refl (content-filled b g f high)

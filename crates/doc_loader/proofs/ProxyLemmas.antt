@@ -1,4 +1,4 @@
--- Each proxy of a document that is read has the text of one, and the links that are loaded have no other proxies.
+-- Each proxy of a document that is read has a legal text, and the links that are loaded have no other proxies.
 use Rattle.std.proofs.Common.{◌≡◌, ℕ, Bool, true, false, List, [], ◌∷◌, Option, Some, None, map, refl, sym, subst}
 use Rattle.std.specs.Prelude.{IfSome, filter_map, nat_lt, not, option_map, if◌then◌else◌}
 use Rattle.std.specs.List.{All, AllByRecursion, enumerate_from}
@@ -78,7 +78,7 @@ without-mark : (o : Option Path) → IfSome (option_map Here o) HasText
 without-mark None = tt
 without-mark (Some p) = tt
 
--- what a text leads to elsewhere is the text of a proxy
+-- a text that leads out of the document gives the text of a proxy
 target-text : (uri t : List ℕ) → IfSome (target (base_of uri) t) HasText
 target-text uri t = by (has_mark t)
   where
@@ -166,7 +166,7 @@ joined-no_proxy x i y j c t =
     ]
 
 module _ (Holds : List ℕ → Type 0) where
-  -- it holds of the text of the proxy that a link is
+  -- the property holds for the text of a link that is a proxy
   abbrev pub OfLink : Link → Type 0
   OfLink l = (t : List ℕ) → l.far ≡ Proxy t → Holds t
 

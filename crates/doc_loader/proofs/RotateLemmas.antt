@@ -1,4 +1,4 @@
--- A link of a pair that is taken out and put again at its index is last at the other end.
+-- A link of a pair that is cut and put in again at its index is last at the other end.
 use Rattle.std.proofs.Common.{◌≡◌, ◌≢◌, ◌∙◌, ◌<◌, ◌++◌, ℕ, zero, suc, Bool, true, false, List, [], ◌∷◌, Option, Some, None, if◌then◌else◌, length, append_assoc, append-nil, refl, sym, ap, subst, inl, inr, arith}
 use Rattle.std.specs.Prelude.{◌&&◌, ◌||◌, filter, flat_map, not}
 use Rattle.std.specs.List.{AllByRecursion, insert, list_any, remove, slice_get}
@@ -29,6 +29,7 @@ use Rattle.mm_types.specs.declared.numbers.FeatureNo.{FeatureNo}
 use Rattle.mm_types.specs.declared.numbers.ObjectNo.{ObjectNo}
 use Rattle.mm_types.specs.declared.value.Value.TheVariants as value
 use Rattle.mm_types.specs.declared.value.Value.{Value}
+use Rattle.doc_loader.proofs.FillLemmas.{distinct-tail}
 
 ---------------------------------------------------------------- lists
 
@@ -36,7 +37,7 @@ use Rattle.mm_types.specs.declared.value.Value.{Value}
 abbrev pub put_last : Value → List Value → List Value
 put_last v xs = filter (λ w. not (same_value v w)) xs ++ v ∷ []
 
--- each of some values put last, one after another
+-- some values, each put last, one after another
 abbrev pub put_all_last : List Value → List Value → List Value
 put_all_last [] vs = vs
 put_all_last (u ∷ us) vs = put_all_last us (put_last u vs)
@@ -55,9 +56,6 @@ pub at-among : (us : List Value) (k : ℕ) (w : Value) → slice_get us k ≡ So
 at-among [] k w h = absurd (none-some w h)
 at-among (u ∷ us) zero w h = or_left (same_value u w) (among us w) (subst (λ (x : Value). same_value u x ≡ true) (same_Some u w h) (same_value-self u))
 at-among (u ∷ us) (suc k) w h = or_right (same_value u w) (among us w) (at-among us k w h)
-
-pub distinct-tail : (u : Value) (us : List Value) → IsDistinct (u ∷ us) → IsDistinct us
-distinct-tail u us d j k v a b = let e = d (suc j) (suc k) v a b in omega (arith, e)
 
 pub distinct-head : (u : Value) (us : List Value) → IsDistinct (u ∷ us) → among us u ≡ false
 distinct-head u us d = false_from_ne_true (among us u) (λ h. (let r = among-at us u h in let e = d zero (suc r.0) u refl r.1 in omega (arith, e)))
@@ -83,7 +81,7 @@ filter-nothing : (p : Value → Bool) (vs : List Value) → ((k : ℕ) (w : Valu
 filter-nothing p [] h = refl
 filter-nothing p (v ∷ vs) h = let here = h zero v refl in rw here (filter-nothing p vs (λ k w at. h (suc k) w at))
 
--- where all values are among those that are put last, these are what is there then
+-- if all values of a list are among the values that are put last, the list is then these values
 pub put_all_last-whole : (us vs : List Value) → IsDistinct us → ((k : ℕ) (w : Value) → slice_get vs k ≡ Some w → among us w ≡ true) → put_all_last us vs ≡ us
 put_all_last-whole us vs d all = put_all_last-is us vs d ∙ ap (λ (xs : List Value). xs ++ us) (filter-nothing (among us) vs all)
 
@@ -211,7 +209,7 @@ module _ (m : Kinds) (ok : AreKinds m) (t : Links) (legal : IsLegalSet t) (kinds
 
 ---------------------------------------------------------------- several links
 
--- a link that is taken out and put again
+-- a link that is cut and put in again
 pub record Again : Type 0 where
   pub near : End
   pub index : ℕ
@@ -231,7 +229,7 @@ again_kinds m (x ∷ xs) = (tt, ((refl, refl), again_kinds m xs))
 abbrev pub again_at : End → Again → List Value
 again_at d x = if same_end (far_end x.object x.far) d then node_value x.near.node ∷ [] else []
 
--- a link of a pair of which neither contains, at its index in N, an end of those that do not change
+-- a link of a pair without containment, at its index in N, which is one of the ends that do not change
 pub record IsGoodAgain (m : Kinds) (Near : End → Type 0) (N : End → List Value) (x : Again) : Type 0 where
   pub pair : m.opposite x.near.feature ≡ Some x.far
   pub plain : m.container x.near.feature ≡ None

@@ -1,4 +1,4 @@
--- The edits of a document that is read make the links that it says, and no others.
+-- The edits of a document that is read make exactly the links of the document.
 use Rattle.std.proofs.Common.{◌≡◌, ◌∙◌, ◌+◌, ◌≤◌, ℕ, Bool, true, if◌then◌else◌, List, Option, Some, None, length, map, refl, sym, ap, subst, arith}
 use Rattle.std.specs.Prelude.{position, slice_get, unwrap_or}
 use Rattle.std.specs.List.{enumerate_from}
@@ -76,7 +76,7 @@ module _ (m : Metamodel) (n : ℕ) (k : ResourceNo) (doc : Doc) (sound : IsSound
         indexed_near x ∙ ap (λ (j : ℕ). Some (j, value.Object (loaded n o))) same,
       )
 
-  -- the link of a value is there
+  -- the link of a value is in the set
   pub record IsLinked (a : ObjectNo) (f : FeatureNo) (i : ℕ) (v : Value) : Type 0 where
     pub object : ObjectNo
     pub object_is : object ≡ a
@@ -114,7 +114,7 @@ module _ (m : Metamodel) (n : ℕ) (k : ResourceNo) (doc : Doc) (sound : IsSound
             in-new in_all.0 x in_all.1));
       }
 
-  -- it is at the end of the value
+  -- the link is at the end of the value
   link-near : (o : ObjectNo) (f : FeatureNo) (i : ℕ) (v : Value) → (shape m f).is_reference ≡ true → IsSort (shape m f) v → (x : Link) × (link_of m n doc o f (i, v) ≡ Some x) × ((u : Value) × (indexed x (object_end n o f) ≡ Some (i, u)))
   link-near o f i (value.Object b) reference sort = by (shape m f).opposite refl
     where
@@ -142,7 +142,7 @@ module _ (m : Metamodel) (n : ℕ) (k : ResourceNo) (doc : Doc) (sound : IsSound
       let x = link-near r.object r.feature r.index v (ap (λ (g : FeatureNo). (shape m g).is_reference) r.feature_is ∙ reference) r.sort in
       (x.0, r.there x.0 x.1, (x.2.0, (λ j. indexed x.0 (object_end n (sym r.object_is j) (sym r.feature_is j))) ∙ x.2.1 ∙ ap (λ (l : ℕ). Some (l, x.2.0)) r.index_is))
 
-  -- and, where the feature contains, first at the end of the container
+  -- if the feature is a containment, the link is first at the container reference
   link-held : (o : ObjectNo) (f g h : FeatureNo) (i : ℕ) (b : ObjectNo) → (shape m f).opposite ≡ Some g → (shape m f).containing ≡ Some h → h ≡ f
       → (x : Link) × (link_of m n doc o f (i, value.Object b) ≡ Some x) × (indexed x (object_end n b g) ≡ Some (0, value.Object (loaded n o)))
   link-held o f g h i b pair contains own =

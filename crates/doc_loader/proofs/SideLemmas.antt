@@ -1,4 +1,4 @@
--- From which side the links of a pair of features are put, and what is known of the feature that holds roots.
+-- The side from which the links of a pair of features are put, and facts about the feature of roots.
 use Rattle.std.proofs.Common.{◌≡◌, ◌≢◌, ◌∙◌, ◌<◌, Bool, true, false, cond, Option, Some, None, refl, sym, ap, subst, inl, inr, arith}
 use Rattle.std.specs.Prelude.{◌⊎◌, ◌&&◌, is_some, not, option_and_then}
 use Rattle.std.specs.Option.{option_map_or}
@@ -15,12 +15,13 @@ use Rattle.mm_types.specs.declared.numbers.FeatureNo.{FeatureNo}
 use Rattle.links.specs.LegalSets.{AreKinds}
 use Rattle.models.specs.Legal.{kinds_of}
 use Rattle.doc_loader.specs.Pairs.{if_below, is_below, is_near, lower_of}
+use Rattle.mm_meta.proofs.ByNameLemmas.{numbered_alike}
 
 -- the feature is no container reference
 abbrev pub IsPlainFeature : Metamodel → FeatureNo → Type 0
 IsPlainFeature m f = (h : FeatureNo) → (shape m f).containing ≡ Some h → h ≡ f
 
--- the values of a feature are put from its own ends, and no link comes to these from another feature that a document writes
+-- the values of a feature are put from its own ends, and no other feature that a document writes puts links there
 pub record IsNearSide (m : Metamodel) (f : FeatureNo) : Type 0 where
   pub near : is_near (shape m f) f ≡ true
   pub reference : (shape m f).is_reference ≡ true
@@ -73,9 +74,6 @@ near-contained m f h reference contains = near-reference (shape m f) f reference
 
 pub not-near : (a : Shape) (f g : FeatureNo) → lower_of a f ≡ Some g → is_near a f ≡ true → ⊥
 not-near a f g some near = let both = and_parts a.is_reference (not (is_some (lower_of a f))) near in false≢true (sym (ap (λ (o : Option FeatureNo). not (is_some o)) some) ∙ both.1)
-
-pub feature-same : (f g : FeatureNo) → f.0 ≡ g.0 → f ≡ g
-feature-same f g e = λ i. record { 0 = e i }
 
 module _ (m : Metamodel) (ok : AreKinds (kinds_of m)) where
   alone-side : (f : FeatureNo) → (shape m f).is_reference ≡ true → (shape m f).opposite ≡ None → IsNearSide m f
@@ -139,12 +137,12 @@ module _ (m : Metamodel) (ok : AreKinds (kinds_of m)) where
 
     paired-side : (c : Option FeatureNo) → (shape m f).containing ≡ c → IsNearSide m f ⊎ IsFarSide m f g
     paired-side None none = elim (cases_order f.0 g.0) [
-      | inl same ↦ absurd (differ (feature-same f g same))
+      | inl same ↦ absurd (differ (numbered_alike f g same))
       | inr (inl low) ↦ inl (lower-side none low)
       | inr (inr high) ↦ inr (higher-side none high)
     ]
     paired-side (Some h) contains = elim (cases_Bool (same_feature h f)) [
-      | inl same ↦ inl (own-side (contains ∙ ap Some (feature-same h f (eqb-true h.0 f.0 same))))
+      | inl same ↦ inl (own-side (contains ∙ ap Some (numbered_alike h f (eqb-true h.0 f.0 same))))
       | inr other ↦ inr (held-side h contains (λ q. true≢false (sym (eq-eqb h.0 f.0 (ap (λ (x : FeatureNo). x.0) q)) ∙ other)))
     ]
 
@@ -160,14 +158,14 @@ module _ (m : Metamodel) (ok : AreKinds (kinds_of m)) where
       by None none = inl (alone-side f reference none)
       by (Some g) pair = second g (paired-side f g pair (shape m f).containing refl)
 
-  -- what a document writes under a near feature is put from there
+  -- the values that a document writes under a near feature are put from there
   pub near-side : (f : FeatureNo) → IsPlainFeature m f → is_near (shape m f) f ≡ true → IsNearSide m f
   near-side f plain near = elim (sides f (and_parts (shape m f).is_reference (not (is_some (lower_of (shape m f) f))) near).0) [
     | inl side ↦ side
     | inr side ↦ absurd (side.1.other plain near)
   ]
 
-  -- a lower feature is there only if nothing contains
+  -- a feature has a lower opposite only if neither of the two is a containment
   pub record IsHigher (f g : FeatureNo) : Type 0 where
     pub plain : (shape m f).containing ≡ None
     pub pair : (shape m f).opposite ≡ Some g

@@ -1,4 +1,4 @@
--- What holds of the contents of a document that is read.
+-- Properties of the contents of a document that is read.
 use Rattle.std.proofs.Common.{◌≡◌, ◌∙◌, ◌+◌, ◌<◌, ◌≤◌, ◌++◌, ℕ, zero, suc, List, [], ◌∷◌, Option, Some, None, true, false, length, map, refl, sym, ap, subst, inl, inr, arith}
 use Rattle.std.specs.Prelude.{◌⊎◌, filter, filter_map, flat_map, slice_get}
 use Rattle.std.proofs.Common.{Bool, cond}
@@ -23,7 +23,7 @@ use Rattle.resource_docs.specs.declared.doc.DocObject.{DocObject}
 use Rattle.doc_loader.proofs.GainLemmas.{got_left}
 use Rattle.doc_loader.proofs.PairLemmas.{Apart, all-at}
 
--- a value of a feature of that shape: a proxy is under a reference that doesn't contain, and neither does its opposite
+-- a value of a feature of that shape: a proxy is under a reference that is no containment and whose opposite is none
 abbrev pub IsSort : Shape → Value → Type 0
 IsSort a (value.Object b) = a.is_reference ≡ true
 IsSort a (value.Proxy t) = (a.is_reference ≡ true) × (a.containing ≡ None)
@@ -45,7 +45,7 @@ AreSoundContents m doc y = AllByRecursion (IsSoundContent m doc (record { 0 = y.
 abbrev pub HaveOtherFeatures : Content → Content → Type 0
 HaveOtherFeatures c d = same_feature c.feature d.feature ≡ false
 
--- what each content has, and that each object is a root or a part of one other object, once
+-- a property of each content; each object is a root, or a part of one other object, once
 pub record IsSound (m : Metamodel) (doc : Doc) : Type 0 where
   pub kinds : AreKinds (kinds_of m)
   pub contents : AllByRecursion (AreSoundContents m doc) (enumerate_from 0 doc.objects)
@@ -79,7 +79,7 @@ module _ {X : Type 0} where
   got_right [] ys k x h = (k, h)
   got_right (z ∷ xs) ys k x h = let r = got_right xs ys k x h in (suc r.0, r.1)
 
-  -- where something is, there is a first
+  -- a list with an element that passes a test has a first one
   pub first-of : (xs : List X) (k : ℕ) (x : X) → slice_get xs k ≡ Some x → (y : X) × (slice_get xs 0 ≡ Some y)
   first-of [] k x h = absurd (none-some x h)
   first-of (z ∷ zs) k x h = (z, refl)
@@ -146,7 +146,7 @@ module _ {X Y : Type 0} where
       let r = at-filter_map h xs i x y a b in
       elim (h z) as (λ o. (k : ℕ) × (slice_get (cons_option o (filter_map h xs)) k ≡ Some y)) [ None ↦ r | Some w ↦ (suc r.0, r.1) ]
 
--- what is at an index is there with its number
+-- the element at an index has that number
 pub at-numbered : {X : Type 0} (xs : List X) (i k : ℕ) (x : X) → slice_get xs k ≡ Some x → (n : ℕ) × (n ≡ i + k) × (slice_get (enumerate_from i xs) k ≡ Some (n, x))
 at-numbered [] i k x h = absurd (none-some x h)
 at-numbered {X = X} (z ∷ xs) i zero x h = (i, omega arith, ap (λ (y : X). Some (i, y)) (same_Some z x h))
@@ -161,7 +161,7 @@ under-at f c j v h =
       | false ↦ λ q at. absurd (none-some v at)
     ] refl h
 
--- what is under a feature of an object is there by the object's number
+-- the values under a feature of an object are found by the object's number
 pub object-there : (doc : Doc) (o : ObjectNo) (f : FeatureNo) (k : ℕ) (v : Value) → slice_get (values_in doc o f) k ≡ Some v → (x : DocObject) × (slice_get doc.objects o.0 ≡ Some x) × (slice_get (values_under x f) k ≡ Some v)
 object-there doc o f k v h =
     elim (slice_get doc.objects o.0) as (λ y. slice_get doc.objects o.0 ≡ y → slice_get (option_map_or (λ x. values_under x f) y []) k ≡ Some v → (x : DocObject) × (slice_get doc.objects o.0 ≡ Some x) × (slice_get (values_under x f) k ≡ Some v)) [
@@ -179,7 +179,7 @@ pub record IsThere (doc : Doc) (o : ObjectNo) (c : Content) : Type 0 where
   pub index : ℕ
   pub in_object : slice_get object.contents index ≡ Some c
 
--- what is under a feature of an object is in a content of it
+-- a value under a feature of an object is in a content of the object
 pub value-there : (doc : Doc) (o : ObjectNo) (f : FeatureNo) (k : ℕ) (v : Value) → slice_get (values_in doc o f) k ≡ Some v → (c : Content) × IsThere doc o c × (c.feature ≡ f) × ((j : ℕ) × (slice_get c.values j ≡ Some v))
 value-there doc o f k v h =
     let x = object-there doc o f k v h in

@@ -13,6 +13,7 @@ use Rattle.mm_types.specs.declared.numbers.ObjectNo.{ObjectNo}
 use Rattle.mm_types.specs.declared.value.Value.{Value}
 use Rattle.mm_types.specs.declared.value.Value.TheVariants as value
 use Rattle.links.specs.LegalSets.{IsDistinct}
+use Rattle.links.proofs.ShownLemmas.{object_value}
 use Rattle.resource_docs.specs.declared.doc.Content.{Content}
 use Rattle.doc_loader.specs.LoadEdits.{is_ascending_from}
 use Rattle.doc_loader.specs.Loading.{loaded, loaded_value}
@@ -35,7 +36,7 @@ module _ {X Y : Type 0} where
   flat_map-flat_map {Z = Z} f g (x ∷ xs) = flat_map-append f (g x) (flat_map g xs) ∙ ap (λ (zs : List Z). flat_map f (g x) ++ zs) (flat_map-flat_map f g xs)
 
 module _ {X Y : Type 0} where
-  -- where only the element of one number gives something
+  -- the case that only the element of one number gives results
   pub one-number : (f : X → List Y) (a i : ℕ) (xs : List X) → flat_map (λ y. cond (nat_eq y.0 (i + a)) (f y.1) []) (enumerate_from i xs) ≡ option_map_or f (slice_get xs a) []
   one-number f a i [] = refl
   one-number f zero i (x ∷ xs) =
@@ -50,7 +51,7 @@ module _ {X Y : Type 0} where
       let same : i + suc a ≡ (i + 1) + a = omega arith in
       rw other (ap (λ (k : ℕ). flat_map (λ (y : ℕ × X). cond (nat_eq y.0 k) (f y.1) []) (enumerate_from (i + 1) xs)) same ∙ one-number f a (i + 1) xs)
 
--- the content of a feature, among contents of other features each
+-- the content of a feature, among contents of different features
 pub one-content : {Y : Type 0} (f : FeatureNo) (g : List Value → List Y) (cs : List Content) → g [] ≡ [] → Apart HaveOtherFeatures cs
     → flat_map (λ (c : Content). cond (same_feature f c.feature) (g c.values) []) cs ≡ g (flat_map (λ (c : Content). cond (same_feature f c.feature) c.values []) cs)
 one-content f g [] nil apart = sym nil
@@ -74,15 +75,11 @@ value-object : Value → ℕ
 value-object (value.Object o) = o.0
 value-object _ = 0
 
-pub same-object : (a b : ObjectNo) → value.Object a ≡ value.Object b → a ≡ b
-unfolding value-object
-same-object a b h = let e = ap value-object h in λ i. record { 0 = e i }
-
 pub loaded-same : (n : ℕ) (a b : ObjectNo) → loaded n a ≡ loaded n b → a ≡ b
 loaded-same n a b h = let e = ap (λ (x : ObjectNo). x.0) h in let same : a.0 ≡ b.0 = omega (arith, e) in λ i. record { 0 = same i }
 
 pub loaded-value-object : (n : ℕ) (v : Value) (b : ObjectNo) → loaded_value n v ≡ value.Object b → (a : ObjectNo) × (v ≡ value.Object a) × (b ≡ loaded n a)
-loaded-value-object n (value.Object a) b h = (a, refl, sym (same-object (loaded n a) b h))
+loaded-value-object n (value.Object a) b h = (a, refl, sym (object_value (loaded n a) b h))
 loaded-value-object n value.Null b h = cc
 loaded-value-object n (value.Bool x) b h = cc
 loaded-value-object n (value.Int x) b h = cc
@@ -133,7 +130,7 @@ ascending-less j k (value.Literal x ∷ vs) le h = absurd h
 ascending-less j k (value.Proxy x ∷ vs) le h = absurd h
 ascending-less j k (value.Adapter x ∷ vs) le h = absurd h
 
--- each element of such a list
+-- each element of an ascending list
 pub ascending-at : (k : ℕ) (vs : List Value) (j : ℕ) (v : Value) → IsAscending k vs → slice_get vs j ≡ Some v → (a : ObjectNo) × (v ≡ value.Object a) × (k ≤ a.0)
 ascending-at k [] j v h at = absurd (none-some v at)
 ascending-at k (value.Object a ∷ vs) zero v h at = (a, sym (same_Some (value.Object a) v at), h.0)
@@ -147,7 +144,7 @@ ascending-at k (value.Proxy x ∷ vs) j v h at = absurd h
 ascending-at k (value.Adapter x ∷ vs) j v h at = absurd h
 
 not-again : (a : ObjectNo) (vs : List Value) (j : ℕ) (v : Value) → IsAscending (suc a.0) vs → slice_get vs j ≡ Some v → v ≡ value.Object a → ⊥
-not-again a vs j v h at is = let r = ascending-at (suc a.0) vs j v h at in let same = ap (λ (x : ObjectNo). x.0) (same-object r.0 a (sym r.1 ∙ is)) in let low = r.2 in omega (arith, same, low)
+not-again a vs j v h at is = let r = ascending-at (suc a.0) vs j v h at in let same = ap (λ (x : ObjectNo). x.0) (object_value r.0 a (sym r.1 ∙ is)) in let low = r.2 in omega (arith, same, low)
 
 pub ascending-distinct : (k : ℕ) (vs : List Value) → IsAscending k vs → IsDistinct vs
 ascending-distinct k [] h i j v a b = absurd (none-some v a)
@@ -166,7 +163,7 @@ ascending-distinct k (value.Adapter x ∷ vs) h i j v a b = absurd h
 abbrev AreIn : List Value → List Value → Type 0
 AreIn vs ws = (k : ℕ) (v : Value) → slice_get vs k ≡ Some v → (j : ℕ) × (slice_get ws j ≡ Some v)
 
--- two ascending lists of the same objects are one
+-- two ascending lists of the same objects are equal
 pub ascending-one : (k : ℕ) (vs ws : List Value) → IsAscending k vs → IsAscending k ws → AreIn vs ws → AreIn ws vs → vs ≡ ws
 ascending-one k [] [] a b p q = refl
 ascending-one k [] (w ∷ ws) a b p q = absurd (none-some w (q 0 w refl).1)
@@ -176,8 +173,8 @@ ascending-one k (value.Object x ∷ vs) (value.Object y ∷ ws) a b p q = elim (
       let is : x ≡ y = λ i. record { 0 = same i } in
       let b' : IsAscending (suc x.0) ws = subst (λ (z : ℕ). IsAscending (suc z) ws) (sym same) b.1 in
       λ i. value.Object (is i) ∷ ascending-one (suc x.0) vs ws a.1 b' (rest x vs y ws is a.1 p) (rest y ws x vs (sym is) b.1 q) i
-  | inr (inl low) ↦ (let r = p 0 (value.Object x) refl in let z = ascending-at y.0 (value.Object y ∷ ws) r.0 (value.Object x) (omega arith, b.1) r.1 in let e = ap (λ (u : ObjectNo). u.0) (same-object x z.0 z.1) in let le = z.2 in absurd (omega (arith, low, e, le)))
-  | inr (inr high) ↦ (let r = q 0 (value.Object y) refl in let z = ascending-at x.0 (value.Object x ∷ vs) r.0 (value.Object y) (omega arith, a.1) r.1 in let e = ap (λ (u : ObjectNo). u.0) (same-object y z.0 z.1) in let le = z.2 in absurd (omega (arith, high, e, le)))
+  | inr (inl low) ↦ (let r = p 0 (value.Object x) refl in let z = ascending-at y.0 (value.Object y ∷ ws) r.0 (value.Object x) (omega arith, b.1) r.1 in let e = ap (λ (u : ObjectNo). u.0) (object_value x z.0 z.1) in let le = z.2 in absurd (omega (arith, low, e, le)))
+  | inr (inr high) ↦ (let r = q 0 (value.Object y) refl in let z = ascending-at x.0 (value.Object x ∷ vs) r.0 (value.Object y) (omega arith, a.1) r.1 in let e = ap (λ (u : ObjectNo). u.0) (object_value y z.0 z.1) in let le = z.2 in absurd (omega (arith, high, e, le)))
 ]
   where
     rest : (x : ObjectNo) (vs : List Value) (y : ObjectNo) (ws : List Value) → x ≡ y → IsAscending (suc x.0) vs → AreIn (value.Object x ∷ vs) (value.Object y ∷ ws) → AreIn vs ws
@@ -257,7 +254,7 @@ ascending-first n k v vs a is h rest =
     let low = leb-true k a.0 both.0 in
     subst (λ (w : Value). IsAscending (n + k) (loaded_values n (w ∷ vs))) (sym is) (omega (arith, low), subst (λ (i : ℕ). IsAscending i (loaded_values n vs)) {x = n + suc a.0} (omega arith) (rest both.1))
 
--- where the test holds, and all are objects, they ascend
+-- if the test passes and all values are objects, they are ascending
 pub ascending-test : (n k : ℕ) (vs : List Value) → ((j : ℕ) (v : Value) → slice_get vs j ≡ Some v → (a : ObjectNo) × (v ≡ value.Object a)) → is_ascending_from k vs ≡ true → IsAscending (n + k) (loaded_values n vs)
 ascending-test n k [] objects h = tt
 ascending-test n k (v ∷ vs) objects h =

@@ -1,4 +1,4 @@
--- What holds a node has it in its end.
+-- The end that is the holder of a node has the node.
 use Rattle.std.proofs.Common.{◌≡◌, ℕ, true, false, Option, Some, None, if◌then◌else◌, refl, sym, ap, ◌∙◌, subst}
 use Rattle.std.specs.Prelude.{◌&&◌}
 use Rattle.std.specs.List.{slice_get}

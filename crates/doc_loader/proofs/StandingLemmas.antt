@@ -1,4 +1,4 @@
--- What is where an object should is an object of a concrete class, and conforms to the target of the containment that it is under.
+-- Each value under a containment is an object of a concrete class, which conforms to the target of the containment.
 use Rattle.std.proofs.Common.{◌≡◌, ◌∙◌, ◌++◌, ℕ, zero, suc, Bool, true, false, cond, List, [], ◌∷◌, Option, Some, None, length, map, refl, sym, ap, subst, inl, inr}
 use Rattle.std.specs.Prelude.{◌&&◌, ◌||◌, ◌==◌, ◌⊎◌, flat_map, is_some, not, option_map, slice_get, unwrap_or, if◌then◌else◌}
 use Rattle.std.specs.List.{AllByRecursion, enumerate_from, list_all, list_any}
@@ -59,7 +59,7 @@ found : (p : Feature → Bool) (o : Option Feature) → option_map_or p o false 
 found p None h = absurd (false≢true h)
 found p (Some g) h = (g, refl, h)
 
--- content that is of its feature's type: the feature is there, and each value is one of it
+-- content of its feature's type: the feature exists, and each value is of its type
 pub content-feature : (m : Metamodel) (e : Entry) → is_content m e ≡ true
     → (g : Feature) × (lookups.feature m e.feature ≡ Some g) × (list_all (is_value m (shape m e.feature).is_single g.kind) (values_of m e) ≡ true)
 content-feature m e h =
@@ -67,7 +67,7 @@ content-feature m e h =
     let all = λ (g : Feature). list_all (is_value m single g.kind) (values_of m e) in
     found all (lookups.feature m e.feature) (and_parts (single || is_some (as_array e.content)) (option_map_or all (lookups.feature m e.feature) false) h).1
 
--- the shape of a feature that is there
+-- the shape of a feature that exists
 pub shape-is : (m : Metamodel) (f : FeatureNo) (g : Feature) → lookups.feature m f ≡ Some g → shape m f ≡ shape_of m f g g.kind
 shape-is m f g is = ap (λ (x : Option Feature). option_map_or (λ y. shape_of m f y y.kind) x (contents_shape m)) is
 
@@ -169,7 +169,7 @@ class-there m (Some w) some none = by (lookups.class_by_name m w.class) none
     by None h = absurd (true≢false h)
     by (Some c) h = (c, refl, not-false (lookups.is_concrete m c) h)
 
--- what may be under a containment conforms to its target, where its class is there
+-- an object that may be under a containment conforms to its target, if its class exists
 may-conform : (m : Metamodel) (target c : ClassNo) (d : Data) → class_of m d ≡ Some c → may_stand m target d ≡ true → conforms_to m target d ≡ true
 may-conform m target c d is h =
     let held = and_parts (is_some (as_object d)) (option_map_or (λ c. lookups.conforms m c target) (class_of m d) true) h in

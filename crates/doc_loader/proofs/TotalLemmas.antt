@@ -1,4 +1,4 @@
--- What each end gains by the edits that put roots and values from their own ends.
+-- The values that each end gains by the edits that put roots and values from their own ends.
 use Rattle.std.proofs.Common.{◌≡◌, ◌≢◌, ◌∙◌, ◌+◌, ◌++◌, ℕ, zero, suc, Bool, true, false, cond, if◌then◌else◌, List, [], ◌∷◌, Option, Some, None, map, refl, sym, ap, subst, inl, inr, arith}
 use Rattle.std.specs.Prelude.{◌&&◌, ◌||◌, flat_map, is_some, nat_eq, not}
 use Rattle.std.specs.List.{AllByRecursion, enumerate_from, list_any}
@@ -31,11 +31,13 @@ use Rattle.doc_loader.specs.Pairs.{is_near, lower_of}
 use Rattle.doc_loader.proofs.GainLemmas.{gains}
 use Rattle.doc_loader.proofs.GatherLemmas.{gathered, gathered-none, gathered-one}
 use Rattle.doc_loader.proofs.PairLemmas.{all-from_at, all-more}
-use Rattle.doc_loader.proofs.RotateLemmas.{distinct-tail}
-use Rattle.doc_loader.proofs.SideLemmas.{IsFarSide, IsNearSide, IsPlainFeature, contents-shape, feature-same, opposite-reference}
+use Rattle.doc_loader.proofs.SideLemmas.{IsFarSide, IsNearSide, IsPlainFeature, contents-shape, opposite-reference}
 use Rattle.doc_loader.proofs.SoundLemmas.{IsSort, IsSound, IsSoundContent}
 use Rattle.doc_loader.proofs.SourceLemmas.{flat_map-none, loaded_values, sources_from}
+use Rattle.doc_loader.proofs.FillLemmas.{distinct-tail}
 use Rattle.models.specs.Reading.{contents_end}
+use Rattle.mm_meta.proofs.ByNameLemmas.{numbered_alike}
+use Rattle.mm_meta.proofs.OwnerLemmas.{nat_eq-turned}
 
 ---------------------------------------------------------------- tests
 
@@ -43,12 +45,6 @@ pub add-eq : (n x y : ℕ) → nat_eq (n + x) (n + y) ≡ nat_eq x y
 add-eq n x y = elim (cases_Bool (nat_eq x y)) [
   | inl same ↦ eq-eqb (n + x) (n + y) (ap (λ (z : ℕ). n + z) (eqb-true x y same)) ∙ sym same
   | inr other ↦ ne_eqb (n + x) (n + y) (λ q. true≢false (sym (eq-eqb x y (omega (arith, q))) ∙ other)) ∙ sym other
-]
-
-pub turned-eq : (x y : ℕ) → nat_eq x y ≡ nat_eq y x
-turned-eq x y = elim (cases_Bool (nat_eq x y)) [
-  | inl same ↦ same ∙ sym (eq-eqb y x (sym (eqb-true x y same)))
-  | inr other ↦ other ∙ sym (ne_eqb y x (λ q. true≢false (sym (eq-eqb x y (sym q)) ∙ other)))
 ]
 
 not-far : (o : ObjectNo) (h : Option FeatureNo) (d : End) → (h ≡ Some d.feature → ⊥) → is_far o h d ≡ false
@@ -118,7 +114,7 @@ absent-later u v vs same d = all-from_at (λ w. same_value u w ≡ false) vs (λ
     let e = d zero (suc k) v refl (at ∙ ap Some (sym (same_value-true u w q) ∙ same_value-true u v same)) in
     omega (arith, e))))
 
--- of values that repeat nothing, one at most is the object
+-- in a list without repetitions at most one value is the object
 once-any : (u w : Value) (vs : List Value) → IsDistinct vs → flat_map (λ v. cond (same_value u v) (w ∷ []) []) vs ≡ cond (list_any (same_value u) vs) (w ∷ []) []
 once-any u w [] d = refl
 once-any u w (v ∷ vs) d =
@@ -152,9 +148,9 @@ module _ (m : Metamodel) (n : ℕ) (doc : Doc) (sound : IsSound m doc) where
             let e = object_end n o c.feature in
             let d = object_end n a f in
             values-own m n e d (same_end e d) refl (λ b. not-far b (shape m c.feature).opposite d (side.alone c.feature s.plain near)) reference 0 c.values s.sorts
-            ∙ nested (nat_eq o.0 a.0) (same_feature f c.feature) (same_end e d) (loaded_values n c.values) (λ i. (sym (add-eq n o.0 a.0) i) && (turned-eq f.0 c.feature.0 i))
+            ∙ nested (nat_eq o.0 a.0) (same_feature f c.feature) (same_end e d) (loaded_values n c.values) (λ i. (sym (add-eq n o.0 a.0) i) && (nat_eq-turned f.0 c.feature.0 i))
         | false ↦ λ near. (
-            let other = false_from_ne_true (same_feature f c.feature) (λ q. true≢false (sym (subst (λ (x : FeatureNo). is_near (shape m x) x ≡ true) (feature-same f c.feature (eqb-true f.0 c.feature.0 q)) side.near) ∙ near)) in
+            let other = false_from_ne_true (same_feature f c.feature) (λ q. true≢false (sym (subst (λ (x : FeatureNo). is_near (shape m x) x ≡ true) (numbered_alike f c.feature (eqb-true f.0 c.feature.0 q)) side.near) ∙ near)) in
             ap (λ (t : Bool). cond t (cond (nat_eq o.0 a.0) (loaded_values n c.values) []) []) (sym other))
       ] refl
 
@@ -171,21 +167,21 @@ module _ (m : Metamodel) (n : ℕ) (doc : Doc) (sound : IsSound m doc) where
             let other = ne-same_end e d (λ q. apart (ap (λ (x : End). x.feature) q)) in
             elim (same_feature f c.feature) as (λ t. same_feature f c.feature ≡ t → gained m n e d 0 c.values ≡ cond t (cond (list_any (same_value (value.Object b)) c.values) (value.Object (loaded n o) ∷ []) []) []) [
               | true ↦ λ q.
-                  let pair : (shape m c.feature).opposite ≡ Some g = subst (λ (x : FeatureNo). (shape m x).opposite ≡ Some g) (feature-same f c.feature (eqb-true f.0 c.feature.0 q)) side.back in
+                  let pair : (shape m c.feature).opposite ≡ Some g = subst (λ (x : FeatureNo). (shape m x).opposite ≡ Some g) (numbered_alike f c.feature (eqb-true f.0 c.feature.0 q)) side.back in
                   values-far m n e d other b (λ x. ap (λ (h : Option FeatureNo). is_far (loaded n x) h d) pair ∙ far-object x b g) 0 c.values
                   ∙ once-any (value.Object b) (value.Object (loaded n o)) c.values (s.distinct reference)
               | false ↦ λ q. values-none m n e d other (λ x. not-far (loaded n x) (shape m c.feature).opposite d (λ pair.
                   true≢false (sym (eq-eqb f.0 c.feature.0 (ap (λ (y : FeatureNo). y.0) (same_Some f c.feature (sym side.pair ∙ sound.kinds.inverse c.feature g pair)))) ∙ q))) 0 c.values
             ] refl
         | false ↦ λ near. (
-            let other = false_from_ne_true (same_feature f c.feature) (λ q. true≢false (sym (subst (λ (x : FeatureNo). is_near (shape m x) x ≡ true) (feature-same f c.feature (eqb-true f.0 c.feature.0 q)) side.near) ∙ near)) in
+            let other = false_from_ne_true (same_feature f c.feature) (λ q. true≢false (sym (subst (λ (x : FeatureNo). is_near (shape m x) x ≡ true) (numbered_alike f c.feature (eqb-true f.0 c.feature.0 q)) side.near) ∙ near)) in
             ap (λ (t : Bool). cond t (cond (list_any (same_value (value.Object b)) c.values) (value.Object (loaded n o) ∷ []) []) []) (sym other))
       ] refl
     where
       far-object : (x b : ObjectNo) (g : FeatureNo) → same_end (far_end (loaded n x) g) (object_end n b g) ≡ nat_eq b.0 x.0
       far-object x b g =
           let self = eq-eqb g.0 g.0 refl in
-          (λ i. add-eq n x.0 b.0 i && self i) ∙ and-true (nat_eq x.0 b.0) ∙ turned-eq x.0 b.0
+          (λ i. add-eq n x.0 b.0 i && self i) ∙ and-true (nat_eq x.0 b.0) ∙ nat_eq-turned x.0 b.0
         where
           and-true : (t : Bool) → t && true ≡ t
           and-true true = refl

@@ -1,4 +1,4 @@
--- A document that is read keeps to its metamodel.
+-- A document that is read agrees with its metamodel.
 use Rattle.std.proofs.Common.{◌≡◌, ◌∙◌, ◌<◌, ◌≤◌, ℕ, ℤ, Bool, true, false, List, [], ◌∷◌, Option, Some, None, length, map, refl, sym, ap, subst, arith}
 use Rattle.std.specs.Prelude.{◌&&◌, IfSome, filter_map, if◌then◌else◌, int_le, nat_le, negsuc, option_map, pos, slice_get, unwrap_or}
 use Rattle.std.specs.List.{All, AllByRecursion, IsDistinct, enumerate_from, list_any}
@@ -46,12 +46,12 @@ use Rattle.doc_loader.proofs.WrittenLemmas.{known-at, none-of, object-at, read-a
 
 ---------------------------------------------------------------- lists
 
-int-less : (u : ℤ) (k n : ℕ) → k ≤ n → int_le (pos n) u ≡ true → int_le (pos k) u ≡ true
+pub int-less : (u : ℤ) (k n : ℕ) → k ≤ n → int_le (pos n) u ≡ true → int_le (pos k) u ≡ true
 int-less (pos u) k n le h = grind (arith, nat_tests)
 int-less (negsuc u) k n le h = absurd (false≢true h)
 
 -- fewer values are no more than a list may have
-bounded-less : (a : Shape) (k n : ℕ) → k ≤ n → is_bounded a n ≡ true → is_bounded a k ≡ true
+pub bounded-less : (a : Shape) (k n : ℕ) → k ≤ n → is_bounded a n ≡ true → is_bounded a k ≡ true
 bounded-less a k n le h =
     let both = and_parts (nat_le n LIST_VALUES) (if int_le (pos 1) a.upper then int_le (pos n) a.upper else true) h in
     let few : nat_le k LIST_VALUES ≡ true = let most = both.0 in grind (arith, nat_tests) in

@@ -1,11 +1,11 @@
 -- The values that are read under a feature are of its type.
-use Rattle.std.proofs.Common.{◌≡◌, ◌∙◌, ◌<◌, ℕ, ℤ, suc, Bool, true, false, cond, List, [], ◌∷◌, Option, Some, None, length, refl, sym, ap, subst, arith, nat_lt}
+use Rattle.std.proofs.Common.{◌≡◌, ◌∙◌, ◌<◌, ℕ, ℤ, Bool, true, false, cond, List, [], ◌∷◌, Option, Some, None, length, refl, sym, ap, subst, nat_lt}
 use Rattle.std.specs.Prelude.{IfSome, filter_map, option_and_then, option_map, position, slice_get, unwrap_or}
 use Rattle.std.specs.List.{AllByRecursion, enumerate_from}
 use Rattle.std.specs.Option.{option_map_or, option_or}
 use Rattle.std.specs.Str.{bytes_eq}
 use Rattle.std.proofs.lemmas.Bool.{and_from, false≢true, lt-ltb}
-use Rattle.std.proofs.lemmas.Option.{none-some, same_Some}
+use Rattle.std.proofs.lemmas.Option.{none-some}
 use Rattle.serde_json.specs.Data.{Data}
 use Rattle.serde_json.specs.Find.{as_bool, as_i64, as_null, as_number, as_str}
 use Rattle.json_fields.specs.Fields.{◌>>=◌, ◌such_that◌}
@@ -29,7 +29,7 @@ use Rattle.web_uris.specs.Paths.{with_step}
 use Rattle.web_uris.specs.declared.path.Path.{Path}
 use Rattle.doc_parts.specs.Contents.{attribute_value, conforms_to, is_content, is_short}
 use Rattle.doc_parts.specs.Parts.{Entry, Part, class_of, number_of, step_to, values_of}
-use Rattle.doc_parts.proofs.WayLemmas.{position_cons}
+use Rattle.doc_parts.proofs.WayLemmas.{position_cons, below_at}
 use Rattle.resource_docs.specs.Read.{values_read}
 use Rattle.resource_docs.specs.Texts.{Base, target}
 use Rattle.resource_docs.specs.Values.{led_to, object_of, value_of}
@@ -49,14 +49,9 @@ IsKept m single t (value.Object o) = ⊥
 IsKept m single t (value.Proxy p) = ⊥
 IsKept m single t v = (lookups.is_attribute_value m single t v ≡ true) × (legal.is_short v ≡ true)
 
-below-next : (b : Bool) (o : Option ℕ) (n i : ℕ) → ((j : ℕ) → o ≡ Some j → j < n) → cond b (Some 0) (option_map suc o) ≡ Some i → i < suc n
-below-next true o n i less h = let e = same_Some 0 i h in omega (arith, e)
-below-next false None n i less h = absurd (none-some i h)
-below-next false (Some j) n i less h = let e = same_Some (suc j) i h in let l = less j refl in omega (arith, e, l)
-
 position-below : {X : Type 0} (p : X → Bool) (xs : List X) (i : ℕ) → position p xs ≡ Some i → i < length xs
 position-below p [] i h = absurd (none-some i h)
-position-below p (x ∷ xs) i h = below-next (p x) (position p xs) (length xs) i (position-below p xs) (sym (position_cons p x xs) ∙ h)
+position-below p (x ∷ xs) i h = below_at (p x) (position p xs) (length xs) i (position-below p xs) (sym (position_cons p x xs) ∙ h)
 
 mapped-kept : {X : Type 0} (m : Metamodel) (single : Bool) (t : DataType) (f : X → Value) (o : Option X) → ((x : X) → IsKept m single t (f x)) → IfSome (option_map f o) (IsKept m single t)
 mapped-kept m single t f None each = tt
@@ -111,7 +106,7 @@ attribute-kept m single (Enum e) d = literal-kept m single e (as_str d)
 
 ---------------------------------------------------------------- one value
 
--- a feature takes a value but for proxies
+-- a feature takes a value, or the value is a proxy
 abbrev pub IsTaken : Metamodel → Doc → FeatureNo → Value → Type 0
 IsTaken m doc f (value.Object b) = lookups.takes m (class_in doc) f (value.Object b) ≡ true
 IsTaken m doc f (value.Proxy t) = Unit {0}
@@ -168,7 +163,7 @@ module _ (m : Metamodel) (doc : Doc) (f : FeatureNo) (g : Feature) (known : look
 
 ---------------------------------------------------------------- the values of an entry
 
--- what is known of an entry of a part: its content is of its type, and by a step to a containment reference is what conforms
+-- facts about an entry of a part: its content is of its type, and a step to a containment reference leads to a part that conforms
 pub record IsEntry (m : Metamodel) (ps : List Part) (path : Path) (e : Entry) : Type 0 where
   pub content : is_content m e ≡ true
   pub contained : (n position : ℕ) (g : Feature) (target : ClassNo) (opposite : Option FeatureNo) → lookups.feature m e.feature ≡ Some g → g.kind ≡ Reference target true opposite
@@ -212,7 +207,7 @@ module _ (m : Metamodel) (b : Base) (ps : List Part) (doc : Doc) (classes : HasC
   value-taken (Reference class true opposite) v kind = part-taken class opposite v.0 (number_of ps (with_step path (step_to m e.feature v.0))) kind refl
   value-taken (Reference class false opposite) v kind = led-taken class opposite (as_str v.1 >>= target b) kind
 
--- the feature of an entry takes the values that are read, but for proxies
+-- the feature of an entry takes the values that are read, except proxies
 pub values-taken : (m : Metamodel) (b : Base) (ps : List Part) (doc : Doc) → HasClasses m doc ps → (path : Path) (e : Entry) → IsEntry m ps path e → AllByRecursion (IsTaken m doc e.feature) (values_read m b ps path e)
 values-taken m b ps doc classes path e fine =
     let r = content-feature m e fine.content in

@@ -1,4 +1,4 @@
--- No two parts of a document have one path, and each but a root has its whole before it.
+-- No two parts of a document have the same path, and each part that is no root comes after the part that contains it.
 use Rattle.std.proofs.Common.{◌≡◌, ◌∙◌, ◌+◌, ◌<◌, ◌++◌, ℕ, zero, suc, true, false, cond, List, [], ◌∷◌, Option, Some, None, append_assoc, append-nil, length, length-append, map, take, refl, sym, ap, subst, arith}
 use Rattle.std.specs.Prelude.{flat_map, option_map, slice_get, unwrap_or, if◌then◌else◌}
 use Rattle.std.specs.List.{AllByRecursion, enumerate_from}
@@ -81,7 +81,7 @@ child-of r name c h = (new_step name h.0, h.1)
 children : (m : Metamodel) (r : Path) (es : List Entry) → AllByRecursion (IsChild r) (flat_map (parts_in m r) es)
 children m r es = all-flat_map_every (IsChild r) (parts_in m r) es (λ e. all-more (IsNamed r (lookups.feature_name m e.feature)) (IsChild r) (parts_in m r e) (child-of r (lookups.feature_name m e.feature)) (named-in m r e))
 
--- the numbered parts under a name have other paths than one of a lower number
+-- the numbered parts under a name have different paths than a part of a lower number
 numbered-apart : (r : Path) (name : List ℕ) (j i : ℕ) (ds : List Data) → j < i → AllByRecursion (λ (v : ℕ × Data). with_step r (new_step name (Some j)) ≡ with_step r (new_step name (Some v.0)) → ⊥) (enumerate_from i ds)
 numbered-apart r name j i [] lt = tt
 numbered-apart r name j i (d ∷ ds) lt = (
@@ -156,7 +156,7 @@ across-parts m n k p q other =
 child-length : (r : Path) (c : Part) → IsChild r c → length c.path.steps ≡ suc (length r.steps)
 child-length r c h = let n = length-append r.steps (h.0 ∷ []) in let e = ap (λ (x : Path). length x.steps) h.1 in omega (arith, n, e)
 
--- the part itself goes no further than it reaches
+-- the path of a part is no extension of the path of a part in it
 not-itself : (p q : Part) (s : Step) → Extends (with_step p.path s) q.path → p.path ≡ q.path → ⊥
 not-itself p q s h same =
     let e = ap length (ap (λ (x : Path). x.steps) same ∙ h.steps) in
@@ -209,14 +209,14 @@ module _ (m : Metamodel) (names : NamesAreApart m) where
       by None = tt
       by (Some t) = all-map IsRoot root_at (enumerate_from 0 (list_of t.roots)) (all-every (λ v. IsRoot (root_at v)) (enumerate_from 0 (list_of t.roots)) (λ v. (v.0, refl)))
 
-  -- no two parts have one path
+  -- no two parts have the same path
   pub all-apart : (d : Data) → Apart HaveOtherPaths (parts m d)
   unfolding parts
   all-apart d = list-of-parts (depth d) 0 (root_parts d) (roots-apart d) (all-more IsRoot (λ p. length p.path.steps ≡ 0) (root_parts d) (λ p is. ap (λ (x : Path). length x.steps) is.1) (roots-are d)) (parts-apart (depth d))
 
 ---------------------------------------------------------------- what comes before
 
--- where a path ends after a step, what has the path before it is among some
+-- if the path of a part ends with a step, the part with the path before this step is among some parts
 abbrev HasWhole : List Part → Part → Type 0
 HasWhole seen q = (r : Path) (s : Step) → q.path ≡ with_step r s → (k : ℕ) × (x : Part) × (slice_get seen k ≡ Some x) × (x.path ≡ r)
 
@@ -291,7 +291,7 @@ number-at (p ∷ ps) q b h =
     ] refl (sym (position_cons (λ (x : Part). same_path q x.path) p ps) ∙ h)
 
 module _ (m : Metamodel) (names : NamesAreApart m) (d : Data) where
-  -- a part has a higher number than what it is in
+  -- a part has a higher number than the part that contains it
   pub part-later : (a b : ℕ) (p : Part) (s : Step) → slice_get (parts m d) a ≡ Some p → number_of (parts m d) (with_step p.path s) ≡ Some b → a < b
   part-later a b p s at number =
       let there = number-at (parts m d) (with_step p.path s) b number in
@@ -300,7 +300,7 @@ module _ (m : Metamodel) (names : NamesAreApart m) (d : Data) where
       let low = w.4 in
       omega (arith, same, low)
 
-  -- and is at one index
+  -- a part is at only one index
   pub part-once : (a c b : ℕ) (p q : Part) (s t : Step) → slice_get (parts m d) a ≡ Some p → slice_get (parts m d) c ≡ Some q
       → number_of (parts m d) (with_step p.path s) ≡ Some b → number_of (parts m d) (with_step q.path t) ≡ Some b → (a ≡ c) × (s ≡ t)
   part-once a c b p q s t at there x y =

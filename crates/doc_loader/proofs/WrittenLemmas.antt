@@ -1,4 +1,4 @@
--- The part and the entry that each object and each content of a document that is read was read from.
+-- In a document that is read, the part from which an object was read, and the entry from which a content was read.
 use Rattle.std.proofs.Common.{◌≡◌, ◌∙◌, ℕ, Bool, true, false, cond, List, [], Option, Some, None, map, refl, sym, ap, subst, arith}
 use Rattle.std.specs.Prelude.{not, option_map, slice_get, unwrap_or}
 use Rattle.std.specs.List.{AllByRecursion, enumerate_from, list_any}
@@ -46,7 +46,7 @@ plain-entries m d = by (known m d)
         let fs = unwrap_or (lookups.features m c) [] in
         all-filter_map (λ f. Unit {0}) (λ e. lookups.is_container m e.feature ≡ false) (entry_at m ms) fs (λ f e u is. plain-entry m ms f e is) (all-every (λ f. Unit {0}) fs (λ f. tt))
 
--- the entries of an object have other names each
+-- the entries of an object have different names
 pub same-entry : (m : Metamodel) → NamesAreApart m → (json : Data) (i j : ℕ) (x y : Entry) → slice_get (entries m json) i ≡ Some x → slice_get (entries m json) j ≡ Some y
     → lookups.feature_name m x.feature ≡ lookups.feature_name m y.feature → x ≡ y
 same-entry m names json i j x y p q same =
@@ -65,7 +65,7 @@ pub record IsWritten (m : Metamodel) (b : Base) (ps : List Part) (o : ℕ) (c : 
   pub is : content_read m b ps part.path entry ≡ c
   pub some : is_nil c.values ≡ false
 
--- what holds of no content of a document doesn't hold of any
+-- a test that fails for each content of each object fails for all contents of the document
 pub none-of : (doc : Doc) (holds : ObjectNo → Content → Bool) → of_content holds doc ≡ false → (o : ObjectNo) (c : Content) → IsThere doc o c → holds o c ≡ false
 none-of doc holds none o c there =
     let r = at-numbered doc.objects 0 o.0 there.object there.at in

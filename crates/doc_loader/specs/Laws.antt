@@ -1,4 +1,4 @@
--- What the edits of a load make: the links that the document says, where its objects' numbers and the resource are still free.
+-- The edits of a load make the links of the document, if the numbers of its objects are free and the resource is empty.
 use Rattle.std.specs.Prelude.{◌≡◌, ℕ, []}
 use Rattle.mm_types.specs.Resolved.{Metamodel}
 use Rattle.mm_types.specs.declared.end.End.{End}
@@ -13,13 +13,13 @@ use Rattle.doc_loader.specs.LoadEdits.{load_edits}
 use Rattle.doc_loader.specs.Loading.{loaded, loaded_links, object_end, with_links}
 use Rattle.models.specs.Reading.{contents_end}
 
--- no link names a node that a document's objects get, and nothing is in the resource
+-- no link names a number that the document's objects get, and the resource is empty
 pub record IsRoomFor (m : Metamodel) (n : ℕ) (k : ResourceNo) (s : Links) : Type 0 where
   pub roots : end s (contents_end m k) ≡ []
   pub ends : (o : ObjectNo) (f : FeatureNo) → end s (object_end n o f) ≡ []
   pub values : (e : End) (o : ObjectNo) → Lacks s e (value.Object (loaded n o))
 
--- the edits fit, put nothing below itself, and make the links of the document
+-- the edits fit, put no node below itself, and make the links of the document
 pub record MakesLinks (m : Metamodel) (n : ℕ) (k : ResourceNo) (doc : Doc) (s : Links) : Type 0 where
   pub fits : PlanFits s (load_edits m n k doc)
   pub no_cycle : PlanMakesNoCycle s (load_edits m n k doc)

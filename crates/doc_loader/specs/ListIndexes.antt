@@ -22,12 +22,12 @@ reference_key o f b = record { object = o.0; feature = f.0; named = b.0 }
 abbrev pub same_reference_key : ReferenceKey → ReferenceKey → Bool
 same_reference_key j k = nat_eq j.object k.object && (nat_eq j.feature k.feature && nat_eq j.named k.named)
 
--- the object that is at a position, as it is named there
+-- the key and the index of an object at a position; nothing for another value
 abbrev pub placed : ObjectNo → FeatureNo → ℕ × Value → List (ReferenceKey × ℕ)
 placed o f (i, value.Object b) = (reference_key o f b, i) ∷ []
 placed o f (i, v) = []
 
--- only at the lower feature of a pair the indexes are asked for
+-- the keys and indexes of a content; they are needed only for the lower feature of a pair
 abbrev pub content_indexes : Metamodel → ObjectNo → Content → List (ReferenceKey × ℕ)
 content_indexes m o c =
     if is_lower (shape m c.feature) c.feature then flat_map (placed o c.feature) (enumerate_from 0 c.values) else []
@@ -35,12 +35,12 @@ content_indexes m o c =
 abbrev pub all_indexes : Metamodel → List DocObject → List (ReferenceKey × ℕ)
 all_indexes m os = flat_map (of_object (content_indexes m)) (enumerate_from 0 os)
 
--- the index that is last given for a reference key
+-- the last index that a list gives for a reference key
 abbrev pub last_index : List (ReferenceKey × ℕ) → ReferenceKey → Option ℕ
 last_index [] k = None
 last_index (x ∷ xs) k = option_or (last_index xs k) (if same_reference_key x.0 k then Some x.1 else None)
 
--- where an object is in a list of a document that has these objects
+-- the index of an object in a list of the document that has these objects
 abbrev pub index_among : Metamodel → List DocObject → ReferenceKey → ℕ
 index_among m os k = unwrap_or (last_index (all_indexes m os) k) 0
 

@@ -1,8 +1,9 @@
--- The edits that make a document's links and proxies, in an order in which each gets the position that the document says. First the roots, then the lists of all references but
--- the higher of a pair: each value is put after those before it, so each of these lists is then as it is written. The ends of
--- the higher feature gain meanwhile, each in the order of the numbers of its objects. If the document has another order there, the
--- links of that end are taken out and put again, in its order, each at the position that it had at the lower end. Last come the proxies of
--- those ends, each at its position: the objects are there by then, in their order.
+-- The edits that make a document's links and proxies, in an order in which each gets the position that the document says. Of two opposites
+-- that contain nothing, one feature has the lower number. First come the roots, then the lists of all references but the higher of each
+-- pair: each value is put after the values before it, so each list becomes as it is written. Meanwhile the ends of the higher features gain
+-- objects, by number. If the document has another order at such an end, its links are cut and put again in that order, each at the position
+-- that it had at its lower end. Last come the proxies at the ends of the higher features, each at its position: by then the objects are
+-- there in their order.
 use Rattle.std.specs.Prelude.{ℕ, suc, ◌&&◌, Bool, true, not, List, [], ◌∷◌, ◌++◌, flat_map, map, nat_le, is_some, if◌then◌else◌}
 use Rattle.std.specs.List.{enumerate_from}
 use Rattle.std.specs.Option.{option_map_or}
@@ -47,13 +48,13 @@ near_edits m n o c =
 
 ---------------------------------------------------------------- the higher feature of each pair
 
--- the objects among values are in the order of their numbers, from k on
+-- whether the objects among values are in the order of their numbers, from k on
 abbrev pub is_ascending_from : ℕ → List Value → Bool
 is_ascending_from k [] = true
 is_ascending_from k (value.Object a ∷ vs) = nat_le k a.0 && is_ascending_from (suc a.0) vs
 is_ascending_from k (v ∷ vs) = is_ascending_from k vs
 
--- takes an object b out of the end of a value a, and puts it where it was, so that a then is last at the other end
+-- takes an object b out of the end of a value a, and puts it back at its index, so that a becomes the last value at the other end
 abbrev pub puts_again : Metamodel → ℕ → (ReferenceKey → ℕ) → ObjectNo → FeatureNo → Value → List Edit
 puts_again m n index_of b f (value.Object a) =
     let e = object_end n a f in
@@ -63,7 +64,7 @@ puts_again m n index_of b f v = []
 abbrev pub in_order : Metamodel → ℕ → (ReferenceKey → ℕ) → ObjectNo → List Value → FeatureNo → List Edit
 in_order m n index_of b vs f = if is_ascending_from 0 vs then [] else flat_map (puts_again m n index_of b f) vs
 
--- the values under the higher feature of a pair are in an order other than that of their numbers
+-- whether a content is under the higher feature of a pair, and its objects are not in the order of their numbers
 abbrev pub is_unordered : Metamodel → Content → Bool
 is_unordered m c = is_some (lower_of (shape m c.feature) c.feature) && not (is_ascending_from 0 c.values)
 
@@ -81,7 +82,7 @@ proxy_edits m n o c =
 
 ---------------------------------------------------------------- all
 
--- what a pass over the contents puts
+-- the edits of a pass over the contents
 abbrev pub pass_edits : Pass → Metamodel → ℕ → ObjectNo → Content → List Edit
 pass_edits Near = near_edits
 pass_edits Proxies = proxy_edits

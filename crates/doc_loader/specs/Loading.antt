@@ -1,5 +1,5 @@
--- What loading a document makes: its objects, numbered on from the next number, their values, and their links and proxies, which are
--- at both ends where the document says.
+-- The objects of a document that is loaded, numbered on from the next number, their values, and their links and proxies, which have at both
+-- ends the positions that the document says.
 use Rattle.std.specs.Prelude.{ℕ, ◌+◌, ◌&&◌, Bool, List, [], ◌∷◌, ◌++◌, filter_map, flat_map, fold, map, position, Option, Some, None, unwrap_or, if◌then◌else◌}
 use Rattle.std.specs.List.{enumerate_from}
 use Rattle.std.specs.FinSet as set
@@ -24,11 +24,11 @@ use Rattle.resource_docs.specs.declared.doc.Doc.{Doc}
 use Rattle.resource_docs.specs.declared.doc.DocObject.{DocObject}
 use Rattle.resource_docs.specs.Read.{values_in}
 
--- the number that an object of a document gets, where the first one gets n
+-- the number that an object of a document gets, if the first object gets n
 abbrev pub loaded : ℕ → ObjectNo → ObjectNo
 loaded n o = record { 0 = n + o.0 }
 
--- a value, an object by the number that it gets
+-- a value of a document, with an object named by the number that it gets
 abbrev pub loaded_value : ℕ → Value → Value
 loaded_value n (value.Object b) = value.Object (loaded n b)
 loaded_value n v = v
@@ -36,11 +36,11 @@ loaded_value n v = v
 abbrev pub roots_loaded : ℕ → Doc → List Value
 roots_loaded n doc = map (λ o. value.Object (loaded n o)) doc.roots
 
--- what something makes of each content of an object that has a number in its document
+-- the results of `make` for each content of an object, which has a number in its document
 abbrev pub of_object : {X : Type 0} → (ObjectNo → Content → List X) → ℕ × DocObject → List X
 of_object make x = flat_map (make (record { 0 = x.0 })) x.1.contents
 
--- what a function makes of each object of a document, with the object's number there, and of each of its contents
+-- the results of `make` for each content of each object of a document, given the object's number in the document
 abbrev pub of_contents : {X : Type 0} → (ObjectNo → Content → List X) → Doc → List X
 of_contents make doc = flat_map (of_object make) (enumerate_from 0 doc.objects)
 
@@ -64,7 +64,8 @@ object_end n o f = at_end (node.Object (loaded n o)) f
 abbrev pub is_empty_resource : Reading → ResourceNo → Bool
 is_empty_resource r k = is_nil (r.values (contents_end r.metamodel k))
 
--- the position of an object at the other end of a link: 0 for the container of a part, which is alone; else its position in the document
+-- the position of an object at the other end of a link: 0 for the container of a part, which is the only value there; else the object's
+-- position in the document
 abbrev pub far_index : Shape → Doc → ObjectNo → FeatureNo → ObjectNo → FeatureNo → ℕ
 far_index a doc o f b g = if is_feature f a.containing then 0 else unwrap_or (position (same_value (value.Object o)) (values_in doc b g)) 0
 
@@ -74,7 +75,7 @@ link_to m n doc o f i b None = record { end = object_end n o f; index = i; far =
 link_to m n doc o f i b (Some g) =
     joined (object_end n o f) i (far_end (loaded n b) g) (far_index (shape m f) doc o f b g) (shape m f).containing
 
--- the link, or the proxy, that a value at a position is; both ends of a pair give one link
+-- the link, or the proxy, of a value at a position; both ends of a pair give the same link
 abbrev pub link_of : Metamodel → ℕ → Doc → ObjectNo → FeatureNo → ℕ × Value → Option Link
 link_of m n doc o f (i, value.Object b) = Some (link_to m n doc o f i b (shape m f).opposite)
 link_of m n doc o f (i, value.Proxy t) = Some (record { end = object_end n o f; index = i; far = Proxy t; container = None })
@@ -91,6 +92,6 @@ root_link m n k x =
 abbrev pub loaded_links : Metamodel → ℕ → ResourceNo → Doc → List Link
 loaded_links m n k doc = map (root_link m n k) (enumerate_from 0 doc.roots) ++ of_contents (content_links m n doc) doc
 
--- the set with some links, each standing where it says
+-- the set with some links added, each at its own positions
 unfoldable pub with_links : Links → List Link → Links
 with_links s ls = fold (λ t l. set.insert t l) s ls

@@ -1,4 +1,4 @@
--- The two features of a pair of which neither contains: a link of theirs is put from the lower one.
+-- Pairs of opposites of which neither is a containment: their links are put from the end of the lower feature.
 use Rattle.std.specs.Prelude.{◌&&◌, Bool, false, not, nat_lt, Option, Some, None, is_some, option_and_then, if◌then◌else◌}
 use Rattle.std.specs.Option.{option_map_or}
 use Rattle.mm_types.specs.Shapes.{Shape}
@@ -10,14 +10,14 @@ is_below f g = nat_lt f.0 g.0
 abbrev pub if_below : FeatureNo → FeatureNo → Option FeatureNo
 if_below g f = if is_below f g then Some f else None
 
--- the opposite of a feature, where that is the lower of the two and neither contains
+-- the opposite of a feature, if the opposite is the lower of the two and neither is a containment
 abbrev pub lower_of : Shape → FeatureNo → Option FeatureNo
 lower_of a g = if is_some a.containing then None else option_and_then (if_below g) a.opposite
 
--- a feature is the lower of a pair of which neither contains
+-- whether a feature is the lower of a pair of which neither is a containment
 abbrev pub is_lower : Shape → FeatureNo → Bool
 is_lower a f = not (is_some a.containing) && option_map_or (is_below f) a.opposite false
 
--- a reference whose values are put from its own end
+-- whether a feature is a reference whose values are put from its own end
 abbrev pub is_near : Shape → FeatureNo → Bool
 is_near a f = a.is_reference && not (is_some (lower_of a f))

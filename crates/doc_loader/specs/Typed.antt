@@ -19,13 +19,14 @@ use Rattle.resource_docs.specs.declared.doc.DocObject.{DocObject}
 abbrev pub class_in : Doc → ObjectNo → Option ClassNo
 class_in doc o = option_map (λ x. x.class) (slice_get doc.objects o.0)
 
--- a feature takes a value: an object of its target's class, a proxy where it may have one, or a value that its attribute keeps
+-- a feature takes a value: an object whose class conforms to its target, a proxy if it may have proxies, or a legal value of an attribute
 abbrev pub IsTypedValue : Metamodel → Doc → FeatureNo → Value → Type 0
 IsTypedValue m doc f (value.Object b) = lookups.takes m (class_in doc) f (value.Object b) ≡ true
 IsTypedValue m doc f (value.Proxy t) = takes_proxies (shape m f) ≡ true
 IsTypedValue m doc f v = is_legal_value m f v ≡ true
 
--- an object of a class has the feature that is written, with some values, no more than it may have, and none twice where it is unique
+-- a content of an object of a class: the class has the feature; there are values, each of the feature's type, not too many, and none twice
+-- if the feature is unique
 pub record IsTypedContent (m : Metamodel) (doc : Doc) (class : ClassNo) (c : Content) : Type 0 where
   pub has : lookups.has_feature m class c.feature ≡ true
   pub takes : All (IsTypedValue m doc c.feature) c.values
@@ -37,7 +38,8 @@ pub record IsTypedObject (m : Metamodel) (doc : Doc) (o : DocObject) : Type 0 wh
   pub concrete : lookups.is_concrete m o.class ≡ true
   pub contents : All (IsTypedContent m doc o.class) o.contents
 
--- each object is of a concrete class and typed, and the roots are objects of the document, no more than a resource may have
+-- each object is of a concrete class and its contents are typed; the roots are objects of the document, and not more than a resource may
+-- have
 pub record IsTyped (m : Metamodel) (doc : Doc) : Type 0 where
   pub objects : All (IsTypedObject m doc) doc.objects
   pub roots : All (λ (o : ObjectNo). o.0 < length doc.objects) doc.roots

@@ -1,4 +1,4 @@
-//! The edits that put the links of pairs in the order of their other ends.
+//! The edits that put the ends of the higher features of pairs in the order of the document.
 ghost use Rattle.std.specs.Prelude.{◌≡◌, ◌≤◌, ◌+◌, ◌++◌, ℕ, OnOk, flat_map, length, unwrap_or};
 ghost use Rattle.std.specs.List.{All, enumerate_from, list_any};
 ghost use Rattle.mm_types.specs.declared.limits.TheConstants.{OBJECTS};
@@ -17,8 +17,8 @@ use mm_types::{FeatureNo, ObjectNo, Value};
 use resource_docs::{Content, Doc, DocObject};
 use std::alloc::{AllocError, Global};
 
-/// What the edits are made from: the metamodel, the number that the document's first object gets, and the indexes at which its lists
-/// have each object.
+/// The data from which the edits are made: the metamodel, the number that the document's first object gets, and the index of each object in
+/// the document's lists.
 #[derive(Clone, Copy)]
 struct Source<'r> {
     meta: &'r Meta,
@@ -63,7 +63,7 @@ fn has_any_unordered(meta: &Meta, objects: &[DocObject]) -> bool
         .any(|object| has_unordered(meta, object.contents.as_slice()))
 }
 
-/// Adds the edits that put the ends of a document's objects in order. If all are, it takes no memory.
+/// Adds the edits that put the ends of a document's objects in order. If all ends are in order, it takes no memory.
 pub(crate) fn push_in_order(
     alloc: Global,
     meta: &Meta,
@@ -121,7 +121,7 @@ fn push_object(
     Ok(())
 }
 
-/// Adds the edits that put an object's end of a feature in order, if that is the higher of a pair, and the end is not in that order.
+/// Adds the edits that put an object's end of a feature in order, if the feature is the higher of a pair and the end is not in order.
 fn push_content(
     source: &Source,
     object: ObjectNo,

@@ -8,7 +8,7 @@ use mm_types::{FeatureNo, ObjectNo, Value};
 use resource_docs::{Content, DocObject};
 use std::alloc::{AllocError, Global};
 
-/// That an object of a document names another under a feature, each by its number.
+/// A reference in a document: one object names another one under a feature. All three are given by their numbers.
 #[derive(Clone, Copy, PartialEq, Eq, Hash)]
 pub(crate) struct ReferenceKey {
     pub object: u32,
@@ -46,7 +46,7 @@ impl ListIndexes {
     ghost use Rattle.doc_loader.specs.ListIndexes as p;
     ghost use Rattle.doc_loader.specs.declared.indexes.ReferenceKey.{ReferenceKey};
 
-    /// No object is anywhere. Takes no memory.
+    /// No indexes. Takes no memory.
     fn new(alloc: Global) -> Self
         ensures { (k : ReferenceKey) → p.index_at result k ≡ None }
     {
@@ -55,7 +55,7 @@ impl ListIndexes {
         }
     }
 
-    /// The indexes at which the lists of a document have each object. Errs only if memory is refused.
+    /// The index of each object in the lists of a document. Errs only if memory is refused.
     pub fn of(alloc: Global, meta: &Meta, objects: &[DocObject]) -> Result<Self, AllocError>
         requires room { length objects.now ≤ OBJECTS }
         requires short { All IsShortObject objects.now }
@@ -68,7 +68,7 @@ impl ListIndexes {
         Ok(indexes)
     }
 
-    /// Adds the indexes at which an object of the document has others.
+    /// Adds the indexes of the objects that an object of the document names.
     fn add_object(
         &mut self,
         meta: &Meta,
@@ -84,8 +84,8 @@ impl ListIndexes {
         Ok(())
     }
 
-    /// Adds the indexes at which an object of the document has others under a feature, if that is the
-    /// lower of a pair.
+    /// Adds the indexes of the objects that an object of the document names under a feature, if the feature is the
+    /// lower one of a pair.
     fn add_content(
         &mut self,
         meta: &Meta,
@@ -117,7 +117,7 @@ impl ListIndexes {
         Ok(())
     }
 
-    /// Adds the position of one value, if it is an object.
+    /// Adds the index of one value, if it is an object.
     fn add_value(
         &mut self,
         object: ObjectNo,
@@ -140,7 +140,7 @@ impl ListIndexes {
         Ok(())
     }
 
-    /// The position of an object; 0 if it has none. Takes no memory.
+    /// The index of an object; 0 if it has none. Takes no memory.
     pub fn index_of(&self, reference_key: ReferenceKey) -> u32
         ensures { result ≡ unwrap_or (p.index_at self.now reference_key) 0 }
     {

@@ -1,6 +1,6 @@
-//! Loading: the edits that make what a document holds, its objects with their values, and its links.
+//! Loading: the edits that make the objects of a document, with their values, and its links.
 //!
-//! `specs/Loading.antt` says what a document makes, `specs/LoadEdits.antt` in which order its links are put.
+//! `specs/Loading.antt` says what loading a document makes, `specs/LoadEdits.antt` in which order its links are put.
 #![tactic(auto)]
 
 mod far;

@@ -1,4 +1,4 @@
-//! The two features of a pair of which neither contains: a link of theirs is put from the lower one.
+//! Pairs of opposites of which neither is a containment: their links are put from the end of the lower feature.
 ghost use Rattle.std.specs.Prelude.{◌≡◌};
 ghost use Rattle.mm_types.specs.Shapes.{shape};
 ghost use Rattle.doc_loader.specs.Pairs as p;
@@ -6,7 +6,7 @@ ghost use Rattle.doc_loader.specs.Pairs as p;
 use mm_meta::Meta;
 use mm_types::FeatureNo;
 
-/// The opposite of a feature, if that is the lower of the two and neither contains. Takes no memory.
+/// The opposite of a feature, if the opposite is the lower of the two and neither is a containment. Takes no memory.
 pub(crate) fn lower_of(meta: &Meta, feature: FeatureNo) -> Option<FeatureNo>
     ensures { result ≡ p.lower_of (shape meta.now feature) feature }
 {
@@ -19,7 +19,7 @@ pub(crate) fn lower_of(meta: &Meta, feature: FeatureNo) -> Option<FeatureNo>
     }
 }
 
-/// Whether a feature is the lower of a pair of which neither contains. Takes no memory.
+/// Whether a feature is the lower of a pair of which neither is a containment. Takes no memory.
 pub(crate) fn is_lower(meta: &Meta, feature: FeatureNo) -> bool
     ensures { result ≡ p.is_lower (shape meta.now feature) feature }
 {

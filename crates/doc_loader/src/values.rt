@@ -31,7 +31,7 @@ pub fn value_edits(
     Ok(edits)
 }
 
-/// How many edits objects take at most, unless that is more than any list has.
+/// The greatest number of edits that objects take. The sum saturates.
 fn capacity_for(objects: &[DocObject]) -> usize {
     let mut count = objects.len();
     'objects: for object in objects {

@@ -1,4 +1,4 @@
--- Whether what is written under a feature is of its type, by the parts of that question.
+-- Whether the value that is written under a feature is of its type, by the parts of this test.
 use Rattle.std.proofs.Common.{◌≡◌, ◌∙◌, ◌∷◌, [], Bool, true, false, List, Option, Some, ap, map, sym}
 use Rattle.std.specs.Prelude.{◌&&◌, ◌||◌, is_some, if◌then◌else◌}
 use Rattle.std.specs.List.{list_all}
@@ -32,7 +32,7 @@ content_by_parts m e single g vs b is shaped found values h =
 abbrev values_by : Bool → Data → Option Items → List Data
 values_by single d items = if single then d ∷ [] else option_map_or list_of items []
 
--- the values of content of many, which is an array
+-- the values of a many-valued feature, which are an array
 pub many_values : (m : Metamodel) (f : FeatureNo) (d : Data) (vs : List Json) → (shape m f).is_single ≡ false → Some (items_of (map view vs)) ≡ as_array d → map view vs ≡ values_of m (new_entry f d)
 many_values m f d vs many array =
     sym (list_of-items_of (map view vs))

@@ -1,4 +1,4 @@
--- Lists of JSON values, and tests of what a list is mapped to.
+-- Lists of JSON values, and tests of mapped lists.
 use Rattle.std.proofs.Common.{◌≡◌, ◌∙◌, Bool, List, [], ◌∷◌, Option, Some, None, ℕ, ap, map, refl, sym}
 use Rattle.std.specs.Prelude.{◌&&◌, ◌||◌, false, option_map, unwrap_or}
 use Rattle.std.specs.List.{cons_option, filter_map, list_all, list_any}
@@ -33,7 +33,7 @@ list_any-filter_map h p (x ∷ xs) = any_at p (h x) (filter_map h xs) ∙ ap (λ
 
 ---------------------------------------------------------------- what is written under the features of a class
 
--- of an object whose class is there
+-- the entries of an object whose class exists
 pub entries_of_known : (m : Metamodel) (o : Option (ClassNo × Members)) (c : ClassNo) (ms : Members) (fs : List FeatureNo) → Some (c, ms) ≡ o → Some fs ≡ lookups.features m c
     → filter_map (entry_at m ms) fs ≡ option_map_or (λ k. entries_in m k.0 k.1) o []
 entries_of_known m o c ms fs is features = ap (λ x. filter_map (entry_at m ms) (unwrap_or x [])) features ∙ ap (λ x. option_map_or (λ k. entries_in m k.0 k.1) x []) is

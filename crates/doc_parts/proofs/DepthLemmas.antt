@@ -1,4 +1,4 @@
--- What is in a part is less deep than the part, so a walk of more levels than a document is deep finds no more.
+-- A part inside of a part has less depth, so a walk with more levels than the depth of a document finds nothing more.
 use Rattle.std.proofs.Common.{◌≡◌, ◌∙◌, ◌+◌, ◌<◌, ◌≤◌, ◌++◌, Bool, true, false, List, [], ◌∷◌, Option, Some, None, Ordering, Less, Equal, Greater, ℕ, zero, suc, ap, arith, cond, map, refl, sym}
 use Rattle.std.specs.Prelude.{codes, flat_map, option_and_then, option_map, unwrap_or}
 use Rattle.std.specs.Ordering.{match_ordering, nat_cmp}
@@ -102,7 +102,7 @@ not_then : (b : Bool) (o : Option Data) (d : Data) → cond b None o ≡ Some d 
 not_then true o d is = cc
 not_then false o d is = is
 
--- what an object says of its features is two levels below it
+-- the values of an object's features are two levels below it
 features_depth : (d : Data) (w : Written) → written d ≡ Some w → suc (suc (members_depth w.features)) ≤ depth d
 unfolding written
 features_depth d w is =

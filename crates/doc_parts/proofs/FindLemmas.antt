@@ -34,7 +34,7 @@ under_below ps k path n w i is e =
     let (above, first, _) = subst (λ x. IsPlaced ps x path) e is in
     number_below above ps n first
 
--- what is by a step under what has a number
+-- the number of a part that is a step below a part with a number
 pub number_under : (t : Numbers) (ps : List Part) (path : Path) (n : ℕ) (s : Step) → Finds t ps → number_of ps path ≡ Some n → number_of ps (with_step path s) ≡ number_at t (UnderKey n s.name s.index)
 number_under t ps path n s f first =
     sym (f.ways (with_step path s))

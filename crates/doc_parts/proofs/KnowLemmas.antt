@@ -1,4 +1,4 @@
--- What is known of parts stays known while more are found.
+-- Facts about parts stay true while more parts are found.
 use Rattle.std.proofs.Common.{◌≡◌, ◌∙◌, ◌++◌, Bool, true, false, List, [], ◌∷◌, Option, Some, None, ℕ, ap, cond, length, map, refl, sym}
 use Rattle.std.specs.Prelude.{◌&&◌, ◌||◌, is_some, not, option_map}
 use Rattle.std.specs.List.{list_all, list_any}
@@ -75,7 +75,7 @@ one_known m ps p level d k n levels jsons knowns first =
 
 ---------------------------------------------------------------- a test of what was seen
 
-list_any-as : {X : Type 0} (p q : X → Bool) (xs : List X) → ((x : X) → p x ≡ q x) → list_any p xs ≡ list_any q xs
+pub list_any-as : {X : Type 0} (p q : X → Bool) (xs : List X) → ((x : X) → p x ≡ q x) → list_any p xs ≡ list_any q xs
 list_any-as p q [] same = refl
 list_any-as p q (x ∷ xs) same = ap (λ b. b || list_any p xs) (same x) ∙ ap (λ b. q x || b) (list_any-as p q xs same)
 

@@ -22,7 +22,7 @@ append_nil (x ∷ xs) = ap (λ ys. x ∷ ys) (append_nil xs)
 pub descend_is : (at : Key → Option ℕ) (i : ℕ) (ss : List Step) → descend at (at (RootKey i)) ss ≡ way at i (reverse ss)
 descend_is at i ss = descend_way at i [] ss ∙ ap (way at i) (append_nil (reverse ss))
 
--- from the root on, where it is there
+-- from the root on, if it exists
 pub path_from : (at : Key → Option ℕ) (i : ℕ) (ss : List Step) (o : Option ℕ) → o ≡ at (RootKey i) → descend at o ss ≡ way at i (reverse ss)
 path_from at i ss o is = ap (λ x. descend at x ss) is ∙ descend_is at i ss
 

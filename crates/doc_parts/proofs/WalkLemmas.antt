@@ -1,10 +1,10 @@
--- What a walk finds, part by part.
+-- The parts that a walk finds, one after another.
 use Rattle.std.proofs.Common.{◌≡◌, ◌∙◌, ◌+◌, ◌<◌, ◌++◌, Bool, true, false, List, [], ◌∷◌, Option, Some, None, ℕ, suc, append_assoc, ap, arith, cond, get_or, length, length-append, map, refl, subst, sym, take}
 use Rattle.std.specs.Prelude.{OnOk, Result, Ok, Err, flat_map, option_map, unwrap_or, if◌then◌else◌}
 use Rattle.std.specs.List.{cons_option, enumerate_from, filter_map}
 use Rattle.std.specs.Option.{option_map_or, option_or}
 use Rattle.std.proofs.lemmas.Grind.{flat_map-append}
-use Rattle.std.proofs.lemmas.List.{length-map, length-take-le, map-append, take_more}
+use Rattle.std.proofs.lemmas.List.{length-map, length-take-le, map-append, take_more, append-nil}
 use Rattle.serde_json.specs.Data.{Data, Members}
 use Rattle.borrowed_json.specs.View.{view}
 use Rattle.borrowed_json.specs.declared.value.Json.{Json}
@@ -22,15 +22,11 @@ use Rattle.doc_parts.specs.declared.found.FoundParts.{FoundParts}
 use Rattle.doc_parts.proofs.DataLemmas.{entries_of_known}
 use Rattle.doc_parts.proofs.WayLemmas.{number_pushed}
 
-append_nil : {X : Type 0} (xs : List X) → xs ++ [] ≡ xs
-append_nil [] = refl
-append_nil (x ∷ xs) = ap (λ ys. x ∷ ys) (append_nil xs)
-
 number_next : (ps : List Part) (q : Part) (path : Path) (n : ℕ) → number_of ps path ≡ Some n → number_of (ps ++ q ∷ []) path ≡ Some n
 number_next ps q path n first = number_pushed path ps q ∙ ap (λ o. option_or o (cond (same_path path q.path) (Some (length ps)) None)) first
 
 number_more : (ps qs : List Part) (path : Path) (n : ℕ) → number_of ps path ≡ Some n → number_of (ps ++ qs) path ≡ Some n
-number_more ps [] path n first = ap (λ xs. number_of xs path) (append_nil ps) ∙ first
+number_more ps [] path n first = ap (λ xs. number_of xs path) (append-nil ps) ∙ first
 number_more ps (q ∷ qs) path n first =
     ap (λ xs. number_of xs path) (sym (append_assoc ps (q ∷ []) qs)) ∙ number_more (ps ++ q ∷ []) qs path n (number_next ps q path n first)
 
@@ -44,9 +40,9 @@ pub finds_as : (m : Metamodel) (a b : FoundParts) (n l : ℕ) (f g : Path → Li
 finds_as m a b n l f g same first = λ ps p kn num level. subst (λ xs. Knows m b (ps ++ xs)) (same p.path) (first ps p kn num level)
 
 pub finds_nothing : (m : Metamodel) (a : FoundParts) (n l : ℕ) (f : Path → List Part) → ((path : Path) → f path ≡ []) → FindsBelow m a a n l f
-finds_nothing m a n l f none = λ ps p kn num level. subst (Knows m a) (sym (ap (λ xs. ps ++ xs) (none p.path) ∙ append_nil ps)) kn
+finds_nothing m a n l f none = λ ps p kn num level. subst (Knows m a) (sym (ap (λ xs. ps ++ xs) (none p.path) ∙ append-nil ps)) kn
 
--- what was found stays while capacity is reserved
+-- the parts that were found stay while capacity is reserved
 pub finds_after : (m : Metamodel) (a b c : FoundParts) (n l : ℕ) (f : Path → List Part) → ((k : Metamodel) (ps : List Part) → Knows k a ps → Knows k b ps) → FindsBelow m b c n l f → FindsBelow m a c n l f
 finds_after m a b c n l f stays more = λ ps p kn num level. more ps p (stays m ps kn) num level
 
@@ -87,7 +83,7 @@ under_next path name single vs i v below is =
 pub values_next : (F : Part → List Part) (path : Path) (name : List ℕ) (single : Bool) (vs : List Json) (i : ℕ) (v : Json) → i < length vs → v ≡ get_or vs i v
     → flat_map F (parts_under path name single (map view (take i vs))) ++ F (child path name (index_for single i) (view v)) ≡ flat_map F (parts_under path name single (map view (take (i + 1) vs)))
 values_next F path name single vs i v below is =
-    ap (λ xs. flat_map F (parts_under path name single (map view (take i vs))) ++ xs) (sym (append_nil (F (child path name (index_for single i) (view v)))))
+    ap (λ xs. flat_map F (parts_under path name single (map view (take i vs))) ++ xs) (sym (append-nil (F (child path name (index_for single i) (view v)))))
     ∙ sym (flat_map-append F (parts_under path name single (map view (take i vs))) (child path name (index_for single i) (view v) ∷ []))
     ∙ ap (flat_map F) (sym (under_next path name single vs i v below is))
 
@@ -97,7 +93,7 @@ pub features_next : (F : Part → List Part) (G : FeatureNo → List Part) (fs :
     → flat_map F (flat_map G (take i fs)) ++ flat_map F (G (get_or fs i d)) ≡ flat_map F (flat_map G (take (i + 1) fs))
 features_next F G fs i d below =
     sym (flat_map-append F (flat_map G (take i fs)) (G (get_or fs i d)))
-    ∙ ap (λ xs. flat_map F (flat_map G (take i fs) ++ xs)) (sym (append_nil (G (get_or fs i d))))
+    ∙ ap (λ xs. flat_map F (flat_map G (take i fs) ++ xs)) (sym (append-nil (G (get_or fs i d))))
     ∙ ap (flat_map F) (sym (flat_map-append G (take i fs) (get_or fs i d ∷ [])))
     ∙ ap (λ xs. flat_map F (flat_map G xs)) (sym (take_more fs i d below))
 
@@ -141,7 +137,7 @@ abbrev pub Adds : Metamodel → FoundParts → FoundParts → Key → ℕ → Da
 Adds m old new k level d part =
     (ps : List Part) (p : Part) → Knows m old ps → IsPlaced ps k p.path → level ≡ level_of p → d ≡ p.json → Knows m new (ps ++ p ∷ []) × (number_of (ps ++ p ∷ []) p.path ≡ Some part)
 
--- what is added with the class and the members that it is known to have
+-- a part is added with its class and its members
 pub added_known : (m : Metamodel) (old new : FoundParts) (k : Key) (level : ℕ) (d : Data) (o : Option (ClassNo × Members)) (part : ℕ) → o ≡ known m d
     → ((n : Metamodel) (ps : List Part) (p : Part) → Knows n old ps → IsPlaced ps k p.path → level ≡ level_of p → d ≡ p.json → o ≡ known n p.json → Knows n new (ps ++ p ∷ []) × (number_of (ps ++ p ∷ []) p.path ≡ Some part))
     → Adds m old new k level d part
@@ -204,7 +200,7 @@ pub root_walked : (m : Metamodel) (n : ℕ) (a b : FoundParts) (vs : List Json) 
 root_walked m n a b vs i v ps below is walked kn =
     subst (Knows m b)
     (append_assoc ps (flat_map (parts_from m n) (roots_from (map view (take i vs)))) (parts_from m n (root i (view v)))
-    ∙ ap (λ xs. ps ++ (flat_map (parts_from m n) (roots_from (map view (take i vs))) ++ xs)) (sym (append_nil (parts_from m n (root i (view v)))))
+    ∙ ap (λ xs. ps ++ (flat_map (parts_from m n) (roots_from (map view (take i vs))) ++ xs)) (sym (append-nil (parts_from m n (root i (view v)))))
     ∙ ap (λ xs. ps ++ xs) (sym (flat_map-append (parts_from m n) (roots_from (map view (take i vs))) (root i (view v) ∷ [])))
     ∙ ap (λ xs. ps ++ flat_map (parts_from m n) xs) (sym (roots_next vs i v below is)))
     (walked (ps ++ flat_map (parts_from m n) (roots_from (map view (take i vs)))) (root i (view v)) kn refl refl refl)

@@ -1,4 +1,4 @@
--- Ways lead to the first part of each path, while parts are added.
+-- Each path leads to the first part with this path, while parts are added.
 use Rattle.std.proofs.Common.{◌≡◌, ◌∙◌, ◌+◌, ◌<◌, ◌++◌, Bool, true, false, List, [], ◌∷◌, Option, Some, None, ℕ, suc, ap, arith, cond, refl, sym, subst, length, nat_lt}
 use Rattle.std.specs.Prelude.{◌&&◌, nat_eq, option_and_then, option_map, not, position}
 use Rattle.std.specs.Option.{option_or}
@@ -86,7 +86,7 @@ number_pushed q (p ∷ ps) x =
     ∙ later_or (same_path q p.path) (same_path q x.path) (number_of ps q) (length ps)
     ∙ ap (λ o. option_or o (cond (same_path q x.path) (Some (suc (length ps))) None)) (sym (position_cons (is_of q) p ps))
 
-below_at : (b : Bool) (o : Option ℕ) (l n : ℕ) → ((m : ℕ) → o ≡ Some m → m < l) → cond b (Some 0) (option_map suc o) ≡ Some n → n < suc l
+pub below_at : (b : Bool) (o : Option ℕ) (l n : ℕ) → ((m : ℕ) → o ≡ Some m → m < l) → cond b (Some 0) (option_map suc o) ≡ Some n → n < suc l
 below_at true o l n less h = let e = same_Some 0 n h in omega (arith, e)
 below_at false None l n less h = cc
 below_at false (Some m) l n less h = let e = same_Some (suc m) n h in let f = less m refl in omega (arith, e, f)
@@ -120,7 +120,7 @@ number_tells q r (p ∷ ps) n h g =
 abbrev same_way : ℕ → List Step → ℕ → List Step → Bool
 same_way i rs j ss = nat_eq i j && same_steps rs ss
 
--- the key of a part: that of a root, or of a step under what a way leads to
+-- the key of a part: the key of a root, or of a step below the part to which a path leads
 abbrev pub IsKeyOf : (Key → Option ℕ) → Key → ℕ → List Step → Type 0
 IsKeyOf at k j [] = k ≡ RootKey j
 IsKeyOf at k j (s ∷ ss) = (c : ℕ) × (way at j ss ≡ Some c) × (k ≡ UnderKey c s.name s.index)
@@ -215,7 +215,7 @@ beyond at new n k test i j s rs ss false same a is goes other =
     ap (option_and_then (λ m. new (UnderKey m s.name s.index))) (goes.1 (λ (roots, steps). true≢false (sym (both_true (nat_eq i j) _ ((Decides-eqb i j).1 roots) (let e = same_steps_self ss in rw (steps, e) refl)) ∙ same)))
     ∙ further at new n k test i j s rs ss (way at i rs) refl a is other
 
--- a new part is led to by its path, and other ways stay
+-- the path of a new part leads to it, and other paths lead to the same parts as before
 pub goes : (at new : Key → Option ℕ) (n : ℕ) (k : Key) (test : Key → Bool) (i j : ℕ) (rs ss : List Step) → Adds at new n k test → IsKeyOf at k j ss → Goes at new n i rs j ss
 goes at new n k test i j [] ss a is = (
   (λ (roots, steps). let own : k ≡ RootKey j = subst (IsKeyOf at k j) (sym steps) is in ap new (ap RootKey roots ∙ sym own) ∙ new_own at new n k test a),

@@ -23,12 +23,12 @@ is_short t = nat_le (length t) TEXT_BYTES
 
 ---------------------------------------------------------------- attributes
 
--- a text; null is one of a single attribute
+-- a text, or null for a single attribute
 abbrev pub text_value : Bool → Data → Option Value
 text_value single d =
     option_or (if single then option_map (λ x. value.Null) (as_null d) else None) (option_map value.Text (as_str d such_that is_short))
 
--- the value of a data type, under a single attribute or not
+-- the value of a data type that JSON data gives, for a single or a many-valued attribute
 abbrev pub attribute_value : Metamodel → Bool → DataType → Data → Option Value
 attribute_value m single EString d = text_value single d
 attribute_value m single EInt d = option_map value.Int (whole_number d)
@@ -41,7 +41,7 @@ attribute_value m single (Enum e) d = option_map value.Literal (as_str d >>= loo
 abbrev pub conforms_to : Metamodel → ClassNo → Data → Bool
 conforms_to m target d = option_map_or (λ c. lookups.conforms m c target) (class_of m d) false
 
--- an object in an object is of a class that conforms, where that class is there
+-- whether data may be a part under a containment: it is an object whose class, if there is such a class, conforms to the target
 abbrev pub may_stand : Metamodel → ClassNo → Data → Bool
 may_stand m target d = is_some (as_object d) && option_map_or (λ c. lookups.conforms m c target) (class_of m d) true
 
@@ -50,7 +50,7 @@ is_value m single (Attribute t unique unsettable default) d = is_some (attribute
 is_value m single (Reference target true opposite) d = may_stand m target d
 is_value m single (Reference target false opposite) d = option_map_or is_short (as_str d) false
 
--- a many-valued feature has an array; each value is one of the feature
+-- whether content is of its feature's type: an array if the feature is many-valued, and each value is one that the feature may hold
 abbrev pub is_content : Metamodel → Entry → Bool
 is_content m e =
     let single = (shape m e.feature).is_single in

@@ -1,4 +1,4 @@
--- What may be wrong with an object of a document, by itself.
+-- The faults of a single object of a document.
 use Rattle.std.specs.Prelude.{ℕ, ◌&&◌, ◌||◌, ◌==◌, Bool, false, not, List, length, nat_lt, is_some}
 use Rattle.std.specs.List.{list_all, list_any}
 use Rattle.std.specs.Option.{option_map_or}
@@ -15,7 +15,7 @@ use Rattle.doc_parts.specs.Parts.{Entry, Part, entries, level_of, values_of}
 
 ---------------------------------------------------------------- of which parts
 
--- something holds of an object that is looked at, and of what is written under one of its features
+-- whether some object among the parts has a property; and `of_entry`, whether the content of some feature has it
 abbrev pub of_written : (Written → Bool) → List Part → Bool
 of_written holds ps = list_any (λ p. option_map_or holds (written p.json) false) ps
 
@@ -24,18 +24,18 @@ of_entry m holds ps = list_any (λ p. list_any holds (entries m p.json)) ps
 
 ---------------------------------------------------------------- shapes, names, bounds and levels
 
--- no object, at a level; below the roots, a JSON object that is none
+-- whether data at a level lacks the layout of an object; below the roots only JSON objects are tested
 abbrev pub is_misshapen_at : ℕ → Data → Bool
 is_misshapen_at level d = not (is_some (written d)) && (level == 1 || is_some (as_object d))
 
 abbrev pub is_misshapen : Part → Bool
 is_misshapen p = is_misshapen_at (level_of p) p.json
 
--- no such class, or an abstract one
+-- whether the class of an object is unknown or abstract
 abbrev pub has_no_class : Metamodel → Written → Bool
 has_no_class m w = not (option_map_or (lookups.is_concrete m) (lookups.class_by_name m w.class) false)
 
--- the name of a feature of a class, and of no container reference
+-- whether a name is of a feature of a class, and the feature is no container reference
 abbrev pub is_readable : Metamodel → ClassNo → List ℕ → Bool
 is_readable m c name = option_map_or (λ f. not (lookups.is_container m f)) (lookups.feature_by_name m c name) false
 

@@ -1,4 +1,4 @@
--- What is known of the parts that were found: their levels, what is there, their classes and members, and the first part of each path.
+-- The parts that were found: their levels, their JSON data, their classes and members, and the first part of each path.
 use Rattle.std.specs.Prelude.{◌≡◌, ◌≤◌, ◌&&◌, ◌++◌, ℕ, suc, Bool, false, not, List, [], Option, Some, None, is_some, length, map, option_map, if◌then◌else◌}
 use Rattle.std.specs.List.{enumerate_from, list_all}
 use Rattle.std.specs.Option.{option_map_or}
@@ -19,12 +19,12 @@ use Rattle.doc_parts.specs.declared.found.FoundParts.{FoundParts}
 use Rattle.doc_parts.specs.declared.found.Numbers.{Numbers}
 use Rattle.doc_parts.specs.declared.found.FoundPart.{FoundPart}
 
--- ways lead to the first part of each path, and to nothing below parts that are still to be found
+-- each path leads to the first part that has it, and no key is below a part that is not found yet
 pub record Finds (t : Numbers) (ps : List Part) : Type 0 where
   pub ways : (q : Path) → way_of (number_at t) q ≡ number_of ps q
   pub below : (n : ℕ) (w : List ℕ) (i : Option ℕ) → length ps ≤ n → number_at t (UnderKey n w i) ≡ None
 
--- the key for where a path ends, among parts
+-- the key of a path among parts
 abbrev pub IsPlaced : List Part → Key → Path → Type 0
 IsPlaced ps (RootKey i) path = path ≡ new_path i []
 IsPlaced ps (UnderKey n w i) path = (above : Path) × (number_of ps above ≡ Some n) × (path ≡ with_step above (new_step w i))
@@ -35,7 +35,7 @@ pub record Seen : Type 0 where
   pub known : Option (ClassNo × Members)
   pub number : Option ℕ
 
--- a part among others: its number is that of the first of its path
+-- a part as it was found among parts; its number is the number of the first part of its path
 abbrev pub seen : Metamodel → List Part → Part → Seen
 seen m ps p = record { level = level_of p; json = p.json; known = known m p.json; number = number_of ps p.path }
 
@@ -48,7 +48,7 @@ part_seen r =
       number = Some r.number;
     }
 
--- what is known of the parts by a metamodel
+-- the found parts are these parts, as a metamodel reads them
 pub record Knows (m : Metamodel) (f : FoundParts) (ps : List Part) : Type 0 where
   pub parts : map part_seen f.parts.items ≡ map (seen m ps) ps
   pub finds : Finds f.numbers ps
@@ -58,7 +58,7 @@ pub record Knows (m : Metamodel) (f : FoundParts) (ps : List Part) : Type 0 wher
 abbrev pub looks_misshapen : Seen → Bool
 looks_misshapen s = not (is_some s.known) && is_misshapen_at s.level s.json
 
--- an object whose class is not there, or abstract
+-- whether a part is an object whose class is unknown or abstract
 abbrev pub lacks_class : Metamodel → Seen → Bool
 lacks_class m s = option_map_or (λ k. not (lookups.is_concrete m k.0)) s.known (is_some (written s.json))
 
@@ -70,7 +70,7 @@ conforms_seen m target s = option_map_or (λ k. lookups.conforms m k.0 target) s
 
 ---------------------------------------------------------------- what is below a part
 
--- what is under a name of what has a path
+-- the parts under a name of the part that has a path
 abbrev pub parts_under : Path → List ℕ → Bool → List Data → List Part
 parts_under path name single ds =
     map (λ v. record { path = with_step path (new_step name (if single then None else Some v.0)); json = v.1 }) (enumerate_from 0 ds)
@@ -78,12 +78,12 @@ parts_under path name single ds =
 abbrev pub parts_at : Metamodel → Path → Members → FeatureNo → List Part
 parts_at m path ms f = option_map_or (λ d. parts_in m path (new_entry f d)) (content_at m ms f) []
 
--- with what was found for some parts, more was found for a part among them
+-- more parts were found below a part among those that were found before
 abbrev pub FindsBelow : Metamodel → FoundParts → FoundParts → ℕ → ℕ → (Path → List Part) → Type 0
 FindsBelow m old new number level more =
     (ps : List Part) (p : Part) → Knows m old ps → number_of ps p.path ≡ Some number → level ≡ suc (level_of p) → Knows m new (ps ++ more p.path)
 
--- a part that is at a key was found, and all below it, for so many levels
+-- the part at a key was found, and all parts below it, for so many levels
 abbrev pub Walks : Metamodel → ℕ → FoundParts → FoundParts → Key → ℕ → Data → Type 0
 Walks m n old new k level d =
     (ps : List Part) (p : Part) → Knows m old ps → IsPlaced ps k p.path → level ≡ level_of p → d ≡ p.json → Knows m new (ps ++ parts_from m n p)

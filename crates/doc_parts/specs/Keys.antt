@@ -9,7 +9,7 @@ use Rattle.doc_parts.specs.declared.found.PartKey.{PartKey}
 use Rattle.doc_parts.specs.declared.found.PartKey.TheVariants.{Root, Under}
 use Rattle.doc_parts.specs.declared.found.Numbers.{Numbers}
 
--- the root at a position, or what is by a step under the part of a number
+-- the key of a part: a root's position; or the number of the part above it, and the step from there
 pub data Key : Type 0 where
   RootKey : ℕ → Key
   UnderKey : ℕ → List ℕ → Option ℕ → Key
@@ -24,11 +24,11 @@ is_at (RootKey i) (Under k v j) = false
 is_at (UnderKey n w i) (Root j) = false
 is_at (UnderKey n w i) (Under k v j) = nat_eq n k && (bytes_eq w v.now && same_index i j)
 
--- the number of what is at a key
+-- the number of the part at a key
 abbrev pub number_at : Numbers → Key → Option ℕ
 number_at t k = lookup (is_at k) t.numbers.entries
 
--- the number that a root and steps, the last one first, lead to
+-- the number of the part that a root and steps lead to; the steps are given from the last to the first
 abbrev pub way : (Key → Option ℕ) → ℕ → List Step → Option ℕ
 way at i [] = at (RootKey i)
 way at i (s ∷ ss) = option_and_then (λ n. at (UnderKey n s.name s.index)) (way at i ss)
@@ -36,7 +36,7 @@ way at i (s ∷ ss) = option_and_then (λ n. at (UnderKey n s.name s.index)) (wa
 abbrev pub way_of : (Key → Option ℕ) → Path → Option ℕ
 way_of at p = way at p.root (reverse p.steps)
 
--- from a part on, the first step first
+-- the number of the part that steps lead to from a part on; the first step comes first
 abbrev pub descend : (Key → Option ℕ) → Option ℕ → List Step → Option ℕ
 descend at o [] = o
 descend at o (s ∷ ss) = descend at (option_and_then (λ n. at (UnderKey n s.name s.index)) o) ss

@@ -1,5 +1,5 @@
--- What of a document is looked at: what is where an object should, with its path, and under each object what its features hold.
--- What is in an object of an unknown class, under an unknown feature or under a container reference is not.
+-- Which parts of a document are looked at: the data at each place of an object, with its path. Nothing is looked at in an object of an
+-- unknown class, under an unknown feature or under a container reference.
 use Rattle.std.specs.Prelude.{ℕ, zero, suc, length, List, [], ◌∷◌, filter_map, flat_map, map, position, Option, Some, None, option_map, unwrap_or, if◌then◌else◌}
 use Rattle.std.specs.List.{enumerate_from}
 use Rattle.std.specs.Option.{option_map_or}
@@ -26,7 +26,7 @@ list_of (item d ds) = d ∷ list_of ds
 abbrev pub class_of : Metamodel → Data → Option ClassNo
 class_of m d = written d >>= (λ w. lookups.class_by_name m w.class)
 
--- what is written under a feature
+-- the value that is written under a feature
 pub record Entry : Type 0 where
   pub feature : FeatureNo
   pub content : Data
@@ -34,7 +34,7 @@ pub record Entry : Type 0 where
 abbrev pub new_entry : FeatureNo → Data → Entry
 new_entry f d = record { feature = f; content = d }
 
--- what is written under a feature, which may be no container reference
+-- the content that is written under a feature; none for a container reference
 abbrev pub content_at : Metamodel → Members → FeatureNo → Option Data
 content_at m ms f = if lookups.is_container m f then None else get_member (lookups.feature_name m f) ms
 
@@ -44,22 +44,22 @@ entry_at m ms f = option_map (new_entry f) (content_at m ms f)
 abbrev pub entries_in : Metamodel → ClassNo → Members → List Entry
 entries_in m c ms = filter_map (entry_at m ms) (unwrap_or (lookups.features m c) [])
 
--- the class and the members of an object whose class is there
+-- the class and the members of an object whose class is known
 abbrev pub known : Metamodel → Data → Option (ClassNo × Members)
 known m d = written d >>= (λ w. option_map (λ c. (c, w.features)) (lookups.class_by_name m w.class))
 
--- in all-features order
+-- the contents of an object, in the order of all features
 abbrev pub entries : Metamodel → Data → List Entry
 entries m d = option_map_or (λ k. entries_in m k.0 k.1) (known m d) []
 
--- its values: the items of an array under a many-valued feature; content that is no array has none
+-- the values of a content: for a many-valued feature the items of the array, and none if it is no array
 abbrev pub values_of : Metamodel → Entry → List Data
 values_of m e =
     if (shape m e.feature).is_single then e.content ∷ [] else option_map_or list_of (as_array e.content) []
 
 ---------------------------------------------------------------- objects in objects
 
--- what is where an object should, and its path
+-- the data at the place of an object, and its path
 pub record Part : Type 0 where
   pub path : Path
   pub json : Data
@@ -78,7 +78,7 @@ parts_in m p e =
     then map (λ v. record { path = with_step p (step_to m e.feature v.0); json = v.1 }) (enumerate_from 0 (values_of m e))
     else []
 
--- a part and all in it, each before what it contains, for so many levels
+-- a part and all parts in it, for so many levels; each part comes before the parts in it
 abbrev pub parts_from : Metamodel → ℕ → Part → List Part
 parts_from m zero p = []
 parts_from m (suc n) p = p ∷ flat_map (parts_from m n) (flat_map (parts_in m p.path) (entries m p.json))
@@ -87,7 +87,7 @@ abbrev pub root_parts : Data → List Part
 root_parts d =
     option_map_or (λ t. map (λ v. record { path = new_path v.0 []; json = v.1 }) (enumerate_from 0 (list_of t.roots))) (top d) []
 
--- in loading order; no part is deeper than the document
+-- all parts of a document, in loading order; no part is deeper than the document
 unfoldable pub parts : Metamodel → Data → List Part
 parts m d = flat_map (parts_from m (depth d)) (root_parts d)
 

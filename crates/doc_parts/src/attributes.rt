@@ -33,8 +33,8 @@ fn int_value(json: &Json) -> Option<Value>
     }
 }
 
-/// The value of a data type, under a single attribute or not, or none if JSON writes none of that type. Errs only if
-/// memory is refused.
+/// The value of a data type that JSON writes, under a single or a many-valued attribute; `None` if JSON writes none of
+/// that type. Errs only if memory is refused.
 pub fn attribute_value(
     alloc: Global,
     meta: &Meta,
@@ -68,7 +68,7 @@ fn is_text(is_single: bool, json: &Json) -> bool
     }
 }
 
-/// Whether JSON writes a value of a data type, under a single attribute or not. Takes no memory.
+/// Whether JSON writes a value of a data type, under a single or a many-valued attribute. Takes no memory.
 pub(crate) fn is_attribute_value(
     meta: &Meta,
     is_single: bool,

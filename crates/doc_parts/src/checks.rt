@@ -1,4 +1,4 @@
-//! What may be wrong with parts that were found, each by itself.
+//! The faults of each of the parts that were found, by itself.
 ghost use Rattle.std.specs.Prelude.{◌≡◌, List};
 ghost use Rattle.std.specs.List.{list_any};
 ghost use Rattle.mm_types.specs.Resolved.{Metamodel};
@@ -44,28 +44,28 @@ fn is_any_deep(parts: &[FoundPart]) -> bool
     parts.iter().any(|part| part.level as usize > LEVELS)
 }
 
-/// Whether a part is no object although it should be one. Takes no memory.
+/// Whether some part is no object although it should be one. Takes no memory.
 pub fn has_misshapen(found: &FoundParts) -> bool
     ensures { (m : Metamodel) (ps : List Part) → Knows m found.now ps → result ≡ list_any is_misshapen ps }
 {
     is_any_misshapen(found.parts.as_slice())
 }
 
-/// Whether an object names no class, or an abstract one. Takes no memory.
+/// Whether some object names no class, or an abstract one. Takes no memory.
 pub fn has_unknown_class(meta: &Meta, found: &FoundParts) -> bool
     ensures { (ps : List Part) → Knows meta.now found.now ps → result ≡ of_written (no_class meta.now) ps }
 {
     is_any_without_class(meta, found.parts.as_slice())
 }
 
-/// Whether an object has a key that is no feature of its class, or a container reference. Takes no memory.
+/// Whether some object has a key that is no feature of its class, or that is a container reference. Takes no memory.
 pub fn has_unknown_feature(meta: &Meta, found: &FoundParts) -> bool
     ensures { (ps : List Part) → Knows meta.now found.now ps → result ≡ of_written (other_key meta.now) ps }
 {
     is_any_with_other_key(meta, found.parts.as_slice())
 }
 
-/// Whether a part is below the last level. Takes no memory.
+/// Whether some part is below the last level. Takes no memory.
 pub fn has_deep(found: &FoundParts) -> bool
     ensures { (m : Metamodel) (ps : List Part) → Knows m found.now ps → result ≡ list_any is_deep ps }
 {

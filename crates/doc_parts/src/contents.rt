@@ -1,4 +1,4 @@
-//! Whether what is written under a feature is of the feature's type, and no more than the feature may have.
+//! Whether the content of a feature is of the feature's type, and has not too many values.
 ghost use Rattle.std.specs.Prelude.{◌≡◌, ◌||◌, is_some, map};
 ghost use Rattle.std.specs.List.{list_all};
 ghost use Rattle.mm_types.specs.Shapes.{is_bounded as bounded, shape};
@@ -14,8 +14,8 @@ use borrowed_json::Json;
 use mm_meta::Meta;
 use mm_types::{ClassNo, FeatureNo, Kind, limits};
 
-/// Whether a value may be under a containment reference to a class: an object whose class conforms, if its class is
-/// there at all.
+/// Whether a JSON value may be under a containment of a class: it is an object, and its class conforms if there is such
+/// a class.
 fn may_stand(meta: &Meta, target: ClassNo, json: &Json) -> bool
     ensures { result ≡ may_be meta.now target (view json.now) }
 {
@@ -64,8 +64,8 @@ fn is_shaped(is_single: bool, content: &Json) -> bool
     is_single || content.is_array()
 }
 
-/// Whether what is written under a feature is an array if the feature is many-valued, and each of its values is one of
-/// the feature. Takes no memory.
+/// Whether the content of a feature is of the feature's type: an array if the feature is many-valued, and each value is
+/// one that the feature may hold. Takes no memory.
 pub fn is_content<'t>(meta: &Meta, feature: FeatureNo, content: &'t Json<'t>) -> bool
     ensures { result ≡ is_meant meta.now (new_entry feature (view content.now)) }
 {
@@ -91,7 +91,7 @@ fn is_bounded(meta: &Meta, feature: FeatureNo, count: usize) -> bool
     }
 }
 
-/// Whether what is written under a feature is more than the feature may have. Takes no memory.
+/// Whether the content of a feature has more values than the feature may have. Takes no memory.
 pub fn is_long<'t>(meta: &Meta, feature: FeatureNo, content: &'t Json<'t>) -> bool
     ensures { result ≡ long meta.now (new_entry feature (view content.now)) }
 {

@@ -1,4 +1,4 @@
-//! What is written in an object under the features of its class.
+//! The contents of an object, by the features of its class.
 ghost use Rattle.std.specs.Prelude.{◌≡◌, [], length, map, option_map};
 ghost use Rattle.mm_types.specs.Lookups as lookups;
 ghost use Rattle.mm_types.specs.Shapes.{shape};
@@ -18,7 +18,7 @@ pub fn class_of(meta: &Meta, json: &Json) -> Option<ClassNo>
     meta.class_by_name(written(json)?.class)
 }
 
-/// The class and the members of an object whose class is there. Takes no memory.
+/// The class and the members of an object whose class is known. Takes no memory.
 pub fn known<'t>(meta: &Meta, json: &Json<'t>) -> Option<(ClassNo, Members<'t>)>
     ensures { option_map (λ k. (k.0, members_view k.1.now)) result ≡ known_meant meta.now (view json.now) }
 {
@@ -27,7 +27,7 @@ pub fn known<'t>(meta: &Meta, json: &Json<'t>) -> Option<(ClassNo, Members<'t>)>
     Some((class, object.features))
 }
 
-/// What is written under a feature, which may be no container reference. Takes no memory.
+/// The content of a feature; `None` for a container reference. Takes no memory.
 pub fn content_at<'t>(meta: &Meta, members: Members<'t>, feature: FeatureNo) -> Option<&'t Json<'t>>
     ensures { option_map (λ v. view v.now) result ≡ content_meant meta.now (members_view members.now) feature }
 {
@@ -43,8 +43,7 @@ fn no_values<'t>() -> &'t [Json<'t>]
     &[]
 }
 
-/// The values of what is written under a feature: the items of an array if the feature is many-valued. Takes no
-/// memory.
+/// The values of a feature's content: the items of the array if the feature is many-valued. Takes no memory.
 pub fn values_of<'t>(meta: &Meta, feature: FeatureNo, content: &'t Json<'t>) -> &'t [Json<'t>]
     ensures { map view result.now ≡ values_meant meta.now (new_entry feature (view content.now)) }
 {

@@ -1,5 +1,5 @@
 //! The parts of a document that are looked at, as they are found.
-ghost use Rattle.std.specs.Prelude.{◌≡◌, ◌++◌, ◌∷◌, [], IfOk, List, None, OnOk, Some, if◌then◌else◌, length, option_map};
+ghost use Rattle.std.specs.Prelude.{◌≡◌, ◌++◌, ◌∷◌, ◌≤◌, ◌^◌, [], IfErr, IfOk, List, None, OnOk, Some, if◌then◌else◌, length, option_map};
 
 use crate::layout::features_of;
 use borrowed_json::{Json, Members};
@@ -8,7 +8,7 @@ use mm_types::ClassNo;
 use std::alloc::{AllocError, Global};
 use web_uris::{Path, Step};
 
-/// The key of a part: at the position of a root, or under the first part of a path by a step.
+/// The key of a part: the position of a root; or the number of the first part of a path, and a step from there.
 #[derive(Clone, Copy, PartialEq, Eq, Hash)]
 pub enum PartKey<'m> {
     Root(u32),
@@ -19,9 +19,10 @@ pub enum PartKey<'m> {
     },
 }
 
-/// A position as a key has it. Takes no memory; errs if it is none of 32 bits.
+/// A position as a key has it. Takes no memory; errs if it does not fit 32 bits.
 pub fn index_of(position: usize) -> Result<u32, AllocError>
-    ensures { IfOk result (λ i. i ≡ position) }
+    ensures index { IfOk result (λ i. i ≡ position) }
+    ensures refused { IfErr result (λ _. 2 ^ 32 ≤ position) }
 {
     if position > u32::MAX as usize {
         return Err(AllocError);
@@ -35,7 +36,7 @@ pub struct Numbers<'m> {
     numbers: IndexMap<PartKey<'m>, u32>,
 }
 
-/// A part: what is there, its class if that is there, its level, and the number of the first part of its path.
+/// A part: its JSON value, its class if that is known, its level, and the number of the first part of its path.
 #[derive(Clone, Copy)]
 pub struct FoundPart<'t> {
     pub json: &'t Json<'t>,
@@ -48,7 +49,7 @@ impl<'t> FoundPart<'t> {
     ghost use Rattle.borrowed_json.specs.View.{members_view};
     ghost use Rattle.doc_parts.specs.FoundParts.{part_seen};
 
-    /// The class and the members of the object, if its class is there. Takes no memory.
+    /// The class and the members of the object, if its class is known. Takes no memory.
     pub fn known(&self) -> Option<(ClassNo, Members<'t>)>
         ensures { option_map (λ k. (k.0, members_view k.1.now)) result ≡ (part_seen self.now).known }
     {
@@ -80,7 +81,7 @@ impl<'m> Numbers<'m> {
         }
     }
 
-    /// Reserves capacity for so many more. The numbers stay.
+    /// Reserves capacity for so many more numbers. The numbers stay.
     fn reserve(&mut self, count: usize) -> Result<(), AllocError>
         ensures { self.new.numbers.entries ≡ self.old.numbers.entries }
     {
@@ -94,7 +95,7 @@ impl<'m> Numbers<'m> {
         self.numbers.get(&key).copied()
     }
 
-    /// The number that steps lead to from a part.
+    /// The number of the part to which steps lead from a part.
     fn descend(&self, from: u32, steps: &[Step]) -> Option<u32>
         ensures { result ≡ descend (number_at self.now) (Some from) steps.now }
     {
@@ -113,7 +114,7 @@ impl<'m> Numbers<'m> {
         Some(part)
     }
 
-    /// The number that a path leads to, step by step. Takes no memory.
+    /// The number of the part to which a path leads, step by step. Takes no memory.
     pub fn of_path(&self, path: &Path) -> Option<u32>
         ensures { result ≡ way_of (number_at self.now) path.now }
     {
@@ -123,7 +124,7 @@ impl<'m> Numbers<'m> {
         }
     }
 
-    /// Gives a key a number, and returns the one that it had.
+    /// Gives a key a number, and returns the number that it had.
     fn put(&mut self, key: PartKey<'m>, number: u32) -> Result<Option<u32>, AllocError>
         ensures number { OnOk result ((k : Key) → number_at self.new k ≡ (if is_at k key.entry then Some number else number_at self.old k)) }
         ensures had { IfOk result (λ o. o ≡ number_at self.old (key_of key.entry)) }
@@ -147,7 +148,7 @@ impl<'m> Numbers<'m> {
     }
 }
 
-/// The class of what is known of an object.
+/// The class of an object, if it is known.
 fn class_in(known: Option<(ClassNo, Members)>) -> Option<ClassNo>
     ensures { result ≡ option_map (λ k. k.0) known.entry }
 {
@@ -183,7 +184,7 @@ impl<'t, 'm> FoundParts<'t, 'm> {
     }
 
     /// Adds a part, and returns the number of the first part of its path. If memory is refused, or if there are 2^32
-    /// parts already, what was found may not be used.
+    /// parts already, it errs, and the parts may not be used any more.
     pub fn add(
         &mut self,
         key: PartKey<'m>,

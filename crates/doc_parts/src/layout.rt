@@ -7,21 +7,21 @@ ghost use Rattle.doc_parts.specs.Layout.{IsInOrder, features_of as features_mean
 
 use borrowed_json::{Json, Members, find, has_only_keys};
 
-/// What the top of a document says.
+/// The members of the top of a document.
 #[derive(Clone, Copy)]
 pub struct TopMembers<'t> {
     pub format: i64,
     pub roots: &'t [Json<'t>],
 }
 
-/// What an object of a document says: the name of its class, and what its features hold, by their names.
+/// The members of an object of a document: the name of its class, and the contents of its features, by their names.
 #[derive(Clone, Copy)]
 pub(crate) struct ObjectMembers<'t> {
     pub class: &'t str,
     pub features: Members<'t>,
 }
 
-/// The top of a document, or nothing if the value is no such object. Takes no memory.
+/// The top of a document; `None` if the value is no such object. Takes no memory.
 #[tactic(auto, unfolding(crate::specs::Layout::top))]
 pub fn top<'t>(json: &Json<'t>) -> Option<TopMembers<'t>>
     ensures { option_map (λ t. new_top t.format (items_view t.roots.now)) result ≡ top_meant (view json.now) }
@@ -35,14 +35,14 @@ pub fn top<'t>(json: &Json<'t>) -> Option<TopMembers<'t>>
     Some(TopMembers { format, roots })
 }
 
-/// Whether the members of an object are those that it has to have, in the order in which they are saved.
+/// Whether an object has exactly its two members, in the order in which they are saved.
 fn is_in_order(members: Members) -> bool
     ensures { IsTrue result → IsInOrder members.now }
 {
     members.len() == 2 && members[0].0 == "class" && members[1].0 == "features"
 }
 
-/// What an object of two members says, by what they hold.
+/// The object of the values of its two members.
 fn of_two<'t>(class: &'t Json<'t>, features: &'t Json<'t>) -> Option<ObjectMembers<'t>>
     ensures { option_map (λ w. new_written w.class.now (members_view w.features.now)) result ≡ written_by (as_str (view class.now)) (as_object (view features.now)) }
 {
@@ -51,7 +51,7 @@ fn of_two<'t>(class: &'t Json<'t>, features: &'t Json<'t>) -> Option<ObjectMembe
     Some(ObjectMembers { class, features })
 }
 
-/// What an object of some members says, or nothing if it is none.
+/// The object of some members; `None` if they are not those of an object.
 #[tactic(auto, unfolding(crate::specs::Layout::written))]
 fn of_members<'t>(members: Members<'t>) -> Option<ObjectMembers<'t>>
     ensures { option_map (λ w. new_written w.class.now (members_view w.features.now)) result ≡ written_meant (object (members_view members.now)) }
@@ -64,13 +64,13 @@ fn of_members<'t>(members: Members<'t>) -> Option<ObjectMembers<'t>>
     Some(ObjectMembers { class, features })
 }
 
-/// What an object says, or nothing if the value is none. Takes no memory.
+/// The members of an object; `None` if the value is no object of a document. Takes no memory.
 #[tactic(auto, unfolding(crate::specs::Layout::written))]
 pub(crate) fn written<'t>(json: &Json<'t>) -> Option<ObjectMembers<'t>>
     ensures { option_map (λ w. new_written w.class.now (members_view w.features.now)) result ≡ written_meant (view json.now) }
 {
     let members = json.as_object()?;
-    // No key is looked for in a document that was saved.
+    // In a document that was saved, no key has to be looked for.
     if is_in_order(members) {
         return of_two(&members[0].1, &members[1].1);
     }
@@ -83,7 +83,7 @@ fn no_members<'t>() -> Members<'t>
     &[]
 }
 
-/// What the features of an object hold, by their names; nothing if the value is no object. Takes no memory.
+/// The contents of an object's features, by their names; empty if the value is no object. Takes no memory.
 pub(crate) fn features_of<'t>(json: &Json<'t>) -> Members<'t>
     ensures { members_view result.now ≡ features_meant (view json.now) }
 {

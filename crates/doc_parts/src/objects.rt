@@ -1,4 +1,4 @@
-//! What may be wrong with one object of a document, by itself.
+//! The faults of one object of a document, by itself.
 ghost use Rattle.std.specs.Prelude.{◌≡◌};
 ghost use Rattle.std.specs.List.{list_all};
 ghost use Rattle.borrowed_json.specs.View.{members_view};
@@ -22,7 +22,7 @@ pub(crate) fn has_no_class(meta: &Meta, part: &FoundPart) -> bool
     }
 }
 
-/// Whether a name is that of a feature of a class, and of no container reference.
+/// Whether a name is of a feature of a class, and the feature is no container reference.
 fn is_readable(meta: &Meta, class: ClassNo, name: &str) -> bool
     ensures { result ≡ readable meta.now class name.now }
 {
@@ -46,7 +46,7 @@ fn has_only_features(meta: &Meta, class: ClassNo, members: Members) -> bool
     are_readable(meta, class, members)
 }
 
-/// Whether an object has a key that is no feature of its class, or a container reference. Takes no memory.
+/// Whether an object has a key that is no feature of its class, or that is a container reference. Takes no memory.
 pub(crate) fn has_other_key(meta: &Meta, part: &FoundPart) -> bool
     ensures { result ≡ has_other_member meta.now (part_seen part.now) }
 {

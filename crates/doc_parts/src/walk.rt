@@ -1,4 +1,4 @@
-//! The parts of a document are found, each before what it contains.
+//! The parts of a document are found, each before the parts in it.
 ghost use Rattle.std.specs.Prelude.{◌≡◌, ◌++◌, IfOk, List, None, OnOk, Some, flat_map, if◌then◌else◌, map};
 ghost use Rattle.borrowed_json.specs.View.{members_view, view};
 ghost use Rattle.doc_parts.specs.FoundParts.{FindsBelow, Knows, Walks, parts_at, parts_under, roots_from};
@@ -12,14 +12,14 @@ use mm_meta::Meta;
 use mm_types::FeatureNo;
 use std::alloc::{AllocError, Global};
 
-/// The key of what is below a part: the number of that part, and the level below it.
+/// The place of the parts below a part: the number of that part, and the level below it.
 #[derive(Clone, Copy)]
 struct Below {
     part: u32,
     level: u32,
 }
 
-/// Finds a part that is at a key, and what is below it, for so many levels.
+/// Finds the part at a key and the parts below it, for so many levels.
 #[cycle(walk)]
 pub(crate) fn walk<'t, 'm>(
     found: &mut FoundParts<'t, 'm>,

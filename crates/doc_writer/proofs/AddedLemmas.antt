@@ -50,13 +50,13 @@ keyed k d old mid new before named h =
 
 ---------------------------------------------------------------- arrays
 
--- of an array that was opened, these items are not yet written
+-- an array was opened, and some of its items are not written yet
 pub record ItemsLeft (all left : Items) (old now : Written) : Type 0 where
   pub before : now.before ≡ old.before
   pub tokens : now.tokens ++ items_tokens (items_outline left) ≡ old.tokens ++ json_tokens (outline (array all))
   pub reads : of_items (items_outline left) ≡ Some left → of_items (items_outline all) ≡ Some all
 
--- the same of an array of what is made of each element of a list, one element on
+-- the same for an array that is made of the elements of a list, one element further
 pub elements-on : {X : Type 0} (made : X → Data) (xs : List X) (i : ℕ) (d x : X) (old now new : Written) → i < length xs → x ≡ get_or xs i d
     → ItemsLeft (items_of (map made xs)) (items_of (map made (drop i xs))) old now → Adds (made x) now new → ItemsLeft (items_of (map made xs)) (items_of (map made (drop (i + 1) xs))) old new
 elements-on made xs i d x old now new low is so a =
@@ -71,7 +71,7 @@ elements-on made xs i d x old now new low is so a =
 
 ---------------------------------------------------------------- objects
 
--- of an object that was opened, some members are written, and these are not
+-- an object was opened, some of its members are written, and the others are not
 pub record MembersLeft (all done left : Members) (old now : Written) : Type 0 where
   pub before : now.before ≡ old.before
   pub tokens : now.tokens ++ members_tokens (members_outline left) ≡ old.tokens ++ json_tokens (outline (object all))
@@ -99,7 +99,7 @@ members-close r all done left old now new none whole so w =
       reads = ap (option_map object) (so.reads (ap (λ ms. of_members (members_outline ms) done) none ∙ ap Some whole));
     }) w.ok
 
--- the same of members in the order of their names
+-- the same for members in the order of their names
 module _ {X : Type 0} (name : X → List ℕ) (held : X → Data) (xs : List X) (i : ℕ) (old now : Written) where
   abbrev made : X → List ℕ × Data
   made x = (name x, held x)
@@ -146,7 +146,7 @@ mutual
   members_depth-outline no_members = refl
   members_depth-outline (member k d ms) = λ i. max (depth-outline d i) (members_depth-outline ms i)
 
--- what is written alone is the compact text
+-- the text that is written for a single value is the compact text
 pub text-added : (d : Data) (ts : List Token) → ts ≡ json_tokens (outline d) → print ts ≡ compact_text d
 text-added d ts is = ap print is ∙ print-outline d
 

@@ -1,4 +1,4 @@
--- What the definitions make of a few resources: fragments, what they find, and saved texts.
+-- The definitions, computed on a few resources: fragments, the objects that they find, and saved texts.
 use Rattle.std.proofs.Common.{◌≡◌, ℕ, List, [], ◌∷◌, Some, None, codes, refl}
 use Rattle.std.specs.Fmt.{digits}
 use Rattle.serde_json.proofs.OnLiterals.{serde_json_on_literals}
@@ -12,7 +12,7 @@ use Rattle.doc_writer.specs.Document.{document, saved}
 use Rattle.doc_writer.specs.Saved.{save_refusal}
 use Rattle.doc_writer.proofs.LibraryModels.{end_of, model, o, resource, rid}
 
--- what an example unfolds to compute a text
+-- the definitions that an example unfolds to compute a text
 unfoldable on_literals : Rattle.std.specs.Prelude.⊤
 unfolding serde_json_on_literals digits document
 on_literals = tt
@@ -56,11 +56,11 @@ not-alone : fragment two_roots (oid 1) ≡ Some (codes "/0/@books.0")
 unfolding on_literals
 not-alone = refl
 
--- an empty segment is root 0 still
+-- an empty segment still means root 0
 found : at two_roots (codes "http://m.example/a#//@books.0") ≡ Some (oid 1)
 found = refl
 
--- a resource of another text is another
+-- a URI with a different text is a different resource
 not-found : at two_roots (codes "http://m.example/#/") ≡ None
 not-found = refl
 
@@ -75,7 +75,7 @@ not-without-index = refl
 in-none : fragment two_roots (oid 4) ≡ None
 in-none = refl
 
--- and a person of the resource has it as favourite
+-- a person of the resource has it as favourite
 dangling : save_refusal two_roots (rid 0) ≡ Some Dangling
 dangling = refl
 

@@ -1,4 +1,4 @@
--- Models of the metamodel of libraries, as literals: what definitions make of them is computed.
+-- Models of the metamodel of libraries, as literals, on which definitions are computed.
 use Rattle.std.specs.Prelude.{ℕ, ◌&&◌, Bool, false, not, List, [], ◌∷◌, find, length, option_map, slice_get, Option, None, unwrap_or, if◌then◌else◌}
 use Rattle.mm_types.specs.Same.{is_nil, same_end, same_node}
 use Rattle.mm_types.specs.Shapes.{Shape, shape}

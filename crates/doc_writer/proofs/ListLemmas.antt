@@ -1,18 +1,14 @@
 -- What is asked of the objects at an end, and of what two tests leave of a list.
-use Rattle.std.proofs.Common.{◌≡◌, ℕ, zero, suc, ◌+◌, ◌<◌, ◌≤◌, ◌&&◌, ◌||◌, Bool, true, false, cond, List, [], ◌∷◌, length, drop, filter, slice_get, slice_index_or, Option, Some, arith, refl, sym, ap, ◌∙◌}
+use Rattle.std.proofs.Common.{◌≡◌, ℕ, ◌+◌, ◌<◌, ◌≤◌, ◌&&◌, ◌||◌, Bool, true, false, cond, List, [], ◌∷◌, length, drop, filter, slice_get, slice_index_or, Option, refl, sym, ap, ◌∙◌}
 use Rattle.std.specs.Prelude.{option_and_then}
 use Rattle.std.specs.List.{list_any}
 use Rattle.std.specs.Option.{option_map_or}
 use Rattle.std.proofs.lemmas.List.{drop_all, drop_more}
+use Rattle.std.proofs.lemmas.Option.{slice_get-get_or}
 use Rattle.mm_types.specs.declared.numbers.ObjectNo.{ObjectNo}
 use Rattle.mm_types.specs.declared.value.Value.{Value}
 use Rattle.mm_types.specs.declared.value.Value.TheVariants as value
 use Rattle.models.specs.Reading.{object_of, objects_of}
-
-get-within : (vs : List Value) (k : ℕ) (d : Value) → k < length vs → slice_get vs k ≡ Some (slice_index_or vs k d)
-get-within [] k d h = absurd (omega (arith, h))
-get-within (w ∷ ws) zero d h = refl
-get-within (w ∷ ws) (suc k) d h = get-within ws k d (omega (arith, h))
 
 any-first : (p : ObjectNo → Bool) (v : Value) (vs : List Value) → list_any p (objects_of (v ∷ vs)) ≡ (option_map_or p (object_of v) false || list_any p (objects_of vs))
 any-first p (value.Object o) vs = refl
@@ -24,7 +20,7 @@ any-at : (p : ObjectNo → Bool) (vs : List Value) (k : ℕ) → k < length vs
 any-at p vs k low =
     ap (λ (ws : List Value). list_any p (objects_of ws)) (drop_more vs k value.Null low)
     ∙ any-first p (slice_index_or vs k value.Null) (drop (k + 1) vs)
-    ∙ ap (λ (x : Option Value). option_map_or p (option_and_then object_of x) false || list_any p (objects_of (drop (k + 1) vs))) (sym (get-within vs k value.Null low))
+    ∙ ap (λ (x : Option Value). option_map_or p (option_and_then object_of x) false || list_any p (objects_of (drop (k + 1) vs))) (sym (slice_get-get_or vs k value.Null low))
 
 pub any-here : (p : ObjectNo → Bool) (vs : List Value) (k : ℕ) (b : Bool) → k < length vs → b ≡ option_map_or p (option_and_then object_of (slice_get vs k)) false → b ≡ true
     → list_any p (objects_of (drop k vs)) ≡ list_any p (objects_of vs) → true ≡ list_any p (objects_of vs)

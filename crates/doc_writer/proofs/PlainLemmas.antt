@@ -1,4 +1,4 @@
--- An attribute has neither objects nor proxies: what is kept is of its type, and so is its default. So proxies are under references alone.
+-- An attribute has neither objects nor proxies: its values are of its type, and so is its default. So only references have proxies.
 use Rattle.std.proofs.Common.{◌≡◌, ◌∙◌, ℕ, zero, suc, Bool, true, false, All, IsTrue, List, [], ◌∷◌, ◌++◌, map, Option, Some, None, option_map, slice_get, slice_index_or, unwrap_or, if◌then◌else◌, refl, sym, ap, subst}
 use Rattle.std.specs.Prelude.{◌&&◌, ℤ, option_and_then}
 use Rattle.std.specs.List.{AllByRecursion, list_all}

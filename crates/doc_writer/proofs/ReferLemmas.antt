@@ -1,4 +1,4 @@
--- By which features an object refers to others: an attribute has no objects, and what a reference contains is written in its place.
+-- The features by which an object refers to others: an attribute has no objects, and contained objects are written in place.
 use Rattle.std.proofs.Common.{◌≡◌, ◌&&◌, Bool, true, false, List, [], ◌∷◌, refl}
 use Rattle.std.specs.Prelude.{not}
 use Rattle.std.specs.List.{list_all, list_any}
@@ -22,7 +22,7 @@ plain-none p (value.Object o ∷ vs) h = absurd (false≢true h)
 plain-none p (value.Proxy t ∷ vs) h = absurd (false≢true h)
 plain-none p (_ ∷ vs) h = plain-none p vs h
 
--- a reference, containing, written; and whether what is there dangles
+-- whether a feature is a reference, a containment, and written; and whether one of its objects dangles
 none-by : (refers contains is dangles : Bool) → (refers && (not contains && is)) ≡ false → (refers ≡ false → dangles ≡ false) → (is && (not contains && dangles)) ≡ false
 none-by true true true d h off = refl
 none-by true true false d h off = refl
@@ -45,7 +45,7 @@ unreferring s legal o f h =
     none-by (shape s.metamodel f).is_reference (is_containment s.metamodel f) (is_written (reading s) o f) (list_any (is_dangling (reading s)) (targets_under (reading s) o f)) h
     (λ attribute. plain-none (is_dangling (reading s)) ((reading s).values (at_end (node.Object o) f)) (attribute-plain s legal (at_end (node.Object o) f) attribute))
 
--- and to all that is at its end by one that is
+-- by a feature that is written as references an object refers to all objects at the end
 pub referring : (s : Model) (o : ObjectNo) (f : FeatureNo) → ((shape s.metamodel f).is_reference && (not (is_containment s.metamodel f) && is_written (reading s) o f)) ≡ true
     → dangles_by (reading s) o f ≡ list_any (is_dangling (reading s)) (targets_under (reading s) o f)
 referring s o f h = all-by (shape s.metamodel f).is_reference (is_containment s.metamodel f) (is_written (reading s) o f) (list_any (is_dangling (reading s)) (targets_under (reading s) o f)) h

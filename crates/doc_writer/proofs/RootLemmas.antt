@@ -1,4 +1,4 @@
--- The roots of a resource are its objects in order, and live.
+-- The roots of a resource are the objects of its end, in order, and they live.
 use Rattle.std.proofs.Common.{◌≡◌, ℕ, zero, suc, ◌<◌, true, List, [], ◌∷◌, ◌++◌, length, slice_get, slice_index_or, Option, option_to_list, arith, refl, ap, ◌∙◌}
 use Rattle.std.specs.Prelude.{IsTrue, option_and_then}
 use Rattle.std.specs.List.{list_all}
@@ -23,7 +23,7 @@ use Rattle.mm_types.specs.declared.numbers.ResourceNo.{ResourceNo}
 use Rattle.fragment_paths.specs.Finding.{roots}
 use Rattle.containment.proofs.PartLemmas.{taken-live, values-linked}
 
--- an object that is pushed is the one at its index
+-- an object that is pushed is the object at its index
 pub pushed-at : (vs : List Value) (k : ℕ) (x : Option ObjectNo) (out new : List ObjectNo) → x ≡ option_and_then links.object_of (slice_get vs k) → new ≡ out ++ option_to_list x → new ≡ out ++ option_to_list (option_and_then links.object_of (slice_get vs k))
 pushed-at vs k x out new at made = made ∙ ap (λ (y : Option ObjectNo). out ++ option_to_list y) at
 
@@ -40,18 +40,18 @@ live-end : (m : Model) (e : End) (vs : List Value) → IsTrue (is_legal_end (rea
 live-end m e [] h = refl
 live-end m e (v ∷ vs) h = live-objects m e (v ∷ vs) (and_parts _ _ (and_parts _ _ h).1).0
 
--- what is at an end of a reference lives
+-- an object at an end of a reference lives
 pub all-live : (s : Model) (e : End) → IsLegal s → (shape s.metamodel e.feature).is_reference ≡ true → list_all (is_live (reading s)) (objects_of (values_at s e)) ≡ true
 all-live s e legal reference = ap (λ (vs : List Value). list_all (is_live (reading s)) (objects_of vs)) (values-linked s e reference) ∙ live-end s e (end s.links e) (legal.links.ends e)
 
 contents-refers : (m : Metamodel) → (shape m (lookups.contents m)).is_reference ≡ true
 contents-refers m = ap (λ (x : Option Feature). (option_map_or (λ g. shape_of m (lookups.contents m) g g.kind) x (contents_shape m)).is_reference) (slice_get_past m.features (length m.features) (omega arith))
 
--- so do the roots of a resource
+-- the roots of a resource live
 pub roots-live : (s : Model) (k : ResourceNo) → IsLegal s → list_all (is_live (reading s)) (roots (reading s) k) ≡ true
 roots-live s k legal = all-live s (roots_end (reading s) k) legal (contents-refers s.metamodel)
 
--- each of a list of live objects does
+-- each object of a list of live objects lives
 pub live-at : (r : Reading) (os : List ObjectNo) (k : ℕ) (d : ObjectNo) → k < length os → list_all (is_live r) os ≡ true → is_live r (slice_index_or os k d) ≡ true
 live-at r [] k d low all = absurd (omega (arith, low))
 live-at r (o ∷ os) zero d low all = (and_parts (is_live r o) _ all).0

@@ -30,7 +30,7 @@ reference_text r k o = unwrap_or (reference r k o) []
 
 ---------------------------------------------------------------- values
 
--- members, and these put among them: serde_json keeps them in the order of their keys
+-- members with some more put among them; serde_json keeps members in the order of their keys
 abbrev pub members_with : Members → List (List ℕ × Data) → Members
 members_with old ms = fold (λ found m. put m.0 m.1 found) old ms
 
@@ -40,7 +40,7 @@ members = members_with no_members
 abbrev pub two : List ℕ → Data → List ℕ → Data → Data
 two k d l e = object (members ((k, d) ∷ (l, e) ∷ []))
 
--- a value under a feature that is no object
+-- the JSON value of a value that is no object
 abbrev pub plain_data : Metamodel → FeatureNo → Value → Data
 plain_data m f value.Null = null
 plain_data m f (value.Bool b) = boolean b
@@ -51,7 +51,7 @@ plain_data m f (value.Object o) = null
 plain_data m f (value.Proxy t) = string t
 plain_data m f (value.Adapter a) = null
 
--- an object under a feature: a part is written by a given function, another object is referred to
+-- the JSON value of an object under a feature: a part is written by a given function, any other object as a reference
 abbrev pub object_under : Reading → ResourceNo → (ObjectNo → Data) → FeatureNo → ObjectNo → Data
 object_under r k part f o = if is_containment r.metamodel f then part o else string (reference_text r k o)
 
@@ -59,14 +59,14 @@ abbrev pub value_data : Reading → ResourceNo → (ObjectNo → Data) → Featu
 value_data r k part f (value.Object o) = object_under r k part f o
 value_data r k part f v = plain_data r.metamodel f v
 
--- a many-valued feature is an array, a single one its value
+-- the content of a feature: an array if the feature is many-valued, else its one value
 abbrev pub content_data : Reading → ResourceNo → (ObjectNo → Data) → ObjectNo → FeatureNo → Data
 content_data r k part o f =
     let e = at_end (node.Object o) f in
     if (shape_at r e).is_single then value_data r k part f (value_in (r.values e) 0)
     else array (items_of (map (value_data r k part f) (r.values e)))
 
--- the member of a feature: its name, and what it holds
+-- the member of a feature: its name, and its content
 abbrev pub feature_member : Reading → ResourceNo → (ObjectNo → Data) → ObjectNo → FeatureNo → List ℕ × Data
 feature_member r k part o f = (lookups.feature_name r.metamodel f, content_data r k part o f)
 
@@ -75,14 +75,14 @@ feature_member r k part o f = (lookups.feature_name r.metamodel f, content_data 
 abbrev pub class_name : Reading → ObjectNo → List ℕ
 class_name r o = option_map_or (λ c. c.name) (option_and_then (lookups.class r.metamodel) (r.class o)) []
 
--- an object and what it contains, for so many levels
+-- the JSON value of an object with all that it contains, for so many levels
 abbrev pub object_data : Reading → ResourceNo → ℕ → ObjectNo → Data
 object_data r k zero o = null
 object_data r k (suc n) o =
     two (codes "class") (string (class_name r o))
     (codes "features") (object (members (map (feature_member r k (object_data r k n) o) (written_features r o))))
 
--- no tree has more levels than objects were made
+-- the document of a resource; no tree has more levels than objects were made
 unfoldable pub document : Reading → ResourceNo → Data
 document r k =
     two (codes "format") (number (unsigned DOCUMENT_FORMAT))

@@ -25,15 +25,15 @@ reference_features r o = filter (λ f. not (is_containment r.metamodel f)) (writ
 abbrev pub targets_under : Reading → ObjectNo → FeatureNo → List ObjectNo
 targets_under r o f = objects_of (r.values (at_end (node.Object o) f))
 
--- an object that is in no resource
+-- whether an object is in no resource
 abbrev pub is_dangling : Reading → ObjectNo → Bool
 is_dangling r o = not (is_some (resource_of r.above o))
 
--- an object refers by a feature to one that is in no resource
+-- whether an object refers by a feature to an object that is in no resource
 abbrev pub dangles_by : Reading → ObjectNo → FeatureNo → Bool
 dangles_by r o f = is_written r o f && (not (is_containment r.metamodel f) && list_any (is_dangling r) (targets_under r o f))
 
--- and so by any of its features
+-- whether an object refers by any of its features to an object that is in no resource
 abbrev pub has_dangling : Reading → ObjectNo → Bool
 has_dangling r o = list_any (λ f. list_any (is_dangling r) (targets_under r o f)) (reference_features r o)
 
@@ -49,11 +49,11 @@ abbrev pub is_memory : Refused → Bool
 is_memory Memory = true
 is_memory _ = false
 
--- a text is read as the resource's document, where that nests no deeper than JSON does that is read
+-- a text is read as the document of a resource, if the document is not deeper than JSON that can be read
 abbrev pub IsReadAs : Reading → ResourceNo → List ℕ → Type 0
 IsReadAs r k text = depth (document r k) ≤ max_depth → read text ≡ Some (document r k)
 
--- what writing a document gives: its text, the refusal, or that memory was refused
+-- the result of writing a document: its text, the refusal, or `Memory`
 abbrev pub Writes : Result (String Global) Refused → Reading → ResourceNo → Type 0
 Writes (Ok text) r k = (save_refusal r k ≡ None) × (string_bytes text ≡ saved r k)
 Writes (Err e) r k = MatchBool (is_memory e) (Unit {0}) (save_refusal r k ≡ Some e)

@@ -1,4 +1,4 @@
--- What of a resource is written: its objects in loading order, and of each the features that are set.
+-- Which parts of a resource are written: its objects in loading order, and the features of each object that are set.
 use Rattle.std.specs.Prelude.{ℕ, ◌&&◌, Bool, not, List, filter, flat_map, length}
 use Rattle.mm_types.specs.Lookups as lookups
 use Rattle.mm_types.specs.declared.numbers.FeatureNo.{FeatureNo}
@@ -9,11 +9,12 @@ use Rattle.models.specs.Reading.{Reading, all_features_of, at_end, is_set}
 use Rattle.containment.specs.Forest.{subtree}
 use Rattle.fragment_paths.specs.Finding.{roots}
 
--- root by root, each object before what it contains, by feature in the order of all features, then by position
+-- the objects of a resource, root by root; each object comes before the objects that it contains, which come by feature in the order of all
+-- features, then by position
 abbrev pub objects_in : Reading → ResourceNo → List ObjectNo
 objects_in r k = flat_map (subtree r) (roots r k)
 
--- a feature of an object that is set, and is no container reference
+-- whether a feature of an object is written: it is set, and is no container reference
 abbrev pub is_written : Reading → ObjectNo → FeatureNo → Bool
 is_written r o f = is_set r (at_end (node.Object o) f) && not (lookups.is_container r.metamodel f)
 

@@ -9,7 +9,7 @@ use mm_types::limits::LEVELS;
 use mm_types::{Node, ObjectNo};
 use models::ModelRef;
 
-/// Whether an object is deeper than a document goes. Takes no memory.
+/// Whether an object is at a deeper level than a document may have. Takes no memory.
 pub(crate) fn is_too_deep<L: LinkStore>(model: &ModelRef<L>, object: ObjectNo) -> bool
     ensures { result ≡ saved.is_too_deep (reading model.now) object }
 {
@@ -24,7 +24,7 @@ pub(crate) fn is_too_deep<L: LinkStore>(model: &ModelRef<L>, object: ObjectNo) -
     model.holder(at).is_some()
 }
 
-/// Whether any of some objects is deeper than a document goes. Takes no memory.
+/// Whether any of some objects is at a deeper level than a document may have. Takes no memory.
 pub(crate) fn any_too_deep<L: LinkStore>(model: &ModelRef<L>, objects: &[ObjectNo]) -> bool
     ensures { result ≡ list_any (saved.is_too_deep (reading model.now)) objects.now }
 {

@@ -30,8 +30,8 @@ pub(crate) fn roots<L: LinkStore>(
     Ok(found)
 }
 
-/// Roots and all that is below them, root by root, each object before what it contains (EMF: Resource.getAllContents). Errs only
-/// if memory is refused.
+/// Roots and all objects below them, root by root, each object before its contents (EMF: Resource.getAllContents). Errs only if memory is
+/// refused.
 pub(crate) fn objects_below<L: LinkStore>(
     alloc: Global,
     model: &ModelRef<L>,

@@ -1,10 +1,10 @@
-//! What a document is written from.
+//! The data from which a document is written.
 use fragment_paths::Positions;
 use links::LinkStore;
 use mm_types::ResourceNo;
 use std::alloc::Global;
 
-/// What values are written from: the model, with positions that were looked up, and the resource whose document they are in.
+/// The data from which values are written: the model with positions that were looked up, and the resource whose document is written.
 #[derive(Drop)]
 pub(crate) struct Source<'r, 'm, 'a, L: LinkStore> {
     pub alloc: Global,

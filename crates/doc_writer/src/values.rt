@@ -20,7 +20,7 @@ use mm_types::{End, FeatureNo, Node, ObjectNo, Value};
 use models::Found;
 use std::alloc::AllocError;
 
-/// Writes an object under a feature: what it is if the feature contains it, and else a reference to it.
+/// Writes an object under a feature: the object itself if the feature is a containment, else a reference to it.
 #[cycle(object)]
 fn write_under<L: LinkStore>(
     source: &Source<L>,
@@ -38,7 +38,7 @@ fn write_under<L: LinkStore>(
     }
 }
 
-/// Writes what is at an end.
+/// Writes a value of an end.
 #[cycle(object)]
 fn write_found<L: LinkStore>(
     source: &Source<L>,
@@ -57,7 +57,7 @@ fn write_found<L: LinkStore>(
     }
 }
 
-/// Writes what is at a position of an end, or null past the last.
+/// Writes the value at a position of an end, or null past the last.
 #[cycle(object)]
 fn write_item<L: LinkStore>(
     source: &Source<L>,
@@ -74,7 +74,7 @@ fn write_item<L: LinkStore>(
     }
 }
 
-/// Writes all that is at an end.
+/// Writes all values of an end.
 #[cycle(object)]
 fn write_items<L: LinkStore>(
     source: &Source<L>,
@@ -91,7 +91,7 @@ fn write_items<L: LinkStore>(
     out.end_array()
 }
 
-/// Writes what an object holds under a feature.
+/// Writes the content of a feature of an object.
 #[cycle(object)]
 fn write_content<L: LinkStore>(
     source: &Source<L>,
@@ -111,7 +111,7 @@ fn write_content<L: LinkStore>(
     }
 }
 
-/// Writes what an object holds under a feature, after the name of the feature.
+/// Writes the name of a feature of an object, and its content.
 #[cycle(object)]
 fn write_feature<L: LinkStore>(
     source: &Source<L>,
@@ -126,7 +126,7 @@ fn write_feature<L: LinkStore>(
     write_content(source, levels, object, feature, out)
 }
 
-/// Writes what an object holds, under the names of its features.
+/// Writes the contents of an object, by the names of its features.
 #[cycle(object)]
 fn write_features<L: LinkStore>(
     source: &Source<L>,
@@ -172,7 +172,7 @@ fn write_members<L: LinkStore>(
     write_features(source, levels, object, features.as_slice(), out)
 }
 
-/// Writes an object and what it contains, for so many levels. Errs only if memory is refused; then a part may be written.
+/// Writes an object with all that it contains, for so many levels. Errs only if memory is refused; then a part of it may be written.
 #[cycle(object)]
 pub(crate) fn write_object<L: LinkStore>(
     source: &Source<L>,

@@ -1,5 +1,5 @@
-//! The ways to the objects that a resource refers to are looked up, so that each end on them is gone through once, and objects among
-//! them that are in no resource are found.
+//! The ways to the objects that a resource refers to are looked up, so that each end on these ways is gone through once. This also finds
+//! objects that are in no resource.
 ghost use Rattle.std.specs.Prelude.{◌≡◌, ◌&&◌, IfOk, false, not, slice_get};
 ghost use Rattle.std.specs.List.{list_any};
 ghost use Rattle.std.specs.Option.{option_and_then, option_map_or};
@@ -39,7 +39,7 @@ fn note_target<L: LinkStore>(
     Ok(false)
 }
 
-/// Notes the way to the object at a position of an end. Returns whether there is one that is in no resource.
+/// Notes the way to the object at a position of an end. Returns whether there is an object and it is in no resource.
 fn note_at<L: LinkStore>(
     positions: &mut Positions<L>,
     end: End,
@@ -57,7 +57,7 @@ fn note_at<L: LinkStore>(
     }
 }
 
-/// Notes the ways to the objects at an end, up to the first that is in no resource. Returns whether there is one.
+/// Notes the ways to the objects at an end, up to the first that is in no resource. Returns whether there is such an object.
 fn note_end<L: LinkStore>(positions: &mut Positions<L>, end: End) -> Result<bool, AllocError>
     ensures same { positions.new ≡ positions.old }
     ensures dangling { IfOk result (λ b. b ≡ list_any (saved.is_dangling (reading positions.old)) (r.objects_of ((reading positions.old).values end))) }
@@ -70,7 +70,7 @@ fn note_end<L: LinkStore>(positions: &mut Positions<L>, end: End) -> Result<bool
     Ok(false)
 }
 
-/// Whether a feature of an object is written as references: it is a reference that contains nothing. Takes no memory.
+/// Whether a feature of an object is written as references: it is a reference and no containment. Takes no memory.
 fn is_referring<L: LinkStore>(model: &ModelRef<L>, object: ObjectNo, feature: FeatureNo) -> bool
     ensures { result ≡ ((shape (reading model.now).metamodel feature).is_reference && (not (is_containment (reading model.now).metamodel feature) && written.is_written (reading model.now) object feature)) }
 {
@@ -79,8 +79,8 @@ fn is_referring<L: LinkStore>(model: &ModelRef<L>, object: ObjectNo, feature: Fe
         && is_written(model, object, feature)
 }
 
-/// Notes the ways to the objects that an object refers to by a feature, up to the first that is in no resource. Returns whether there
-/// is one.
+/// Notes the ways to the objects that an object refers to by a feature, up to the first that is in no resource. Returns whether there is
+/// such an object.
 fn note_feature<L: LinkStore>(
     positions: &mut Positions<L>,
     object: ObjectNo,
@@ -97,8 +97,8 @@ fn note_feature<L: LinkStore>(
     note_end(positions, End { node, feature })
 }
 
-/// Notes the ways to the objects that an object refers to by any of some features, up to the first that is in no resource. Returns
-/// whether there is one.
+/// Notes the ways to the objects that an object refers to by any of some features, up to the first that is in no resource. Returns whether
+/// there is such an object.
 fn note_features<L: LinkStore>(
     positions: &mut Positions<L>,
     object: ObjectNo,
@@ -115,7 +115,7 @@ fn note_features<L: LinkStore>(
     Ok(false)
 }
 
-/// Notes the ways to the objects that an object refers to, up to the first that is in no resource. Returns whether there is one.
+/// Notes the ways to the objects that an object refers to, up to the first that is in no resource. Returns whether there is such an object.
 fn note_object<L: LinkStore>(
     positions: &mut Positions<L>,
     object: ObjectNo,
@@ -127,8 +127,8 @@ fn note_object<L: LinkStore>(
     note_features(positions, object, features)
 }
 
-/// Notes the ways to the objects that any of some objects refers to, up to the first that is in no resource. Returns whether there is
-/// one. Errs only if memory is refused.
+/// Notes the ways to the objects that any of some objects refers to, up to the first that is in no resource. Returns whether there is such
+/// an object. Errs only if memory is refused.
 pub(crate) fn note_ways<L: LinkStore>(
     positions: &mut Positions<L>,
     objects: &[ObjectNo],

@@ -53,13 +53,12 @@ fn written_below<L: LinkStore>(
     text_by(alloc, &mut positions, resource, roots, objects.as_slice())
 }
 
-/// The text of a resource (EMF: XMLResource.save): `serde_json`'s compact text of its document. Written are the features that are
-/// set, but no container references; references inside the resource are fragments, and those into other resources URI, `#` and
-/// fragment. The other end of a reference with an opposite is written in its own resource. A resource that is not there has no
-/// roots.
+/// The text of a resource (EMF: XMLResource.save): `serde_json`'s compact text of its document. The features that are set are written, but
+/// no container references. A reference inside the resource is written as a fragment, a reference into another resource as URI, `#` and
+/// fragment. The other end of a reference with an opposite is written in its own resource. A resource that does not exist has no roots.
 ///
-/// Before anything is written the whole resource is looked over: `Dangling` if an object that it refers to is in no resource;
-/// else `TooDeep` if an object is below level 40. With `Memory` if memory is refused.
+/// The whole resource is checked before anything is written. Errs with `Dangling` if an object of the resource refers to an object that is
+/// in no resource; else with `TooDeep` if an object is below level 40; and with `Memory` if memory is refused.
 pub fn write_doc<L: LinkStore>(
     alloc: Global,
     model: &ModelRef<L>,

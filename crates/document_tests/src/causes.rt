@@ -1,4 +1,4 @@
-//! Why documents are refused: each cause by documents to which it is the lowest that applies.
+//! Why documents are refused: for each cause, documents to which no lower cause applies.
 use crate::resource::{library, of_new_roots, of_roots, told};
 use std::test::Fail;
 
@@ -45,7 +45,7 @@ const ROOTS: [(&str, &str); 44] = [
         r#"{"class":"Book","features":{},"x":1}"#,
         "18 DOCUMENT 2 LAYOUT",
     ),
-    // A contained object is of the layout too.
+    // A contained object must have the layout, too.
     (
         r#"{"class":"Folder","features":{"subs":[{"class":"Folder"}]}}"#,
         "18 DOCUMENT 2 LAYOUT",
@@ -59,7 +59,7 @@ const ROOTS: [(&str, &str); 44] = [
         r#"{"class":"Resource","features":{}}"#,
         "18 DOCUMENT 4 CLASS",
     ),
-    // What is inside the features of an unknown class is not looked at.
+    // The contents of an object of an unknown class are not looked at.
     (
         r#"{"class":"Nope","features":{"subs":[{"class":7}]}}"#,
         "18 DOCUMENT 4 CLASS",
@@ -137,7 +137,7 @@ const ROOTS: [(&str, &str); 44] = [
         r#"{"class":"Person","features":{"likes":[7]}}"#,
         "18 DOCUMENT 6 VALUE",
     ),
-    // A contained object of a class that does not conform is looked into all the same.
+    // A contained object of a class that does not conform is looked at all the same.
     (
         r#"{"class":"Folder","features":{"subs":[{"class":"Book","features":{"x":1}}]}}"#,
         "18 DOCUMENT 5 FEATURE",
@@ -204,14 +204,14 @@ const ROOTS: [(&str, &str); 44] = [
         r#"{"class":"Book","features":{"next":"/1"}},{"class":"Book","features":{"prev":"/1"}}"#,
         "18 DOCUMENT 10 ONE_SIDED",
     ),
-    // A proxy at the other end names nobody of the document.
+    // A proxy at the other end names no object of the document.
     (
         r#"{"class":"Library","features":{"staff":["/1"]}},{"class":"Person","features":{"job":"b#/"}}"#,
         "18 DOCUMENT 10 ONE_SIDED",
     ),
 ];
 
-/// Roots that are refused in format 1, since references with opposites lead to other resources, and what they are read as in format 2.
+/// Roots that are refused in format 1, since references with opposites lead to other resources; and what they are read as in format 2.
 const CROSSES: [(&str, &str); 4] = [
     (
         r#"{"class":"Person","features":{"job":"b#/"}}"#,

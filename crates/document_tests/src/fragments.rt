@@ -2,7 +2,7 @@
 use std::alloc::Global;
 use web_uris::parse;
 
-/// Fragments in the way that they are written: with an empty segment if that is true, and else with the root's index.
+/// Fragments as they are written: with an empty segment for the root if the flag is true, else with the root's index.
 const FRAGMENTS: [(&str, bool); 8] = [
     ("/", true),
     ("/0", false),

@@ -38,7 +38,7 @@ fn is_in_range(graph: &[Seq<usize>]) -> bool
         .all(|supers| is_below(supers.as_slice(), count))
 }
 
-/// Class 0 inherits the features of class 3 by two ways; classes 1 and 2 do not know each other.
+/// Class 0 inherits the features of class 3 by two paths; classes 1 and 2 are not related.
 fn diamond(alloc: Global) -> Result<Vec<Seq<usize>>, AllocError> {
     rows_of(alloc, &[&[2, 1], &[3], &[3], &[]])
 }
@@ -74,7 +74,7 @@ fn shown<T: Debug>(alloc: Global, rows: &[Seq<T>]) -> Result<String, AllocError>
     Ok(shown)
 }
 
-/// An order, and all features of each class; `own` has the features that each declares.
+/// An order of the classes, and all features of each class; `own` has the features that each class declares.
 fn inherited_by(
     alloc: Global,
     graph: &[Seq<usize>],
@@ -114,7 +114,7 @@ fn features_are_inherited_through_a_diamond_in_order(rt: HostRuntime) -> Result<
     Ok(())
 }
 
-/// For each class the classes that it conforms to, and those that one class conforms to and that it reaches.
+/// For each class the classes that it conforms to; then the classes that one class conforms to, and those that it reaches.
 fn conformance(alloc: Global, graph: &[Seq<usize>], class: usize) -> Result<String, Fail> {
     if !is_in_range(graph) || class >= graph.len() {
         return Err(Fail::new("these are no classes"));
@@ -200,7 +200,7 @@ fn names_clash_across_a_diamond(rt: HostRuntime) -> Result<(), Fail> {
     Ok(())
 }
 
-/// A feature of its own for each class, of the class's number.
+/// One own feature for each class, with the number of the class.
 fn one_each(alloc: Global, count: u32) -> Result<Vec<Seq<u32>>, AllocError> {
     let mut own = Vec::new(alloc);
     for c in 0..count {

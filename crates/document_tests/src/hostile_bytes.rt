@@ -1,8 +1,8 @@
-//! A metamodel and two documents of it that are cut after each of their bytes, or have a different byte instead of one: each is read
+//! A metamodel and two of its documents are cut after each of their bytes, or get a different byte in the place of one. Each text is read
 //! or refused, and the answers are counted.
 //!
-//! What is expected follows from JSON alone. None of the texts has a backslash. What is cut before its last brace is not one; neither is
-//! what has a byte 0, which is nowhere in JSON, or a byte 255, which is not UTF-8, or an odd number of quotes.
+//! The expected counts follow from the grammar of JSON. None of the texts has a backslash. A text that is cut before its last brace is no
+//! JSON. Neither is a text with a byte 0, which JSON never has, with a byte 255, which is not UTF-8, or with an odd number of quotes.
 use crate::library::{LIBRARY, library};
 use crate::resource::refusal;
 use mm_check::check;
@@ -55,7 +55,7 @@ const INPUTS: [Input; 3] = [
     },
 ];
 
-/// How often each answer was given: at 0 how often a text was read, and at each number of a fault or a cause how often it was that one.
+/// How often each answer was given: at 0 how often a text was read, and at each number of a fault or a cause how often that was returned.
 type Counts = [u32; 13];
 
 /// Counts of texts that are read, and of texts that are no JSON.
@@ -74,7 +74,7 @@ fn fault_of(alloc: Global, bytes: &[u8]) -> Option<MetaFault> {
     }
 }
 
-/// The number of a metamodel's fault, 0 if it is accepted; none if memory was refused.
+/// The number of a metamodel's fault, or 0 if it is accepted; `None` if memory was refused.
 fn metamodel_answer(alloc: Global, bytes: &[u8]) -> Option<u32> {
     match fault_of(alloc, bytes) {
         Some(fault) => fault.number(),
@@ -82,7 +82,7 @@ fn metamodel_answer(alloc: Global, bytes: &[u8]) -> Option<u32> {
     }
 }
 
-/// The number of a document's cause, 0 if it is read; none if it is refused for anything else.
+/// The number of a document's cause, or 0 if it is read; `None` if it is refused for anything else.
 fn document_answer(alloc: Global, meta: &Meta, bytes: &[u8]) -> Option<u32> {
     match refusal(alloc, meta, bytes) {
         Some(Refused::Document(cause)) => Some(cause.number()),
@@ -122,7 +122,7 @@ fn cut(alloc: Global, meta: &Meta, input: &Input) -> Result<Counts, Fail> {
     Ok(counts)
 }
 
-/// A text with a different byte instead of the one at a position.
+/// A text with a different byte at a position.
 fn with_byte(alloc: Global, text: &str, at: usize, byte: u8) -> Result<Vec<u8>, AllocError> {
     let mut bytes = text.as_bytes().to_vec(alloc)?;
     if at < bytes.len() {
@@ -131,7 +131,7 @@ fn with_byte(alloc: Global, text: &str, at: usize, byte: u8) -> Result<Vec<u8>, 
     Ok(bytes)
 }
 
-/// Counts the answers to a text with a different byte instead of each of its bytes in turn.
+/// Counts the answers to a text with a different byte in the place of each of its bytes in turn.
 fn replaced(alloc: Global, meta: &Meta, input: &Input, byte: u8) -> Result<Counts, Fail> {
     let mut counts = [0; 13];
     for at in 0..input.text.len() {

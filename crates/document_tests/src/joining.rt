@@ -1,4 +1,4 @@
-//! References that are joined with a URI, and those that give none.
+//! References that are joined with a URI, and references that give no URI.
 use std::alloc::Global;
 use std::test::Fail;
 use web_uris::{UriFault, joined};
@@ -13,13 +13,13 @@ const JOINED: [(&str, &str, &str); 8] = [
         "HTTPS://N.example:443/x y",
         "https://n.example/x%20y",
     ),
-    // A reference that is a URI by itself is not joined.
+    // A reference that is a whole URI is not joined.
     ("http://m.example/a", "http:b", "http://b/"),
     ("nonsense", "http://m.example/a", "http://m.example/a"),
     ("http://m.example/a", "//n.example", "http://n.example/"),
 ];
 
-/// Bases and references that give no URI: a base that is no URI, schemes other than those of the web, and fragments.
+/// Bases and references that give no URI: a base that is no URI, schemes other than http and https, and fragments.
 const BAD: [(&str, &str); 6] = [
     ("nonsense", "b"),
     ("http://m.example/a", "ftp://m.example/"),

@@ -1,7 +1,7 @@
-//! Tests of the crates that read documents, by calls that a document alone does not make: metamodels and their look-ups,
-//! documents of resources, and the texts that address objects.
+//! Tests of the crates that read documents, by calls that no document can cause: metamodels and their look-ups, documents of resources, and
+//! the texts that address objects.
 //!
-//! What is printed of a metamodel, accepted or with its first fault, is among the cases.
+//! The cases test what is printed for a metamodel: that it is accepted, or its first fault.
 #![tactic(auto)]
 
 #[cfg(test)]

@@ -1,4 +1,4 @@
-//! Metamodels that are read and checked, and the one of a library.
+//! Metamodels that are read and checked, and the metamodel of a library.
 use mm_check::check;
 use mm_load::load_meta;
 use mm_meta::Meta;
@@ -43,13 +43,13 @@ pub(crate) const LIBRARY: &str = r#"{
 }
 "#;
 
-/// The metamodel that a document writes, its names unresolved.
+/// The metamodel that a document describes, its names unresolved.
 pub(crate) fn loaded(alloc: Global, document: &str) -> Result<Box<RawMeta>, Fail> {
     let raw = load_meta(alloc, document.as_bytes())?;
     Ok(Box::new(alloc, raw)?)
 }
 
-/// The metamodel that a document writes, checked.
+/// The metamodel that a document describes, checked.
 pub(crate) fn checked(alloc: Global, document: &str) -> Result<Box<Meta>, Fail> {
     let raw = load_meta(alloc, document.as_bytes())?;
     let meta = check(alloc, raw)?;

@@ -1,11 +1,11 @@
-//! The look-ups of the library's metamodel, with every number and one past the last.
+//! The look-ups of the library's metamodel, with every number and the number past the last.
 use crate::library::library;
 use mm_meta::Meta;
 use mm_types::{ClassNo, FeatureNo};
 use std::alloc::{AllocError, Global};
 use std::test::Fail;
 
-/// Of each feature, and of the number past the last, its name, its default, its opposite, and whether it is a
+/// For each feature, and for the number past the last: its name, its default, its opposite, and whether it is a
 /// container reference.
 const FEATURES: &str = "name Some(Null) None false
 books Some(Null) Some(FeatureNo(9)) false
@@ -56,7 +56,7 @@ fn features_are_found_by_number(rt: HostRuntime) -> Result<(), Fail> {
     Ok(())
 }
 
-/// Of each class, and of the number past the last, its name, the number that this names, and all its features.
+/// For each class, and for the number past the last: its name, the number of the class of that name, and all its features.
 const CLASSES: &str = "Named Some(ClassNo(0)) Some([FeatureNo(0)])
 Library Some(ClassNo(1)) Some([FeatureNo(0), FeatureNo(1), FeatureNo(2), FeatureNo(3)])
 Book Some(ClassNo(2)) Some([FeatureNo(0), FeatureNo(4), FeatureNo(5), FeatureNo(6), FeatureNo(7), FeatureNo(8), FeatureNo(9), FeatureNo(10), FeatureNo(11)])
@@ -92,7 +92,7 @@ fn classes_are_found_by_number_and_by_name(rt: HostRuntime) -> Result<(), Fail> 
     Ok(())
 }
 
-/// Of each class, and of the number past the last, the classes that it conforms to, and its features.
+/// For each class, and for the number past the last: the classes that it conforms to, and its features.
 const INHERITED: &str = "0: 0, 0
 1: 0 1, 0 1 2 3
 2: 0 2, 0 4 5 6 7 8 9 10 11
@@ -166,7 +166,7 @@ fn features_are_found_by_name(rt: HostRuntime) -> Result<(), Fail> {
     Ok(())
 }
 
-/// Literals by enumeration and index, and the index that each name has there.
+/// Enumerations with indexes and names, by which literals are looked up.
 const LITERALS: [(u32, u32, &str); 5] = [
     (0, 0, "NOVEL"),
     (0, 1, "POEM"),
@@ -175,7 +175,7 @@ const LITERALS: [(u32, u32, &str); 5] = [
     (1, 0, "PLAY"),
 ];
 
-/// What these look-ups give.
+/// What these look-ups give: each by the index, and by the name.
 const FOUND: &str = "Some(\"NOVEL\") Some(0)
 Some(\"POEM\") Some(1)
 Some(\"PLAY\") Some(2)

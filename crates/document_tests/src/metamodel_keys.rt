@@ -11,8 +11,8 @@ fn text_or_none(text: &Option<Text>) -> &str {
     }
 }
 
-/// Of an attribute whether it is unique, whether it is unsettable and its default; of a reference whether it is
-/// containment and its opposite.
+/// For an attribute: whether it is unique, whether it is unsettable, and its default. For a reference: whether it is a
+/// containment, and its opposite.
 fn kind_text(alloc: Global, kind: &RawKind) -> Result<String, AllocError> {
     match kind {
         RawKind::Attribute {
@@ -62,7 +62,7 @@ fn lines_of(alloc: Global, raw: &RawMeta) -> Result<String, AllocError> {
     Ok(lines)
 }
 
-/// What is in the document of the library.
+/// The content of the library's document.
 const READ: &str = r#"Genre ["NOVEL", "POEM", "PLAY"]
 Named true []
   name EString 0..1 true false none
@@ -94,7 +94,7 @@ const BOOK_AND_SHELF: &str = r#"{"classes":[{"features":[
         {"name":"t\u00e9","kind":"attribute","type":"EString"}
     ],"name":"None","name":"Book"},{"name":"Shelf"}]}"#;
 
-/// What is in it.
+/// The content of that document.
 const BOOK_AND_SHELF_READ: &str = "Book false []
   pages EInt 0..1 true false -1
   té EString 0..1 true false none

@@ -134,7 +134,7 @@ fn causes_are_printed(rt: HostRuntime) -> Result<(), Fail> {
     Ok(())
 }
 
-/// A fault by its number, its name and where it is, each asked for by its own call.
+/// A fault by its number, its name and where it is, each read by its own call.
 fn by_parts(alloc: Global, fault: MetaFault) -> Result<String, AllocError> {
     let name = fault.name();
     match (fault.number(), fault) {

@@ -1,11 +1,11 @@
-//! What documents are read as. The readings are written out by hand.
+//! What documents are read as. The readings are written by hand.
 use crate::resource::{library, of_roots, told};
 use std::test::Fail;
 
 /// Roots of documents, and what they are read as.
 const READINGS: [(&str, &str); 16] = [
     ("", "roots"),
-    // A library with staff, books and likes: each object before what it contains, by feature and then by position.
+    // A library with staff, books and likes: each object comes before its contents, by feature and then by position.
     (
         r#"{"class":"Library","features":{
             "staff":["//@members.1"],
@@ -16,7 +16,7 @@ const READINGS: [(&str, &str); 16] = [
             "name":"L"}}"#,
         r#"1[ 0: "L"; 1: #1 #2; 2: #3 #4; 3: #4; ] 2[ 0: "Emma"; 12: #2; ] 2[ 13: #1; ] 3[ 0: "Ann"; 15: #2 #1; ] 3[ 14: #0; ] roots #0"#,
     ),
-    // Roots in order, and what a root contains comes before the next one.
+    // Roots are in order, and the contents of a root come before the next root.
     (
         r#"{"class":"Folder","features":{"subs":[{"class":"Folder","features":{}}]}},{"class":"Book","features":{}}"#,
         "4[ 17: #1; ] 4[ ] 2[ ] roots #0 #2",
@@ -32,7 +32,7 @@ const READINGS: [(&str, &str); 16] = [
         r#"{"class":"Book","features":{"tags":[],"scores":[]}}"#,
         "2[ ] roots #0",
     ),
-    // Written values stay, a default among them, and null of a single text.
+    // Written values stay, also a default, and null for a single text.
     (
         r#"{"class":"Book","features":{"pages":100,"note":null,"tags":["b","a"],"scores":[1,1],"genre":"POEM","big":9223372036854775807,"lent":true,"name":null}}"#,
         r#"2[ 0: Null; 4: 100; 5: "b" "a"; 6: 1 1; 7: Null; 8: Literal(1); 9: 9223372036854775807; 10: Bool(true); ] roots #0"#,
@@ -49,7 +49,7 @@ const READINGS: [(&str, &str); 16] = [
         r#"{"class":"Person","features":{"likes":["b#/","b#/0","HTTP://N.example/x#//@books.3"]}}"#,
         "3[ 15: <http://m.example/b#/> <http://m.example/b#/0> <http://n.example/x#//@books.3>; ] roots #0",
     ),
-    // The resource's own URI leads into the document, in each way to write it.
+    // The resource's own URI leads into the document, however it is written.
     (
         r##"{"class":"Person","features":{"likes":["/1","#/2","a#/3","http://m.example/a#/4"]}},
            {"class":"Book","features":{}},{"class":"Book","features":{}},{"class":"Book","features":{}},{"class":"Book","features":{}}"##,
@@ -79,7 +79,7 @@ const READINGS: [(&str, &str); 16] = [
         r#"{"class":"Book","features":{"scores":[-2147483648,2147483647,0]}}"#,
         "2[ 6: -2147483648 2147483647 0; ] roots #0",
     ),
-    // Two texts are two values, whatever their case, and a text is no name.
+    // Texts that differ in case are different values, and a text need be no name.
     (
         r#"{"class":"Book","features":{"tags":["a","A",""]}}"#,
         r#"2[ 5: "a" "A" ""; ] roots #0"#,

@@ -85,7 +85,7 @@ fn doc_text(alloc: Global, doc: &Doc) -> Result<String, AllocError> {
     Ok(text)
 }
 
-/// What a document of the library is read as: each object with its class and what each feature holds, and then the
+/// What a document of the library is read as: each object with its class and the content of each feature, and then the
 /// roots; or the refusal, as it is printed.
 pub(crate) fn told(alloc: Global, meta: &Meta, bytes: &[u8]) -> Result<String, AllocError> {
     match read_doc(alloc, meta, URI, bytes) {

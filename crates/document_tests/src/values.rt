@@ -3,7 +3,7 @@ use mm_types::{AdapterNo, ObjectNo, Seq, Text, Value};
 use std::alloc::{AllocError, Global};
 use std::test::Fail;
 
-/// A text as it is, as it is copied, and as its `String`.
+/// A text as it is, its copy, and its `String`.
 fn texts(alloc: Global) -> Result<String, AllocError> {
     let text = Text::from_str(alloc, "a é")?;
     let copy = text.clone()?;

@@ -36,7 +36,7 @@ module _ {S D W : Type 0} (w : World S D W) (s : S) (o : Outbox D W) (input : Op
   abbrev Stopped : RunFault → Outbox D W → Type 0
   Stopped fault n = StopsIn w.runs fault input s before old (w.contents (writer_of n)) (w.may_leave (disk_under n))
 
-  -- a call of the disk failed since, or the file is full
+  -- a call of the disk has failed since then, or the file is full
   abbrev DiskFails : Outbox D W → Type 0
   DiskFails n = (w.faults (disk_under o) < w.faults (disk_under n)) ⊎ IsFull w.seen n
 
@@ -87,7 +87,7 @@ module _ {S D W : Type 0} (w : World S D W) (s : S) (o : Outbox D W) (input : Op
 
   -- ---- between two lines
 
-  -- What holds between two lines: what was read, what was done, and what a crash left until now.
+  -- Facts between two lines: the lines that were read, the lines that were run, and the files that a crash could have left until now.
   pub record Goes (b : Option (List ℕ)) (t : S) (n : Outbox D W) (number : ℕ) : Type 0 where
     pub done : List (List ℕ)
     pub read : LinesRead input b done
@@ -114,7 +114,7 @@ module _ {S D W : Type 0} (w : World S D W) (s : S) (o : Outbox D W) (input : Op
     abbrev Waits : Outbox D W → Type 0
     Waits m = Becomes w.contents w.seen w.may_leave w.moment w.left_since w.faults n m
 
-    -- what a crash left until now, and while answers are given
+    -- the files that a crash could have left until now, and while answers are given
     pub leaves_on : (m : Outbox D W) → LeavesBoth w.seen w.moment w.left_since n m → LeavesOnly w.moment w.left_since (disk_under o) (disk_under m) Left
     leaves_on m during =
         leaves_more w.contents w.seen w.may_leave w.moment w.left_since w.faults (disk_under o) (disk_under n) (disk_under m) Left _ goes.leaves during
@@ -231,6 +231,6 @@ module _ {S D W : Type 0} (w : World S D W) (s : S) (o : Outbox D W) (input : Op
     pub disk_waiting : (fault : RunFault) → fault ≡ Journal → NotRead fault → DiskFails m
     disk_waiting fault is failed = disk_of (subst NotRead is failed)
 
--- what holds of an error
+-- a property of an error
 pub at_error : {T E : Type 0} (r : Result T E) (P : E → Type 0) (e : E) → IfErr r P → r ≡ Err e → P e
 at_error r P e holds is = subst (λ x. IfErr x P) is holds

@@ -6,7 +6,7 @@ use Rattle.std.specs.List.{list_all}
 use Rattle.hex.specs.Hex.{encode_lower, encode_with, lower_digits}
 use Rattle.journal.specs.Lines.{IsLine}
 
--- bytes of which each is compared are a line
+-- bytes each of which is no newline are a line
 line_of : (xs : List ℕ) → list_all (λ c. not (c == 10)) xs ≡ true → IsLine xs
 line_of [] is = All-nil (λ c. c ≢ 10)
 line_of (x ∷ xs) is =

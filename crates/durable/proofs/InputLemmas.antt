@@ -38,7 +38,7 @@ lines-last bytes rest line plain some is none =
 
 -- ---- the lines that were read
 
--- known bytes lost some lines
+-- some lines were read from the known bytes
 abbrev pub LinesRead : Option (List ℕ) → Option (List ℕ) → List (List ℕ) → Type 0
 LinesRead None new ls = Unit {0}
 LinesRead (Some xs) None ls = ⊥

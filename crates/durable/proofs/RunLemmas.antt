@@ -14,7 +14,7 @@ use Rattle.durable.specs.Outboxes.{FailsToGive, Gives, IsAtRest, LeavesBoth, Tak
 use Rattle.durable.specs.Printed.{Printed, Runs, RunsLines, answer, answers, kept_line, kept_lines}
 use Rattle.durable.specs.declared.outbox.Outbox.{Outbox}
 
--- What runs the lines, and what the words of the disk and of the writer mean.
+-- The session that runs the lines, and the meaning of the disk and of the writer.
 pub record World (S D W : Type 0) : Type 1 where
   pub runs : Runs S
   pub contents : W → Option (List ℕ)
@@ -156,7 +156,7 @@ module _ {S D W : Type 0} (w : World S D W) (s : S) (o : Outbox D W) where
         ∙ append_assoc before (kept_lines r.first r.printed) (kept_lines r.next r.printed_next)
         ∙ ap (λ (xs : List (List ℕ)). before ++ xs) (sym (kept_lines-append w.runs s r.first r.printed r.after r.next r.printed_next r.ran))
 
-    -- what is written, and what is held back, are the answers to all of them
+    -- the answers that are written and the answers that are held back are the answers to all lines
     held_all : answers r.printed ++ held_by n ≡ answers all_printed
     held_all = ap (λ (l : List ℕ). answers r.printed ++ l) r.held ∙ sym (answers-append r.printed r.printed_next)
 
@@ -204,7 +204,7 @@ module _ {S D W : Type 0} (w : World S D W) (s : S) (o : Outbox D W) where
       together : all ≡ (r.first ++ r.next) ++ rest
       together = is ∙ ap (λ (xs : List (List ℕ)). xs ++ rest) r.lines_are
 
-      -- what a crash leaves while the answers are given
+      -- the files that a crash leaves while the answers are given
       pub leaves_front : (c : List ℕ) → IsBeforeOrAfter (kept_by w.seen n) (noted_by n) c → LeavesFront w.runs s before all c
       leaves_front c (inl alone) =
           record { first = r.first; rest = r.next ++ rest; lines_are = apart; printed = r.printed; after = r.after; ran = r.ran; stands = alone ∙ r.kept }
@@ -255,7 +255,7 @@ module _ {S D W : Type 0} (w : World S D W) (s : S) (o : Outbox D W) where
         left = λ c may. inl (left c may);
       }
 
-      -- between two settlements
+      -- the run stops between two settlements
       pub stops_between : (fault : RunFault) → ComesBetween fault → (m : Outbox D W) → disk_under m ≡ disk_under n → writer_of m ≡ writer_of n
           → Stops w.runs fault s before all old (w.contents (writer_of m)) (w.may_leave (disk_under m))
       stops_between fault between m same_disk same_writer =
@@ -269,7 +269,7 @@ module _ {S D W : Type 0} (w : World S D W) (s : S) (o : Outbox D W) where
           let all_kept = sym (append-nil (kept_by w.seen n)) ∙ ap (λ (ls : List (List ℕ)). kept_by w.seen n ++ ls) (sym noted) ∙ kept_all in
           stops_kept Read n (refl, subst (Appends old (w.contents (writer_of n))) answered r.written) (λ c left. ap recovered (r.at_rest.durable c left) ∙ all_kept)
 
-      -- in a settlement
+      -- the run stops in a settlement
       pub stops_within : (fault : RunFault) (m : Outbox D W) → FailsToGive w.contents w.seen w.may_leave w.faults n fault m
           → LeavesBoth w.seen w.moment w.left_since n m → Stops w.runs fault s before all old (w.contents (writer_of m)) (w.may_leave (disk_under m))
       stops_within Read m failed during = absurd failed

@@ -18,7 +18,7 @@ module _ {S : Type 0} (runs : Runs S) where
   refuses_push s (k ∷ ls) t l rest p u so_far ran is not_lost =
       (so_far.0, so_far.1, so_far.2, inr (so_far.3, refuses_push so_far.1 ls t l rest p u so_far.4 ran is not_lost))
 
-  -- Some lines of a file were run, and these are left.
+  -- Some lines of a file were run, and the others are left.
   pub record Replayed (s : S) (all : List (List ℕ)) (t : S) (rest : List (List ℕ)) : Type 0 where
     pub first : List (List ℕ)
     pub lines_are : all ≡ first ++ rest

@@ -1,4 +1,4 @@
--- What a dialogue answers, and what a crash leaves of it.
+-- The answers of a dialogue, and what a crash leaves of it.
 use Rattle.std.specs.Prelude.{◌≡◌, ◌≤◌, ◌⊎◌, ◌-◌, ◌^◌, ℕ, true, nat_lt, List, [], ◌++◌, length, Option, IfSome}
 use Rattle.std.specs.List.{list_any}
 use Rattle.std.specs.Io.KnownBytes.{Appends}
@@ -10,8 +10,9 @@ use Rattle.mm_types.specs.declared.limits.TheConstants.{INPUT_BYTES}
 use Rattle.journal.specs.Journal.{IsBeforeOrAfter, StandsFor}
 use Rattle.durable.specs.Printed.{Printed, Runs, RunsLines, answers, kept_lines}
 
--- What is written of the answers to the first lines when a run stops for a fault, if the next lines were run and not answered. A read fails
--- when all lines that were run are answered. A failed write alone cuts the answers short, when all lines that were run are on the disk.
+-- The text that was written when a run stopped for a fault: the answers to the first lines; the next lines were run but not answered. A
+-- read fails only when all lines that were run are answered. Only a failed write cuts the answers short, and then all lines that were run
+-- are on the disk.
 abbrev pub WritesUntil : RunFault → List (List ℕ) → Option (List ℕ) → Option (List ℕ) → List ℕ → Type 0
 WritesUntil Read next old new text = (next ≡ []) × Appends old new text
 WritesUntil Write next old new text = (next ≡ []) × AppendsFront old new text
@@ -24,7 +25,8 @@ abbrev pub IsTooLong : List (List ℕ) → Type 0
 IsTooLong ls = (list_any (λ l. nat_lt INPUT_BYTES (length l)) ls ≡ true) ⊎ (2 ^ 64 - 1 ≤ length ls)
 
 module _ {S : Type 0} (runs : Runs S) where
-  -- A file stands for the lines from before, and for those to be kept of the first lines, none skipped and none in part.
+  -- A file stands for the lines from before, and after them the lines to be kept among the first lines of the run; none is skipped, and
+  -- none is there in part.
   pub record LeavesFront (s : S) (before : List (List ℕ)) (ls : List (List ℕ)) (file : List ℕ) : Type 0 where
     pub first : List (List ℕ)
     pub rest : List (List ℕ)
@@ -34,8 +36,8 @@ module _ {S : Type 0} (runs : Runs S) where
     pub ran : RunsLines runs s first printed after
     pub stands : StandsFor (before ++ kept_lines first printed) file
 
-  -- A run stopped for a fault. What is written are answers to the first lines. Whatever a crash leaves has those to be kept of the first
-  -- lines, alone or with all those of the next lines, which were run and not answered.
+  -- A run stopped for a fault. Answers to the first lines were written; the next lines were run but not answered. A file that a crash
+  -- leaves has the lines to be kept among the first lines, and perhaps those among all next lines.
   pub record Stops (fault : RunFault) (s : S) (before : List (List ℕ)) (ls : List (List ℕ)) (old new : Option (List ℕ)) (may_leave : List ℕ → Type 0) : Type 0 where
     pub first : List (List ℕ)
     pub next : List (List ℕ)
@@ -50,14 +52,14 @@ module _ {S : Type 0} (runs : Runs S) where
     pub written : WritesUntil fault next old new (answers printed)
     pub left : (c : List ℕ) → may_leave c → IsBeforeOrAfter (before ++ kept_lines first printed) (kept_lines next printed_next) c
 
-  -- A run came to its end: all lines were run and answered, and those to be kept are kept.
+  -- A run came to its end: all lines were run and answered, and the lines to be kept are kept.
   pub record Ends (s : S) (before : List (List ℕ)) (ls : List (List ℕ)) (old new : Option (List ℕ)) (kept_after : List (List ℕ)) (t : S) : Type 0 where
     pub printed : List Printed
     pub ran : RunsLines runs s ls printed t
     pub written : Appends old new (answers printed)
     pub kept : kept_after ≡ before ++ kept_lines ls printed
 
-  -- the same of the lines of an input, if its bytes are known
+  -- a run of the lines of an input came to its end, if the bytes of the input are known
 
   abbrev pub LeavesIn : Option (List ℕ) → S → List (List ℕ) → List ℕ → Type 0
   LeavesIn input s before file = IfSome input (λ bytes. LeavesFront s before (lines bytes) file)

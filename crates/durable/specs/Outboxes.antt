@@ -1,4 +1,4 @@
--- An outbox, and what is given of it.
+-- An outbox, and how it gives out the answers that it holds back.
 use Rattle.std.specs.Prelude.{◌≡◌, ◌<◌, ◌≤◌, ◌⊎◌, ◌^◌, ℕ, List, [], ◌++◌, length, Option}
 use Rattle.std.specs.Io.KnownBytes.{Appends}
 use Rattle.script_streams.specs.Streams.{AppendsFront}
@@ -28,7 +28,7 @@ module _ {D W : Type 0} where
   abbrev pub disk_under : Outbox D W → D
   disk_under outbox = disk_of outbox.journal
 
-  -- the lines that the answers held back are of, as far as they are to be kept
+  -- the lines to be kept among those whose answers are held back
   abbrev pub noted_by : Outbox D W → List (List ℕ)
   noted_by outbox = noted outbox.journal
 
@@ -55,7 +55,7 @@ pub record Gives {D W : Type 0} (contents : W → Option (List ℕ)) (seen : D �
   pub held : held_by new ≡ []
   pub written : Appends (contents (writer_of old)) (contents (writer_of new)) (held_by old)
 
--- the entries of the file are as long as they may be
+-- the entries of the file have reached their greatest length
 abbrev pub IsFull : {D W : Type 0} → (D → List ℕ) → Outbox D W → Type 0
 IsFull seen outbox = 2 ^ 62 ≤ length (entries (kept_by seen outbox))
 
@@ -65,8 +65,8 @@ run_fault fails.Memory = stops.Memory
 run_fault fails.Failed = stops.Journal
 run_fault fails.Full = stops.Journal
 
--- The answers were not given, for a fault. If a write failed, a prefix of them is written, and whatever a crash leaves has all lines that
--- were noted. Before that, a call of the disk fails, or the file is full, or memory is refused: then nothing is written.
+-- The answers were not given, for a fault. If a write failed, a prefix of the answers is written, and a file that a crash leaves has all
+-- lines that were noted. If a call of the disk failed, the file was full, or memory was refused, nothing is written.
 abbrev pub FailsToGive : {D W : Type 0} → (W → Option (List ℕ)) → (D → List ℕ) → (D → List ℕ → Type 0) → (D → ℕ) → Outbox D W → RunFault → Outbox D W → Type 0
 FailsToGive contents seen may_leave faults old stops.Read new = ⊥
 FailsToGive contents seen may_leave faults old stops.Write new =
@@ -77,6 +77,6 @@ FailsToGive contents seen may_leave faults old stops.Memory new = writer_of new 
 FailsToGive contents seen may_leave faults old stops.Journal new =
     (writer_of new ≡ writer_of old) × ((faults (disk_under old) < faults (disk_under new)) ⊎ IsFull seen new)
 
--- Meanwhile a crash leaves the lines from before, alone or with all that were noted.
+-- Meanwhile a crash leaves the lines from before, without the noted lines or with all of them.
 abbrev pub LeavesBoth : {D W : Type 0} → (D → List ℕ) → (D → ℕ) → (D → ℕ → List ℕ → Type 0) → Outbox D W → Outbox D W → Type 0
 LeavesBoth seen moment left_since old new = LeavesOnly moment left_since (disk_under old) (disk_under new) (IsBeforeOrAfter (kept_by seen old) (noted_by old))

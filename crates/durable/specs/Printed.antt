@@ -1,4 +1,4 @@
--- What lines print, and which of them are kept.
+-- What lines print, and which lines are kept.
 use Rattle.std.specs.Prelude.{◌≡◌, ◌⊎◌, ℕ, Bool, true, false, List, [], ◌∷◌, ◌++◌, if◌then◌else◌}
 use Rattle.std.specs.List.{flat_map}
 use Rattle.durable.specs.declared.session.TheConstants.{NEWLINE}
@@ -15,41 +15,41 @@ is_lost turned.Kept = false
 is_lost turned.Other = false
 is_lost turned.Lost = true
 
--- what a line printed, and how it ended
+-- the output of a line, and how it ended
 pub record Printed : Type 0 where
   pub text : List ℕ
   pub turn : Turn
 
--- what is written for a line that printed this: its text, and an empty line
+-- the answer that is written for a line: the text that it printed, and an empty line
 abbrev pub answer : Printed → List ℕ
 answer p = p.text ++ NEWLINE ∷ []
 
--- what is written for some lines
+-- the answers that are written for some lines
 abbrev pub answers : List Printed → List ℕ
 answers = flat_map answer
 
--- a line alone if it is kept, and else none
+-- only the line if it is kept, and otherwise none
 abbrev pub kept_line : List ℕ → Printed → List (List ℕ)
 kept_line l p = if is_kept p.turn then l ∷ [] else []
 
--- those of some lines that are kept, by what they printed
+-- the lines that are kept, by the output of each
 abbrev pub kept_lines : List (List ℕ) → List Printed → List (List ℕ)
 kept_lines [] ps = []
 kept_lines (l ∷ ls) [] = []
 kept_lines (l ∷ ls) (p ∷ ps) = kept_line l p ++ kept_lines ls ps
 
--- how a session runs a line: the session before, the line, what it printed, and the session after
+-- how a session runs a line: the session before, the line, its output, and the session after
 abbrev pub Runs : Type 0 → Type 1
 Runs S = S → List ℕ → Printed → S → Type 0
 
--- A line was run, and what it printed was appended to a text.
+-- A line was run, and its output was appended to a text.
 pub record AddsRun {S : Type 0} (runs : Runs S) (s : S) (line old new : List ℕ) (turn : Turn) (t : S) : Type 0 where
   pub text : List ℕ
   pub added : new ≡ old ++ text
   pub ran : runs s line (record { text = text; turn = turn }) t
 
 module _ {S : Type 0} (runs : Runs S) where
-  -- lines were run in turn: what each printed, and the session after the last
+  -- lines were run in turn: the output of each, and the session after the last
   abbrev pub RunsLines : S → List (List ℕ) → List Printed → S → Type 0
   RunsLines s [] [] t = t ≡ s
   RunsLines s [] (p ∷ ps) t = ⊥
@@ -61,7 +61,7 @@ module _ {S : Type 0} (runs : Runs S) where
   RunsKept s [] t = t ≡ s
   RunsKept s (l ∷ ls) t = (p : Printed) × (u : S) × runs s l p u × (is_kept p.turn ≡ true) × RunsKept u ls t
 
-  -- lines were run in turn, and the last of those that were run was not done, though not for memory
+  -- lines were run in turn until one was not done, for a reason other than memory
   abbrev pub Refuses : S → List (List ℕ) → Type 0
   Refuses s [] = ⊥
   Refuses s (l ∷ ls) =

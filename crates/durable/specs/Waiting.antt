@@ -1,4 +1,4 @@
--- What an outbox becomes before a wait: what it holds back is given, or it stays as it is.
+-- What an outbox becomes before a wait: it gives the answers that it holds back, or it stays as it is.
 use Rattle.std.specs.Prelude.{◌≡◌, ◌≤◌, ◌⊎◌, ℕ, List, [], ◌++◌, Option, refl}
 use Rattle.std.specs.Io.KnownBytes.{Appends}
 use Rattle.std.proofs.Common.{inl, inr, ⊎_elim, sym, ◌∙◌, ap, subst, arith, append-nil, append_assoc}
@@ -26,13 +26,13 @@ module _ {D W : Type 0} (contents : W → Option (List ℕ)) (seen : D → List 
   abbrev pub AtRest : Box → Type 0
   AtRest x = IsAtRest seen may_leave x
 
-  -- What it held back is given, or it is as it was.
+  -- The outbox gave the answers that it held back, or it is as it was.
   pub record Becomes (x y : Box) : Type 0 where
     pub given : GivesIfAny x y
     pub moments : AtRest x → LeavesBoth seen moment left_since x y
     pub later : faults (disk_under x) ≤ faults (disk_under y)
 
-  -- It failed to give that, for a fault.
+  -- The outbox failed to give its answers, for a fault.
   pub record Fails (x : Box) (fault : RunFault) (y : Box) : Type 0 where
     pub stopped : FailsToGive contents seen may_leave faults x fault y
     pub moments : AtRest x → LeavesBoth seen moment left_since x y

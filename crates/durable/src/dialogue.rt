@@ -26,8 +26,9 @@ fn is_over(end: LineEnd, line: &[u8]) -> bool
     }
 }
 
-/// Runs the lines of an input in turn, and answers each: with what it prints, and an empty line. Before each read that may wait, the lines
-/// that are to be kept are put on the disk, and then their answers are written. So lines that come in together are put there together.
+/// Runs the lines of an input in turn, and answers each with the text that it prints and an empty line. Before each read that may wait, the
+/// lines that are to be kept are put on the disk, and then the answers are written. So lines that come in together are put on the disk
+/// together.
 ///
 /// Errs with `Read` if a read errs, with `TooLong` if a line has more than `INPUT_BYTES` bytes or the input more than
 /// `u64::MAX - 1` lines, with `Journal` if the disk fails or the file is full, with `Write` if a write or a flush errs or a write
@@ -41,18 +42,19 @@ pub fn run_dialogue<R: Read, S: Session, D: Disk, W: Write>(
     requires at_rest { IsAtRest D.seen D.may_leave outbox.old }
     requires noted { noted_by outbox.old ≡ [] }
     requires held { held_by outbox.old ≡ [] }
-    // All lines were run and answered, and those to be kept are on the disk.
+    // All lines were run and answered, and the lines to be kept are on the disk.
     ensures ok { OnOk result (EndsIn S.runs (reader_remaining R.remaining reader.old) session.old (kept_by D.seen outbox.old)
         (W.contents (writer_of outbox.old)) (W.contents (writer_of outbox.new)) (kept_by D.seen outbox.new) session.new) }
     ensures end { OnOk result (OnSome (reader_remaining R.remaining reader.old) (IsAtEnd (reader_remaining R.remaining reader.new))) }
     ensures at_rest { OnOk result (IsAtRest D.seen D.may_leave outbox.new) }
-    // Whatever stops the run, and so also if each call fails because the machine does: what was answered is in each file that may be left.
+    // Whatever stops the run, each file that may be left has the lines that were answered. So it is also if each call fails because the
+    // machine fails.
     ensures stopped { IfErr result (λ fault. StopsIn S.runs fault (reader_remaining R.remaining reader.old) session.old (kept_by D.seen outbox.old)
         (W.contents (writer_of outbox.old)) (W.contents (writer_of outbox.new)) (D.may_leave (disk_under outbox.new))) }
     // `TooLong` is returned only if a line is too long, or there are too many, and `Journal` only if the disk failed or the file is full.
     ensures long { IsErrOf result RunFault.TooLong → IfSome (reader_remaining R.remaining reader.old) (λ input. IsTooLong (lines input)) }
     ensures disk { IsErrOf result RunFault.Journal → (D.faults (disk_under outbox.old) < D.faults (disk_under outbox.new)) ⊎ IsFull D.seen outbox.new }
-    // A crash at any moment leaves the lines from before, and those to be kept of the first lines.
+    // A crash at any moment leaves the lines from before, and after them the lines to be kept among the first lines.
     ensures any_moment { LeavesOnly D.moment D.left_since (disk_under outbox.old) (disk_under outbox.new)
         (LeavesIn S.runs (reader_remaining R.remaining reader.old) session.old (kept_by D.seen outbox.old)) }
 {

@@ -8,7 +8,7 @@ use crate::opening::JournalFault;
 use journal::next_entry;
 use std::alloc::{AllocError, Global};
 
-/// What the first line of a journal begins with.
+/// The text with which the first line of a journal begins.
 const HEAD: &[u8] = b"mmrepo-journal 1 ";
 
 /// The byte that ends a line.
@@ -26,13 +26,13 @@ pub fn head_of(alloc: Global, digest: &[u8]) -> Result<Vec<u8>, AllocError>
     Ok(head)
 }
 
-/// Whether a file of these bytes, which stand for no line, may be what a crash left of a journal that was to get this head.
+/// Whether a crash may have left a file of these bytes while a journal was to get this head. The bytes stand for no line.
 fn is_unbegun(bytes: &[u8], head: &[u8]) -> bool {
     match bytes {
         [] => true,
         // The text after the newline was torn.
         [NEWLINE, rest @ ..] => rest.len().saturating_sub(2) <= head.len(),
-        // The mark was torn, or the file was cut in part afterwards.
+        // The mark was torn, or the file was cut in part after it was written.
         [_, rest @ ..] => match rest.strip_prefix(head) {
             Some(more) => matches!(more, [] | [NEWLINE] | [NEWLINE, NEWLINE]),
             None => head.starts_with(rest),
@@ -40,7 +40,7 @@ fn is_unbegun(bytes: &[u8], head: &[u8]) -> bool {
     }
 }
 
-/// What a file has after its head; nothing if the journal is still to be begun.
+/// The bytes of a file after its head; `None` if the journal is still to be begun.
 ///
 /// Errs with `NoJournal` or `OtherMetamodel` if the file does not begin with the head.
 pub fn behind_head<'a>(bytes: &'a [u8], head: &[u8]) -> Result<Option<&'a [u8]>, JournalFault>

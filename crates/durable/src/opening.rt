@@ -19,7 +19,7 @@ pub enum JournalFault {
     NoJournal,
     /// It was begun with another metamodel.
     OtherMetamodel,
-    /// The line of this number is not done when it is run again. The head is line 1.
+    /// The line of this number was not done when it was run again. The head is line 1.
     Line(u64),
 }
 
@@ -32,7 +32,7 @@ impl From<DiskFault> for JournalFault {
     }
 }
 
-/// Puts the head into a journal that has no line, and on the disk.
+/// Puts the head into a journal that has no line, and syncs it to the disk.
 fn begin<D: Disk + Drop>(
     mut journal: Journal<D>,
     head: &[u8],
@@ -71,7 +71,7 @@ pub fn open_journal<D: Disk + Drop>(
     ensures settled { IfOk result (λ journal. IsSettled D.seen D.may_leave journal) }
     ensures kept { IfOk result (λ journal. kept D.seen journal ≡ begun head.now (recovered bytes.now)) }
     ensures noted { IfOk result (λ journal. noted journal ≡ []) }
-    // A crash at any moment leaves the same lines, or the head alone if there was none.
+    // A crash at any moment leaves the same lines; if there was no line, it may leave only the head.
     ensures any_moment { IfOk result (λ journal. LeavesOnly D.moment D.left_since disk (disk_of journal)
         (IsBegunOrNot head.now (recovered bytes.now))) }
     ensures any_moment_err { IfErr result (λ e. LeavesOnly D.moment D.left_since disk e.1 (IsBegunOrNot head.now (recovered bytes.now))) }

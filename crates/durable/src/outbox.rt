@@ -14,7 +14,7 @@ use std::io::Write;
 /// As soon as this many bytes of answers are held back, they are given.
 const HELD_BYTES: usize = 1 << 16;
 
-/// A journal, answers that are held back, and the writer that they go to.
+/// A journal, answers that are held back, and the writer for them.
 #[derive(Drop)]
 pub struct Outbox<D: Disk, W> {
     journal: Journal<D>,
@@ -35,7 +35,7 @@ fn write_answers<W: Write>(writer: &mut W, answers: &[u8]) -> Result<(), RunFaul
     Ok(())
 }
 
-/// Why a run stops whose journal fails.
+/// Why a run stops if its journal fails.
 fn fault_of(fault: DiskFault) -> RunFault
     ensures { result ≡ run_fault fault }
 {
@@ -71,7 +71,7 @@ impl<D: Disk, W> Outbox<D, W> {
 impl<D: Disk, W: Write> Outbox<D, W> {
     /// Runs a line and holds its answer back. Notes the line if it is to be kept. Writes nothing.
     ///
-    /// Errs with `Memory` alone. Then the answer may be held back in part.
+    /// Errs only with `Memory`. Then the answer may be held back in part.
     pub(crate) fn take<S: Session>(&mut self, session: &mut S, line: &[u8]) -> Result<(), RunFault>
         requires line { IsLine line.now }
         requires at_rest { IsAtRest D.seen D.may_leave self.old }

@@ -8,12 +8,12 @@ use crate::session::Session;
 use journal::next_entry;
 use std::alloc::{AllocError, Global};
 
-/// Why the lines of a journal are not run again.
+/// Why the lines of a journal can't be run again.
 #[derive(Clone, Copy, Debug, PartialEq, Eq)]
 pub enum ReplayFault {
     /// Memory was refused.
     Memory,
-    /// A line was not done: these are not the lines that a session of this kind kept.
+    /// A line was not done, so no session of this kind kept these lines.
     Refused,
 }
 
@@ -25,7 +25,7 @@ impl From<AllocError> for ReplayFault {
     }
 }
 
-/// Runs the lines that the bytes of a file stand for, each of which must be done and be kept again.
+/// Runs the lines that the bytes of a file stand for. Each must be done, and must be a line that is to be kept.
 pub fn replay<S: Session>(alloc: Global, session: &mut S, file: &[u8]) -> Result<(), ReplayFault>
     ensures ok { OnOk result (RunsKept S.runs session.old (recovered file.now) session.new) }
     ensures refused { IsErrOf result ReplayFault.Refused → Refuses S.runs session.old (recovered file.now) }

@@ -1,4 +1,4 @@
-//! What runs lines.
+//! The interface of a session, which runs lines.
 ghost use Rattle.std.specs.Prelude.{◌≡◌, true, false, List, ℕ, IfOk};
 ghost use Rattle.durable.specs.Printed.{AddsRun, Printed, is_kept as is_kept_turn, is_lost as is_lost_turn};
 
@@ -12,7 +12,7 @@ pub(crate) const NEWLINE: u8 = b'\n';
 pub enum Turn {
     /// It was done, and is to be kept.
     Kept,
-    /// It is not to be kept: it was refused or is bad, it only asks, or it concerns this session alone.
+    /// It is not to be kept: it was refused or is bad, it only reads, or it concerns only this session.
     Other,
     /// It was refused for memory.
     Lost,
@@ -34,7 +34,7 @@ impl Turn {
 
 /// Runs lines in turn.
 pub trait Session {
-    /// The session runs a line: what that prints and how it ends, and the session after it.
+    /// How the session runs a line: what the line prints and how it ends, and the session after it.
     ghost runs: { Self → List ℕ → Printed → Self → Type 0 };
 
     /// Runs a line, and appends what it prints to a text. Errs only if memory is refused for that.
@@ -42,25 +42,25 @@ pub trait Session {
         ensures { IfOk result (λ turn. AddsRun runs self.old line.now text.old.items text.new.items turn self.new) };
 }
 
-/// A session that comes back from the lines that were kept: a second session, its twin, runs these alone.
+/// A session that can be recovered from the lines that were kept: a second session, its twin, runs only these lines.
 pub trait Twin: Session {
-    /// The two are the same but for what concerns one session alone.
+    /// Two sessions are the same, except for things that concern only one session.
     ghost alike: { Self → Self → Type 0 };
 
-    /// The session has nothing that concerns it alone.
+    /// The session has nothing that concerns only this session.
     ghost is_alone: { Self → Type 0 };
 
-    /// A line that is not to be kept changes nothing but what concerns its session alone.
+    /// A line that is not to be kept changes only things that concern only its session.
     ghost others: { (s t x : Self) (l : List ℕ) (p : Printed) → Self.Session.runs s l p t → is_kept_turn p.turn ≡ false → alike s x → alike t x };
 
-    /// A line that is kept does the same to both.
+    /// A line that is kept does the same to both sessions.
     ghost kept: { (s t x y : Self) (l : List ℕ) (p q : Printed) → Self.Session.runs s l p t → is_kept_turn p.turn ≡ true → alike s x
         → Self.Session.runs x l q y → is_kept_turn q.turn ≡ true → alike t y };
 
-    /// A session that has nothing of its own refuses no line that is kept, but for memory.
+    /// A session without things of its own can refuse a line that was kept only for memory.
     ghost done: { (s t x y : Self) (l : List ℕ) (p q : Printed) → Self.Session.runs s l p t → is_kept_turn p.turn ≡ true → alike s x → is_alone x
         → Self.Session.runs x l q y → is_kept_turn q.turn ≡ false → is_lost_turn q.turn ≡ true };
 
-    /// And a line that is kept leaves it so.
+    /// A line that is kept gives a session without things of its own none.
     ghost alone: { (x y : Self) (l : List ℕ) (q : Printed) → is_alone x → Self.Session.runs x l q y → is_kept_turn q.turn ≡ true → is_alone y };
 }

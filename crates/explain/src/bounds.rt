@@ -4,7 +4,7 @@ use crate::shown::{Listed, SHOWN_BYTES, front_of};
 use mm_types::{Enumeration, RawFeature, RawKind, RawMeta};
 use std::alloc::{AllocError, Global};
 
-/// Bounds that contradict one another.
+/// Explains bounds that contradict one another.
 pub(crate) fn explain_bounds(
     out: &mut String,
     at: Named<'_>,
@@ -25,7 +25,7 @@ pub(crate) fn explain_bounds(
     )
 }
 
-/// What the literals of a default are, of a type that is no enumeration.
+/// Says which literals a default may have, for a type that is no enumeration.
 fn literals_of(type_name: &str) -> &'static str {
     match type_name {
         "EBoolean" => "true or false",
@@ -48,7 +48,7 @@ fn enumeration_of<'m>(raw: &'m RawMeta, type_name: &str) -> Option<&'m Enumerati
     enum_at(raw, enum_named(raw, type_name)?)
 }
 
-/// A default that is no literal of its type.
+/// Explains a default that is no literal of its type.
 fn explain_literal(
     alloc: Global,
     out: &mut String,
@@ -74,7 +74,7 @@ fn explain_literal(
     }
 }
 
-/// A default of a many-valued attribute, or one that is no literal.
+/// Explains a default of a many-valued attribute, or a default that is no literal.
 pub(crate) fn explain_default(
     alloc: Global,
     out: &mut String,

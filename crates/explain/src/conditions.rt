@@ -32,7 +32,7 @@ fn bad_name(at: Named<'_>) -> &str {
     }
 }
 
-/// A name that is badly written.
+/// Explains a name that is badly written.
 fn explain_name(out: &mut String, at: Named<'_>) -> Result<(), AllocError> {
     let name = bad_name(at);
     writeln!(
@@ -41,7 +41,7 @@ fn explain_name(out: &mut String, at: Named<'_>) -> Result<(), AllocError> {
     )
 }
 
-/// A fault of a feature.
+/// Explains a fault of a feature.
 fn explain_feature(
     alloc: Global,
     out: &mut String,

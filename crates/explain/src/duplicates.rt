@@ -19,7 +19,7 @@ fn position_before(texts: &[Text], end: usize, text: &str) -> Option<usize> {
     None
 }
 
-/// Texts that the array of a key has twice.
+/// Explains texts that the array of a key has twice.
 fn explain_repeated(
     out: &mut String,
     at: Named<'_>,
@@ -54,7 +54,7 @@ fn clash_in(
     Ok(None)
 }
 
-/// Two features that have one name; those that one class declares are named by their positions.
+/// Explains two features of one name. If one class declares both, their positions distinguish them.
 fn explain_pair(
     out: &mut String,
     at: Named<'_>,
@@ -88,7 +88,7 @@ fn explain_places(
     }
 }
 
-/// Two features of a class, own or inherited, that have one name.
+/// Explains two features of a class, own or inherited, that have one name.
 fn explain_clash(
     alloc: Global,
     out: &mut String,
@@ -99,7 +99,7 @@ fn explain_clash(
     explain_places(alloc, out, at, places.as_slice())
 }
 
-/// What occurs twice in an enumeration or a class.
+/// Explains what occurs twice in an enumeration or a class.
 fn explain_inner(alloc: Global, out: &mut String, at: Named<'_>) -> Result<(), AllocError> {
     match at.place {
         Place::Enum(i) => match enum_at(at.raw, i) {
@@ -126,7 +126,7 @@ fn earlier(raw: &RawMeta, name: &str, place: Place) -> Option<Place> {
     }
 }
 
-/// A name that occurs twice, although it may occur only once.
+/// Explains a name that occurs twice, although it may occur only once.
 pub(crate) fn explain_duplicate(
     alloc: Global,
     out: &mut String,

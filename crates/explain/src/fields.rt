@@ -1,4 +1,4 @@
-//! The keys of the objects of a metamodel document, as `docs/METAMODEL.md` has them, and keys that are there by mistake.
+//! The keys of the objects of a metamodel document, as `docs/METAMODEL.md` has them, and keys that are written by mistake.
 use mm_types::limits;
 
 /// How the value of a key is written.
@@ -46,7 +46,7 @@ pub(crate) const ATTRIBUTE: [Field; 8] = [
 /// The keys of a reference.
 pub(crate) const REFERENCE: [Field; 7] = [NAME, KIND, TYPE, LOWER, UPPER, CONTAINMENT, OPPOSITE];
 
-/// The keys of a feature of whichever kind.
+/// The keys of a feature of either kind.
 pub(crate) const FEATURE: [Field; 10] = [
     NAME,
     KIND,
@@ -156,11 +156,10 @@ const OPPOSITE: Field = Field {
     is_required: false,
 };
 
-/// A word, and what is said of it.
+/// A word, and the text about it.
 pub(crate) type Hint = (&'static str, &'static str);
 
-/// What is said of a key that is in an object for which it is not listed: those of Ecore and of similar formats, and those of
-/// a different object.
+/// The hint for a key that is not listed for its object: keys of Ecore and of similar formats, and keys of other objects.
 pub(crate) const MISPLACED: [Hint; 41] = [
     ("upperBound", "a feature has \"upper\""),
     ("lowerBound", "a feature has \"lower\""),
@@ -223,7 +222,7 @@ pub(crate) const MISPLACED: [Hint; 41] = [
     ("enums", "only the document has it"),
 ];
 
-/// What is said besides of the value of a key, or of an item of it, that is not written as its field says.
+/// What is said in addition of a key's value, or of an item of it, that is not written as its field says.
 pub(crate) const ADVICE: [Hint; 3] = [
     ("upper", "; -1 stands for any number"),
     (
@@ -236,7 +235,7 @@ pub(crate) const ADVICE: [Hint; 3] = [
     ),
 ];
 
-/// What a table says of a word.
+/// The entry of a table for a word.
 pub(crate) fn advice_in(table: &[Hint], word: &str) -> Option<&'static str> {
     for field in table {
         if field.0 == word {

@@ -1,17 +1,17 @@
-//! What a class inherits: the way round a cycle of supertypes, and two features of one name.
+//! Faults of inheritance: a cycle of supertypes, and two features of one name.
 use crate::named::{Named, class_at, class_named, name_at};
 use mm_types::{Place, RawMeta};
 use std::alloc::{AllocError, Global};
 use std::fmt;
 
-/// A class that was reached from another one by supertypes, and the position among those reached of the class before it.
+/// A class that was reached through supertypes, and the position, among the reached classes, of the class before it.
 #[derive(Drop)]
 struct Reached {
     class: usize,
     before: usize,
 }
 
-/// The classes that are reached from a class by supertypes, each once, the class itself first.
+/// The classes that are reached from a class through supertypes, each once, the class itself first.
 #[derive(Drop)]
 pub(crate) struct Ancestry {
     reached: Vec<Reached>,
@@ -100,7 +100,7 @@ impl Ancestry {
         Ok(places)
     }
 
-    /// The position of the first class that was reached and names one as its supertype.
+    /// The position of the first reached class that names a given class as its supertype.
     fn below(&self, raw: &RawMeta, name: &str) -> Option<usize> {
         for (i, reached) in self.reached.as_slice().iter().enumerate() {
             if names_super(raw, reached.class, name) {
@@ -110,7 +110,7 @@ impl Ancestry {
         None
     }
 
-    /// The classes on the way to the one that was reached at a position, that one first.
+    /// The classes on the way to the reached class at a position, that class first.
     fn way_to(&self, alloc: Global, position: usize) -> Result<Vec<usize>, AllocError> {
         let mut way = Vec::new(alloc);
         let mut at = position;
@@ -140,7 +140,7 @@ fn names_super(raw: &RawMeta, class: usize, name: &str) -> bool {
     false
 }
 
-/// The way on which a class is its own supertype.
+/// Explains the cycle by which a class is its own supertype.
 pub(crate) fn explain_cycle(
     alloc: Global,
     out: &mut String,

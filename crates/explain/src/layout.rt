@@ -1,5 +1,5 @@
-//! What is wrong with the layout of a document, or with how much there is of it: unknown and absent keys, and values that are
-//! not written as their fields say.
+//! What is wrong with the layout of a document, or which limits it passes: unknown and absent keys, and values that are not written as
+//! their fields say.
 use crate::fields::{
     ATTRIBUTE, CLASS, DOCUMENT, ENUMERATION, FEATURE, Field, Hint, MISPLACED, REFERENCE, advice_in,
 };
@@ -10,7 +10,7 @@ use crate::values::explain_value;
 use serde_json::{Map, Value};
 use std::alloc::{AllocError, Global};
 
-/// How many bytes of an explanation are enough: if there are as many, no further object is looked at.
+/// How many bytes of an explanation are enough. When it has as many, no further object is looked at.
 const ENOUGH: usize = 4096;
 
 /// The names of the keys that are listed.
@@ -39,7 +39,7 @@ fn explain_unknown(
     }
 }
 
-/// The keys that are not listed.
+/// Explains the keys that are not listed.
 fn explain_keys(
     alloc: Global,
     out: &mut String,
@@ -81,7 +81,7 @@ fn explain_fields(
     Ok(())
 }
 
-/// Adds a line for each fault of an object, with what is said of keys that are not listed.
+/// Adds a line for each fault of an object, with hints on keys that are not listed.
 fn explain_listed(
     alloc: Global,
     out: &mut String,
@@ -107,8 +107,8 @@ fn explain_listed(
     }
 }
 
-/// Adds a line for each key of an object that is unknown or absent, and for each value that is not written as its field says.
-/// The text is of one document: if it has more than 4,096 bytes already, nothing is added. Errs only if memory is refused.
+/// Adds a line for each key of an object that is unknown or absent, and for each value that is not written as its field says. The text
+/// explains one document; if it has more than 4,096 bytes already, nothing is added. Errs only if memory is refused.
 pub fn explain_object(
     alloc: Global,
     out: &mut String,
@@ -119,7 +119,7 @@ pub fn explain_object(
     explain_listed(alloc, out, place, fields, &[], json)
 }
 
-/// The items of an array that is under a key; none if there is no such array.
+/// The items of the array under a key; none if there is no such array.
 fn items_at<'v>(json: &'v Value, key: &str) -> &'v [Value] {
     match json.get(key) {
         Some(Value::Array(items)) => items.as_slice(),
@@ -197,7 +197,7 @@ fn place_of(
     }
 }
 
-/// The place of a feature, with the names of its class and itself that can be read.
+/// The place of a feature, with the names of its class and of the feature, as far as they can be read.
 fn feature_place(
     alloc: Global,
     c: usize,

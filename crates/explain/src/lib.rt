@@ -1,6 +1,6 @@
-//! What to fix in a metamodel that is refused, in words: lines for a reader, after the fault that `mm_load` or `mm_check` returns.
+//! Explains to a reader what to fix in a metamodel for which `mm_load` or `mm_check` returned a fault.
 //!
-//! No contract says what a text is. The functions are proved safe and ending; cases of the program show their texts.
+//! No contract determines a text. It is proved that the functions are safe and end; cases of the program show their texts.
 #![tactic(auto)]
 
 mod bounds;

@@ -8,7 +8,7 @@ use mm_types::{Condition, MetaFault, Place};
 use serde_json::Value;
 use std::alloc::{AllocError, Global};
 
-/// The place at which the bytes are no JSON, or else what is wrong with the layout of what they are.
+/// Explains the place at which the bytes are no JSON; or else what is wrong with their layout.
 fn explain_bytes(alloc: Global, out: &mut String, bytes: &[u8]) -> Result<(), AllocError> {
     match Value::from_slice(alloc, bytes) {
         Ok(json) => explain_layout(alloc, out, &json),
@@ -26,7 +26,7 @@ fn explain_bytes(alloc: Global, out: &mut String, bytes: &[u8]) -> Result<(), Al
     }
 }
 
-/// What is wrong at the place of a condition.
+/// Explains what is wrong at the place of a condition.
 fn explain_place(
     alloc: Global,
     out: &mut String,
@@ -40,11 +40,11 @@ fn explain_place(
     }
 }
 
-/// What to fix in a document for which a fault was returned: a line, ended by a newline, for each place that is found.
+/// Explains what to fix in a document for which a fault was returned: a line, ended by a newline, for each place that is found.
 ///
-/// `Syntax` has the line and the column, counted from 1. `Layout` and `Limit` have a line for each key and each value that
-/// is wrong, until the text has 4,096 bytes: an object is named by the positions of arrays, as `classes[3].features[2]`. The
-/// other faults have the names of classes and features. Errs only if memory is refused.
+/// `Syntax` has the line and the column, counted from 1. `Layout` and `Limit` have a line for each key and each value that is wrong, until
+/// the text has 4,096 bytes; an object is named by positions in arrays, as `classes[3].features[2]`. The lines of the other faults have the
+/// names of classes and features. Errs only if memory is refused.
 pub fn explain_meta(alloc: Global, bytes: &[u8], fault: MetaFault) -> Result<String, AllocError> {
     let mut out = String::new(alloc);
     match fault {

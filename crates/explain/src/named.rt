@@ -2,14 +2,14 @@
 use mm_types::{Enumeration, Place, RawClass, RawFeature, RawKind, RawMeta};
 use std::fmt;
 
-/// A place of a document in words for a reader: by the names that are there.
+/// A place of a document in words for a reader, with the names at that place.
 #[derive(Clone, Copy)]
 pub(crate) struct Named<'m> {
     pub(crate) raw: &'m RawMeta,
     pub(crate) place: Place,
 }
 
-/// A name as it is written in a text, without the quotation marks.
+/// A name, written without quotation marks.
 #[derive(Drop)]
 pub(crate) struct Bare<'m>(pub(crate) &'m str);
 
@@ -91,7 +91,7 @@ pub(crate) fn class_named(raw: &RawMeta, name: &str) -> Option<usize> {
     None
 }
 
-/// The feature of a name that a class declares itself.
+/// The feature that a class itself declares under a name.
 pub(crate) fn feature_named<'m>(class: &'m RawClass, name: &str) -> Option<&'m RawFeature> {
     for found in class.features.as_slice() {
         if found.name.as_str() == name {

@@ -1,14 +1,14 @@
-//! Which word may be meant.
+//! Which word may have been meant.
 use std::alloc::{AllocError, Global};
 use strsim::levenshtein;
 
-/// How many bytes a word has at most for which a near one is looked for: no key, verb or type is longer.
+/// How long a word may be for which a near word is looked for; no key, verb or type is longer.
 const LONGEST: usize = 64;
 
-/// How many edits a word lies at most from one that is near it.
+/// How many edits at most turn a word into a near one.
 const MOST_EDITS: usize = 2;
 
-/// Of some words the one that the fewest edits lead to from a word: at most two, and fewer than it has letters. Errs only
+/// The nearest of some words to a word: the one that the fewest edits lead to, at most two and fewer than the word has letters. Errs only
 /// if memory is refused.
 pub fn nearest<'a>(
     alloc: Global,

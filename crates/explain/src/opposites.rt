@@ -5,13 +5,13 @@ use crate::near::nearest;
 use mm_types::{Condition, Place, RawFeature, RawKind, RawMeta};
 use std::alloc::{AllocError, Global};
 
-/// The feature of a name that the type of a reference declares itself.
+/// The feature that the type of a reference itself declares under a name.
 fn declared_of<'m>(raw: &'m RawMeta, feature: &RawFeature, name: &str) -> Option<&'m RawFeature> {
     let class = class_named(raw, feature.type_name.as_str())?;
     feature_named(class_at(raw, class)?, name)
 }
 
-/// The name of the class that declares what is at a place.
+/// The name of the class that declares the feature at a place.
 fn owner_of(at: Named<'_>) -> &str {
     match at.place {
         Place::Feature(c, _) => name_at(at.raw, Place::Class(c)),
@@ -57,7 +57,7 @@ fn inherits(alloc: Global, raw: &RawMeta, name: &str, from: &str) -> Result<bool
     Ok(class != other && ancestry.has(other))
 }
 
-/// An opposite whose type is not the class that declares the reference.
+/// Explains an opposite whose type is not the class that declares the reference.
 fn explain_type(
     alloc: Global,
     out: &mut String,
@@ -79,7 +79,7 @@ fn explain_type(
     )
 }
 
-/// A reference whose opposite is declared by its type, and can't be its opposite.
+/// Explains a reference whose type declares a feature of the opposite's name that can't be its opposite.
 fn explain_declared(
     alloc: Global,
     out: &mut String,
@@ -130,7 +130,7 @@ fn declaring<'m>(
     Ok(None)
 }
 
-/// The names of the references that a class declares itself.
+/// The names of the references that a class itself declares.
 fn reference_names<'m>(
     alloc: Global,
     raw: &'m RawMeta,
@@ -149,7 +149,7 @@ fn reference_names<'m>(
     Ok(names)
 }
 
-/// A reference whose opposite is not declared by its type.
+/// Explains a reference whose opposite is not declared by its type.
 fn explain_undeclared(
     alloc: Global,
     out: &mut String,
@@ -178,7 +178,7 @@ fn explain_undeclared(
     }
 }
 
-/// A reference that has no valid opposite under the name that it gives.
+/// Explains a reference that names no valid opposite.
 fn explain_none(
     alloc: Global,
     out: &mut String,
@@ -192,7 +192,7 @@ fn explain_none(
     }
 }
 
-/// A condition on a reference and its opposite.
+/// Explains a condition on a reference and its opposite.
 pub(crate) fn explain_opposite(
     alloc: Global,
     out: &mut String,

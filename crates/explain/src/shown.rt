@@ -1,11 +1,11 @@
-//! What a value of a document is called.
+//! Values of a document in words for a reader.
 use serde_json::Value;
 use std::fmt;
 
-/// How many bytes of a text are shown at most.
+/// The greatest number of bytes of a text that are shown.
 pub(crate) const SHOWN_BYTES: usize = 60;
 
-/// How many bytes a character has at most.
+/// The greatest number of bytes of a character.
 const CHARACTER_BYTES: usize = 4;
 
 /// A JSON value in words for a reader: a text, a number, `true`, `false` and `null` as they are written, but only the beginning of a
@@ -13,10 +13,10 @@ const CHARACTER_BYTES: usize = 4;
 #[derive(Drop)]
 pub struct Shown<'v>(pub &'v Value);
 
-/// How many names of a list are shown at most.
+/// The greatest number of names of a list that are shown.
 const SHOWN_NAMES: usize = 8;
 
-/// Names in words for a reader: only the first of many, and how many more there are.
+/// Names in words for a reader: of many names only the first ones, and the number of the others.
 #[derive(Drop)]
 pub struct Listed<'n>(pub &'n [&'n str]);
 

@@ -2,10 +2,10 @@
 use crate::shown::front_of;
 use std::{fmt, str};
 
-/// How many bytes are shown at most.
+/// The greatest number of bytes that are shown.
 const SHOWN_BYTES: usize = 20;
 
-/// What some programs write before a text in UTF-8.
+/// The mark that some programs write before a text in UTF-8.
 const BYTE_ORDER_MARK: &[u8] = b"\xef\xbb\xbf";
 
 /// Why bytes are no JSON from a place on.
@@ -15,9 +15,9 @@ pub(crate) enum NoJson<'b> {
     EndsEarly,
     /// They begin with a byte order mark.
     ByteOrderMark,
-    /// The first of them is not UTF-8.
+    /// The first byte from there on is not UTF-8.
     NotUtf8,
-    /// They are no JSON, as these bytes show.
+    /// They are no JSON; this text begins at the place.
     Shown(&'b str),
 }
 
@@ -38,7 +38,7 @@ impl fmt::Display for NoJson<'_> {
     }
 }
 
-/// How many bytes come before a line, of lines that are counted from 1.
+/// How many bytes come before a line; lines are counted from 1.
 fn start_of(bytes: &[u8], line: usize) -> usize {
     let mut start = 0usize;
     for (i, found) in bytes.split(|byte| *byte == b'\n').enumerate() {
@@ -50,7 +50,7 @@ fn start_of(bytes: &[u8], line: usize) -> usize {
     start
 }
 
-/// How many bytes come before a place, whose line and column are counted from 1.
+/// How many bytes come before a place; its line and column are counted from 1.
 pub fn offset_of(bytes: &[u8], line: usize, column: usize) -> usize {
     start_of(bytes, line).saturating_add(column.saturating_sub(1))
 }
@@ -66,13 +66,13 @@ fn text_at(bytes: &[u8]) -> &str {
     }
 }
 
-/// Why bytes are no JSON from a place on, whose line and column are counted from 1.
+/// Why bytes are no JSON from a place on; its line and column are counted from 1.
 pub(crate) fn no_json_at(bytes: &[u8], line: usize, column: usize) -> NoJson<'_> {
     if bytes.starts_with(BYTE_ORDER_MARK) {
         return NoJson::ByteOrderMark;
     }
     let rest = bytes.get(offset_of(bytes, line, column)..).unwrap_or(&[]);
-    // A character that the end would cut is left out.
+    // A character that would be cut in two is left out.
     let front = rest.get(..SHOWN_BYTES).unwrap_or(rest);
     match text_at(front) {
         "" => NoJson::NotUtf8,

@@ -1,4 +1,4 @@
-//! Names of classes and types that name none.
+//! Names that should be names of classes or types, and are not.
 use crate::named::{Named, class_at, class_named, enum_named};
 use crate::near::{is_among, nearest};
 use mm_types::{RawFeature, RawKind, RawMeta};
@@ -25,7 +25,7 @@ fn enum_names<'m>(alloc: Global, raw: &'m RawMeta) -> Result<Vec<&'m str>, Alloc
     Ok(names)
 }
 
-/// A name that is not among those that may be there.
+/// Explains a name that is not among the allowed names.
 fn explain_name(
     alloc: Global,
     out: &mut String,
@@ -40,7 +40,7 @@ fn explain_name(
     }
 }
 
-/// A name that is no class.
+/// Explains a name that is no class.
 fn explain_class(
     alloc: Global,
     out: &mut String,
@@ -51,7 +51,7 @@ fn explain_class(
     explain_name(alloc, out, at, name, "class", names.as_slice())
 }
 
-/// A name that is no data type and no enumeration.
+/// Explains a name that is no data type and no enumeration.
 fn explain_data_type(
     alloc: Global,
     out: &mut String,
@@ -84,7 +84,7 @@ fn lost_super(raw: &RawMeta, c: usize) -> Option<&str> {
     None
 }
 
-/// A supertype that is no class.
+/// Explains a supertype that is no class.
 pub(crate) fn explain_super(
     alloc: Global,
     out: &mut String,
@@ -97,7 +97,7 @@ pub(crate) fn explain_super(
     }
 }
 
-/// A type that is not one for the kind of feature.
+/// Explains a type that does not fit the kind of its feature.
 pub(crate) fn explain_type(
     alloc: Global,
     out: &mut String,

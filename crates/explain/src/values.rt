@@ -23,7 +23,7 @@ fn explain_other(out: &mut String, at: Keyed<'_>, wanted: &str) -> Result<(), Al
     )
 }
 
-/// What a text of at most so many bytes is called.
+/// The words for a text of at most so many bytes.
 fn text_of(most: usize) -> &'static str {
     if most == NAME_BYTES {
         "a text of at most 255 bytes"

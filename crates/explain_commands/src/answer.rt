@@ -1,9 +1,9 @@
-//! What the first line of an answer is.
+//! The meaning of the first line of an answer.
 use mm_types::integers::natural_of;
 use mm_types::{DocFault, Refused};
 use std::str;
 
-/// What the first line of an answer is.
+/// The meaning of the first line of an answer.
 #[derive(Drop)]
 pub(crate) enum Printed {
     /// The answer of a bad line.
@@ -36,7 +36,7 @@ const CAUSES: [DocFault; 12] = [
     DocFault::Depth,
 ];
 
-/// The refusals, but for that of a document.
+/// All refusals but `Document`.
 const REFUSALS: [Refused; 27] = [
     Refused::NoObject,
     Refused::NoResource,
@@ -87,7 +87,7 @@ fn refusal_named(name: &str) -> Option<Refused> {
     None
 }
 
-/// The refusal that a line prints after its first word: its last word is the name, or that of the document's cause.
+/// The refusal that a line prints after its first word. The last word is the name of the refusal, or of the document's cause.
 fn refusal_in(words: &str) -> Option<Refused> {
     let (front, name) = words.rsplit_once(' ')?;
     if front.starts_with("18 ") {
@@ -97,7 +97,7 @@ fn refusal_in(words: &str) -> Option<Refused> {
     }
 }
 
-/// What a line is that begins with a word and goes on with a number or a refusal.
+/// The meaning of a line that begins with a word and goes on with a number or a refusal.
 fn worded(line: &str) -> Option<Printed> {
     let (word, rest) = line.split_once(' ')?;
     match word {
@@ -115,7 +115,7 @@ fn marked(line: &str) -> Option<Printed> {
     Some(Printed::Resource(natural_of(line.strip_prefix('r')?)?))
 }
 
-/// What the first line of an answer is.
+/// The meaning of the first line of an answer.
 pub(crate) fn printed_as(text: &[u8]) -> Printed {
     let Ok(text) = str::from_utf8(text) else {
         return Printed::Other;

@@ -15,7 +15,7 @@ fn adapter_in(form: &Form<'_>) -> Option<AdapterNo> {
     }
 }
 
-/// An adapter that is not there, or not attached.
+/// Explains an adapter that is not there, or not attached.
 pub(crate) fn explain_no_adapter<L: LinkStore, A: Adapter>(
     scene: &Scene<'_, L, A>,
     out: &mut String,
@@ -38,7 +38,7 @@ pub(crate) fn explain_no_adapter<L: LinkStore, A: Adapter>(
     )
 }
 
-/// An adapter that is attached already.
+/// Explains an adapter that is attached already.
 pub(crate) fn explain_taken<L: LinkStore, A: Adapter>(
     scene: &Scene<'_, L, A>,
     out: &mut String,
@@ -54,7 +54,7 @@ pub(crate) fn explain_taken<L: LinkStore, A: Adapter>(
     }
 }
 
-/// The attached adapter that got most notifications, and how many.
+/// The attached adapter that got the most notifications, and how many it got.
 fn fullest<L: LinkStore, A: Adapter>(scene: &Scene<'_, L, A>) -> Option<(u32, u64)> {
     let mut found = None;
     let mut most = 0;
@@ -69,7 +69,7 @@ fn fullest<L: LinkStore, A: Adapter>(scene: &Scene<'_, L, A>) -> Option<(u32, u6
     found
 }
 
-/// An adapter that can't count the notifications that it would get.
+/// Explains an adapter that can't count the notifications that it would get.
 pub(crate) fn explain_full<L: LinkStore, A: Adapter>(
     scene: &Scene<'_, L, A>,
     out: &mut String,

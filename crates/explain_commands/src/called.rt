@@ -1,4 +1,4 @@
-//! What nodes and values are called.
+//! Nodes and values in words for a reader.
 use crate::scene::Scene;
 use adapters::Adapter;
 use explain::front_of;
@@ -9,10 +9,10 @@ use script_lines::WrittenValue;
 use script_output::feature_name;
 use std::alloc::AllocError;
 
-/// How many bytes of a text are shown at most.
+/// The greatest number of bytes of a text that are shown.
 pub(crate) const SHOWN_BYTES: usize = 60;
 
-/// How many bytes of a URI or an address are shown at most.
+/// The greatest number of bytes of a URI or an address that are shown.
 pub(crate) const URI_BYTES: usize = 200;
 
 /// The name of an object: the text of its feature `name`.
@@ -87,7 +87,7 @@ pub(crate) fn feature_called<L: LinkStore, A: Adapter>(
     }
 }
 
-/// A value as a line writes it, and an object with its class and its name.
+/// A value as it is written in a line; an object is shown with its class and its name.
 pub(crate) fn value_called<L: LinkStore, A: Adapter>(
     scene: &Scene<'_, L, A>,
     value: &WrittenValue<'_>,
@@ -104,7 +104,7 @@ pub(crate) fn value_called<L: LinkStore, A: Adapter>(
     }
 }
 
-/// What a reference has.
+/// The value of a reference, in words for a reader.
 pub(crate) fn found_called<L: LinkStore, A: Adapter>(
     scene: &Scene<'_, L, A>,
     found: &Found<'_>,

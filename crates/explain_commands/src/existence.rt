@@ -7,7 +7,7 @@ use mm_types::{Node, ObjectNo};
 use script_lines::Form;
 use std::alloc::AllocError;
 
-/// The object that is named and does not live: the node, or else the value.
+/// The object that a line names and that does not live: the node, or else the value.
 fn lost_object<L: LinkStore, A: Adapter>(
     scene: &Scene<'_, L, A>,
     form: &Form<'_>,
@@ -19,7 +19,7 @@ fn lost_object<L: LinkStore, A: Adapter>(
     }
 }
 
-/// An object that is not there.
+/// Explains an object that is not there.
 pub(crate) fn explain_no_object<L: LinkStore, A: Adapter>(
     scene: &Scene<'_, L, A>,
     out: &mut String,
@@ -44,7 +44,7 @@ pub(crate) fn explain_no_object<L: LinkStore, A: Adapter>(
     }
 }
 
-/// A resource that is not there.
+/// Explains a resource that is not there.
 pub(crate) fn explain_no_resource<L: LinkStore, A: Adapter>(
     scene: &Scene<'_, L, A>,
     out: &mut String,

@@ -11,14 +11,14 @@ use script_lines::{Form, WrittenValue};
 use script_output::literal_name;
 use std::alloc::{AllocError, Global};
 
-/// The first index of a line that is past the last one that it may have, and that last one. There is none if no index may be.
+/// The first index of a line that is too high, and the last index that the line may have; `None` if it may have no index.
 #[derive(Clone, Copy)]
 struct TooHigh {
     index: u32,
     last: Option<u32>,
 }
 
-/// An index of a line, if it is not below a number.
+/// An index of a line, if it is not below a count.
 fn above(index: u32, count: u32) -> Option<TooHigh> {
     if index < count {
         return None;
@@ -29,7 +29,7 @@ fn above(index: u32, count: u32) -> Option<TooHigh> {
     })
 }
 
-/// The line's index, which is too high for a list of so many values.
+/// The index of a line that is too high for a list of so many values.
 fn too_high(form: &Form<'_>, len: u32) -> Option<TooHigh> {
     match form {
         Form::Add {
@@ -51,7 +51,7 @@ fn values_called(alloc: Global, len: u32) -> Result<String, AllocError> {
     }
 }
 
-/// An index of a feature of one value, which only a proxy has.
+/// Explains an index of a single feature; only a proxy has one there.
 fn explain_single<L: LinkStore, A: Adapter>(
     scene: &Scene<'_, L, A>,
     out: &mut String,
@@ -65,7 +65,7 @@ fn explain_single<L: LinkStore, A: Adapter>(
     }
 }
 
-/// An index that is too high.
+/// Explains an index that is too high.
 pub(crate) fn explain_index<L: LinkStore, A: Adapter>(
     scene: &Scene<'_, L, A>,
     out: &mut String,
@@ -102,7 +102,7 @@ pub(crate) fn explain_index<L: LinkStore, A: Adapter>(
     }
 }
 
-/// Whether a value of a list is one that a line writes.
+/// Whether a value of a list is the value of a line.
 fn is_written<L: LinkStore, A: Adapter>(
     scene: &Scene<'_, L, A>,
     feature: FeatureNo,
@@ -139,7 +139,7 @@ fn index_of<L: LinkStore, A: Adapter>(
     None
 }
 
-/// A value that a list has already.
+/// Explains a value that a list has already.
 fn explain_repeated<L: LinkStore, A: Adapter>(
     scene: &Scene<'_, L, A>,
     out: &mut String,
@@ -159,7 +159,7 @@ fn explain_repeated<L: LinkStore, A: Adapter>(
     )
 }
 
-/// A value, or the object that a proxy leads to, that a list has already.
+/// Explains a value, or the object that a proxy leads to, that a list has already.
 pub(crate) fn explain_duplicate<L: LinkStore, A: Adapter>(
     scene: &Scene<'_, L, A>,
     out: &mut String,
@@ -190,7 +190,7 @@ fn is_full<L: LinkStore, A: Adapter>(
     meta.is_full(feature, scene.len(node, feature))
 }
 
-/// The full one of the two ends to which a line adds something: the end that it names, or the opposite one.
+/// The end that is full, of the two ends to which a line adds something: the end that it names, and the opposite end.
 fn full_end<L: LinkStore, A: Adapter>(
     scene: &Scene<'_, L, A>,
     form: &Form<'_>,
@@ -209,7 +209,7 @@ fn full_end<L: LinkStore, A: Adapter>(
     }
 }
 
-/// A list that is full.
+/// Explains a list that is full.
 pub(crate) fn explain_bound<L: LinkStore, A: Adapter>(
     scene: &Scene<'_, L, A>,
     out: &mut String,
@@ -229,7 +229,7 @@ pub(crate) fn explain_bound<L: LinkStore, A: Adapter>(
     )
 }
 
-/// How many of something there are, and may be.
+/// Explains a limit: the number that is reached, and the greatest number that is allowed.
 pub(crate) fn explain_limit<L: LinkStore, A: Adapter>(
     scene: &Scene<'_, L, A>,
     out: &mut String,

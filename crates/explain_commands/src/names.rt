@@ -1,4 +1,4 @@
-//! Names of classes and features that name none, or none that can be made.
+//! Names that should name classes or features, and name none, or an abstract class.
 use crate::named::Named;
 use crate::scene::Scene;
 use adapters::Adapter;
@@ -8,7 +8,7 @@ use links::LinkStore;
 use mm_types::Node;
 use std::alloc::AllocError;
 
-/// A name that is no class.
+/// Explains a name that is no class.
 pub(crate) fn explain_no_class<L: LinkStore, A: Adapter>(
     scene: &Scene<'_, L, A>,
     out: &mut String,
@@ -26,7 +26,7 @@ pub(crate) fn explain_no_class<L: LinkStore, A: Adapter>(
     }
 }
 
-/// A class that is abstract.
+/// Explains a class that is abstract.
 pub(crate) fn explain_abstract<L: LinkStore, A: Adapter>(
     scene: &Scene<'_, L, A>,
     out: &mut String,
@@ -51,7 +51,7 @@ pub(crate) fn explain_abstract<L: LinkStore, A: Adapter>(
     )
 }
 
-/// A name that is no feature of an object's class.
+/// Explains a name that is no feature of an object's class.
 fn explain_unknown<L: LinkStore, A: Adapter>(
     scene: &Scene<'_, L, A>,
     out: &mut String,
@@ -77,7 +77,7 @@ fn explain_unknown<L: LinkStore, A: Adapter>(
     }
 }
 
-/// A name that is no feature of a node's class.
+/// Explains a name that is no feature of a node's class.
 pub(crate) fn explain_no_feature<L: LinkStore, A: Adapter>(
     scene: &Scene<'_, L, A>,
     out: &mut String,

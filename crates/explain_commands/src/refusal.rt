@@ -17,7 +17,7 @@ use mm_types::{FeatureNo, Node, Refused};
 use script_lines::Form;
 use std::alloc::AllocError;
 
-/// A refusal of a line that makes an object.
+/// Explains a refusal of a line that makes an object.
 fn explain_class<L: LinkStore, A: Adapter>(
     scene: &Scene<'_, L, A>,
     out: &mut String,
@@ -31,7 +31,7 @@ fn explain_class<L: LinkStore, A: Adapter>(
     }
 }
 
-/// A refusal of a line that resolves a proxy.
+/// Explains a refusal of a line that resolves a proxy.
 fn explain_resolve<L: LinkStore, A: Adapter>(
     scene: &Scene<'_, L, A>,
     out: &mut String,
@@ -52,7 +52,7 @@ fn explain_resolve<L: LinkStore, A: Adapter>(
     }
 }
 
-/// A refusal of a line that names a feature which its node has.
+/// Explains a refusal of a line that names a feature which its node has.
 fn explain_end<L: LinkStore, A: Adapter>(
     scene: &Scene<'_, L, A>,
     out: &mut String,
@@ -78,7 +78,7 @@ fn explain_end<L: LinkStore, A: Adapter>(
     }
 }
 
-/// A refusal of a line that names a node alone.
+/// Explains a refusal of a line that names only a node.
 fn explain_node<L: LinkStore, A: Adapter>(
     scene: &Scene<'_, L, A>,
     out: &mut String,
@@ -95,8 +95,8 @@ fn explain_node<L: LinkStore, A: Adapter>(
     }
 }
 
-/// Adds a line that says why a line of a script was refused, if the repository is as it was then. Of a document and of memory nothing
-/// is said. Errs only if memory is refused.
+/// Adds a line that says why a line of a script was refused; the repository has to be as it was then. Nothing is said of a refused document
+/// or of memory. Errs only if memory is refused.
 pub(crate) fn explain_refusal<L: LinkStore, A: Adapter>(
     scene: &Scene<'_, L, A>,
     out: &mut String,

@@ -32,7 +32,7 @@ fn is_of_the_web(scheme: &str) -> bool {
     scheme.eq_ignore_ascii_case("http") || scheme.eq_ignore_ascii_case("https")
 }
 
-/// A text that is no URI of a resource.
+/// Explains a text that is no URI of a resource.
 fn explain_uri<L: LinkStore, A: Adapter>(
     scene: &Scene<'_, L, A>,
     out: &mut String,
@@ -60,7 +60,7 @@ fn explain_uri<L: LinkStore, A: Adapter>(
     }
 }
 
-/// A text that is no URI, or no address.
+/// Explains a text that is no URI, or no address.
 pub(crate) fn explain_bad_uri<L: LinkStore, A: Adapter>(
     scene: &Scene<'_, L, A>,
     out: &mut String,
@@ -80,7 +80,7 @@ pub(crate) fn explain_bad_uri<L: LinkStore, A: Adapter>(
     }
 }
 
-/// The resource of a URI, among those of URIs in the order of their numbers.
+/// The resource of a URI; `uris` has the URIs of all resources in the order of their numbers.
 pub(crate) fn resource_of(uris: &[String], uri: &str) -> Option<ResourceNo> {
     for (number, other) in uris.iter().enumerate() {
         if other.as_str() == uri {
@@ -90,7 +90,7 @@ pub(crate) fn resource_of(uris: &[String], uri: &str) -> Option<ResourceNo> {
     None
 }
 
-/// A URI that a resource has already.
+/// Explains a URI that a resource has already.
 pub(crate) fn explain_exists<L: LinkStore, A: Adapter>(
     scene: &Scene<'_, L, A>,
     out: &mut String,
@@ -118,7 +118,7 @@ pub(crate) fn explain_exists<L: LinkStore, A: Adapter>(
     }
 }
 
-/// A resource that is not empty.
+/// Explains a resource that is not empty.
 pub(crate) fn explain_not_empty<L: LinkStore, A: Adapter>(
     scene: &Scene<'_, L, A>,
     out: &mut String,

@@ -1,15 +1,15 @@
-//! What is asked, after a command was refused.
+//! The data from which a refusal is explained.
 use adapters::Adapter;
 use links::LinkStore;
 use mm_types::{FeatureNo, Node};
 use repository::Repository;
 use std::alloc::Global;
 
-/// What the explanation of a refusal asks, and what its line begins with.
+/// The data from which a refusal is explained, and the text with which its line begins.
 #[derive(Drop)]
 pub(crate) struct Scene<'s, L: LinkStore, A: Adapter> {
     pub(crate) alloc: Global,
-    /// What the line begins with, as `line 12`.
+    /// The text with which the line begins, as `line 12`.
     pub(crate) prefix: &'s str,
     pub(crate) repository: &'s Repository<L, A>,
     /// The URIs of the resources.

@@ -1,4 +1,4 @@
-//! Objects that would be below themselves, refer out of all resources, or are too deep.
+//! Objects that would be below themselves, that refer to an object in no resource, or that are too deep.
 use crate::called::{end_called, object_called};
 use crate::named::object_value;
 use crate::scene::Scene;
@@ -10,7 +10,7 @@ use script_lines::Form;
 use std::alloc::AllocError;
 use std::collections::VecDeque;
 
-/// An object that would be put below itself.
+/// Explains an object that would be put below itself.
 pub(crate) fn explain_recursive<L: LinkStore, A: Adapter>(
     scene: &Scene<'_, L, A>,
     out: &mut String,
@@ -43,7 +43,7 @@ fn is_outside<L: LinkStore, A: Adapter>(scene: &Scene<'_, L, A>, object: ObjectN
     matches!(scene.repository.e_resource(object), Ok(None))
 }
 
-/// The object in no resource that a feature of an object refers to, the first of them.
+/// The first object in no resource to which a feature of an object refers.
 fn outside_at<L: LinkStore, A: Adapter>(
     scene: &Scene<'_, L, A>,
     node: Node,
@@ -89,7 +89,7 @@ struct Placed {
     level: usize,
 }
 
-/// Adds what a node contains.
+/// Adds the objects that a node contains.
 fn add_contents<L: LinkStore, A: Adapter>(
     scene: &Scene<'_, L, A>,
     queue: &mut VecDeque<Placed>,
@@ -111,13 +111,13 @@ fn add_contents<L: LinkStore, A: Adapter>(
 /// What is looked for in a resource.
 #[derive(Clone, Copy)]
 enum Sought {
-    /// An object that refers to one in no resource.
+    /// An object that refers to an object in no resource.
     Dangling,
     /// An object below the last level.
     TooDeep,
 }
 
-/// Whether what is sought is found at an object. If it is, its line is added.
+/// Whether an object has the fault that is looked for. If it has, its line is added.
 fn is_found<L: LinkStore, A: Adapter>(
     scene: &Scene<'_, L, A>,
     out: &mut String,
@@ -153,7 +153,7 @@ fn is_found<L: LinkStore, A: Adapter>(
     Ok(true)
 }
 
-/// Goes through the objects of a resource, level by level, to the first of which something can be said.
+/// Goes through the objects of a resource, level by level, to the first object that needs an explanation.
 fn explain_first<L: LinkStore, A: Adapter>(
     scene: &Scene<'_, L, A>,
     out: &mut String,
@@ -175,7 +175,7 @@ fn explain_first<L: LinkStore, A: Adapter>(
     Ok(())
 }
 
-/// A reference to an object in no resource, or an object that is in none.
+/// Explains a reference to an object in no resource, or an object that is in no resource.
 pub(crate) fn explain_dangling<L: LinkStore, A: Adapter>(
     scene: &Scene<'_, L, A>,
     out: &mut String,
@@ -194,7 +194,7 @@ pub(crate) fn explain_dangling<L: LinkStore, A: Adapter>(
     }
 }
 
-/// An object below the last level.
+/// Explains an object below the last level.
 pub(crate) fn explain_too_deep<L: LinkStore, A: Adapter>(
     scene: &Scene<'_, L, A>,
     out: &mut String,

@@ -12,7 +12,7 @@ use script_lines::{Form, WrittenValue};
 use script_output::enum_of;
 use std::alloc::AllocError;
 
-/// A list, and a command that takes a feature of one value.
+/// Explains a many-valued feature in a command that takes a single one.
 pub(crate) fn explain_not_single<L: LinkStore, A: Adapter>(
     scene: &Scene<'_, L, A>,
     out: &mut String,
@@ -29,7 +29,7 @@ pub(crate) fn explain_not_single<L: LinkStore, A: Adapter>(
     )
 }
 
-/// A feature of one value, and a command that takes a list.
+/// Explains a single feature in a command that takes a many-valued one.
 pub(crate) fn explain_not_many<L: LinkStore, A: Adapter>(
     scene: &Scene<'_, L, A>,
     out: &mut String,
@@ -46,7 +46,7 @@ pub(crate) fn explain_not_many<L: LinkStore, A: Adapter>(
     )
 }
 
-/// What a data type takes. Errs only if memory is refused.
+/// The values that a data type takes, in words for a reader. Errs only if memory is refused.
 fn taken_by_type<L: LinkStore, A: Adapter>(
     scene: &Scene<'_, L, A>,
     data_type: DataType,
@@ -68,7 +68,7 @@ fn taken_by_type<L: LinkStore, A: Adapter>(
     }
 }
 
-/// What a feature takes. Errs only if memory is refused.
+/// The values that a feature takes, in words for a reader. Errs only if memory is refused.
 fn taken<L: LinkStore, A: Adapter>(
     scene: &Scene<'_, L, A>,
     feature: FeatureNo,
@@ -85,7 +85,7 @@ fn taken<L: LinkStore, A: Adapter>(
     }
 }
 
-/// The literal of a feature's enumeration that is nearest to one that is written.
+/// The literal of a feature's enumeration that is nearest to a written one.
 fn meant_literal<'s, L: LinkStore, A: Adapter>(
     scene: &Scene<'s, L, A>,
     feature: FeatureNo,
@@ -112,7 +112,7 @@ fn meant_value<'s, L: LinkStore, A: Adapter>(
     }
 }
 
-/// A value that is not of the type of a feature.
+/// Explains a value that is not of the type of a feature.
 fn explain_value<L: LinkStore, A: Adapter>(
     scene: &Scene<'_, L, A>,
     out: &mut String,
@@ -131,7 +131,7 @@ fn explain_value<L: LinkStore, A: Adapter>(
     }
 }
 
-/// A proxy that is asked for at a feature that has none, or that leads to an object of a wrong class.
+/// Explains why a proxy can't be resolved: the feature has no proxies, or the proxy leads to an object of a wrong class.
 fn explain_proxy<L: LinkStore, A: Adapter>(
     scene: &Scene<'_, L, A>,
     out: &mut String,
@@ -158,7 +158,7 @@ fn explain_proxy<L: LinkStore, A: Adapter>(
     )
 }
 
-/// What a feature does not take.
+/// Explains a value that a feature does not take.
 pub(crate) fn explain_type<L: LinkStore, A: Adapter>(
     scene: &Scene<'_, L, A>,
     out: &mut String,
@@ -182,7 +182,7 @@ fn length_in(form: &Form<'_>) -> usize {
     }
 }
 
-/// A text that is too long.
+/// Explains a text that is too long.
 pub(crate) fn explain_length<L: LinkStore, A: Adapter>(
     scene: &Scene<'_, L, A>,
     out: &mut String,

@@ -9,7 +9,7 @@ use models::Found;
 use std::alloc::AllocError;
 use web_uris::{Step, parse, split_address};
 
-/// What a reference has at an index; an index of a single reference is 0.
+/// The value of a reference at an index; the index of a single reference is 0.
 fn found_at<'s, L: LinkStore, A: Adapter>(
     scene: &Scene<'s, L, A>,
     node: Node,
@@ -24,7 +24,7 @@ fn found_at<'s, L: LinkStore, A: Adapter>(
     }
 }
 
-/// The address that a proxy has at an index of a reference.
+/// The address of the proxy at an index of a reference.
 fn address_at<'s, L: LinkStore, A: Adapter>(
     scene: &Scene<'s, L, A>,
     node: Node,
@@ -37,7 +37,7 @@ fn address_at<'s, L: LinkStore, A: Adapter>(
     }
 }
 
-/// The URI of the address that a proxy has at an index of a reference, and the fragment.
+/// The URI and the fragment of the address of the proxy at an index of a reference.
 fn parts_at<'s, L: LinkStore, A: Adapter>(
     scene: &Scene<'s, L, A>,
     node: Node,
@@ -58,7 +58,7 @@ pub(crate) fn led_to<L: LinkStore, A: Adapter>(
     scene.repository.object_at(address).ok()?
 }
 
-/// A value that is no proxy.
+/// Explains a value that is no proxy.
 pub(crate) fn explain_not_proxy<L: LinkStore, A: Adapter>(
     scene: &Scene<'_, L, A>,
     out: &mut String,
@@ -80,7 +80,7 @@ pub(crate) fn explain_not_proxy<L: LinkStore, A: Adapter>(
     }
 }
 
-/// A proxy whose resource is not there.
+/// Explains a proxy whose resource is not there.
 pub(crate) fn explain_unloaded<L: LinkStore, A: Adapter>(
     scene: &Scene<'_, L, A>,
     out: &mut String,
@@ -99,14 +99,14 @@ pub(crate) fn explain_unloaded<L: LinkStore, A: Adapter>(
     )
 }
 
-/// The way to an object as far as it was gone: the address, and the object there.
+/// How far a path was followed: the address that was reached, and the object there.
 #[derive(Drop)]
 struct Way {
     address: String,
     object: ObjectNo,
 }
 
-/// Goes one step on from an object.
+/// Follows one step from an object.
 fn gone<L: LinkStore, A: Adapter>(
     scene: &Scene<'_, L, A>,
     way: &Way,
@@ -124,7 +124,7 @@ fn gone<L: LinkStore, A: Adapter>(
     }
 }
 
-/// A step that finds nothing.
+/// Explains a step that finds nothing.
 fn explain_step<L: LinkStore, A: Adapter>(
     scene: &Scene<'_, L, A>,
     out: &mut String,
@@ -146,7 +146,7 @@ fn explain_step<L: LinkStore, A: Adapter>(
     }
 }
 
-/// The first step of a way that finds nothing.
+/// Explains the first step of a path that finds nothing.
 fn explain_steps<L: LinkStore, A: Adapter>(
     scene: &Scene<'_, L, A>,
     out: &mut String,
@@ -163,7 +163,7 @@ fn explain_steps<L: LinkStore, A: Adapter>(
     Ok(())
 }
 
-/// An address at which nothing is.
+/// Explains an address without an object.
 fn explain_nowhere<L: LinkStore, A: Adapter>(
     scene: &Scene<'_, L, A>,
     out: &mut String,
@@ -190,7 +190,7 @@ fn explain_nowhere<L: LinkStore, A: Adapter>(
     }
 }
 
-/// A proxy at whose address nothing is.
+/// Explains a proxy without an object at its address.
 pub(crate) fn explain_unresolved<L: LinkStore, A: Adapter>(
     scene: &Scene<'_, L, A>,
     out: &mut String,
@@ -204,7 +204,7 @@ pub(crate) fn explain_unresolved<L: LinkStore, A: Adapter>(
     }
 }
 
-/// A proxy whose object has no proxy that leads back.
+/// Explains a proxy whose object has no proxy that leads back.
 pub(crate) fn explain_unmatched<L: LinkStore, A: Adapter>(
     scene: &Scene<'_, L, A>,
     out: &mut String,

@@ -13,16 +13,16 @@ use std::alloc::{AllocError, Global};
 use std::mem;
 use web_uris::{UriFault, joined};
 
-/// What is said of the lines of a script.
+/// Which lines of a script are commented on.
 #[derive(Clone, Copy)]
 pub struct Talk {
-    /// Each bad line and each refusal is explained.
+    /// Whether each bad line and each refusal is explained.
     pub explains: bool,
-    /// A person types: a line says what to type instead of `help`, `quit` and `exit`.
+    /// Whether a person types. Then a line says what to type instead of `help`, `quit` and `exit`.
     pub guides: bool,
 }
 
-/// What is known of a script while it runs.
+/// What is known of a script while it runs, and the comments on its lines.
 #[derive(Drop)]
 pub struct Watch {
     alloc: Global,
@@ -35,9 +35,9 @@ pub struct Watch {
     objects: u64,
     /// The URIs of the resources.
     uris: Vec<String>,
-    /// What is said and not yet taken.
+    /// The comments that were not taken yet.
     said: String,
-    /// Whether memory was refused: then the URIs are not known any more, and nothing is said.
+    /// Whether memory was refused. Then the URIs are not known any more, and nothing is said.
     is_lost: bool,
 }
 
@@ -56,7 +56,7 @@ impl Watch {
         }
     }
 
-    /// Notes that the lines of a script begin. Those before, which a journal had kept, are not counted.
+    /// Notes that the lines of a script begin. The lines before, which a journal had kept, are not counted.
     pub fn begin(&mut self) {
         self.number = 0;
     }
@@ -78,12 +78,12 @@ impl Watch {
         }
     }
 
-    /// What was said since it was last taken: lines, each ended by a newline.
+    /// Takes the comments that were made since the last call: lines, each ended by a newline.
     pub fn take(&mut self) -> String {
         mem::replace(&mut self.said, String::new(self.alloc))
     }
 
-    /// Notes a line that was run and what it printed, and says what is to be said of it.
+    /// Notes a line that was run and its output, and comments on it.
     pub fn line_was_run<L: LinkStore, A: Adapter>(
         &mut self,
         repository: &Repository<L, A>,
@@ -98,7 +98,7 @@ impl Watch {
         self.is_lost = noted.is_err();
     }
 
-    /// Notes a resource of a URI that is loaded, as the two lines would be noted.
+    /// Notes a resource that was made and loaded, as the lines `resource` and `load` would be noted.
     pub fn resource_was_loaded(&mut self, uri: &str, objects: u64) {
         let noted = self.note_uri(uri);
         self.is_lost = self.is_lost || noted.is_err();
@@ -177,8 +177,8 @@ impl Watch {
         self.said.push_str(text.as_str())
     }
 
-    /// Why a line of a form is refused, over a repository that is as it was then: lines that begin with the prefix. Errs only if memory is
-    /// refused.
+    /// Why a line of a form was refused, in lines that begin with the prefix. The repository has to be as it was then. Errs only if memory
+    /// is refused.
     pub fn explained<L: LinkStore, A: Adapter>(
         &self,
         repository: &Repository<L, A>,

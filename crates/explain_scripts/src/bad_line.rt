@@ -22,7 +22,7 @@ fn explain_word(
     writeln!(out, "line {number}: {word:?} is not {}", sort.wanted)
 }
 
-/// Says that there are too few words or too many, or of each word after the verb whether it is of its kind.
+/// Says that a line has too few words or too many; or else, which words after the verb are not of their kind.
 fn explain_form(
     alloc: Global,
     out: &mut String,

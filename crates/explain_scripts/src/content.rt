@@ -1,5 +1,4 @@
-//! What is wrong with what is written under features: values of a wrong type, lists that are too long, and values that occur
-//! twice.
+//! What is wrong with the contents of features: values of a wrong type, lists that are too long, and values that occur twice.
 use crate::parts::{At, Entry};
 use crate::written::{class_of, is_attribute_value, values_of};
 use explain::Shown;
@@ -9,7 +8,7 @@ use serde_json::Value;
 use std::alloc::AllocError;
 use std::fmt;
 
-/// What the values of a data type are.
+/// The values of a data type, in words for a reader.
 #[derive(Drop)]
 struct Values<'m> {
     data_type: DataType,
@@ -120,7 +119,7 @@ fn explain_entry(out: &mut String, meta: &Meta, entry: &Entry<'_>) -> Result<(),
     Ok(())
 }
 
-/// Values that are not of their feature's type.
+/// Explains values that are not of their feature's type.
 pub(crate) fn explain_values(
     out: &mut String,
     meta: &Meta,
@@ -151,7 +150,7 @@ fn explain_bound(out: &mut String, meta: &Meta, entry: &Entry<'_>) -> Result<(),
     )
 }
 
-/// Lists that are too long.
+/// Explains lists that are too long.
 pub(crate) fn explain_bounds(
     out: &mut String,
     meta: &Meta,

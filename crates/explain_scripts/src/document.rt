@@ -10,13 +10,13 @@ use mm_types::DocFault;
 use serde_json::{Error, Value};
 use std::alloc::{AllocError, Global};
 
-/// How many bytes of a document are shown at most.
+/// The greatest number of bytes of a document that are shown.
 const SHOWN_BYTES: usize = 20;
 
 /// A document that is refused.
 #[derive(Drop)]
 pub struct RefusedDocument<'d> {
-    /// What each line of the explanation begins with.
+    /// The text with which each line of the explanation begins.
     pub prefix: &'d str,
     /// The URI of its resource.
     pub uri: &'d str,
@@ -25,12 +25,12 @@ pub struct RefusedDocument<'d> {
     pub cause: DocFault,
 }
 
-/// The beginning of what comes after some bytes of a text.
+/// The beginning of a text from a byte on.
 fn shown_at(text: &str, start: usize) -> &str {
     front_of(text.get(start..).unwrap_or(""), SHOWN_BYTES)
 }
 
-/// Text that is no JSON.
+/// Explains text that is no JSON.
 fn explain_syntax(
     out: &mut String,
     refused: &RefusedDocument<'_>,
@@ -58,7 +58,7 @@ fn explain_syntax(
     )
 }
 
-/// What is wrong with the values of an object, or with where its references lead.
+/// Explains what is wrong with the values of an object, or with the targets of its references.
 fn explain_content(
     alloc: Global,
     out: &mut String,
@@ -79,7 +79,7 @@ fn explain_content(
     }
 }
 
-/// What is wrong with the objects of a document.
+/// Explains what is wrong with the objects of a document.
 fn explain_parts(
     alloc: Global,
     out: &mut String,
@@ -101,7 +101,7 @@ fn explain_parts(
     }
 }
 
-/// What is wrong with a document that is JSON.
+/// Explains what is wrong with a document that is JSON.
 fn explain_json(
     alloc: Global,
     out: &mut String,
@@ -131,8 +131,7 @@ fn explain_json(
     }
 }
 
-/// Adds a line for each thing in a document that is found to be wrong, for the cause with which it is refused. Errs only if memory is
-/// refused.
+/// Adds a line for each fault in a document that belongs to the cause with which it is refused. Errs only if memory is refused.
 pub fn explain_document(
     alloc: Global,
     out: &mut String,

@@ -1,4 +1,4 @@
-//! The forms of the lines of a script, and what is in them.
+//! The forms of the lines of a script, and the kinds of their words.
 use script_lines::{Line, parse_line};
 use std::alloc::{AllocError, Global};
 
@@ -34,12 +34,12 @@ pub(crate) static FORMS: [&str; 28] = [
     "seen AD",
 ];
 
-/// A word of a form that stands for others.
+/// A word of a form that stands for other words.
 pub(crate) struct Sort {
     name: &'static str,
-    /// What makes a line of the language if such a word follows it.
+    /// The beginning of a line that becomes a line of the language with a word of this kind.
     before: &'static str,
-    /// What such a word is.
+    /// What a word of this kind is, in words for a reader.
     pub(crate) wanted: &'static str,
 }
 
@@ -119,7 +119,7 @@ pub(crate) fn count_of(form: &str) -> usize {
     form.split(' ').count()
 }
 
-/// The form of a verb: the one of so many words, or else the first.
+/// The form of a verb that has so many words, or else the first form of the verb.
 pub(crate) fn form_of(verb: &str, count: usize) -> Option<&'static str> {
     let mut found = None;
     for form in FORMS.iter() {

@@ -32,8 +32,8 @@ pub(crate) fn fragments_of<'p>(
     Ok(fragments)
 }
 
-/// What the text before the `#` of an address and the fragment after it lead to, if that is no object of the document
-/// itself.
+/// The target of an address, given as the text before its `#` and the fragment after it, if it is no object of the
+/// document itself.
 fn led_elsewhere(
     alloc: Global,
     uri: &str,

@@ -1,7 +1,7 @@
-//! What to fix in the texts of a script: which words of a bad line are wrong, and what is wrong in a refused document.
+//! Explains what to fix in the texts of a script: which words of a bad line are wrong, and what is wrong in a refused document.
 //!
-//! Both are looked at once more, with the metamodel alone. No contract says what a text is. The functions are proved safe and ending; cases
-//! of the program show their texts.
+//! The line or the document is read once more, with only the metamodel. No contract determines a text. It is proved that the functions are
+//! safe and end; cases of the program show their texts.
 #![tactic(auto)]
 
 mod bad_line;

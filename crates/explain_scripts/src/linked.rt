@@ -1,4 +1,4 @@
-//! What is wrong with references: where they lead, and whether the other end names them.
+//! What is wrong with references: their targets, and whether the other end names them back.
 use crate::led::{Fragments, Led, fragments_of, led_by};
 use crate::parts::{At, Entry, Part};
 use crate::written::{class_of, conforms_to, values_of};
@@ -19,7 +19,7 @@ pub(crate) struct Link<'e> {
 }
 
 impl Link<'_> {
-    /// The number of the part that it leads to, if that is one of the document.
+    /// The number of the part to which it leads, if that is a part of the document.
     fn named(&self) -> Option<usize> {
         match &self.led {
             Led::Here(number) => Some(*number),
@@ -28,7 +28,7 @@ impl Link<'_> {
     }
 }
 
-/// What the links of a document are found by.
+/// The data with which the links of a document are found.
 #[derive(Drop)]
 struct Source<'d, 'p> {
     alloc: Global,
@@ -102,7 +102,7 @@ pub(crate) fn links_of<'e>(
     links_in(&source, entries)
 }
 
-/// A reference that leads nowhere, or to an object of a wrong class.
+/// Explains a reference that leads nowhere, or to an object of a wrong class.
 fn explain_lost(
     out: &mut String,
     meta: &Meta,
@@ -147,7 +147,7 @@ fn explain_class(
     )
 }
 
-/// Lost references.
+/// Explains lost references.
 pub(crate) fn explain_references(
     out: &mut String,
     meta: &Meta,
@@ -160,7 +160,7 @@ pub(crate) fn explain_references(
     Ok(())
 }
 
-/// References with an opposite that lead to a different resource.
+/// Explains references with an opposite that lead to a different resource.
 pub(crate) fn explain_crosses(
     out: &mut String,
     meta: &Meta,
@@ -217,7 +217,7 @@ fn explain_one_sided(
     )
 }
 
-/// References with an opposite that the other end does not name back.
+/// Explains references with an opposite whose other end does not name them back.
 pub(crate) fn explain_ends(
     alloc: Global,
     out: &mut String,

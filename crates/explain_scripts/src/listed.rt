@@ -1,4 +1,4 @@
-//! The names that may be there.
+//! The names that may be written at a place.
 use mm_meta::Meta;
 use mm_types::{ClassNo, FeatureNo, limits};
 use std::alloc::{AllocError, Global};

@@ -1,4 +1,4 @@
-//! The objects of a document and what is under their features, each with where it is.
+//! The objects of a document and the contents of their features, each with its place.
 use crate::written::{content_at, known, values_of};
 use mm_meta::Meta;
 use mm_types::{ClassNo, FeatureNo};
@@ -18,7 +18,7 @@ pub(crate) struct Part<'v> {
     pub(crate) json: &'v Value,
 }
 
-/// What is written under a feature of a part.
+/// The content of a feature of a part.
 #[derive(Drop)]
 pub(crate) struct Entry<'v> {
     /// Its path in the JSON, as `line 7: roots[0].features.books`.
@@ -27,11 +27,11 @@ pub(crate) struct Entry<'v> {
     pub(crate) part: usize,
     pub(crate) feature: FeatureNo,
     pub(crate) content: &'v Value,
-    /// Whether it has one value, and no array of values.
+    /// Whether it is one value, and not an array of values.
     pub(crate) is_single: bool,
 }
 
-/// A value that is written under a feature: the only one, or one at a position.
+/// A value of a feature's content: the only one, or the value at a position.
 #[derive(Clone, Copy)]
 pub(crate) struct At<'e> {
     pub(crate) path: &'e str,
@@ -52,7 +52,7 @@ impl fmt::Display for At<'_> {
 }
 
 impl Entry<'_> {
-    /// The path of a value under it.
+    /// The place of the value at a position of the content.
     pub(crate) fn at(&self, index: usize) -> At<'_> {
         At {
             path: self.path.as_str(),
@@ -62,7 +62,7 @@ impl Entry<'_> {
     }
 }
 
-/// Adds what is written under a feature of a part.
+/// Adds the content of a feature of a part.
 fn add_entry<'v>(
     alloc: Global,
     meta: &Meta,
@@ -110,7 +110,7 @@ fn add_entries<'v>(
     Ok(())
 }
 
-/// What is written under the features of parts.
+/// The contents of the features of parts.
 pub(crate) fn entries_of<'v>(
     alloc: Global,
     meta: &Meta,
@@ -196,7 +196,7 @@ fn roots_of<'v>(
     Ok(queue)
 }
 
-/// What is written for each object, level by level.
+/// The part of each object, level by level.
 pub(crate) fn parts_of<'v>(
     alloc: Global,
     meta: &Meta,

@@ -9,7 +9,7 @@ use serde_json::Value;
 use std::alloc::{AllocError, Global};
 use std::collections::BTreeMap;
 
-/// Values of an attribute that occur twice.
+/// Explains values of an attribute that occur twice.
 fn explain_equal(
     alloc: Global,
     out: &mut String,
@@ -26,7 +26,7 @@ fn explain_equal(
     Ok(())
 }
 
-/// The values of an attribute that must not repeat one; none of other features.
+/// The values of a unique attribute; none for other features.
 fn unique_values<'v>(meta: &Meta, entry: &Entry<'v>) -> &'v [Value] {
     let is_attribute = match meta.feature(entry.feature) {
         Some(feature) => matches!(feature.kind, Kind::Attribute { .. }),
@@ -39,8 +39,8 @@ fn unique_values<'v>(meta: &Meta, entry: &Entry<'v>) -> &'v [Value] {
     }
 }
 
-/// What a link leads to: the part and the feature that have it, and the number after that of the part it leads to, or 0 and
-/// the address.
+/// A link with its target: the part and the feature that have the link; then one more than the number of the target part, or 0 and the
+/// target's address.
 type Target<'l> = (usize, u32, usize, &'l str);
 
 fn target_of<'l>(link: &'l Link<'_>) -> Option<Target<'l>> {
@@ -51,7 +51,7 @@ fn target_of<'l>(link: &'l Link<'_>) -> Option<Target<'l>> {
     }
 }
 
-/// References of one list that lead to the same object.
+/// Explains references of one list that lead to the same object.
 fn explain_links(alloc: Global, out: &mut String, links: &[Link<'_>]) -> Result<(), AllocError> {
     let mut seen: BTreeMap<Target<'_>, usize> = BTreeMap::new(alloc);
     for link in links {
@@ -69,7 +69,7 @@ fn explain_links(alloc: Global, out: &mut String, links: &[Link<'_>]) -> Result<
     Ok(())
 }
 
-/// Values that occur twice.
+/// Explains values that occur twice.
 pub(crate) fn explain_repeats(
     alloc: Global,
     out: &mut String,

@@ -34,7 +34,7 @@ const OBJECT: [Field; 2] = [
     },
 ];
 
-/// The document's own keys.
+/// Explains the document's own keys.
 pub(crate) fn explain_top(
     alloc: Global,
     out: &mut String,
@@ -44,7 +44,7 @@ pub(crate) fn explain_top(
     explain_object(alloc, out, prefix, &DOCUMENT, json)
 }
 
-/// The keys of each object. What is no object at all is wrong only as a root; elsewhere it is a wrong value.
+/// Explains the keys of each object. A value that is no object is a fault here only if it is a root; elsewhere it is a wrong value.
 pub(crate) fn explain_objects(
     alloc: Global,
     out: &mut String,
@@ -122,12 +122,12 @@ fn explain_members(
     Ok(())
 }
 
-/// What the names of a document are of.
+/// Which names of a document are looked at.
 #[derive(Clone, Copy)]
 pub(crate) enum Names {
-    /// Classes, which may be none, or abstract.
+    /// The names of classes, which may be unknown or abstract.
     Classes,
-    /// Features, which may be none, or container references.
+    /// The names of features, which may be unknown or container references.
     Features,
 }
 
@@ -151,7 +151,7 @@ fn explain_names_in(
     }
 }
 
-/// Names that a document has at places at which it may not have them.
+/// Explains the names in a document that it may not have at their places.
 pub(crate) fn explain_names(
     alloc: Global,
     out: &mut String,
@@ -165,7 +165,7 @@ pub(crate) fn explain_names(
     Ok(())
 }
 
-/// Objects below the last level.
+/// Explains objects below the last level.
 pub(crate) fn explain_depth(out: &mut String, parts: &[Part<'_>]) -> Result<(), AllocError> {
     for part in parts {
         if part.level > limits::LEVELS {

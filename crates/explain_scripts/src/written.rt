@@ -1,5 +1,5 @@
-//! What a document writes of its objects. It is read as an owned value here, which can be shown, with the keys of each object in
-//! order.
+//! The objects of a document, as it writes them. Here the document is read as an owned value, which can be shown and has the keys of each
+//! object in order.
 use json_fields::{find, has_only_keys};
 use mm_meta::Meta;
 use mm_types::{ClassNo, DataType, FeatureNo, limits};
@@ -12,7 +12,7 @@ pub(crate) fn class_of(meta: &Meta, json: &Value) -> Option<ClassNo> {
     Some(class)
 }
 
-/// The class and the members of an object whose class is there.
+/// The class and the members of an object whose class is known.
 pub(crate) fn known<'v>(meta: &Meta, json: &'v Value) -> Option<(ClassNo, &'v Map<String, Value>)> {
     let members = json.as_object()?;
     if !has_only_keys(members, &["class", "features"]) {
@@ -32,7 +32,7 @@ pub(crate) fn conforms_to(meta: &Meta, target: ClassNo, json: &Value) -> bool {
     }
 }
 
-/// What is written under a feature, which may be no container reference.
+/// The content of a feature; `None` for a container reference.
 pub(crate) fn content_at<'v>(
     meta: &Meta,
     members: &'v Map<String, Value>,
@@ -44,7 +44,7 @@ pub(crate) fn content_at<'v>(
     find(members, meta.feature_name(feature))
 }
 
-/// The values of what is written under a feature: the items of an array if the feature is many-valued.
+/// The values of a feature's content: the items of the array if the feature is many-valued.
 pub(crate) fn values_of<'v>(meta: &Meta, feature: FeatureNo, content: &'v Value) -> &'v [Value] {
     if meta.is_single(feature) {
         return slice::from_ref(content);
@@ -76,7 +76,7 @@ fn is_literal(meta: &Meta, enumeration: u32, json: &Value) -> bool {
     }
 }
 
-/// Whether JSON writes a value of a data type, under a single attribute or not.
+/// Whether JSON writes a value of a data type, under a single or a many-valued attribute.
 pub(crate) fn is_attribute_value(
     meta: &Meta,
     is_single: bool,

@@ -1,4 +1,4 @@
--- A record as the machine has it: a struct of no bytes, which stands for whatever events a method says.
+-- The machine value of a record: a struct of no bytes, which stands for any events that a method names.
 use Rattle.std.proofs.Common.{List, [], ◌∷◌, refl}
 use seplogic.Ra.Ura.{Ura}
 use mir.Val.{Val, vnil, vstruct}

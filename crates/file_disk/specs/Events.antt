@@ -1,4 +1,4 @@
--- What was done to a file, what it has then, and what a crash may leave of it.
+-- The calls on a file, its content after them, and what a crash may leave of it.
 use Rattle.std.specs.Prelude.{◌≡◌, ◌≤◌, ◌⊎◌, ℕ, ◌+◌, Bool, true, false, List, [], ◌∷◌, ◌++◌, length, take, drop, if◌then◌else◌, refl}
 use Rattle.std.specs.Coded.{Coded, code_by, coded_bool, coded_list, coded_ℕ, coded×, coded⊎}
 use Rattle.std.proofs.Common.{arith, inl, inr}
@@ -47,7 +47,7 @@ seen_after (written at bytes done) old = if done then take at old ++ bytes ++ dr
 seen_after (cut len done) old = if done then take len old else old
 seen_after (synced done) old = old
 
--- what the file has, if no call has failed
+-- the bytes of the file, if no call has failed
 abbrev pub seen : List Event → List ℕ
 seen [] = []
 seen (e ∷ es) = seen_after e (seen es)
@@ -63,7 +63,7 @@ abbrev pub MayLeave : List Event → List ℕ → Type 0
 MayLeave [] c = c ≡ []
 MayLeave (e ∷ es) c = left_after e (seen es) (MayLeave es) c
 
--- a crash might have left one, since there were so many events
+-- a crash at some moment, since there were t events, could have left a file of these bytes
 abbrev pub LeftSince : List Event → ℕ → List ℕ → Type 0
 LeftSince [] t c = (t ≤ 0) × MayLeave [] c
 LeftSince (e ∷ es) t c = ((t ≤ length (e ∷ es)) × MayLeave (e ∷ es) c) ⊎ LeftSince es t c

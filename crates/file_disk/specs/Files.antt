@@ -1,11 +1,11 @@
--- A file of the system, by what was done to it.
+-- A file of the system, as the events of the calls on it.
 use Rattle.std.specs.Prelude.{Bool, true, false, List, Result, Ok, Err}
 use Rattle.journal.specs.declared.disk.DiskFault.{DiskFault}
 use Rattle.journal.specs.declared.disk.DiskFault.TheVariants.{Failed}
 use Rattle.file_disk.specs.Events.{Event}
 use Rattle.file_disk.specs.declared.file.FileDisk.{FileDisk}
 
--- what was done to the file
+-- the calls on the file
 abbrev pub events_of : FileDisk → List Event
 events_of disk = disk.record.events
 

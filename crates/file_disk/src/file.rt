@@ -43,7 +43,8 @@ fn sync_folder(rt: &HostRuntime, path: &str) -> io::Result<()> {
 
 /// Opens a file, or makes it if there is none, and returns its bytes with it.
 ///
-/// What an earlier process had written is put on the disk before it is read. So a crash from then on leaves what was read.
+/// The bytes that an earlier process wrote are put on the disk before they are read. So from then on a crash leaves the bytes that were
+/// read.
 pub fn open(rt: &HostRuntime, path: &str) -> Result<(FileDisk, Vec<u8>), OpenFault>
     ensures bytes { IfOk result (λ opened. seen (events_of opened.0) ≡ opened.1.items) }
     ensures durable { IfOk result (λ opened. IsDurable (seen (events_of opened.0)) (MayLeave (events_of opened.0))) }

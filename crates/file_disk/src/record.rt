@@ -1,4 +1,4 @@
-//! What was asked of a file, as clauses read it.
+//! The calls that were made on a file, as clauses read them.
 ghost use Rattle.std.specs.Prelude.{◌≡◌, List, [], ◌∷◌};
 ghost use Rattle.std.specs.Borrow.{ftrue};
 ghost use Rattle.std.specs.Coded.{coded_list};
@@ -7,7 +7,7 @@ ghost use Rattle.file_disk.specs.Events.{Event, event_code};
 use crate::call::Call;
 use std::marker::Model;
 
-/// The calls that were made of a file, the newest first. Only clauses read them: a record has no bytes, and its methods do nothing.
+/// The calls that were made on a file, the newest first. Only clauses read them: a record has no bytes, and its methods do nothing.
 #[derive(Drop)]
 pub struct Record {
     pub ghost events: { List Event } by { coded_list event_code },

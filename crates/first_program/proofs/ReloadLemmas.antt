@@ -1,4 +1,4 @@
--- What is saved of a model of one resource, and loaded into an empty repository, is isomorphic to it.
+-- If a model of one resource is saved and loaded into an empty repository, the result is isomorphic to it.
 use Rattle.std.proofs.Common.{◌≡◌, ◌||◌, ℕ, true, false, nat_eq, nat_lt, List, [], ◌∷◌, length, Ok, slice_get, unwrap_or, refl, sym, ap, ◌∙◌, subst, arith}
 use Rattle.std.specs.Str.{is_utf8}
 use Rattle.std.proofs.lemmas.Bool.Decides.{nat_tests}

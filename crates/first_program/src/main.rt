@@ -1,5 +1,5 @@
-//! A first program over `mmrepo_lib`: it makes a library with a book, counts what it is notified of, and prints the library as it is saved.
-//! docs/LIBRARY.md shows it.
+//! A first program over `mmrepo_lib`. It makes a library with a book, counts the notifications of that, and prints the library as it is
+//! saved. docs/LIBRARY.md shows it.
 #![tactic(auto)]
 
 ghost use Rattle.mmrepo_lib.specs.Commands.{set};

@@ -1,11 +1,11 @@
-//! A model of one resource is kept as a text, and comes back in another repository.
+//! A model of one resource is saved as a text, and loaded into another repository.
 ghost use Rattle.std.specs.Prelude.{◌≡◌, ◌∷◌, [], OnOk};
 ghost use Rattle.mmrepo_lib.specs.Steps.{Alike, IsSaved, empty_state, reads};
 
 use mmrepo_lib::{Adapter, LinkStore, Refused, Repository, ResourceNo, laws};
 
 /// Loads the only resource of a repository, as it is saved, into an empty repository over the same metamodel, and resolves its proxies.
-/// Then both have the same objects at the same addresses, if no proxy was in the first one and no text of a reference is too long.
+/// Then both have the same objects at the same addresses, if the first one has no proxy and no text of a reference is too long.
 pub(crate) fn load_again<L: LinkStore, A: Adapter>(
     first: &Repository<L, A>,
     second: &mut Repository<L, A>,

@@ -3,8 +3,8 @@ ghost use Rattle.std.specs.Prelude.{◌-◌, [], Some};
 
 use mmrepo_lib::{Adapter, NoRoom, Notice, NoticeKind};
 
-/// Counts the notifications that it gets, and those of an addition among them. It keeps none of them. An adapter only stores: whoever
-/// called the repository acts on what the reply says.
+/// Counts the notifications that it gets, and the ADDs among them. It keeps none. An adapter only stores; the caller of the repository acts
+/// on the reply.
 #[derive(Drop)]
 pub struct Tally {
     told: u64,
@@ -19,7 +19,7 @@ impl Tally {
         }
     }
 
-    /// How many notifications of an addition it got.
+    /// How many ADDs it got.
     pub fn additions(&self) -> u64 {
         self.additions
     }

@@ -1,4 +1,4 @@
--- What the path, the fragment and the address of an object find is that object.
+-- The path, the fragment and the address of an object lead to that object.
 use Rattle.std.proofs.Common.{◌≡◌, ℕ, zero, suc, ◌+◌, Bool, true, false, cond, nat_lt, List, [], ◌∷◌, length, slice_get, slice_index_or, Some, None, option_map, inl, inr, arith, refl, sym, ap, ◌∙◌, subst}
 use Rattle.std.specs.Prelude.{option_and_then, not, if◌then◌else◌}
 use Rattle.std.specs.List.{All, AllByRecursion, IsDistinct, list_any, position_or_len}
@@ -44,7 +44,7 @@ apart-at w u (y ∷ ys) (suc k) all h = apart-at w u ys k all.1 h
 one-more : (a b : ℕ) → a ≡ b → 1 + a ≡ suc b
 one-more a b h = omega arith
 
--- of distinct URIs, each is first found where it is
+-- if all URIs are different, each is found at its own index
 first-at : (us : List (List ℕ)) (k : ℕ) (u : List ℕ) → IsDistinct bytes_eq us → slice_get us k ≡ Some u → position_or_len (bytes_eq u) us ≡ k
 unfolding IsDistinct
 first-at [] k u distinct h = absurd (none-some u h)
@@ -60,7 +60,7 @@ named-at r k u distinct h =
 
 ---------------------------------------------------------------- what is found
 
--- after a URI as joining gives it, a fragment is found
+-- in an address with a URI that joining gives, the fragment after it is found
 pub at-address : (r : Reading) (k : ResourceNo) (u f : List ℕ) → IsJoined u → resource_named r u ≡ Some k → at r (address_text u f) ≡ found_by r k f
 at-address r k u f is named =
     let none = joined_unmarked u is in

@@ -47,7 +47,7 @@ written-more (s ∷ ss) t all more = (all.0, written-more ss t all.1 more)
 
 ---------------------------------------------------------------- up to the resource
 
--- the object has a path in the resource, which finds it there and can be written
+-- the object has a path in the resource, which leads to it and can be written
 pub record IsLocated (s : Model) (o : ObjectNo) (k : ResourceNo) : Type 0 where
   pub path : Path
   pub is : path_of (reading s) o ≡ Some path

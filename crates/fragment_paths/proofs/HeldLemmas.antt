@@ -1,4 +1,4 @@
--- The position of an object in the end that holds it, and that a step from there leads into it.
+-- The position of an object in its holder, and the step that leads from there to the object.
 use Rattle.std.proofs.Common.{◌≡◌, ℕ, ◌<◌, ◌≤◌, ◌&&◌, Bool, true, false, not, List, length, slice_get, Option, Some, None, option_to_list, unwrap_or, if◌then◌else◌, arith, refl, sym, ap, ◌∙◌}
 use Rattle.std.specs.Prelude.{IfSome, is_some, option_and_then}
 use Rattle.std.specs.Option.{option_map_or}
@@ -71,11 +71,11 @@ module _ (s : Model) (legal : IsLegal s) where
         few = values-few s e legal;
       }
 
-  -- among the objects there, too
+  -- the object is at this position among the objects of the end too
   pub held-object : (o : ObjectNo) (e : End) → IsHeld s o e → slice_get (objects_of (values_at s e)) (position_in (reading s) e o) ≡ Some o
   held-object o e h = sym (objects-get (values_at s e) (position_in (reading s) e o) (all-objects s e legal h.contains)) ∙ ap (λ (x : Option Value). option_and_then object_of x) h.here
 
-  -- in a single end, it is the first
+  -- in a single end, the object is the first
   single-noted : (o : ObjectNo) (e : End) → IsHeld s o e → (shape s.metamodel e.feature).is_single ≡ true → position_in (reading s) e o ≡ 0
   single-noted o e h single =
       let one = few-values (values_at s e) (slice_get (values_at s e) 0) (values-single s e legal h.reference single) in
@@ -84,7 +84,7 @@ module _ (s : Model) (legal : IsLegal s) where
 
   ---------------------------------------------------------------- roots
 
-  -- a resource holds objects by one end
+  -- a resource contains objects in only one end
   pub held-root : (o : ObjectNo) (e : End) (k : ResourceNo) → IsHeld s o e → e.node ≡ node.Resource k → (e ≡ roots_end (reading s) k) × (has_resource (reading s) k ≡ true)
   held-root o e k h is =
       let both = and_parts (has_resource (reading s) k) _ (ap (λ (n : Node). has_feature (reading s) n e.feature) (sym is) ∙ h.own) in
@@ -94,7 +94,7 @@ module _ (s : Model) (legal : IsLegal s) where
   pub root-found : (o : ObjectNo) (e : End) (k : ResourceNo) → IsHeld s o e → e.node ≡ node.Resource k → slice_get (roots (reading s) k) (position_in (reading s) e o) ≡ Some o
   root-found o e k h is = ap (λ (d : End). slice_get (objects_of (values_at s d)) (position_in (reading s) e o)) (sym (held-root o e k h is).0) ∙ held-object o e h
 
-  -- the one root of a resource is the first
+  -- the only root of a resource is the first
   pub one-root : (o : ObjectNo) (e : End) (k : ResourceNo) → IsHeld s o e → e.node ≡ node.Resource k → has_one_root (reading s) k ≡ true → position_in (reading s) e o ≡ 0
   one-root o e k h is one =
       let count = eqb-true (length (values_at s (roots_end (reading s) k))) 1 one in
@@ -142,7 +142,7 @@ module _ (s : Model) (legal : IsLegal s) where
       ∙ ap (λ (k : ℕ). slice_get (objects_of (values_at s e)) k) (index-is o e h)
       ∙ held-object o e h
 
-  -- and can be written
+  -- the step into an object can be written
   pub step-written : (o : ObjectNo) (e : End) (p : ObjectNo) → IsHeld s o e → e.node ≡ node.Object p → IsWritten (step_into (reading s) e o)
   step-written o e p h is =
       let r = reading s in

@@ -1,4 +1,4 @@
--- Addresses follow from what contains what: if the parts of a resource's objects are in another resource at the same positions, under other
+-- Addresses follow from the containments: if the parts of a resource's objects are in another resource at the same positions, under other
 -- numbers, those objects have the same paths there, and with one URI the same addresses.
 use Rattle.std.proofs.Common.{◌≡◌, ◌∙◌, ℕ, true, List, [], Some, None, length, nat_eq, option_map, slice_get, refl, sym, ap}
 use Rattle.std.specs.Prelude.{option_and_then, if◌then◌else◌}
@@ -29,7 +29,7 @@ use Rattle.fragment_paths.specs.Laws.{HasImagesOfParts, HasImagesOfRoots, IsImag
 use Rattle.fragment_paths.specs.Fragments.{address, fragment, has_one_root, path_of, position_in, step_into}
 use Rattle.fragment_paths.proofs.InsideLemmas.{contents-contains, each-inside}
 
--- the path of a part is where it is
+-- the path of a part, by its position
 pub same-noted : (s : Model) → IsLegal s → (o : ObjectNo) (e : End) (i : ℕ) → is_containment s.metamodel e.feature ≡ true → slice_get (values_at s e) i ≡ Some (value.Object o) → position_in (reading s) e o ≡ i
 same-noted s legal o e i contains at =
     let h = held s legal o e (holder-at s legal e.node e.feature contains i o at) in
@@ -80,7 +80,7 @@ module _ (m : Metamodel) (v w : ValuesState) (a b : Links) (legal : IsLegal (mod
   pub path-image : (o : ObjectNo) → resource_of (above a) o ≡ Some k → IsAtPath o
   path-image o inside = each-inside s legal IsAtPath k at-root at-part o inside
 
-  -- and, where the resources have as many roots, has the same fragment
+  -- if the resources have the same number of roots, the part has the same fragment
   module _ (count : length (values_at (model_of m w b) (at_end (node.Resource j) (lookups.contents m))) ≡ length (values_at (model_of m v a) (at_end (node.Resource k) (lookups.contents m)))) where
     one-root : has_one_root (reading t) j ≡ has_one_root (reading s) k
     one-root = ap (λ (n : ℕ). nat_eq n 1) count
@@ -92,7 +92,7 @@ module _ (m : Metamodel) (v w : ValuesState) (a b : Links) (legal : IsLegal (mod
         ∙ (λ i. option_map (path_text (one-root i)) (at.path i))
         ∙ sym (ap (option_and_then (λ (i : ResourceNo). option_map (path_text (has_one_root (reading s) i)) (path_of (reading s) o))) inside)
 
-    -- and, where the resources have one URI, the same address
+    -- if the resources have the same URI, the part has the same address
     pub address-image : slice_get w.uris j.0 ≡ slice_get v.uris k.0 → (o : ObjectNo) → resource_of (above a) o ≡ Some k → address (reading t) (image o) ≡ address (reading s) o
     address-image uris o inside =
         let at = path-image o inside in

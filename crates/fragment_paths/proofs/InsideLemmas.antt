@@ -1,4 +1,4 @@
--- What holds of the objects of a resource, found by going up from each to a root.
+-- Properties of the objects of a resource, proved by going up from each to a root.
 use Rattle.std.proofs.Common.{◌≡◌, ℕ, zero, suc, ◌<◌, true, length, Option, Some, None, arith, eq-eqb, refl, sym, ap, ◌∙◌}
 use Rattle.std.specs.Option.{option_map_or}
 use Rattle.std.proofs.lemmas.Option.{none-some, same_Some, slice_get_past}
@@ -18,14 +18,15 @@ use Rattle.models.specs.Model.{Model, reading}
 use Rattle.containment.specs.Above.{resource_of}
 use Rattle.fragment_paths.proofs.UpLemmas.{locate-falls, resource-none, resource-part, resource-root}
 
--- the feature that holds a resource's roots contains
+-- the feature of a resource's roots is a containment
 pub contents-contains : (m : Metamodel) → is_containment m (lookups.contents m) ≡ true
 contents-contains m =
     let f = lookups.contents m in
     ap (λ (x : Option Feature). is_feature f (option_map_or (λ g. shape_of m f g g.kind) x (contents_shape m)).containing) (slice_get_past m.features (length m.features) (omega arith)) ∙ eq-eqb f.0 f.0 refl
 
 module _ (s : Model) (legal : IsLegal s) where
-  -- what holds of each root of a resource, and of an object if it holds of its holder, holds of each object of the resource
+  -- if a property holds for each root of a resource, and for an object if it holds for its container, then it holds for each object of the
+  -- resource
   module _ (P : ObjectNo → Type 0) (k : ResourceNo) (at_root : (o : ObjectNo) (e : End) → holder s.links (node.Object o) ≡ Some e → e.node ≡ node.Resource k → P o)
       (at_part : (o : ObjectNo) (e : End) (p : ObjectNo) → holder s.links (node.Object o) ≡ Some e → e.node ≡ node.Object p → resource_of (reading s).above p ≡ Some k → P p → P o) where
     by-holder : (o : ObjectNo) (e : End) → holder s.links (node.Object o) ≡ Some e → resource_of (reading s).above o ≡ Some k

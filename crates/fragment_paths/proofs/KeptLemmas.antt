@@ -1,4 +1,4 @@
--- The remembered fragments as a map: what its entries give, and what an insert makes of them.
+-- The remembered fragments as a map: its entries, and the map after an insert.
 use Rattle.std.proofs.Common.{◌≡◌, ◌∙◌, ℕ, ◌+◌, ◌≤◌, Bool, true, false, ◌&&◌, not, cond, List, [], ◌∷◌, Option, Some, Result, Ok, Err, length, nat_eq, refl, sym, ap, inl, inr, arith}
 use Rattle.std.specs.Prelude.{◌⊎◌, OnOk, OnErr, IfOk, is_some, nat_le, if◌then◌else◌}
 use Rattle.std.specs.FinMap as map
@@ -9,18 +9,16 @@ use Rattle.std.proofs.lemmas.Bool.Decides.{nat_tests}
 use Rattle.std.proofs.lemmas.Cmp.{nat_cmp_total}
 use Rattle.mm_types.specs.declared.numbers.ObjectNo.{ObjectNo}
 use Rattle.fragment_paths.specs.Kept.{Kept, is_full_for, kept_map, with_room}
+use Rattle.mm_meta.proofs.OwnerLemmas.{nat_eq-turned}
 
 tied : (x y : ℕ) → eq_by_cmp nat_cmp x y ≡ nat_eq x y
 tied x y = grind (arith, nat_tests)
-
-turned : (x y : ℕ) → nat_eq x y ≡ nat_eq y x
-turned x y = grind (arith, nat_tests)
 
 find-lookup : (es : List (ℕ × List ℕ)) (q : ℕ) → map.find nat_cmp q es ≡ lookup (nat_eq q) es
 find-lookup [] q = refl
 find-lookup (e ∷ es) q = λ i. cond (tied q e.0 i) (Some e.1) (find-lookup es q i)
 
--- the text of an object is the one that its entry has
+-- the text of an object is the text of its entry
 pub get-kept : (es : List (ℕ × List ℕ)) (q : ℕ) → map.get (kept_map es) q ≡ lookup (nat_eq q) es
 get-kept es q = map.get-from_entries nat_cmp_total es q ∙ find-lookup es q
 
@@ -28,9 +26,9 @@ get-kept es q = map.get-from_entries nat_cmp_total es q ∙ find-lookup es q
 pub kept-insert : (es ds : List (ℕ × List ℕ)) (k : ℕ) (v : List ℕ) → ((q : ℕ) → lookup (nat_eq q) ds ≡ cond (nat_eq k q) (Some v) (lookup (nat_eq q) es)) → kept_map ds ≡ map.insert (kept_map es) k v
 kept-insert es ds k v has =
     map.same_map nat_cmp_total nat_cmp-IsAntisymmetric (kept_map ds) (map.insert (kept_map es) k v)
-    (λ q. get-kept ds q ∙ has q ∙ (λ i. cond ((turned k q ∙ sym (tied q k)) i) (Some v) (sym (get-kept es q) i)) ∙ sym (map.get-insert nat_cmp_total (kept_map es) k v q))
+    (λ q. get-kept ds q ∙ has q ∙ (λ i. cond ((nat_eq-turned k q ∙ sym (tied q k)) i) (Some v) (sym (get-kept es q) i)) ∙ sym (map.get-insert nat_cmp_total (kept_map es) k v q))
 
--- each object has one entry, and there are no more of them than there may be
+-- each object has at most one entry, and there are no more entries than the limit
 abbrev pub AreKept : List (ℕ × List ℕ) → Type 0
 AreKept es = (map.len (kept_map es) ≡ length es) × (length es ≤ 1024)
 
@@ -52,22 +50,22 @@ insert-kept es ds k v has longer old free =
         below : (n e d : ℕ) → nat_le 1024 n ≡ false → n ≡ e → d ≡ e + 1 → d ≤ 1024
         below n e d few same more = grind (arith, nat_tests)
 
--- of what holds of each outcome, the one that came
+-- of two facts, one for each outcome, the one of the actual outcome
 pub either : {A B P Q : Type 0} (r : Result A B) → OnOk r P → OnErr r Q → P ⊎ Q
 either (Ok a) p q = inl p
 either (Err b) p q = inr q
 
--- how much longer the entries are, by what was there before
+-- how many entries are added, by whether there was one before
 pub longer-by : {A B : Type 0} (r : Result (Option A) B) (was : Option A) (n m : ℕ) → IfOk r (λ old. old ≡ was) → IfOk r (λ old. n ≡ m + cond (is_some old) 0 1) → OnOk r (n ≡ m + cond (is_some was) 0 1)
 longer-by (Ok old) was n m same more = more ∙ ap (λ o. m + cond (is_some o) 0 1) same
 longer-by (Err b) was n m same more = tt
 
--- what is the same in both outcomes
+-- a fact that is the same in both outcomes
 pub both-ok : {A B : Type 0} (P Q : Type 0) (r : Result A B) → OnOk r P → OnOk r Q → OnOk r (P × Q)
 both-ok P Q (Ok a) p q = (p, q)
 both-ok P Q (Err b) p q = tt
 
--- once there is capacity for an object, there is
+-- there is capacity for an object after it was made
 pub room-made : (m : Kept) (o : ObjectNo) → is_full_for (with_room m o) o ≡ false
 room-made m o =
     elim (is_full_for m o) as (λ b. is_full_for m o ≡ b → is_full_for (if b then map.empty else m) o ≡ false) [

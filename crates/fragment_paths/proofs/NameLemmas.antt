@@ -1,4 +1,4 @@
--- In a metamodel of a document, a feature that a class has is the one of its name there, and that name is one.
+-- In a metamodel of a document, a class has only one feature of a name, and the name of a feature is a name.
 use Rattle.std.proofs.Common.{◌≡◌, ℕ, zero, suc, Bool, true, false, cond, List, [], ◌∷◌, map, Option, Some, None, inl, inr, refl, sym, ap, ◌∙◌, subst}
 use Rattle.std.specs.Prelude.{not, nat_eq, option_and_then, option_map, slice_get}
 use Rattle.std.specs.List.{find, list_any, slice_index_or}
@@ -135,7 +135,7 @@ of-resolved m d = record { raw = d.raw; fits = d.fits; well_formed = d.well_form
 pub own-name : (m : Metamodel) → IsOfDocument m → (c : ClassNo) (f : FeatureNo) → has_feature m c f ≡ true → feature_by_name m c (feature_name m f) ≡ Some f
 own-name m d c f = subst (λ (n : Metamodel). has_feature n c f ≡ true → feature_by_name n c (feature_name n f) ≡ Some f) (sym d.is) (by-name d.raw (of-resolved m d) d.well_formed c f)
 
--- and that name is one
+-- the name of a feature is a name
 pub valid-feature : (m : Metamodel) → IsOfDocument m → (c : ClassNo) (f : FeatureNo) → has_feature m c f ≡ true → is_name (feature_name m f) ≡ true
 valid-feature m d c f =
     subst (λ (n : Metamodel). has_feature n c f ≡ true → is_name (feature_name n f) ≡ true) (sym d.is) (λ h.

@@ -1,8 +1,9 @@
--- The objects at the ends of a legal model that contain: all that is there.
+-- The containment ends of a legal model have only objects.
 use Rattle.std.proofs.Common.{◌≡◌, ◌&&◌, not, ℕ, zero, suc, Bool, true, false, IsTrue, List, [], ◌∷◌, slice_get, Option, Some, None, is_some, option_and_then, if◌then◌else◌, refl, sym, ap, ◌∙◌}
 use Rattle.std.specs.List.{list_all}
 use Rattle.std.proofs.lemmas.Bool.{and_parts, false≢true}
 use Rattle.std.proofs.lemmas.Option.{none-some, same_Some}
+use Rattle.std.proofs.Math.Bool.{and-false}
 use Rattle.mm_types.specs.Lookups as lookups
 use Rattle.mm_types.specs.Lookups.{is_object}
 use Rattle.mm_types.specs.Resolved.{Metamodel}
@@ -21,15 +22,11 @@ use Rattle.web_uris.specs.declared.path.Step.{Step}
 use Rattle.fragment_paths.specs.Finding.{feature_of, goes_by, if_goes_by}
 use Rattle.containment.proofs.PartLemmas.{contains-itself, contains-reference, values-linked}
 
-never : (b : Bool) → (b && false) ≡ false
-never true = refl
-never false = refl
-
 -- what contains takes no proxies
 no-proxies : (m : Metamodel) (f : FeatureNo) → is_containment m f ≡ true → takes_proxies (shape m f) ≡ false
 no-proxies m f contains =
     let a = shape m f in
-    ap (λ (x : Option FeatureNo). a.is_reference && not (is_some x)) (contains-itself f a.containing contains) ∙ never a.is_reference
+    ap (λ (x : Option FeatureNo). a.is_reference && not (is_some x)) (contains-itself f a.containing contains) ∙ and-false a.is_reference
 
 one-of : (r : Reading) (f : FeatureNo) (v : Value) → takes_proxies (shape r.metamodel f) ≡ false → is_legal_target r f v ≡ true → is_object v ≡ true
 one-of r f (value.Object o) none h = refl
@@ -46,13 +43,13 @@ all-at : (r : Reading) (e : End) (vs : List Value) → takes_proxies (shape r.me
 all-at r e [] none h = refl
 all-at r e (v ∷ vs) none h = all-of r e (v ∷ vs) none (and_parts _ _ (and_parts _ _ h).1).0
 
--- an end that contains has objects alone
+-- a containment end has only objects
 pub all-objects : (s : Model) (e : End) → IsLegal s → is_containment s.metamodel e.feature ≡ true → list_all is_object (values_at s e) ≡ true
 all-objects s e legal contains =
     let reference = contains-reference s.metamodel e.feature e.feature (contains-itself e.feature (shape s.metamodel e.feature).containing contains) in
     ap (list_all is_object) (values-linked s e reference) ∙ all-at (reading s) e (end s.links e) (no-proxies s.metamodel e.feature contains) (legal.links.ends e)
 
--- a step goes by a containment reference
+-- a step leads through a containment reference
 pub by-containment : (r : Reading) (o : ObjectNo) (t : Step) (f : FeatureNo) → feature_of r o t ≡ Some f → is_containment r.metamodel f ≡ true
 by-containment r o t f = by_class (r.class o)
   where
@@ -68,7 +65,7 @@ by-containment r o t f = by_class (r.class o)
     by_class None h = absurd (none-some f h)
     by_class (Some c) h = by_name (lookups.feature_by_name r.metamodel c t.name) h
 
--- an object among objects alone has its position among all values
+-- if a list has only objects, an object has the same position among the objects as among the values
 pub objects-get : (vs : List Value) (k : ℕ) → list_all is_object vs ≡ true → option_and_then object_of (slice_get vs k) ≡ slice_get (objects_of vs) k
 objects-get [] k all = refl
 objects-get (value.Object o ∷ vs) zero all = refl

@@ -1,4 +1,4 @@
--- The position of an object at a reference is its first.
+-- The position of an object at a reference is its first position.
 use Rattle.std.proofs.Common.{◌≡◌, ℕ, true, false, List, [], Option, Some, nat_eq, slice_get, unwrap_or, refl, sym, ap, ◌∙◌, subst}
 use Rattle.std.specs.Prelude.{cond}
 use Rattle.std.specs.Map.{lookup}

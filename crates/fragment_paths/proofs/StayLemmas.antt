@@ -1,5 +1,5 @@
--- If the ends that contain hold the same, the nodes above each node stay, and each object keeps its fragment and, with the same URIs,
--- its address. And an address finds one object.
+-- If the containments are the same, the nodes above each node stay, and each object keeps its fragment and, with the same URIs, its
+-- address. An address leads to one object.
 use Rattle.std.proofs.Common.{◌≡◌, ◌∙◌, ℕ, zero, suc, ◌<◌, true, List, [], ◌∷◌, Option, Some, None, length, slice_get, refl, sym, ap, arith}
 use Rattle.std.specs.Prelude.{option_and_then, option_map}
 use Rattle.std.specs.Option.{option_map_or}
@@ -35,10 +35,10 @@ use Rattle.fragment_paths.specs.Laws.{HaveSameParts}
 use Rattle.fragment_paths.proofs.InsideLemmas.{contents-contains}
 use Rattle.fragment_paths.proofs.ImageLemmas.{address-image, fragment-image}
 
-no-address : (s : Model) (o : ObjectNo) → resource_of (above s.links) o ≡ None → address (reading s) o ≡ None
+pub no-address : (s : Model) (o : ObjectNo) → resource_of (above s.links) o ≡ None → address (reading s) o ≡ None
 no-address s o none = ap (option_and_then (λ (k : ResourceNo). option_and_then (λ u. option_map (address_text u) (fragment (reading s) o)) (slice_get s.values.uris k.0))) none
 
--- what is at an address is found by it
+-- an object is found by its address
 pub address-finds : (s : Model) → IsLegal s → (o : ObjectNo) (a : List ℕ) → address (reading s) o ≡ Some a → at (reading s) a ≡ Some o
 address-finds s legal o a is = by (resource_of (above s.links) o) refl
   where
@@ -46,14 +46,14 @@ address-finds s legal o a is = by (resource_of (above s.links) o) refl
     by None none = absurd (none-some a (sym (no-address s o none) ∙ is))
     by (Some k) inside = sym (ap (option_and_then (at (reading s))) is) ∙ (object-found s legal o k inside).by_address
 
--- so no two objects have one address
+-- so no two objects have the same address
 pub one-address : (s : Model) → IsLegal s → (o b : ObjectNo) (a : List ℕ) → address (reading s) o ≡ Some a → address (reading s) b ≡ Some a → o ≡ b
 one-address s legal o b a x y = same_Some o b (sym (address-finds s legal o a x) ∙ address-finds s legal b a y)
 
 no-fragment : (s : Model) (o : ObjectNo) → resource_of (above s.links) o ≡ None → fragment (reading s) o ≡ None
 no-fragment s o none = ap (option_and_then (λ (k : ResourceNo). option_map (path_text (has_one_root (reading s) k)) (path_of (reading s) o))) none
 
--- the holder of an object is the same if the ends that contain are the same
+-- the holder of an object is the same if the containments are the same
 held-still : (m : Metamodel) (v w : ValuesState) (a b : Links) → IsLegal (model_of m v a) → IsLegal (model_of m w b) → HaveSameParts m v w a b → (o : ObjectNo) (e : End) → holder a (node.Object o) ≡ Some e → holder b (node.Object o) ≡ Some e
 held-still m v w a b legal other same o e h =
     let s = model_of m v a in
@@ -61,7 +61,7 @@ held-still m v w a b legal other same o e h =
     let p = position_in (reading s) e o in
     holder-at (model_of m w b) other e.node e.feature there.contains p o (ap (λ (vs : List Value). slice_get vs p) (same e.node e.feature there.contains) ∙ there.here)
 
-nothing-above : (t : Links) → IsLegalSet t → HasNoCycle t → (n : Node) → holder t n ≡ None → above t n ≡ []
+pub nothing-above : (t : Links) → IsLegalSet t → HasNoCycle t → (n : Node) → holder t n ≡ None → above t n ≡ []
 nothing-above t legal free n none = above_is t legal free n ∙ ap (λ (x : Option End). option_map_or (λ (d : End). d.node ∷ above t d.node) x []) none
 
 same-back : (m : Metamodel) (v w : ValuesState) (a b : Links) → HaveSameParts m v w a b → HaveSameParts m w v b a
@@ -115,7 +115,7 @@ module _ (m : Metamodel) (v w : ValuesState) (a b : Links) (legal : IsLegal (mod
       by None none = no-fragment (model_of m w b) o (nowhere-still o none) ∙ sym (no-fragment (model_of m v a) o none)
       by (Some k) inside = fragment-image m v w a b legal other k k (λ p. p) (tops k) (λ p f i c within contains here. at-same (node.Object p) f i _ contains here) (count-stays k) o inside
 
-  -- and, where the URIs are the same, the address
+  -- if the URIs are the same, each object has the address that it had
   pub address-stays : w.uris ≡ v.uris → (o : ObjectNo) → address (reading (model_of m w b)) o ≡ address (reading (model_of m v a)) o
   address-stays uris o = by (resource_of (above a) o) refl
     where

@@ -1,4 +1,4 @@
--- The way up from an object to its resource, one holder after another.
+-- The path up from an object to its resource, one holder after another.
 use Rattle.std.proofs.Common.{◌≡◌, ◌<◌, length, arith, List, [], ◌∷◌, ◌++◌, reverse, Option, Some, None, option_map, append_assoc, refl, sym, ap, ◌∙◌}
 use Rattle.std.specs.Prelude.{option_and_then, unwrap_or}
 use Rattle.std.specs.List.{last_or}
@@ -21,7 +21,7 @@ use Rattle.fragment_paths.specs.Fragments.{path_of, path_under, position_in, ste
 use Rattle.fragment_paths.specs.Located.{located, path_by}
 use Rattle.fragment_paths.specs.declared.paths.Located.{Located}
 
--- the path, by steps more, of which the last comes first
+-- a path with more steps, the last of which comes first in the list
 abbrev pub with_steps : List Step → Path → Path
 with_steps ss p = record p { steps = p.steps ++ reverse ss }
 
@@ -29,7 +29,7 @@ abbrev pub further : List Step → Located → Located
 further ss x = record x { path = with_steps ss x.path }
 
 module _ (s : Model) (legal : IsLegal s) where
-  -- what is above an object that a node holds
+  -- the nodes above an object that a node contains
   pub above-node : (o : ObjectNo) (e : End) (n : Node) → holder s.links (node.Object o) ≡ Some e → e.node ≡ n → above s.links (node.Object o) ≡ n ∷ above s.links n
   above-node o e n h is =
       above_held s.links legal.links.set legal.links.forest (node.Object o) e h ∙ ap (λ (m : Node). m ∷ above s.links m) is
@@ -77,14 +77,14 @@ module _ (s : Model) (legal : IsLegal s) where
 
   ---------------------------------------------------------------- both
 
-  -- if a resource holds the object, the way ends
+  -- if a resource contains the object, the path ends
   pub locate-root : (o : ObjectNo) (e : End) (k : ResourceNo) (ss : List Step) (all : Option Located) → Some e ≡ holder s.links (node.Object o) → e.node ≡ node.Resource k
       → option_map (further ss) (located (reading s) o) ≡ all → Some (record { resource = k; path = path_by (reading s) e o ss }) ≡ all
   locate-root o e k ss all h is whole =
       sym (ap (λ (x : Option ResourceNo). option_map (further ss) (option_and_then (λ j. option_map (λ p. record { resource = j; path = p }) (path_of (reading s) o)) x)) (resource-root o e k (sym h) is)
       ∙ ap (λ (x : Option Path). option_map (further ss) (option_map (λ p. record { resource = k; path = p }) x)) (path-root o e k (sym h) is)) ∙ whole
 
-  -- if an object holds it, the way goes on from there
+  -- if another object contains it, the path goes on from there
   further-by : (x : Option ResourceNo) (q : Option Path) (t : Step) (ss : List Step)
       → option_map (further (ss ++ t ∷ [])) (option_and_then (λ j. option_map (λ p. record { resource = j; path = p }) q) x)
       ≡ option_map (further ss) (option_and_then (λ j. option_map (λ p. record { resource = j; path = p }) (option_map (λ p. with_step p t) q)) x)
@@ -112,7 +112,7 @@ module _ (s : Model) (legal : IsLegal s) where
   pub locate-falls : (o : ObjectNo) (e : End) (p : ObjectNo) → Some e ≡ holder s.links (node.Object o) → e.node ≡ node.Object p → length (above s.links (node.Object p)) < length (above s.links (node.Object o))
   locate-falls o e p h is = let one = ap (λ (ns : List Node). length ns) (above-node o e (node.Object p) (sym h) is) in omega (arith, one)
 
--- no steps more change nothing
+-- adding no steps changes nothing
 pub further-none : (x : Option Located) → option_map (further []) x ≡ x
 further-none None = refl
 further-none (Some x) = λ i. Some (record { resource = x.resource; path = new_path x.path.root (append-nil x.path.steps i) })

@@ -1,4 +1,4 @@
--- What a fragment finds in a resource (EMF: Resource.getEObject), and what an address finds (ResourceSet.getEObject).
+-- The object at a fragment in a resource (EMF: Resource.getEObject), and the object at an address (ResourceSet.getEObject).
 use Rattle.std.specs.Prelude.{ℕ, ◌&&◌, Bool, not, List, [], ◌∷◌, slice_get, Option, Some, None, is_some, option_and_then, unwrap_or, if◌then◌else◌}
 use Rattle.mm_types.specs.Lookups as lookups
 use Rattle.mm_types.specs.Shapes.{is_containment, shape}
@@ -16,20 +16,20 @@ use Rattle.web_uris.specs.declared.path.Step.{Step}
 abbrev pub roots : Reading → ResourceNo → List ObjectNo
 roots r k = objects_of (r.values (roots_end r k))
 
--- a step goes by a containment reference, with an index if that is many-valued and without one if it is single
+-- whether a step leads through a feature: the feature is a containment, and the step has an index exactly if the feature is many-valued
 abbrev pub goes_by : Reading → Step → FeatureNo → Bool
 goes_by r s f = is_containment r.metamodel f && (if (shape r.metamodel f).is_single then not (is_some s.index) else is_some s.index)
 
--- the feature, if a step goes by it
+-- the feature f, if a step leads through f
 abbrev pub if_goes_by : Reading → Step → FeatureNo → Option FeatureNo
 if_goes_by r s f = if goes_by r s f then Some f else None
 
--- the feature by which a step goes from an object
+-- the feature by which a step leaves an object
 abbrev pub feature_of : Reading → ObjectNo → Step → Option FeatureNo
 feature_of r o s =
     option_and_then (λ c. option_and_then (if_goes_by r s) (lookups.feature_by_name r.metamodel c s.name)) (r.class o)
 
--- the object to which a step leads from another
+-- the object to which a step leads from object o
 abbrev pub stepped : Reading → ObjectNo → Step → Option ObjectNo
 stepped r o s =
     option_and_then (λ f. slice_get (objects_of (r.values (at_end (node.Object o) f))) (unwrap_or s.index 0)) (feature_of r o s)
@@ -38,15 +38,15 @@ abbrev pub walked : Reading → List Step → ObjectNo → Option ObjectNo
 walked r [] o = Some o
 walked r (s ∷ ss) o = option_and_then (walked r ss) (stepped r o s)
 
--- a root, and then step by step
+-- the object that a path leads to: from a root, step by step
 abbrev pub find : Reading → ResourceNo → Path → Option ObjectNo
 find r k p = option_and_then (walked r p.steps) (slice_get (roots r k) p.root)
 
--- what a fragment finds in a resource
+-- the object that a fragment finds in a resource
 abbrev pub found_by : Reading → ResourceNo → List ℕ → Option ObjectNo
 found_by r k t = option_and_then (find r k) (parse t)
 
--- what the fragment after the first `#` finds in the resource whose URI is before it
+-- the object at an address: the text before the first `#` is the URI of the resource, the text after it the fragment
 abbrev pub at : Reading → List ℕ → Option ObjectNo
 at r t =
     if has_mark t then option_and_then (λ k. found_by r k (fragment_part t)) (resource_named r (uri_part t)) else None

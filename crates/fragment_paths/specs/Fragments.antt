@@ -29,7 +29,7 @@ abbrev pub step_into : Reading → End → ObjectNo → Step
 step_into r e o =
     new_step (end_name r e) (if (shape_at r e).is_single then None else Some (position_in r e o))
 
--- the path of an object that has these nodes above it, the nearest first; none if the topmost is an object
+-- the path of an object, given the nodes above it, the nearest first; none if the topmost node is an object
 abbrev pub path_under : Reading → List Node → ObjectNo → Option Path
 path_under r [] o = None
 path_under r (node.Resource k ∷ ns) o = option_map (λ e. new_path (position_in r e o) []) (r.holder (node.Object o))
@@ -39,22 +39,22 @@ path_under r (node.Object h ∷ ns) o =
 abbrev pub path_of : Reading → ObjectNo → Option Path
 path_of r o = path_under r (r.above (node.Object o)) o
 
--- a resource has one root
+-- whether a resource has exactly one root
 abbrev pub has_one_root : Reading → ResourceNo → Bool
 has_one_root r k = nat_eq (length (r.values (roots_end r k))) 1
 
--- none, if an object is in no resource; the root's segment is empty if the resource has one root
+-- the fragment of an object; none if it is in no resource. The root's segment is empty if the resource has one root
 abbrev pub fragment : Reading → ObjectNo → Option (List ℕ)
 fragment r o = option_and_then (λ k. option_map (path_text (has_one_root r k)) (path_of r o)) (resource_of r.above o)
 
--- the resource's URI, `#`, and the fragment
+-- the address of an object: its resource's URI, `#`, and its fragment
 abbrev pub address : Reading → ObjectNo → Option (List ℕ)
 address r o =
     option_and_then
     (λ (k : ResourceNo). option_and_then (λ u. option_map (address_text u) (fragment r o)) (slice_get r.uris k.0))
     (resource_of r.above o)
 
--- an object is in a resource
+-- whether an object is in a resource
 abbrev pub is_in : Reading → ResourceNo → ObjectNo → Bool
 is_in r k o = option_map_or (λ j. nat_eq j.0 k.0) (resource_of r.above o) false
 

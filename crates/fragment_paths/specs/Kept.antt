@@ -10,14 +10,14 @@ Kept = map.FinMap nat_cmp (List ℕ)
 abbrev pub kept_map : List (ℕ × List ℕ) → Kept
 kept_map = map.from_entries
 
--- the map has all texts that it may, and none of the object
+-- whether the map is full, and has no text of the object
 abbrev pub is_full_for : Kept → ObjectNo → Bool
 is_full_for m o = nat_le 1024 (map.len m) && not (map.contains_key m o.0)
 
--- one text more empties it first
+-- the map with capacity for a text of the object: emptied first if it is full
 abbrev pub with_room : Kept → ObjectNo → Kept
 with_room m o = if is_full_for m o then map.empty else m
 
--- the text is kept, unless memory was refused
+-- the text is kept; if memory is refused, it need not be
 abbrev pub MayKeep : Kept → ObjectNo → List ℕ → Kept → Type 0
 MayKeep m o t n = (n ≡ map.insert (with_room m o) o.0 t) ⊎ (n ≡ with_room m o)

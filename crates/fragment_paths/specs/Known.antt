@@ -1,4 +1,4 @@
--- What is known of where objects are.
+-- Known positions of objects.
 use Rattle.std.specs.Prelude.{◌≡◌, ℕ, List, Some, nat_eq}
 use Rattle.std.specs.Map.{lookup}
 use Rattle.mm_types.specs.declared.numbers.ObjectNo.{ObjectNo}

@@ -1,5 +1,5 @@
--- What holds of fragments in legal models: each object that is in a resource has a path, a fragment and an address, and each of
--- them leads to that object. They follow from what contains what.
+-- Laws on fragments in legal models: each object that is in a resource has a path, a fragment and an address, and each of the three leads
+-- to that object. All three depend only on containment.
 use Rattle.std.specs.Prelude.{◌≡◌, ℕ, true, slice_get, Some, option_and_then}
 use Rattle.mm_types.specs.Lookups as lookups
 use Rattle.mm_types.specs.Resolved.{Metamodel}
@@ -24,17 +24,17 @@ pub record IsFound (r : Reading) (o : ObjectNo) (k : ResourceNo) : Type 0 where
   pub by_fragment : option_and_then (found_by r k) (fragments.fragment r o) ≡ Some o
   pub by_address : option_and_then (at r) (fragments.address r o) ≡ Some o
 
--- each object in its resource
+-- each object in a resource is found there
 abbrev pub FindsEach : Reading → Type 0
 FindsEach r = (o : ObjectNo) (k : ResourceNo) → resource_of r.above o ≡ Some k → IsFound r o k
 
 ---------------------------------------------------------------- two models of one metamodel
 
--- each end that contains holds the same in both
+-- each end of a containment holds the same values in both models
 abbrev pub HaveSameParts : Metamodel → ValuesState → ValuesState → Links → Links → Type 0
 HaveSameParts m v w a b = (n : Node) (f : FeatureNo) → is_containment m f ≡ true → values_at (model_of m w b) (at_end n f) ≡ values_at (model_of m v a) (at_end n f)
 
--- then the nodes above each node are the same, and each object keeps its fragment, and, if the URIs are the same, its address
+-- the nodes above each node are the same in both models, and so is the fragment of each object; if the URIs are the same, so is its address
 pub record LeavesAddresses (m : Metamodel) (v w : ValuesState) (a b : Links) : Type 0 where
   pub above : (n : Node) → above b n ≡ above a n
   pub fragment : (o : ObjectNo) → fragments.fragment (reading (model_of m w b)) o ≡ fragments.fragment (reading (model_of m v a)) o
@@ -54,7 +54,7 @@ HasImagesOfParts m v w a b k image =
     → slice_get (values_at (model_of m v a) (at_end (node.Object o) f)) i ≡ Some (value.Object c)
     → slice_get (values_at (model_of m w b) (at_end (node.Object (image o)) f)) i ≡ Some (value.Object (image c))
 
--- then the image of each object of resource k is in resource j, at the same path
+-- the image of an object is in resource j, at the same path as the object
 pub record IsImageAt (m : Metamodel) (v w : ValuesState) (a b : Links) (j : ResourceNo) (image : ObjectNo → ObjectNo) (o : ObjectNo) : Type 0 where
   pub inside : resource_of (above b) (image o) ≡ Some j
   pub path : fragments.path_of (reading (model_of m w b)) (image o) ≡ fragments.path_of (reading (model_of m v a)) o

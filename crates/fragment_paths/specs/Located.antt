@@ -11,17 +11,17 @@ use Rattle.web_uris.specs.declared.path.Step.{Step}
 use Rattle.fragment_paths.specs.Fragments.{has_one_root, path_of, position_in}
 use Rattle.fragment_paths.specs.declared.paths.Located.{Located}
 
--- the path from a root on, by steps of which the last comes first
+-- the path from a root on; the steps are given from the last to the first
 abbrev pub path_by : Reading → End → ObjectNo → List Step → Path
 path_by r e o steps = new_path (position_in r e o) (reverse steps)
 
 abbrev pub located : Reading → ObjectNo → Option Located
 located r o = option_and_then (λ k. option_map (λ p. record { resource = k; path = p }) (path_of r o)) (resource_of r.above o)
 
--- the text of the path, as it is written in that resource
+-- the text of a located object's path, as it is written in its resource
 abbrev pub located_text : Reading → Located → List ℕ
 located_text r x = path_text (has_one_root r x.resource) x.path
 
--- after the URI of that resource
+-- the address of a located object: its resource's URI, `#`, and the path's text
 abbrev pub located_address : Reading → Located → Option (List ℕ)
 located_address r x = option_map (λ u. address_text u (located_text r x)) (slice_get r.uris x.resource.0)

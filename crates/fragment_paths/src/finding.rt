@@ -1,4 +1,4 @@
-//! What paths and addresses find.
+//! The objects that paths and addresses lead to.
 ghost use Rattle.std.specs.Prelude.{◌≡◌, ◌&&◌, IfOk};
 ghost use Rattle.models.specs.Model.{reading};
 ghost use Rattle.fragment_paths.specs.Finding as finding;
@@ -11,8 +11,7 @@ use models::ModelRef;
 use std::alloc::{AllocError, Global};
 use web_uris::{Path, Step, parse, split_address};
 
-/// Whether a step goes by a feature: a containment reference, with an index if it is many-valued and without one if it is
-/// single.
+/// Whether a step leads through a feature: the feature is a containment, and the step has an index exactly if the feature is many-valued.
 fn goes_by<L: LinkStore>(model: &ModelRef<L>, step: &Step, feature: FeatureNo) -> bool
     ensures { result ≡ finding.goes_by (reading model.now) step.now feature }
 {
@@ -20,7 +19,7 @@ fn goes_by<L: LinkStore>(model: &ModelRef<L>, step: &Step, feature: FeatureNo) -
     meta.is_containment(feature) && meta.is_single(feature) != step.index.is_some()
 }
 
-/// The feature by which a step goes from an object.
+/// The feature by which a step leaves an object.
 fn feature_of<L: LinkStore>(model: &ModelRef<L>, object: ObjectNo, step: &Step) -> Option<FeatureNo>
     ensures { result ≡ finding.feature_of (reading model.now) object step.now }
 {
@@ -81,9 +80,9 @@ fn found_by<L: LinkStore>(
     }
 }
 
-/// The object at an address (EMF: ResourceSet.getEObject, without loading): what the fragment after the first `#` finds in the
-/// resource whose URI comes before it. `None` if there is no `#`, no resource of that very URI, no fragment after it, or nothing
-/// at that position. Errs only if memory is refused.
+/// The object at an address (EMF: ResourceSet.getEObject, without loading): the object to which the fragment after the first `#` leads in
+/// the resource whose URI comes before it. `None` if there is no `#`, no resource of exactly that URI, no fragment after it, or no object
+/// at its path. Errs only if memory is refused.
 pub fn object_at<L: LinkStore>(
     alloc: Global,
     model: &ModelRef<L>,

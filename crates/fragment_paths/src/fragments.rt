@@ -19,7 +19,7 @@ fn has_one_root<L: LinkStore>(model: &ModelRef<L>, resource: ResourceNo) -> bool
     model.len(roots_end(model, resource)) == 1
 }
 
-/// The fragment that a path is in its resource.
+/// The text of a path as a fragment of its resource.
 fn text_of<L: LinkStore>(
     alloc: Global,
     model: &ModelRef<L>,
@@ -30,7 +30,7 @@ fn text_of<L: LinkStore>(
     found.path.text(alloc, has_one_root(model, found.resource))
 }
 
-/// The fragment of what was found in a resource.
+/// The fragment of a located object.
 fn fragment_by<L: LinkStore>(
     alloc: Global,
     model: &ModelRef<L>,
@@ -42,8 +42,8 @@ fn fragment_by<L: LinkStore>(
     Ok(Some(Text::from_string(text)))
 }
 
-/// The fragment of an object in its resource (EMF: Resource.getURIFragment): the position of its root, left out if the resource has
-/// one root, and then a step for each object on the way. `None` if the object is in no resource. Errs only if memory is refused.
+/// The fragment of an object in its resource (EMF: Resource.getURIFragment): the position of its root, which is left out if the resource
+/// has one root, and then a step for each object on the way. `None` if the object is in no resource. Errs only if memory is refused.
 pub fn write<L: LinkStore>(
     alloc: Global,
     model: &ModelRef<L>,
@@ -57,7 +57,7 @@ pub fn write<L: LinkStore>(
     }
 }
 
-/// The address of what was found in a resource.
+/// The address of a located object.
 fn address_by<L: LinkStore>(
     alloc: Global,
     model: &ModelRef<L>,

@@ -11,14 +11,14 @@ ghost use Rattle.models.specs.Model.{Model, model_of, reading};
 ghost use Rattle.containment.specs.Above.{resource_of};
 ghost use Rattle.fragment_paths.specs.Laws.{FindsEach, HasImagesOfParts, HasImagesOfRoots, HaveSameParts, IsImageAt, LeavesAddresses};
 
-/// An object that is in a resource has a path, a fragment and an address, and what each of them finds is that object (EMF:
-/// Resource.getEObject of Resource.getURIFragment; ResourceSet.getEObject of EcoreUtil.getURI).
+/// An object that is in a resource has a path, a fragment and an address, and each of them leads to that object (EMF: Resource.getEObject
+/// of Resource.getURIFragment; ResourceSet.getEObject of EcoreUtil.getURI).
 pub fn an_object_is_found_where_it_stands()
     ensures { (s : Model) → IsLegal s → FindsEach (reading s) }
 {}
 
-/// If the ends that contain hold the same in two models of one metamodel, the nodes above each node are the same, and so is the
-/// fragment of each object; if the resources have the same URIs too, so is its address.
+/// If the ends of containments hold the same values in two models of one metamodel, the nodes above each node are the same, and so is the
+/// fragment of each object. If the resources have the same URIs too, so is its address.
 pub fn addresses_follow_from_what_contains_what()
     ensures { (m : Metamodel) (v w : ValuesState) (a b : Links) → IsLegal (model_of m v a) → IsLegal (model_of m w b) → HaveSameParts m v w a b → LeavesAddresses m v w a b }
 {}

@@ -9,11 +9,11 @@ use mm_types::{ObjectNo, Text};
 use std::alloc::Global;
 use std::marker::Model;
 
-/// How many fragments are remembered at most.
+/// The greatest number of fragments that are remembered.
 const MOST: usize = 1_024;
 
-/// Fragments of objects, remembered so that one that is asked for again is not computed again. Contracts see it as a finite map from
-/// the numbers of objects to texts. It holds at most 1,024 texts.
+/// Fragments of objects, remembered so that none is computed twice. Contracts see it as a finite map from the numbers of objects to texts.
+/// It holds at most 1,024 texts.
 #[derive(Drop)]
 pub struct PathCache {
     texts: IndexMap<u32, Text>,
@@ -44,7 +44,7 @@ impl PathCache {
         }
     }
 
-    /// The text that is kept of an object, if there is one. Takes no memory.
+    /// The text that is kept for an object, if there is one. Takes no memory.
     pub fn get(&self, object: ObjectNo) -> Option<&str>
         ensures { option_copied result ≡ map.get self.now object.0 }
     {
@@ -52,8 +52,8 @@ impl PathCache {
         Some(text.as_str())
     }
 
-    /// Keeps the text of an object, instead of the one that was kept of it. If 1,024 texts are kept, and none of the object,
-    /// all of them are dropped first. If memory is refused, the text is not kept.
+    /// Keeps the text of an object, in place of the text that was kept for it. If 1,024 texts are kept, and none of the object, all of them
+    /// are dropped first. If memory is refused, the text is not kept.
     pub fn keep(&mut self, object: ObjectNo, text: &str)
         ensures { kept.MayKeep self.old object text.now self.new }
     {

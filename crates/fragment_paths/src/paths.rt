@@ -47,7 +47,7 @@ fn step_into<L: LinkStore>(
     Ok(Step { name, index })
 }
 
-/// The path to a root, and from there by steps, of which the last comes first.
+/// The path to a root and from there by steps, which are given from the last to the first.
 fn path_by<L: LinkStore>(
     positions: &Positions<L>,
     end: End,

@@ -1,4 +1,4 @@
-//! The positions of objects in the ends that hold them, looked up once for all of an end.
+//! The positions of objects in the ends that hold them. All positions of an end are looked up at once.
 ghost use Rattle.std.specs.Prelude.{◌≡◌, Some, slice_get, true};
 ghost use Rattle.mm_types.specs.Same.{same_end};
 ghost use Rattle.mm_types.specs.Shapes.{shape};
@@ -23,7 +23,7 @@ pub(crate) struct EndPosition {
 }
 
 impl EndPosition {
-    /// Whether it is one of an end.
+    /// Whether it is a position at an end.
     fn is_at(&self, end: End) -> bool
         ensures { result ≡ same_end self.now.end end }
     {
@@ -33,8 +33,8 @@ impl EndPosition {
 
 /// A model, and the positions of some of its objects in the ends that hold them. It is seen as the model.
 ///
-/// The position of an object that is not among them is searched for, one value after another. So a caller that writes many
-/// fragments first notes the ways to their objects: each end on them is gone through once, however many fragments lead through it.
+/// If the position of an object is not known, its end is searched, one value after another. So a caller that writes many fragments first
+/// notes the ways to their objects. Then each end on these ways is gone through once, however many fragments lead through it.
 #[derive(Drop)]
 pub struct Positions<'m, 'a, L: LinkStore> {
     model: &'m ModelRef<'a, L>,
@@ -74,7 +74,7 @@ impl<'m, 'a, L: LinkStore> Positions<'m, 'a, L> {
         self.model
     }
 
-    /// What holds of every model, for proofs that know it by its view: it is legal.
+    /// Every model is legal. Proofs that know a model by its view call this.
     pub(crate) fn lemma_is_legal(&self)
         ensures { IsLegal self.now }
     {
@@ -101,7 +101,7 @@ impl<'m, 'a, L: LinkStore> Positions<'m, 'a, L> {
         }
     }
 
-    /// Whether a position of an object is known. What is known is no part of the model, so no contract speaks of it.
+    /// Whether a position of an object is known. The known positions are no part of the model, so no contract speaks of them.
     fn is_known(&self, object: ObjectNo) -> bool {
         self.known.contains_key(&object.0)
     }
@@ -117,7 +117,7 @@ impl<'m, 'a, L: LinkStore> Positions<'m, 'a, L> {
         Ok(())
     }
 
-    /// Notes what is at a position of a reference.
+    /// Notes the object at a position of a reference.
     fn note_at(&mut self, end: End, index: u32) -> Result<(), AllocError>
         requires reference { (shape self.old.metamodel end.feature).is_reference ≡ true }
         ensures { self.new ≡ self.old }
@@ -128,7 +128,7 @@ impl<'m, 'a, L: LinkStore> Positions<'m, 'a, L> {
         }
     }
 
-    /// Notes all that is at a reference.
+    /// Notes all objects of a reference.
     fn note_end(&mut self, end: End) -> Result<(), AllocError>
         requires reference { (shape self.old.metamodel end.feature).is_reference ≡ true }
         ensures { self.new ≡ self.old }
@@ -139,8 +139,8 @@ impl<'m, 'a, L: LinkStore> Positions<'m, 'a, L> {
         Ok(())
     }
 
-    /// Notes the positions of an object, of what is above it, and of all beside them. If the object is known, so are the others: then
-    /// this takes no time. Errs only if memory is refused; the model is the same in any case.
+    /// Notes the positions of an object, of the objects above it, and of all other objects in their ends. If the object is known, the
+    /// others are known too, and this takes no time. Errs only if memory is refused; the model is the same in any case.
     pub fn note_way(&mut self, object: ObjectNo) -> Result<(), AllocError>
         ensures { self.new ≡ self.old }
     {

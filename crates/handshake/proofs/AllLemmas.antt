@@ -1,4 +1,4 @@
--- What holds of each change: of the one that resolves all proxies, since it holds of each of them, and of each other change.
+-- Laws on each change: they hold for the change that resolves all proxies, since they hold for each of these, and for each other change.
 use Rattle.std.proofs.Common.{ap, ◌∙◌, refl}
 use Rattle.mm_types.specs.Ends.{Ends}
 use Rattle.models.specs.Model.{Model, reading}

@@ -1,4 +1,4 @@
--- A chain has no end twice, but a list that is unset, and so its notifications are those that are read in the model as it is.
+-- A chain has no end twice, except a list that is unset. So its notifications can be computed in the model as it is.
 use Rattle.std.proofs.Common.{◌≡◌, ◌≢◌, ◌<◌, ◌≤◌, ◌||◌, ℕ, zero, suc, pos, nat_lt, length, take, remove, slice_get, option_to_list, arith, Bool, true, false, not, List, [], ◌∷◌, ◌++◌, filter, flat_map, map, Option, Some, None, option_map, if◌then◌else◌, refl, sym, ap, ◌∙◌, subst, inl, inr, true≢false}
 use Rattle.std.specs.List.{AllByRecursion}
 use Rattle.std.specs.Option.{option_map_or}
@@ -51,15 +51,12 @@ use Rattle.handshake.specs.declared.change_kind.ChangeKind.{ChangeKind}
 use Rattle.handshake.specs.declared.change_kind.FeatureChange.{FeatureChange}
 use Rattle.removal.specs.declared.link_end.LinkEnd.{LinkEnd}
 use Rattle.removal.proofs.ListLemmas.{all-map, all-weaker}
+use Rattle.removal.proofs.OuterLemmas.{all_of}
 use Rattle.handshake.proofs.ResolvedLemmas.{resolved-as}
 use Rattle.handshake.proofs.FeatureChangeLemmas.{take-whole}
 use Rattle.proxies.proofs.TargetLemmas.{match-apart}
 
 ---------------------------------------------------------------- lists
-
-all_of : {X : Type 0} (P : X → Type 0) (xs : List X) → ((x : X) → P x) → AllByRecursion P xs
-all_of P [] of = tt
-all_of P (x ∷ xs) of = (of x, all_of P xs of)
 
 all_both : {X : Type 0} (P Q : X → Type 0) (xs : List X) → AllByRecursion P xs → AllByRecursion Q xs → AllByRecursion (λ (x : X). P x × Q x) xs
 all_both P Q [] a b = tt
@@ -70,7 +67,7 @@ all_filter P p [] all = tt
 all_filter P p (x ∷ xs) all =
     elim (p x) as (λ b. AllByRecursion P (if b then x ∷ filter p xs else filter p xs)) [ true ↦ (all.0, all_filter P p xs all.1) | false ↦ all_filter P p xs all.1 ]
 
--- what is kept passes
+-- the elements that a filter keeps pass the test
 all_pass : {X : Type 0} (p : X → Bool) (xs : List X) → AllByRecursion (λ (x : X). p x ≡ true) (filter p xs)
 all_pass p [] = tt
 all_pass p (x ∷ xs) =
@@ -80,9 +77,9 @@ all_flat : {X Y : Type 0} (P : X → Type 0) (Q : Y → Type 0) (f : X → List 
 all_flat P Q f [] each all = tt
 all_flat P Q f (x ∷ xs) each all = all-append Q (f x) (flat_map f xs) (each x all.0) (all_flat P Q f xs each all.1)
 
----------------------------------------------------------------- tellings at other ends
+---------------------------------------------------------------- feature changes at other ends
 
--- no telling of the list is at this end
+-- no feature change of the list is at this end
 abbrev pub IsNotAt : End → List FeatureChange → Type 0
 IsNotAt e ts = AllByRecursion (λ (t : FeatureChange). e ≡ t.at → ⊥) ts
 
@@ -95,13 +92,13 @@ apart_filter p [] apart = tt
 apart_filter p (t ∷ ts) apart =
     elim (p t) as (λ b. AreApart (if b then t ∷ filter p ts else filter p ts)) [ true ↦ (all_filter (λ (u : FeatureChange). t.at ≡ u.at → ⊥) p ts apart.0, apart_filter p ts apart.1) | false ↦ apart_filter p ts apart.1 ]
 
--- one more telling, at an end other than all those before it
+-- one more feature change, at a different end than all earlier ones
 apart_push : (ts : List FeatureChange) (u : FeatureChange) → AreApart ts → AllByRecursion (λ (t : FeatureChange). t.at ≡ u.at → ⊥) ts → AreApart (ts ++ u ∷ [])
 apart_push ts u apart away = apart_append ts (u ∷ []) apart (tt, tt) (all-weaker _ _ ts (λ t h. (h, tt)) away)
 
----------------------------------------------------------------- tellings read in the model as it is
+---------------------------------------------------------------- feature changes read in the model as it is
 
--- the notification of a feature change, read in these ends
+-- the notification of a feature change, computed in these ends
 abbrev read_in : Metamodel → Ends → FeatureChange → Notice
 read_in m e t = notice_of (shape m t.at.feature) t.at t.does (e t.at)
 
@@ -120,7 +117,7 @@ told-agreeing m e d (t ∷ ts) apart same =
     ap (λ h. notice_of (shape m t.at.feature) t.at t.does h ∷ told m next ts) same.0
     ∙ ap (λ ns. read_in m e t ∷ ns) (told-agreeing m e next ts apart.1 (all-weaker _ _ ts kept (all_both _ _ ts apart.0 same.1)))
 
--- if no end has two notifications, each is the one that is read in the ends as they are
+-- if no end has two notifications, each can be computed in the ends as they are
 pub told-apart : (m : Metamodel) (e : Ends) (ts : List FeatureChange) → AreApart ts → told m e ts ≡ map (λ t. notice_of (shape m t.at.feature) t.at t.does (e t.at)) ts
 told-apart m e ts apart = told-agreeing m e e ts apart (all_of (λ (t : FeatureChange). e t.at ≡ e t.at) ts (λ t. refl))
 
@@ -171,7 +168,7 @@ module _ (s : Model) (legal : IsLegal s) where
             | false ↦ ((turned-apart s legal t u is, tt), (tt, tt))
           ]
 
-  -- what happens to several links, each at its own ends: names of theirs in one end are of one value
+  -- the feature changes of several links, each at its own ends: names of these links in one end have the same value
   module _ (f : LinkEnd → List FeatureChange) (of : (t : LinkEnd) → AllByRecursion (IsOf (reading s) t) (f t)) (Ok Key : LinkEnd → Type 0)
       (key : (t y : LinkEnd) → Ok t → IsNameOf (reading s) t y → Key y) (agree : (y z : LinkEnd) → Stands s.links y → Stands s.links z → Key y → Key z → y.end ≡ z.end → y.value ≡ z.value) where
     abbrev Known : LinkEnd → Type 0
@@ -222,7 +219,7 @@ module _ (s : Model) (legal : IsLegal s) where
       by None _ = tt
       by (Some u) turns = ((u, turns, refl), tt)
 
-  -- two links of one end have other far ends
+  -- two links of one end have different far ends
   far-others : (e : End) (t u y z : LinkEnd) → t.end ≡ e → u.end ≡ e → Stands s.links t → Stands s.links u → same_link (reading s) u t ≡ false → turned (reading s) t ≡ Some y → turned (reading s) u ≡ Some z → y.end ≡ z.end → ⊥
   far-others e t u y z is_t is_u at_t at_u other turns_t turns_u same =
       names-apart s legal t u y z at_t at_u other (inr turns_t) (inr turns_u) same (far-name e t y is_t turns_t ∙ sym (far-name e u z is_u turns_u))
@@ -268,13 +265,13 @@ module _ (s : Model) (legal : IsLegal s) where
     kept-other = all_flat (λ (t : LinkEnd). Unit {0}) (λ (x : FeatureChange). not (is_replaced (reading s) e o x.at) ≡ true) (other_losses (reading s) e o) (yields (reading s) e o)
         (λ t _. all_pass (λ x. not (is_replaced (reading s) e o x.at)) (losses (reading s) t)) (all_of (λ (t : LinkEnd). Unit {0}) (yields (reading s) e o) (λ t. tt))
 
-    -- the new link replaces what both its single ends hold
+    -- the new link replaces the values of both its single ends
     replaced_away : (d : End) → is_replaced (reading s) e o d ≡ true → AllByRecursion (λ (x : FeatureChange). x.at ≡ d → ⊥) kept
     replaced_away d replaced =
         let away : (x : FeatureChange) → not (is_replaced (reading s) e o x.at) ≡ true → x.at ≡ d → ⊥ = λ x h same. false≢true (sym (ap not (subst (λ (y : End). is_replaced (reading s) e o y ≡ true) (sym same) replaced)) ∙ h) in
         all-weaker _ _ kept away kept-other
 
-    -- and a list of the new link lacks what the displaced ones would lose there
+    -- a list of the new link lacks the values that the displaced links would lose there
     lacking_away : (d : End) (w : Value) → Lacks s.links d w → ((y : LinkEnd) → IsYielded s e o y → y.end ≡ d → y.value ≡ w) → AllByRecursion (λ (x : FeatureChange). x.at ≡ d → ⊥) kept
     lacking_away d w lacks only =
         all_flat (λ (t : LinkEnd). Stands s.links t × Origin s e o t) (λ (x : FeatureChange). x.at ≡ d → ⊥) (other_losses (reading s) e o) (yields (reading s) e o)
@@ -326,7 +323,7 @@ link_ends_at-here r e = all-map (λ (t : LinkEnd). t.end ≡ e) (link_end e) (r.
 one-apart : (t : FeatureChange) → AreApart (t ∷ [])
 one-apart t = (tt, tt)
 
--- of a reference, or of an attribute, which cuts nothing
+-- the case of a reference, and of an attribute, which cuts no link
 reference-tells : (P : List LinkEnd → Type 0) (b : Bool) (ts : List LinkEnd) → (b ≡ true → P ts) → P [] → P (if b then ts else [])
 reference-tells P true ts some none = some refl
 reference-tells P false ts some none = none
@@ -344,7 +341,7 @@ add-apart : (s : Model) (n : Node) (f : FeatureNo) (v : Value) (i : Option ℕ) 
 add-apart s n f (value.Object o) i legal early late h = linked-apart s legal (at_end n f) o (add-new s n f o i early late h) (gain_at i (value.Object o))
 add-apart s n f v i legal early late h = one-apart (feature_change (at_end n f) (gain_at i v))
 
--- an addition to an attribute has a notification of it alone
+-- an addition to an attribute has only the notification of the attribute
 attribute-add : (s : Model) (n : Node) (f : FeatureNo) (v : Value) (h : ChangeKind) → (shape s.metamodel f).is_reference ≡ false → lookups.takes s.metamodel (reading s).class f v ≡ true
     → AreApart (before_gain (reading s) (at_end n f) v [] ++ feature_change (at_end n f) h ∷ [])
 attribute-add s n f (value.Object o) h attribute takes = absurd (false≢true (sym attribute ∙ object-reference s.metamodel (reading s).class f o takes))
@@ -367,7 +364,7 @@ unset-apart s n f h legal =
     (link_ends_backwards-stand s e reference))
     (one-apart (feature_change e h))
 
--- no end has two notifications, but a list that is unset
+-- no end has two notifications, except a list that is unset
 pub feature_changes-apart : (s : Model) (c : Change) → IsLegal s → early_refusal (reading s) c ≡ None → late_refusal (reading s) c ≡ None → takes_many (reading s) c ≡ false → AreApart (feature_changes (reading s) c)
 feature_changes-apart s (Create c) legal early late few = tt
 feature_changes-apart s (NewResource u) legal early late few = tt
@@ -427,7 +424,7 @@ take-remove [] n low = absurd (omega (arith, low))
 take-remove (v ∷ vs) zero low = refl
 take-remove (v ∷ vs) (suc n) low = ap (λ (ws : List Value). v ∷ ws) (take-remove vs n (omega (arith, low)))
 
--- the last of a list is taken out
+-- the last value of a list is taken out
 take-removed : (vs : List Value) (n : ℕ) → n < length vs → removed (take (suc n) vs) (pos n) ≡ take n vs
 take-removed vs n low =
     let long = take-length vs (suc n) (omega (arith, low)) in
@@ -438,7 +435,7 @@ pub not-nil : (vs : List Value) (n : ℕ) → n < length vs → not (is_nil vs) 
 not-nil [] n low = absurd (omega (arith, low))
 not-nil (v ∷ vs) n low = refl
 
--- the end's own losses, from what is left of its list
+-- the losses of the end itself, from the rest of its list
 lost-read : (m : Metamodel) (e : Ends) (x : End) (n : ℕ) (d : Ends) → (shape m x.feature).is_single ≡ false → (d x).values ≡ take n (e x).values → n ≤ length (e x).values → told m d (all_lost x n) ≡ map (read_in m e) (all_lost x n)
 lost-read m e x zero d many is low = refl
 lost-read m e x (suc n) d many is low =
@@ -517,7 +514,7 @@ pub nothing-loaded : (c : Change) → ((k : ResourceNo) (doc : Doc) → c ≡ Lo
 nothing-loaded (Load k doc) none = absurd (none k doc refl)
 nothing-loaded _ none = refl
 
--- the chain of a change that destroys and loads nothing is the notifications that are read in the model as it is
+-- the chain of a change that destroys and loads nothing has the notifications that are computed in the model as it is
 pub chain-read : (s : Model) (c : Change) → resolves_all c ≡ false → IsLegal s → destroyed_by c ≡ None → loaded_by c ≡ None → early_refusal (reading s) c ≡ None → late_refusal (reading s) c ≡ None → chain (reading s) c ≡ map (notice_at (reading s)) (feature_changes (reading s) c)
 chain-read s c one legal none unloaded early late =
     elim (takes_many (reading s) c) as (λ b. takes_many (reading s) c ≡ b → chain (reading s) c ≡ map (notice_at (reading s)) (feature_changes (reading s) c)) [
@@ -536,7 +533,7 @@ chain-read s c one legal none unloaded early late =
     by (At e Unset) one none unloaded many = unset-read s e.node e.feature legal (not-true (shape s.metamodel e.feature).is_single many)
     by _ one none unloaded many = absurd (false≢true many)
 
----------------------------------------------------------------- tellings that are made
+---------------------------------------------------------------- feature changes that are made
 
 -- the notifications that are made are the chain
 pub made-chain : (s : Model) (c : Change) (cut : List LinkEnd) (ts : List FeatureChange) → resolves_all c ≡ false → IsLegal s → destroyed_by c ≡ None → loaded_by c ≡ None → early_refusal (reading s) c ≡ None → late_refusal (reading s) c ≡ None → cut ≡ cut_link_ends (reading s) c → ts ≡ feature_changes_with (reading s) c cut

@@ -1,4 +1,4 @@
--- What ends hold after an object is made, and after a single attribute is put.
+-- The values of ends after an object is made, and after a single attribute is put.
 use Rattle.std.proofs.Common.{◌≡◌, ℕ, zero, suc, eqb, nat_eq, Bool, true, false, ◌&&◌, IsTrue, List, [], ◌∷◌, slice_index_or, slice_set, Option, Some, None, unwrap_or, option_map, is_some, if◌then◌else◌, refl, sym, ap, ◌∙◌, subst, arith}
 use Rattle.std.specs.List.{AllByRecursion}
 use Rattle.std.specs.Ordering.{nat_cmp}
@@ -26,7 +26,7 @@ use Rattle.handshake.specs.declared.change.Change.TheVariants.{Create}
 use Rattle.handshake.specs.declared.change_kind.FeatureChange.{FeatureChange}
 use Rattle.handshake.proofs.HappenedLemmas.{at-own, happened_at}
 
--- what tellings do is what is between two models
+-- feature changes lead from one model to another
 abbrev pub Replays : Model → List FeatureChange → Model → Type 0
 Replays s ts t = (d : End) → happened_at s.metamodel ts d (held_at (reading s) d) ≡ held_at (reading t) d
 
@@ -36,7 +36,7 @@ abbrev pub stored_for : FeatureNo → Option ObjectState → Stored
 stored_for f None = nothing_stored
 stored_for f (Some o) = stored_under o f
 
--- what an end holds, where these links are there and this is stored
+-- the values of an end, by its links and its stored list
 abbrev pub held_of : Shape → List Value → Stored → Held
 held_of a vs h = record { values = shown a.is_single (if a.is_reference then vs else attribute_values a h.list); flag = h.flag }
 
@@ -45,7 +45,7 @@ held-stored_for : (a : Shape) (vs : List Value) (f : FeatureNo) (o : Option Obje
 held-stored_for a vs f None = refl
 held-stored_for a vs f (Some o) = refl
 
--- at the end of an object
+-- the same for an end of an object
 pub held_at-object : (s : Model) (o : ObjectNo) (f : FeatureNo)
     → held_at (reading s) (at_end (node.Object o) f) ≡ held_of (shape s.metamodel f) (end s.links (at_end (node.Object o) f)) (stored_for f (object_at s.values.objects o))
 held_at-object s o f = held-stored_for (shape s.metamodel f) (end s.links (at_end (node.Object o) f)) f (object_at s.values.objects o)
@@ -58,7 +58,7 @@ stored_for-with_object f c [] (suc i) = refl
 stored_for-with_object f c (o ∷ os) zero = refl
 stored_for-with_object f c (o ∷ os) (suc i) = stored_for-with_object f c os i
 
--- it holds nothing, as before
+-- after a new object is made, each end has the same values as before
 held_at-create : (s : Model) (c : ClassNo) (n : Node) (f : FeatureNo) → held_at (reading (after s (Create c))) (at_end n f) ≡ held_at (reading s) (at_end n f)
 held_at-create s c (node.Object o) f =
     held_at-object (after s (Create c)) o f
@@ -110,7 +110,7 @@ held_at-put s o f h (node.Object p) g live =
     ]
 held_at-put s o f h (node.Resource k) g live = refl
 
--- what happens at an attribute is what is put
+-- the feature change of an attribute gives the list that is put
 pub put-replays : (s : Model) (o : ObjectNo) (f : FeatureNo) (own : List FeatureChange) (h : Stored) → IsTrue (is_some ((reading s).class o)) → AllByRecursion (λ (t : FeatureChange). t.at ≡ at_end (node.Object o) f) own
     → ((vs : List Value) → happened_at s.metamodel own (at_end (node.Object o) f) (held_at (reading s) (at_end (node.Object o) f)) ≡ held_of (shape s.metamodel f) vs h) → Replays s own (with_put s o f h)
 put-replays s o f own h live here does d =

@@ -1,11 +1,11 @@
--- The chain of a change that doesn't resolve all proxies, replayed at each end, gives what the end holds after it.
+-- The chain of a change that doesn't resolve all proxies, replayed at each end, gives the values of the end after the change.
 use Rattle.std.proofs.Common.{◌≡◌, ℕ, zero, suc, ◌≤◌, nat_le, nat_lt, pos, insert, remove, length, slice_get, slice_index_or, option_map, option_to_list, arith, Bool, true, false, ◌||◌, not, List, [], ◌∷◌, ◌++◌, map, Option, Some, None, if◌then◌else◌, refl, sym, ap, ◌∙◌, subst}
 use Rattle.std.specs.Prelude.{slice_set}
 use Rattle.std.specs.List.{AllByRecursion, list_any}
 use Rattle.std.specs.Option.{option_map_or}
-use Rattle.std.proofs.lemmas.Bool.{false≢true, or_left, or_right, true≢false}
+use Rattle.std.proofs.lemmas.Bool.{false≢true, or_left, or_right, true≢false, ltb-true}
 use Rattle.std.proofs.lemmas.Bool.Decides.{nat_tests}
-use Rattle.std.proofs.lemmas.Option.{none-some, same_Some}
+use Rattle.std.proofs.lemmas.Option.{none-some, same_Some, slice_get_within, slice_get-get_or}
 use Rattle.mm_types.proofs.SameLemmas.{same_end-self}
 use Rattle.mm_types.specs.Ends.{Ends, Held, first_in}
 use Rattle.mm_types.specs.Lookups as lookups
@@ -37,7 +37,6 @@ use Rattle.models.specs.Reading.{Reading, at_end, first_at, has_feature, held_at
 use Rattle.notice_chain.specs.Replay as replay
 use Rattle.notice_chain.specs.Replay.{moved, resolved as list-resolved}
 use Rattle.containment.proofs.PartLemmas.{kinds-are, object-reference}
-use Rattle.containment.proofs.ForestLemmas.{get-within}
 use Rattle.handshake.specs.Displaced.{cut_by_new, cut_by_set, has_already, is_plain_add, is_plain_set, same_link, link_end_in, link_ends_at, link_ends_backwards, yields, cut_link_ends}
 use Rattle.removal.specs.TreeLinkEnds.{link_end}
 use Rattle.handshake.specs.Effects.{add_value, after, of_object, put_values, take_value, value_edits, with_value, without_link_ends, put_by}
@@ -69,17 +68,17 @@ use Rattle.handshake.proofs.LoadChainLemmas.{load-replays}
 use Rattle.handshake.proofs.LinkLemmas.{IsNewLink, near-empty, without_displaced}
 use Rattle.handshake.proofs.ListReplayLemmas.{all_lost-own, list-added, list-moved, list-taken, list-unset, lost-done, one-done, own-one, single-set, single-unset}
 use Rattle.handshake.proofs.LossLemmas.{gained, gained-single, lost}
-use Rattle.handshake.proofs.PlanLemmas.{add-new, add-site, below, set-new}
+use Rattle.handshake.proofs.PlanLemmas.{add-new, add-site, set-new}
 use Rattle.handshake.proofs.RelinkLemmas.{add-replays, at-each, cut-replays, kept-replays, list-held, set-replays}
 use Rattle.handshake.proofs.ReplayLemmas.{replayed_all-told}
-use Rattle.handshake.proofs.ResolveLemmas.{alone-there, end-alone, end-joint, far-now, far-there, joint, near-apart, now, site-below, placed, set-there, swapped, swapped-here, there}
+use Rattle.handshake.proofs.ResolveLemmas.{alone-there, end-alone, end-joint, far-now, far-there, joint, near-apart, now, placed, set-there, swapped, swapped-here, there}
 use Rattle.handshake.proofs.ResolvedLemmas.{resolved-as}
 use Rattle.proxies.proofs.TargetLemmas.{match-apart}
 use Rattle.proxies.specs.declared.target.Target.{Target}
 
 ---------------------------------------------------------------- ends that are emptied
 
--- an end whose links are all named is empty once they are cut
+-- an end whose links are all named is empty after they are cut
 all-named : (s : Model) (e : End) (ts : List LinkEnd) → IsLegal s → ((k : ℕ) (w : Value) → slice_get (end s.links e) k ≡ Some w → list_any (same_link (reading s) (link_end e w)) ts ≡ true) → end (without_all s.links (names_of ts)) e ≡ []
 all-named s e ts legal each =
     let m = kinds_of s.metamodel in
@@ -113,7 +112,7 @@ null-of_kind : (m : Metamodel) (class : ObjectNo → Option ClassNo) (f : Featur
 null-of_kind m class f x (Attribute t unique unsettable default) v reference h none = absurd (false≢true reference)
 null-of_kind m class f x (Reference target containment opposite) v reference h none = null-value m class (lookups.is_single x) target v h none
 
--- null is all that a reference takes besides objects
+-- besides objects a reference takes only null
 null-taken : (m : Metamodel) (class : ObjectNo → Option ClassNo) (f : FeatureNo) (v : Value) → (shape m f).is_reference ≡ true → lookups.takes m class f v ≡ true → object_of v ≡ None → v ≡ value.Null
 null-taken m class f v reference h none = by (lookups.feature m f) reference h
   where
@@ -136,7 +135,7 @@ module _ (s : Model) (legal : IsLegal s) (e : End) (reference : (shape s.metamod
   abbrev a : Shape
   a = shape s.metamodel e.feature
 
-  -- what the far ends of cut links lose, and then the end itself
+  -- the losses of the far ends of cut links, and then of the end itself
   cut-tells : (ts : List LinkEnd) → AllByRecursion (λ (t : LinkEnd). t.end ≡ e) ts → AreDifferent r ts → AllByRecursion (Stands s.links) ts → (own : List FeatureChange) → AllByRecursion (λ (t : FeatureChange). t.at ≡ e) own
       → happened_at s.metamodel own e (held_at r e) ≡ held_in s (without_all s.links (names_of ts)) e → Replays s (far_losses r ts ++ own) (relinked s (without_link_ends s.links ts))
   cut-tells ts here different stand own own_here makes =
@@ -156,7 +155,7 @@ module _ (s : Model) (legal : IsLegal s) (e : End) (reference : (shape s.metamod
   backwards-apart : AreDifferent r (link_ends_backwards e (r.values e))
   backwards-apart = subst (λ (vs : List Value). AreDifferent r (link_ends_backwards e vs)) (sym (values-linked s e reference)) (backwards-different s e (end s.links e) legal (legal.links.set.placed.distinct e))
 
-  -- so is one that is unset
+  -- a single end is unset
   single-unset_link : a.is_single ≡ true → Replays s (far_losses r (link_ends_backwards e (r.values e)) ++ feature_change e Unsets ∷ []) (relinked s (without_link_ends s.links (link_ends_backwards e (r.values e))))
   single-unset_link single =
       let ts = link_ends_backwards e (r.values e) in
@@ -183,7 +182,7 @@ module _ (s : Model) (legal : IsLegal s) (e : End) (reference : (shape s.metamod
       let b = kept_flag s.values e.node e.feature in
       let below_links = subst (λ (ws : List Value). nat_lt i (length ws) ≡ true) (values-linked s e reference) low in
       let v = slice_index_or vs i value.Null in
-      let at = get-within vs i value.Null (below i (length vs) below_links) in
+      let at = slice_get-get_or vs i value.Null (ltb-true i (length vs) below_links) in
       let one : link_end_in r e i ≡ link_end e v ∷ [] = ap (λ (ws : List Value). option_to_list (option_map (link_end e) (slice_get ws i))) (values-linked s e reference) ∙ ap (λ (q : Option Value). option_to_list (option_map (link_end e) q)) at in
       let cut : end (without_all s.links (names_of (link_end_in r e i))) e ≡ remove vs i =
       ap (λ (ts : List LinkEnd). end (without_all s.links (names_of ts)) e) one ∙ near-gives s legal s.links e v (all-left s legal) (i, at) ∙ sym (remove-filter vs i v (legal.links.set.placed.distinct e) at) in
@@ -193,7 +192,7 @@ module _ (s : Model) (legal : IsLegal s) (e : End) (reference : (shape s.metamod
       ∙ ap (λ (x : Bool). record { values = if x then remove vs i else vs; flag = b }) below_links
       ∙ sym (list-held s (without_all s.links (names_of (link_end_in r e i))) e reference many ∙ ap (λ (ws : List Value). record { values = ws; flag = b }) cut))
 
-  -- and one is moved
+  -- one value is moved in a list
   move-link : (to from : ℕ) → a.is_single ≡ false → nat_lt to (length (r.values e)) ≡ true → nat_lt from (length (r.values e)) ≡ true → Replays s (feature_change e (Moves to from) ∷ []) (relinked s (shift s.links e to from))
   move-link to from many low_to low_from d =
       let vs = end s.links e in
@@ -206,10 +205,10 @@ module _ (s : Model) (legal : IsLegal s) (e : End) (reference : (shape s.metamod
       (one-done s.metamodel e (Moves to from) (held_at r e)
       ∙ ap (done a (Moves to from)) (list-held s s.links e reference many)
       ∙ ap (λ (ws : List Value). record { values = ws; flag = b }) (moved-linked vs to from to_links from_links)
-      ∙ sym (list-held s (shift s.links e to from) e reference many ∙ ap (λ (ws : List Value). record { values = ws; flag = b }) (end-shift_near s.links placed e to from (below from _ from_links) (below to _ to_links))))
+      ∙ sym (list-held s (shift s.links e to from) e reference many ∙ ap (λ (ws : List Value). record { values = ws; flag = b }) (end-shift_near s.links placed e to from (ltb-true from _ from_links) (ltb-true to _ to_links))))
       (λ other.
       at-own s.metamodel e d (feature_change e (Moves to from) ∷ []) (held_at r d) (own-one e (Moves to from)) other
-      ∙ same-held s s.links (shift s.links e to from) d (sym (end-shift_other s.links placed e to from (below from _ from_links) (below to _ to_links) d (λ same. true≢false (sym (same_end-self e) ∙ ap (same_end e) same ∙ other)))))
+      ∙ same-held s s.links (shift s.links e to from) d (sym (end-shift_other s.links placed e to from (ltb-true from _ from_links) (ltb-true to _ to_links) d (λ same. true≢false (sym (same_end-self e) ∙ ap (same_end e) same ∙ other)))))
     where
       moved-linked : (vs : List Value) (to from : ℕ) → nat_lt to (length vs) ≡ true → nat_lt from (length vs) ≡ true → moved vs (pos from) (pos to) ≡ shifted vs to from
       moved-linked vs to from low_to low_from =
@@ -238,7 +237,7 @@ module _ (s : Model) (legal : IsLegal s) (e : End) (reference : (shape s.metamod
   resolve-many many =
       let a = shape s.metamodel e.feature in
       let b = kept_flag s.values e.node e.feature in
-      let below = site-below proxied i (value.Proxy t) there in
+      let below = slice_get_within proxied i (value.Proxy t) there in
       let low : nat_lt i (length proxied) ≡ true = grind (arith, nat_tests) in
       ap (done a (Resolves i v)) (list-held s s.links e reference many)
       ∙ (λ j. record { values = if many j then v ∷ [] else (if low j then slice_set proxied i v else proxied); flag = b })
@@ -248,7 +247,7 @@ module _ (s : Model) (legal : IsLegal s) (e : End) (reference : (shape s.metamod
   resolve-done : done (shape s.metamodel e.feature) (Resolves i v) (held_at (reading s) e) ≡ held_in s u e
   resolve-done = elim (shape s.metamodel e.feature).is_single as (λ b. (shape s.metamodel e.feature).is_single ≡ b → done (shape s.metamodel e.feature) (Resolves i v) (held_at (reading s) e) ≡ held_in s u e) [ true ↦ resolve-single | false ↦ resolve-many ] refl
 
--- in a reference without an opposite
+-- the case of a reference without an opposite
 alone-replays : (s : Model) (legal : IsLegal s) (e : End) (i : ℕ) (x : Target) (is : IsResolvable (reading s) e i x) (alone : (shape s.metamodel e.feature).opposite ≡ None)
     → Replays s (feature_change e (Resolves i (value.Object x.object)) ∷ []) (relinked s (placed s legal e i x is []))
 alone-replays s legal e i x is alone d =
@@ -262,7 +261,7 @@ alone-replays s legal e i x is alone d =
     at-own s.metamodel e d (feature_change e (Resolves i v) ∷ []) (held_at (reading s) d) (own-one e (Resolves i v)) other
     ∙ same-held s s.links u d (sym (ends d ∙ ap (λ (b : Bool). if b then now s legal e i x is else end s.links d) other)))
 
--- and where a proxy is at both ends
+-- the case of a proxy at both ends
 joint-replays : (s : Model) (legal : IsLegal s) (e : End) (i : ℕ) (x : Target) (is : IsResolvable (reading s) e i x) (g : FeatureNo) (opposite : (shape s.metamodel e.feature).opposite ≡ Some g) (j : ℕ) (text : List ℕ)
     (stands : slice_get ((reading s).values (far_end x.object g)) j ≡ Some (value.Proxy text))
     → Replays s (feature_change (far_end x.object g) (Resolves j (node_value e.node)) ∷ feature_change e (Resolves i (value.Object x.object)) ∷ []) (relinked s (joint s legal e i x is g opposite j text stands))
@@ -312,7 +311,7 @@ by-object s f P attribute each (node.Resource k) has = absurd (resource-keeps-no
 
 ---------------------------------------------------------------- each change
 
--- a set that cuts no link: of an attribute, or to the value that is there
+-- a set that cuts no link: of an attribute, or to the present value
 plain-set : (s : Model) (n : Node) (f : FeatureNo) (v : Value) → IsLegal s → has_feature (reading s) n f ≡ true → (shape s.metamodel f).is_single ≡ true → is_plain_set (reading s) (at_end n f) v ≡ true
     → Replays s (feature_change (at_end n f) (Gains v) ∷ []) (record s { values = applied s.values (value_edits (reading s) (At (at_end n f) (Set v))) })
 plain-set s n f v legal has single plain =
@@ -323,7 +322,7 @@ plain-set s n f v legal has single plain =
       | false ↦ λ attribute. by-object s f (λ n. Replays s (feature_change (at_end n f) (Gains v) ∷ []) (record s { values = applied s.values (put_values (at_end n f) (v ∷ []) a.is_unsettable) })) attribute (λ o has. single-set s legal o f has attribute v single) n has
     ] refl
 
--- nothing is at a single end where its new link is put
+-- a single end is empty when its new link is put
 new-put_set : (s : Model) (legal : IsLegal s) (e : End) (o : ObjectNo) (new : IsNewLink s e o) → (shape s.metamodel e.feature).is_single ≡ true
     → put (without_displaced s e o) e 0 o (shape s.metamodel e.feature).opposite (shape s.metamodel e.feature).containing ≡ with_value (without_link_ends s.links (yields (reading s) e o)) (reading s) e None (value.Object o)
 new-put_set s legal e o new single =
@@ -332,7 +331,7 @@ new-put_set s legal e o new single =
     ap (λ (vs : List Value). put t e (length vs) o a.opposite a.containing) (sym (near-empty s legal e o new single))
     ∙ ap (λ (t : Links). with_value t (reading s) e None (value.Object o)) (sym (without_link_ends-names_of s.links (yields (reading s) e o)))
 
--- a set that is not
+-- a set that may cut links
 new-set : (s : Model) (n : Node) (f : FeatureNo) (v : Value) → IsLegal s → early_refusal (reading s) (At (at_end n f) (Set v)) ≡ None → late_refusal (reading s) (At (at_end n f) (Set v)) ≡ None → is_plain_set (reading s) (at_end n f) v ≡ false
     → (let e = at_end n f in Replays s (before_gain (reading s) e v (cut_by_set (reading s) e v) ++ feature_change e (Gains v) ∷ []) (relinked s (with_value (without_link_ends s.links (cut_by_set (reading s) e v)) (reading s) e None v)))
 new-set s n f (value.Object o) legal early late h =
@@ -421,7 +420,7 @@ new-add s n f v i legal early late h =
         by None reference many h = false≢true h
         by (Some x) reference many h = null-kind m class f x x.kind reference many h
 
-    -- a list of a reference takes objects alone
+    -- a list of a reference takes only objects
     not-null : (s : Model) (f : FeatureNo) (v : Value) → (shape s.metamodel f).is_reference ≡ true → (shape s.metamodel f).is_single ≡ false → lookups.takes s.metamodel (reading s).class f v ≡ true → object_of v ≡ None → ⊥
     not-null s f v reference many takes none =
         null-many s.metamodel (reading s).class f reference many (subst (λ (w : Value). lookups.takes s.metamodel (reading s).class f w ≡ true) (null-taken s.metamodel (reading s).class f v reference takes none) takes)
@@ -472,7 +471,7 @@ take-changes s n f i legal has many low =
       | false ↦ λ attribute. by-object s f (λ n. nat_lt i (length (r.values (at_end n f))) ≡ true → Replays s (feature_change (at_end n f) (LosesAt i) ∷ []) (record s { values = applied s.values (take_value (at_end n f) i) })) attribute (λ o has low. list-taken s legal o f has attribute many i low) n has low
     ] refl
 
--- a value that first is at a position is there
+-- the first position of a value is in the list
 first-low : (vs : List Value) (v : Value) (i : ℕ) → first_in vs v ≡ Some i → nat_lt i (length vs) ≡ true
 first-low vs v i h =
     let low = first-below vs v i (sym h) in

@@ -1,4 +1,4 @@
--- What is left at an end of a legal model once links are cut: an end of one of the links is empty, and each other is as it was.
+-- The ends of a legal model after links are cut: a single end of one of the links is empty, and each other single end is as it was.
 use Rattle.std.proofs.Common.{◌≡◌, true, false, ◌&&◌, not, List, [], ◌∷◌, Option, Some, None, option_map, unwrap_or, if◌then◌else◌, refl, ap, ◌∙◌}
 use Rattle.std.specs.Option.{option_map_or}
 use Rattle.std.proofs.lemmas.Bool.{false≢true}
@@ -21,8 +21,8 @@ use Rattle.links.specs.Links.{Links, end}
 use Rattle.models.specs.Legal.{IsLegal, IsLegalObject}
 use Rattle.models.specs.Model.{Model, attribute_values, kept_flag, kept_values, reading}
 use Rattle.models.specs.Reading.{held_at}
+use Rattle.models.proofs.PlaceLemmas.{legal-at}
 use Rattle.handshake.proofs.LossLemmas.{gained, lost}
-use Rattle.handshake.proofs.ObjectLegalLemmas.{legal-at}
 
 ---------------------------------------------------------------- references
 
@@ -30,7 +30,7 @@ reference-kind : (m : Metamodel) (f : FeatureNo) (x : Feature) (k : Kind) → (s
 reference-kind m f x (Attribute t unique unsettable default) h = absurd (false≢true h)
 reference-kind m f x (Reference target containment opposite) h = (refl, refl)
 
--- a reference has no set flag, and null for its default
+-- a reference has no set flag, and its default is null
 pub reference-plain : (m : Metamodel) (f : FeatureNo) → (shape m f).is_reference ≡ true → ((shape m f).is_unsettable ≡ false) × ((shape m f).default ≡ value.Null)
 reference-plain m f h = by (lookups.feature m f) h
   where
@@ -47,17 +47,17 @@ node-flag : (s : Model) (n : Node) (f : FeatureNo) → IsLegal s → (shape s.me
 node-flag s (node.Object o) f legal off = flag-off s.metamodel f (object_at s.values.objects o) off (legal-at (IsLegalObject s.metamodel) s.values.objects o.0 tt legal.objects)
 node-flag s (node.Resource k) f legal off = refl
 
--- nothing is kept as set under a reference
+-- no flag is stored for a reference
 pub reference-flag : (s : Model) (n : Node) (f : FeatureNo) → IsLegal s → (shape s.metamodel f).is_reference ≡ true → kept_flag s.values n f ≡ false
 reference-flag s n f legal reference = node-flag s n f legal (reference-plain s.metamodel f reference).0
 
--- what an end holds is determined by the links there
+-- the values of an end are determined by its links
 pub same-held : (s : Model) (t u : Links) (d : End) → end t d ≡ end u d → held_at (reading (record s { links = t })) d ≡ held_at (reading (record s { links = u })) d
 same-held s t u d same =
     let a = shape s.metamodel d.feature in
     ap (λ (vs : List Value). record { values = shown a.is_single (if a.is_reference then vs else attribute_values a (kept_values s.values d.node d.feature)); flag = kept_flag s.values d.node d.feature }) same
 
--- what an end of a single reference holds, where at most one value is there
+-- the value of an end of a single reference, if it has at most one
 module _ (s : Model) (t : Links) (d : End) (legal : IsLegal s) (reference : (shape s.metamodel d.feature).is_reference ≡ true) (single : (shape s.metamodel d.feature).is_single ≡ true) where
   pub held-none : end t d ≡ [] → lost (shape s.metamodel d.feature) ≡ held_at (reading (record s { links = t })) d
   held-none none =

@@ -1,4 +1,4 @@
--- The losses of links that are cut, done at each end one after another, give what the ends hold after the cuts.
+-- The losses of links that are cut, made at each end one after another, give the values of the ends after the cuts.
 use Rattle.std.proofs.Common.{◌≡◌, ℕ, zero, suc, ◌≤◌, Bool, true, false, ◌&&◌, ◌||◌, not, List, [], ◌∷◌, filter, flat_map, length, slice_get, Option, Some, None, option_to_list, if◌then◌else◌, refl, sym, ap, ◌∙◌, subst, arith}
 use Rattle.std.specs.Option.{option_map_or}
 use Rattle.std.proofs.lemmas.Bool.{false≢true}
@@ -44,7 +44,7 @@ use Rattle.handshake.proofs.CutEndLemmas.{reference-flag, reference-plain, same-
 
 ---------------------------------------------------------------- lists
 
--- a list that repeats nothing, without the first of a value, has no other either
+-- a list without repetitions, from which the first occurrence of a value is taken out, does not have the value
 without-filter : (vs : List Value) (v : Value) → IsDistinct vs → without vs v ≡ filter (λ w. not (same_value v w)) vs
 without-filter [] v distinct = refl
 without-filter (w ∷ ws) v distinct =
@@ -71,14 +71,14 @@ one-in (w ∷ x ∷ ws) k v few at = absurd (omega (arith, few))
 
 ---------------------------------------------------------------- links of a model
 
--- links that are left of a legal model: single ends have one at most, and references alone have any
+-- the remaining links of a legal model: single ends have at most one, and only references have links
 pub record AreLeft (s : Model) (l : Links) : Type 0 where
   pub set : IsLegalSet l
   pub kinds : AreOfKind (kinds_of s.metamodel) l
   pub one : (d : End) → (shape s.metamodel d.feature).is_single ≡ true → length (end l d) ≤ 1
   pub refers : (d : End) (v : Value) → Has l d v → (shape s.metamodel d.feature).is_reference ≡ true
 
--- what an end holds where these are the links
+-- the values of an end with these links
 abbrev pub held_in : Model → Links → End → Held
 held_in s l d = held_at (reading (record s { links = l })) d
 
@@ -177,7 +177,7 @@ module _ (s : Model) (legal : IsLegal s) where
         or-false true = refl
         or-false false = refl
 
-    -- at another end, what the far side of the link names goes
+    -- another end loses the value that the far side of the link names
     other-gives : (d : End) → same_end e d ≡ false → end cut d ≡ filter (λ w. not (names_far e v (shape s.metamodel e.feature).opposite d w)) (end l d)
     other-gives d other = gives d ∙ filter_alike (λ w. not (names m e v d w)) (λ w. not (names_far e v (shape s.metamodel e.feature).opposite d w)) (end l d) (λ k w at. ap (λ (b : Bool). not ((b && same_value v w) || names_far e v (shape s.metamodel e.feature).opposite d w)) other)
 
@@ -233,7 +233,7 @@ module _ (s : Model) (legal : IsLegal s) where
       rest : (d : End) → same_end e d ≡ false → same_end far d ≡ false → held_in s l d ≡ held_in s cut d
       rest d near_not far_not = untouched d near_not (λ w. named d w ∙ ap (λ (b : Bool). b && same_value (node_value e.node) w) far_not)
 
-      -- in either order
+      -- the two losses in either order
       near-first : (d : End) → At (loss t ∷ loss u ∷ []) d
       near-first d = elim (same_end e d) as (λ b. same_end e d ≡ b → done_at s.metamodel d (loss u) (if b then done (shape s.metamodel d.feature) (Loses v) (held_in s l d) else held_in s l d) ≡ held_in s cut d) [
         | true ↦ λ same. subst (λ (x : End). done_at s.metamodel x (loss u) (done (shape s.metamodel x.feature) (Loses v) (held_in s l x)) ≡ held_in s cut x) (same_end-true e d same)
@@ -270,7 +270,7 @@ module _ (s : Model) (legal : IsLegal s) where
 
   ---------------------------------------------------------------- several cuts
 
-  -- the losses of links that are there, each once, give what is held without them
+  -- the losses of existing links, each once, give the values of ends without these links
   losses-left : (l : Links) (ts : List LinkEnd) → AreLeft s l → AreThere l (names_of ts) → AreOnce m (names_of ts) → (d : End) → happened_at s.metamodel (flat_map (losses (reading s)) ts) d (held_in s l d) ≡ held_in s (without_all l (names_of ts)) d
   losses-left l [] left there once d = refl
   losses-left l (t ∷ ts) left there once d =

@@ -1,4 +1,4 @@
--- The links that a change cuts: each is there, none is cut twice, and what is cut leaves the new link free ends.
+-- The links that a change cuts: each exists, none is cut twice, and the ends of the new link are free after the cuts.
 use Rattle.std.proofs.Common.{◌≡◌, ℕ, suc, Bool, true, false, not, List, [], ◌∷◌, ◌++◌, filter, fold, map, slice_get, Option, Some, None, option_map, option_to_list, if◌then◌else◌, refl, sym, ap, ◌∙◌, subst, arith}
 use Rattle.std.specs.Prelude.{◌&&◌, ◌||◌}
 use Rattle.std.specs.List.{AllByRecursion, list_any}
@@ -18,13 +18,13 @@ use Rattle.mm_types.specs.declared.value.Value.TheVariants as value
 use Rattle.links.proofs.CutNamedLemmas.{end-without_all, holder-without_all}
 use Rattle.links.proofs.HolderLemmas.{holder-some, indexed_held}
 use Rattle.mm_types.specs.SameValues.{same_value-self, same_value-true}
-use Rattle.links.proofs.ScanLemmas.{same_bool}
 use Rattle.links.specs.Holders.{contained, holder}
 use Rattle.links.specs.Laws.{AreOnce, AreThere, is_named, kept_holder, names, names_far, without_all}
 use Rattle.links.specs.LegalSets.{IsDistinct, IsLegalSet}
 use Rattle.links.specs.Links.{Links, cut_value, end, far_end}
 use Rattle.links.specs.Plans.{Has}
 use Rattle.links.proofs.GoneLemmas.{without_all-nodes}
+use Rattle.links.proofs.RankLemmas.{same-tests}
 use Rattle.models.proofs.EndLemmas.{values-single}
 use Rattle.models.specs.Legal.{IsLegal, kinds_of}
 use Rattle.models.specs.Model.{Model, reading}
@@ -48,6 +48,7 @@ use Rattle.handshake.specs.Refusals.{early_refusal, late_refusal}
 use Rattle.proxies.proofs.TargetLemmas.{IsMatch, match-apart}
 use Rattle.handshake.proofs.ResolvedCutLemmas.{resolved-cuts}
 use Rattle.proxies.specs.declared.target.Counterpart.{Counterpart}
+use Rattle.doc_loader.proofs.FillLemmas.{distinct-tail}
 
 pub without_link_ends-names_of : (s : Links) (ts : List LinkEnd) → without_link_ends s ts ≡ without_all s (names_of ts)
 without_link_ends-names_of s [] = refl
@@ -82,13 +83,13 @@ any_push p (y ∷ ys) x h = or_right (p y) (list_any p (ys ++ x ∷ [])) (any_pu
 ---------------------------------------------------------------- names of one link
 
 pub same_end-symmetric : (d e : End) → same_end d e ≡ same_end e d
-same_end-symmetric d e = same_bool _ _ (one d e) (one e d)
+same_end-symmetric d e = same-tests _ _ (one d e) (one e d)
   where
     one : (x y : End) → same_end x y ≡ true → same_end y x ≡ true
     one x y h = subst (λ (z : End). same_end z x ≡ true) (same_end-true x y h) (same_end-self x)
 
 pub same_value-symmetric : (v w : Value) → same_value v w ≡ same_value w v
-same_value-symmetric v w = same_bool _ _ (one v w) (one w v)
+same_value-symmetric v w = same-tests _ _ (one v w) (one w v)
   where
     one : (x y : Value) → same_value x y ≡ true → same_value y x ≡ true
     one x y h = subst (λ (z : Value). same_value z x ≡ true) (same_value-true x y h) (same_value-self x)
@@ -103,7 +104,7 @@ names_far-other : (e : End) (v : Value) (q : Option FeatureNo) (t : LinkEnd) →
 names_far-other e (value.Object o) (Some g) t = same_link_end-symmetric (link_end (far_end o g) (node_value e.node)) t
 names_far-other e _ _ t = refl
 
--- a name names the link of another where the two are of one link
+-- a name names the link of another name if the two are names of the same link
 pub names-same_link : (r : Reading) (t u : LinkEnd) → names (kinds_of r.metamodel) u.end u.value t.end t.value ≡ same_link r t u
 names-same_link r t u = λ i. same_link_end-symmetric u t i || names_far-other u.end u.value (shape r.metamodel u.end.feature).opposite t i
 
@@ -164,13 +165,13 @@ module _ (r : Reading) where
   named_all done [] = tt
   named_all done (t ∷ ts) = (named_fold t (with_link_end r done t) ts (named_here done t), named_all (with_link_end r done t) ts)
 
-  -- each of the links is among those taken once
+  -- each of the links is among the links that are taken once
   pub once-names : (ts : List LinkEnd) → AllByRecursion (λ (x : LinkEnd). list_any (same_link r x) (once r ts) ≡ true) ts
   once-names ts = named_all [] ts
 
 ---------------------------------------------------------------- what is there
 
--- a far end is one of a reference
+-- a far end is the end of a reference
 pub opposite_end-reference : (s : Model) (e : End) (o : ObjectNo) (d : End) → IsLegal s → opposite_end (reading s) e o ≡ Some d → (shape s.metamodel d.feature).is_reference ≡ true
 opposite_end-reference s e o d legal is = by (shape s.metamodel e.feature).opposite refl is
   where
@@ -182,7 +183,7 @@ opposite_end-reference s e o d legal is = by (shape s.metamodel e.feature).oppos
 abbrev pub Stands : Links → LinkEnd → Type 0
 Stands s t = Has s t.end t.value
 
--- what is held is where it is held
+-- a node with a holder is in the end that is its holder
 pub held_stands : (s : Links) → IsLegalSet s → (n : Node) (d : End) → holder s n ≡ Some d → Has s d (node_value n)
 held_stands s legal n d h =
     let l = holder-some s n d h in
@@ -227,12 +228,12 @@ yields-stand s e o legal reference =
 
 ---------------------------------------------------------------- the cuts of a change
 
--- a set that may cut links is of a reference, to another value
+-- a set that may cut links is a set of a reference to another value
 pub plain-not : (a b : Bool) → (not a || b) ≡ false → (a ≡ true) × (b ≡ false)
 plain-not true b h = (refl, h)
 plain-not false b h = absurd (false≢true (sym h))
 
--- what a set that may cut links has to cut, and what an unset of a reference has
+-- the links that a set may cut, and the links that an unset of a reference cuts
 module _ (P : List LinkEnd → Type 0) (s : Model) (n : Node) (f : FeatureNo) (none : P []) where
   pub set-cuts : (v : Value) → ((shape s.metamodel f).is_reference ≡ true → has_already (reading s) (at_end n f) v ≡ false → P (cut_by_set (reading s) (at_end n f) v)) → P (cut_link_ends (reading s) (At (at_end n f) (Set v)))
   set-cuts v some =
@@ -248,7 +249,7 @@ module _ (P : List LinkEnd → Type 0) (s : Model) (n : Node) (f : FeatureNo) (n
         | false ↦ λ h. let both = plain-not (shape s.metamodel f).is_reference (is_repeat (reading s) (at_end n f) v) h in some both.0 both.1
       ] refl
 
-  -- of a reference alone
+  -- only a change of a reference cuts links
   pub reference-cuts : (ts : List LinkEnd) → ((shape s.metamodel f).is_reference ≡ true → P ts) → P (if (shape s.metamodel f).is_reference then ts else [])
   reference-cuts ts some =
       elim (shape s.metamodel f).is_reference as (λ b. (shape s.metamodel f).is_reference ≡ b → P (if b then ts else [])) [ true ↦ some | false ↦ λ _. none ] refl
@@ -325,7 +326,7 @@ cuts-stand s _ legal early = tt
 pub cuts-there : (s : Model) (c : Change) → IsLegal s → early_refusal (reading s) c ≡ None → late_refusal (reading s) c ≡ None → AreThere s.links (names_of (cut_link_ends (reading s) c))
 cuts-there s c legal early late = all-map (λ (t : End × Value). Has s.links t.0 t.1) (λ (t : LinkEnd). (t.end, t.value)) (cut_link_ends (reading s) c) (cuts-stand s c legal early)
 
--- the link of what a single end has, if it has something
+-- the link of the value of a single end, if it has one
 pub link_ends-single : (s : Model) (e : End) → IsLegal s → (shape s.metamodel e.feature).is_reference ≡ true → (shape s.metamodel e.feature).is_single ≡ true
     → link_ends_if_single (reading s) e ≡ option_to_list (option_map (link_end e) (slice_get ((reading s).values e) 0))
 link_ends-single s e legal reference single =
@@ -336,7 +337,7 @@ link_ends-single s e legal reference single =
     by None = refl
     by (Some v) = refl
 
--- a single end has one link at most
+-- a single end has at most one link
 pub link_ends_at-different : (s : Model) (e : End) → IsLegal s → (shape s.metamodel e.feature).is_reference ≡ true → (shape s.metamodel e.feature).is_single ≡ true → AreDifferent (reading s) (link_ends_at (reading s) e)
 link_ends_at-different s e legal reference single =
     subst (λ (vs : List Value). AreDifferent (reading s) (map (link_end e) vs)) (sym (values-single s e legal reference single))
@@ -371,7 +372,7 @@ near-different s e v w legal other = by (shape s.metamodel e.feature).opposite r
     by : (q : Option FeatureNo) → (shape s.metamodel e.feature).opposite ≡ q → same_link (reading s) (link_end e v) (link_end e w) ≡ false
     by q opposite = not_same (other_side e.node w (shape s.metamodel e.feature).opposite) here (other_side-not (shape s.metamodel e.feature).opposite w refl)
 
--- the others of a list that repeats nothing are other values
+-- in a list without repetitions the other values are different
 others-differ : (v : Value) (vs : List Value) → IsDistinct (v ∷ vs) → AllByRecursion (λ (w : Value). same_value v w ≡ false) vs
 others-differ v vs distinct = all-at (λ (w : Value). same_value v w ≡ false) vs (λ k w at.
     elim (same_value v w) as (λ b. same_value v w ≡ b → b ≡ false) [
@@ -382,12 +383,6 @@ others-differ v vs distinct = all-at (λ (w : Value). same_value v w ≡ false) 
     zero-not_suc : (k : ℕ) → 0 ≡ suc k → ⊥
     zero-not_suc k h = omega (arith, h)
 
-rest-distinct : (v : Value) (vs : List Value) → IsDistinct (v ∷ vs) → IsDistinct vs
-rest-distinct v vs distinct j k w at_j at_k = suc-same j k (distinct (suc j) (suc k) w at_j at_k)
-  where
-    suc-same : (j k : ℕ) → suc j ≡ suc k → j ≡ k
-    suc-same j k h = omega (arith, h)
-
 none_of : (p : LinkEnd → Bool) (ts : List LinkEnd) → AllByRecursion (λ (t : LinkEnd). p t ≡ false) ts → list_any p ts ≡ false
 none_of p [] all = refl
 none_of p (t ∷ ts) all = rw all.0 (none_of p ts all.1)
@@ -397,7 +392,7 @@ backwards-different s e [] legal distinct = tt
 backwards-different s e (v ∷ vs) legal distinct =
     let r = reading s in
     let others = backwards-all (λ (t : LinkEnd). same_link r (link_end e v) t ≡ false) e vs (all-weaker _ _ vs (λ w other. near-different s e v w legal other) (others-differ v vs distinct)) in
-    different_push r (link_ends_backwards e vs) (link_end e v) (backwards-different s e vs legal (rest-distinct v vs distinct)) (none_of (same_link r (link_end e v)) (link_ends_backwards e vs) others)
+    different_push r (link_ends_backwards e vs) (link_end e v) (backwards-different s e vs legal (distinct-tail v vs distinct)) (none_of (same_link r (link_end e v)) (link_ends_backwards e vs) others)
 
 pub link_end_in-different : (r : Reading) (e : End) (i : ℕ) → AreDifferent r (link_end_in r e i)
 link_end_in-different r e i = elim (slice_get (r.values e) i) as (λ q. AreDifferent r (option_to_list (option_map (link_end e) q))) [ None ↦ tt | Some v ↦ (tt, tt) ]
@@ -442,7 +437,7 @@ cuts-once s c legal early late = once-of_different (reading s) (cut_link_ends (r
 abbrev IsDisplaced : Model → End → ObjectNo → LinkEnd → Type 0
 IsDisplaced s e o t = list_any (same_link (reading s) t) (yields (reading s) e o) ≡ true
 
--- an end whose links are all displaced is empty once they are cut
+-- an end whose links are all displaced is empty after they are cut
 emptied : (s : Model) (e : End) (o : ObjectNo) (d : End) → IsLegal s → (shape s.metamodel d.feature).is_reference ≡ true → (shape s.metamodel d.feature).is_single ≡ true
     → AllByRecursion (IsDisplaced s e o) (link_ends_if_single (reading s) d) → end (without_all s.links (names_of (yields (reading s) e o))) d ≡ []
 emptied s e o d legal reference single all =
@@ -454,13 +449,13 @@ emptied s e o d legal reference single all =
     end-without_all m (kinds-are s.metamodel legal.metamodel) s.links (names_of ts) legal.links.set legal.links.kinds d
     ∙ filter_none (is_named m (names_of ts) d) (end s.links d) (all-weaker _ _ (end s.links d) named (all_from_map (IsDisplaced s e o) (link_end d) (end s.links d) linked))
 
--- a single near end is empty once what a new link displaces is cut
+-- a single near end is empty after the links that a new link displaces are cut
 pub near-emptied : (s : Model) (e : End) (o : ObjectNo) → IsLegal s → (shape s.metamodel e.feature).is_reference ≡ true → (shape s.metamodel e.feature).is_single ≡ true
     → end (without_all s.links (names_of (yields (reading s) e o))) e ≡ []
 near-emptied s e o legal reference single =
     emptied s e o e legal reference single (all_front (IsDisplaced s e o) (link_ends_if_single (reading s) e) _ (once-names (reading s) (in_the_way (reading s) e o)))
 
--- so is a single far end
+-- a single far end is empty then too
 pub far-emptied : (s : Model) (e : End) (o : ObjectNo) (g : FeatureNo) → IsLegal s → (shape s.metamodel e.feature).opposite ≡ Some g → (shape s.metamodel g).is_single ≡ true
     → end (without_all s.links (names_of (yields (reading s) e o))) (far_end o g) ≡ []
 far-emptied s e o g legal opposite single =
@@ -470,7 +465,7 @@ far-emptied s e o g legal opposite single =
     emptied s e o (far_end o g) legal (far-reference s.metamodel legal.metamodel e.feature g opposite) single
     (subst (λ (q : Option FeatureNo). AllByRecursion P (option_map_or (link_ends_if_single (reading s)) (option_map (far_end o) q) [])) opposite far)
 
--- and what becomes contained is contained by nothing
+-- the node that becomes contained has no container then
 pub freed : (s : Model) (e : End) (o : ObjectNo) (x : Node) → IsLegal s → contained e o (shape s.metamodel e.feature).containing ≡ Some x
     → holder (without_all s.links (names_of (yields (reading s) e o))) x ≡ None
 freed s e o x legal part =

@@ -1,10 +1,11 @@
--- The chain of a change that destroys objects: what it is, and that it replays the change at each end that stays.
+-- The chain of a change that destroys objects: its notifications, and that it replays the change at each remaining end.
 use Rattle.std.proofs.Common.{◌≡◌, ℕ, suc, pos, slice_get, Bool, true, false, ◌&&◌, ◌||◌, not, List, [], ◌∷◌, ◌++◌, filter, flat_map, map, Option, Some, None, option_map, option_to_list, unwrap_or, if◌then◌else◌, refl, sym, ap, ◌∙◌, subst, arith}
 use Rattle.std.specs.List.{AllByRecursion, list_any}
 use Rattle.std.specs.Option.{option_map_or}
 use Rattle.std.proofs.lemmas.Bool.{and_parts, false≢true, or_left}
 use Rattle.std.proofs.lemmas.List.{map-append}
 use Rattle.std.proofs.lemmas.Option.{none-some, same_Some}
+use Rattle.std.proofs.Math.Bool.{or-false, and-true}
 use Rattle.mm_types.proofs.SameLemmas.{same_end-self, same_end-true, same_node-self}
 use Rattle.mm_types.specs.Ends.{Ends, Held, has_value, index_in, is_set, shown}
 use Rattle.mm_types.specs.SameValues.{same_value-self, same_value-true}
@@ -72,7 +73,7 @@ all_same : (e : Ends) (ds : List End) → AllByRecursion (λ (d : End). e d ≡ 
 all_same e [] = tt
 all_same e (d ∷ ds) = (refl, all_same e ds)
 
--- where an end is not among some, none of them is it
+-- if an end is not among some ends, none of them is it
 none-among : (ds : List End) (x : End) → has_end ds x ≡ false → AllByRecursion (λ (d : End). same_end d x ≡ false) ds
 none-among [] x h = tt
 none-among (d ∷ ds) x h =
@@ -100,14 +101,6 @@ none-kept p q fewer (v ∷ vs) h =
       | true ↦ λ _ some. absurd (false≢true (sym some))
       | false ↦ λ not_q rest. (λ i. fewer v not_q i || list_any p vs) ∙ none-kept p q fewer vs rest
     ] refl h
-
-or-false : (b : Bool) → (b || false) ≡ b
-or-false true = refl
-or-false false = refl
-
-and-true : (b : Bool) → (b && true) ≡ b
-and-true true = refl
-and-true false = refl
 
 -- a list that has a value once loses it in the end, where all else that goes is gone
 without-filter : (p : Value → Bool) (v : Value) (vs : List Value) → p v ≡ true → IsDistinct vs → has_value vs v ≡ true
@@ -150,11 +143,11 @@ module _ (s : Model) (legal : IsLegal s) (o : ObjectNo) (live : is_live (reading
   abbrev g : Node → Bool
   g = gone r o
 
-  -- the object goes
+  -- the object itself is destroyed
   goes-itself : g (node.Object o) ≡ true
   goes-itself = subtree-has s legal o (node.Object o) ∙ or_left (same_node (node.Object o) (node.Object o)) _ (same_node-self (node.Object o))
 
-  -- the node that contains it does not
+  -- the node that contains it is not destroyed
   holder-stays : (d : End) → r.holder (node.Object o) ≡ Some d → g d.node ≡ false
   holder-stays d held =
       let t = s.links in
@@ -167,7 +160,7 @@ module _ (s : Model) (legal : IsLegal s) (o : ObjectNo) (live : is_live (reading
   holder-has : (d : End) → r.holder (node.Object o) ≡ Some d → Has s.links d (value.Object o)
   holder-has d held = held_stands s.links legal.links.set (node.Object o) d held
 
-  -- an end that has an object is one of a reference
+  -- an end that has an object is the end of a reference
   has-reference : (d : End) (p : ObjectNo) → Has s.links d (value.Object p) → (shape s.metamodel d.feature).is_reference ≡ true
   has-reference d p has =
       let here = legal-at r d (end s.links d) has.0 (value.Object p) (legal.links.ends d) has.1 in
@@ -179,7 +172,7 @@ module _ (s : Model) (legal : IsLegal s) (o : ObjectNo) (live : is_live (reading
   references : AllByRecursion (λ (d : End). (shape s.metamodel d.feature).is_reference ≡ true) ds
   references = filter-passes (holds_some r g) (λ (d : End). (shape s.metamodel d.feature).is_reference) (λ e h. (and_parts (shape s.metamodel e.feature).is_reference (list_any (goes g) (r.values e)) h).0) (outer_ends r g)
 
-  -- what an end holds once all others losses are made: what it keeps
+  -- the values of an end after all other losses are made: the values that it keeps
   kept-held : (d : End) → (shape s.metamodel d.feature).is_reference ≡ true → g d.node ≡ false
       → happened_at s.metamodel (flat_map (lost_with r o) ds) d (held_at r d) ≡ record { values = shown (shape s.metamodel d.feature).is_single (kept_at r o d); flag = r.flag d }
   kept-held d reference stays =
@@ -197,7 +190,7 @@ module _ (s : Model) (legal : IsLegal s) (o : ObjectNo) (live : is_live (reading
   root-goes : goes g root ≡ true
   root-goes = goes-itself
 
-  -- where all that an end of a node other than the holder's has of it is lost before
+  -- an end that is not the holder of the object keeps exactly the values that are not destroyed
   kept-elsewhere : (d : End) → is_held_by r o d ≡ false → kept_at r o d ≡ filter (λ w. not (goes g w)) (r.values d)
   kept-elsewhere d other =
       filter-same (λ w. not (is_lost r o d w)) (λ w. not (goes g w)) (λ w. ap (λ (b : Bool). not (goes g w && not (b && same_value w root))) other ∙ ap not (and-true (goes g w))) (r.values d)
@@ -227,7 +220,7 @@ module _ (s : Model) (legal : IsLegal s) (o : ObjectNo) (live : is_live (reading
         let kept = filter_keeps (λ w. not (is_lost r o d w)) (r.values d) (index_in (r.values d) root) root at (ap not root-kept) in
         has-at (kept_at r o d) root kept.0 kept.1
 
-    -- a single one has nothing else
+    -- a single end has nothing else
     only-root : a.is_single ≡ true → r.values d ≡ root ∷ []
     only-root single = by (slice_get (r.values d) 0) (values-single s d legal holder-reference single) values-have
       where
@@ -258,7 +251,7 @@ module _ (s : Model) (legal : IsLegal s) (o : ObjectNo) (live : is_live (reading
         set : a.is_single ≡ false → is_set a (record { values = kept_at r o d; flag = r.flag d }) ≡ is_set a (record { values = r.values d; flag = r.flag d })
         set many = is_some_set (kept_at r o d) many (has-not-nil (kept_at r o d) root kept-has) ∙ sym (is_some_set (r.values d) many (has-not-nil (r.values d) root values-have))
 
-    -- what is left once the object itself is taken out
+    -- the values that are left after the object itself is taken out
     last-held : done a (Loses root) (record { values = shown a.is_single (kept_at r o d); flag = r.flag d }) ≡ record { values = shown a.is_single (filter (λ w. not (goes g w)) (r.values d)); flag = r.flag d }
     last-held =
         let before : Bool → Held = λ b. record { values = if b then value.Null ∷ [] else without (shown b (kept_at r o d)) root; flag = if b then a.is_unsettable else r.flag d } in
@@ -301,7 +294,7 @@ module _ (s : Model) (legal : IsLegal s) (o : ObjectNo) (live : is_live (reading
 
   ---------------------------------------------------------------- each end after it
 
-  -- what is kept under the features of a node that stays
+  -- the values that are stored for the features of a remaining node
   values-stay : (n : Node) (f : FeatureNo) → g n ≡ false → kept_values (after s (Delete o)).values n f ≡ kept_values s.values n f
   values-stay (node.Object p) f stays = ap (λ (q : Option ObjectState). unwrap_or (option_map (λ (t : ObjectState). (stored_under t f).list) q) []) (left-object s.values (subtree r o) p stays)
   values-stay (node.Resource k) f stays = refl
@@ -372,8 +365,7 @@ module _ (s : Model) (legal : IsLegal s) (o : ObjectNo) (live : is_live (reading
         | false ↦ λ attribute. attribute-replays d stays attribute
       ] refl
 
--- what a change destroys lives
--- the notifications of its losses are its chain
+-- if the object that a change destroys lives, the notifications of the losses are the chain of the change
 pub destroyed-heard : (s : Model) (c : Change) (q : Option ObjectNo) (o : ObjectNo) → IsLegal s → early_refusal (reading s) c ≡ None → q ≡ destroyed_by c → Some o ≡ q → (heard : Bool) → heard ≡ true
     → map (lost_notice (reading s)) (losses (reading s) o) ≡ (if heard then chain (reading s) c else [])
 destroyed-heard s (Delete p) q o legal early is some heard on =

@@ -1,4 +1,4 @@
--- To resolve all proxies of a legal model is to resolve one after another.
+-- Resolving all proxies of a legal model does the same as resolving one after another.
 use Rattle.std.proofs.Common.{◌≡◌, ◌∙◌, suc, Bool, true, false, List, [], ◌∷◌, ◌++◌, flat_map, fold, length, Option, Some, None, is_some, if◌then◌else◌, refl, sym, ap, subst}
 use Rattle.std.specs.Option.{option_map_or}
 use Rattle.std.proofs.lemmas.Option.{none-some}
@@ -26,7 +26,7 @@ use Rattle.handshake.proofs.KnownLemmas.{resolvable}
 use Rattle.handshake.proofs.ResolveAllLemmas.{all-lead, cut, early, one-resolved, resolved-to}
 use Rattle.handshake.proofs.ResolvedReadingLemmas.{with_links}
 
--- what is not resolved is refused
+-- a proxy that is not resolved is refused
 refused-late : (r : Reading) (p : ProxySite) → resolved_to r p ≡ None → is_some (resolve_refusal r (end_of p) p.index) ≡ true
 refused-late r p none = by (resolve_refusal r (end_of p) p.index) refl none
   where
@@ -59,7 +59,7 @@ module _ (s : Model) (legal : IsLegal s) (p : ProxySite) (x : Target) (is : reso
   chain-one : told s.metamodel (held_at r) (resolution_told (record { reads = reading s; site = p; target = x })) ≡ chain r (resolve p)
   chain-one = let of = resolved-to r p x is in sym (ap (λ (q : Option Target). told s.metamodel (held_at r) (option_map_or (resolved e p.index) q [])) of.found)
 
--- what all locations make is what each in turn makes
+-- resolving all locations gives the same as resolving each in turn
 record IsEach (s : Model) (ps : List ProxySite) (xs : List Resolution) : Type 0 where
   pub leaves : with_links s (fold with_resolution s.links xs) ≡ after_each s ps
   pub tells : told s.metamodel (held_at (reading s)) (flat_map resolution_told xs) ≡ told_by_each s ps

@@ -1,14 +1,13 @@
--- Tellings that are kept, one after another.
+-- Feature changes that are collected, one after another.
 use Rattle.std.proofs.Common.{◌≡◌, ◌<◌, ◌≤◌, ◌+◌, ◌-◌, subst, ℕ, zero, suc, length, drop, take, slice_get, slice_index_or, Option, Some, None, option_map, option_to_list, if◌then◌else◌, arith, Bool, true, false, cond, List, [], ◌∷◌, ◌++◌, filter, map, refl, append_assoc, ap, sym, ◌∙◌}
 use Rattle.std.proofs.lemmas.Bool.{or_parts}
 use Rattle.std.proofs.lemmas.List.{append-nil, drop_all, drop_more}
-use Rattle.std.proofs.lemmas.Option.{none-some, same_Some}
+use Rattle.std.proofs.lemmas.Option.{none-some, same_Some, slice_get-get_or}
 use Rattle.mm_types.specs.Ends.{first_in, has_value, index_in}
 use Rattle.mm_types.specs.Same.{same_value}
 use Rattle.mm_types.specs.declared.end.End.{End}
 use Rattle.mm_types.specs.declared.value.Value.{Value}
 use Rattle.mm_types.specs.declared.value.Value.TheVariants as value
-use Rattle.containment.proofs.ForestLemmas.{get-within}
 use Rattle.handshake.specs.Displaced.{link_ends_backwards}
 use Rattle.removal.specs.TreeLinkEnds.{link_end}
 use Rattle.handshake.specs.FeatureChange.{feature_change}
@@ -20,11 +19,11 @@ use Rattle.removal.specs.declared.link_end.LinkEnd.{LinkEnd}
 filter-two : {X : Type 0} (p : X → Bool) (x y : X) → filter p (x ∷ []) ++ filter p (y ∷ []) ≡ filter p (x ∷ y ∷ [])
 filter-two p x y = elim (p x) as (λ b. cond b (x ∷ []) [] ++ filter p (y ∷ []) ≡ cond b (x ∷ filter p (y ∷ [])) (filter p (y ∷ []))) [ true ↦ refl | false ↦ refl ]
 
--- what is added in two steps is added in one
+-- elements that are added in two steps are added in one
 pub both-added : {X : Type 0} (p : X → Bool) (xs : List X) (x y : X) → (xs ++ filter p (x ∷ [])) ++ filter p (y ∷ []) ≡ xs ++ filter p (x ∷ y ∷ [])
 both-added p xs x y = append_assoc xs (filter p (x ∷ [])) (filter p (y ∷ [])) ∙ ap (λ ys. xs ++ ys) (filter-two p x y)
 
--- what has been made so far and what is left, after one more step
+-- the elements that were made and the elements that are left, after one more step
 pub made-step : {X Y : Type 0} (f : X → Y) (old rest : List X) (x : X) (out new all : List Y) → old ≡ x ∷ rest → new ≡ out ++ f x ∷ [] → out ++ map f old ≡ all → new ++ map f rest ≡ all
 made-step f old rest x out new all steps made whole =
     ap (λ ys. ys ++ map f rest) made ∙ append_assoc out (f x ∷ []) (map f rest) ∙ ap (λ xs. out ++ map f xs) (sym steps) ∙ whole
@@ -54,12 +53,12 @@ site-past vs v h =
 
 ---------------------------------------------------------------- the links of an end
 
--- the link of one value more
+-- the link of one more value
 pub link_ends-step : (e : End) (vs : List Value) (k : ℕ) (out new all : List LinkEnd) → k < length vs → new ≡ out ++ option_to_list (option_map (link_end e) (slice_get vs k))
     → out ++ map (link_end e) (drop k vs) ≡ all → new ++ map (link_end e) (drop (k + 1) vs) ≡ all
 link_ends-step e vs k out new all low made whole =
     let v = slice_index_or vs k value.Null in
-    ap (λ (ts : List LinkEnd). ts ++ map (link_end e) (drop (k + 1) vs)) (made ∙ ap (λ (x : Option Value). out ++ option_to_list (option_map (link_end e) x)) (get-within vs k value.Null low))
+    ap (λ (ts : List LinkEnd). ts ++ map (link_end e) (drop (k + 1) vs)) (made ∙ ap (λ (x : Option Value). out ++ option_to_list (option_map (link_end e) x)) (slice_get-get_or vs k value.Null low))
     ∙ append_assoc out (link_end e v ∷ []) (map (link_end e) (drop (k + 1) vs))
     ∙ ap (λ (ws : List Value). out ++ map (link_end e) ws) (sym (drop_more vs k value.Null low))
     ∙ whole
@@ -81,7 +80,7 @@ pub backwards-step : (e : End) (vs : List Value) (k : ℕ) (out new all : List L
     → out ++ link_ends_backwards e (take (suc k) vs) ≡ all → new ++ link_ends_backwards e (take k vs) ≡ all
 backwards-step e vs k out new all low made whole =
     let v = slice_index_or vs k value.Null in
-    ap (λ (ts : List LinkEnd). ts ++ link_ends_backwards e (take k vs)) (made ∙ ap (λ (x : Option Value). out ++ option_to_list (option_map (link_end e) x)) (get-within vs k value.Null low))
+    ap (λ (ts : List LinkEnd). ts ++ link_ends_backwards e (take k vs)) (made ∙ ap (λ (x : Option Value). out ++ option_to_list (option_map (link_end e) x)) (slice_get-get_or vs k value.Null low))
     ∙ append_assoc out (link_end e v ∷ []) (link_ends_backwards e (take k vs))
     ∙ ap (λ (ts : List LinkEnd). out ++ ts) (sym (ap (link_ends_backwards e) (take-push vs k value.Null low) ∙ backwards-push e (take k vs) v))
     ∙ whole
@@ -102,7 +101,7 @@ backwards-before e vs (suc k) out new all some low made whole =
     subst (λ (i : ℕ). new ++ link_ends_backwards e (take i vs) ≡ all) (sym less)
     (backwards-step e vs k out new all (omega (arith, low)) (subst (λ (i : ℕ). new ≡ out ++ option_to_list (option_map (link_end e) (slice_get vs i))) less made) whole)
 
--- one loss more of a list
+-- one more loss of a list
 pub lost-before : (e : End) (k : ℕ) (out new all : List FeatureChange) → 0 < k → new ≡ out ++ feature_change e (LosesAt (k - 1)) ∷ [] → out ++ all_lost e k ≡ all → new ++ all_lost e (k - 1) ≡ all
 lost-before e zero out new all some made whole = absurd (omega (arith, some))
 lost-before e (suc k) out new all some made whole =

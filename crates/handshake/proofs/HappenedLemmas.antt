@@ -1,4 +1,4 @@
--- What tellings make of one end: those at the other ends change nothing there.
+-- One end after feature changes: the feature changes at other ends change nothing there.
 use Rattle.std.proofs.Common.{◌≡◌, Bool, true, false, cond, List, [], ◌∷◌, ◌++◌, filter, if◌then◌else◌, refl, sym, ap, ◌∙◌}
 use Rattle.std.specs.List.{AllByRecursion}
 use Rattle.std.proofs.lemmas.Bool.{true≢false}
@@ -13,15 +13,15 @@ use Rattle.handshake.specs.FeatureChange.{changed, flagged, happened, happened_a
 use Rattle.handshake.specs.declared.change_kind.ChangeKind.{ChangeKind}
 use Rattle.handshake.specs.declared.change_kind.FeatureChange.{FeatureChange}
 
--- what happens to what an end holds
+-- the values and the flag of an end after a feature change
 abbrev pub done : Shape → ChangeKind → Held → Held
 done a x h = record { values = changed a x h.values; flag = flagged a x h.flag }
 
--- the same, where it happens to d
+-- the same for d, if the feature change is at d
 abbrev pub done_at : Metamodel → End → FeatureChange → Held → Held
 done_at m d t h = if same_end t.at d then done (shape m d.feature) t.does h else h
 
--- what tellings make of what d holds
+-- the values and the flag of d after feature changes
 abbrev pub happened_at : Metamodel → List FeatureChange → End → Held → Held
 happened_at m [] d h = h
 happened_at m (t ∷ ts) d h = happened_at m ts d (done_at m d t h)
@@ -33,7 +33,7 @@ happened-done m e t d =
       | false ↦ λ _. refl
     ] refl
 
--- at an end, tellings do what those at the end do
+-- at an end, feature changes do what those of them at the end do
 pub happened_all-at : (m : Metamodel) (e : Ends) (ts : List FeatureChange) (d : End) → happened_all m e ts d ≡ happened_at m ts d (e d)
 happened_all-at m e [] d = refl
 happened_all-at m e (t ∷ ts) d = happened_all-at m (happened m e t) ts d ∙ ap (happened_at m ts d) (happened-done m e t d)
@@ -65,13 +65,13 @@ happened_at-filter m q (t ∷ ts) d h kept =
       | false ↦ λ out. happened_at-filter m q ts d h kept ∙ ap (happened_at m ts d) (sym (done-other m d t h (apart-of q t.at d out kept)))
     ] refl
 
--- tellings at e alone do nothing at another end
+-- feature changes at e do nothing at another end
 pub at-own : (m : Metamodel) (e d : End) (own : List FeatureChange) (h : Held) → AllByRecursion (λ (t : FeatureChange). t.at ≡ e) own → same_end e d ≡ false → happened_at m own d h ≡ h
 at-own m e d [] h here other = refl
 at-own m e d (t ∷ ts) h here other =
     ap (happened_at m ts d) (done-other m d t h (ap (λ (x : End). same_end x d) here.0 ∙ other)) ∙ at-own m e d ts h here.1 other
 
--- and tellings at others do nothing at e
+-- feature changes at other ends do nothing at e
 pub at-others : (m : Metamodel) (e : End) (ts : List FeatureChange) (h : Held) → AllByRecursion (λ (t : FeatureChange). t.at ≡ e → ⊥) ts → happened_at m ts e h ≡ h
 at-others m e [] h away = refl
 at-others m e (t ∷ ts) h away = ap (happened_at m ts e) (done-other m e t h (ne-same_end t.at e away.0)) ∙ at-others m e ts h away.1

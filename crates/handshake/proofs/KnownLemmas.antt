@@ -1,8 +1,8 @@
 -- What follows where a change is not refused: the node lives and has the feature, the value is one of its type, and the end can gain
 -- it.
-use Rattle.std.proofs.Common.{◌≡◌, ℕ, nat_le, nat_lt, length, slice_get, option_to_list, ◌&&◌, ◌||◌, not, Bool, true, false, Option, Some, None, is_some, if◌then◌else◌, refl, sym, ap, ◌∙◌, subst, arith, ◌<◌, List}
+use Rattle.std.proofs.Common.{◌≡◌, ℕ, nat_le, nat_lt, length, slice_get, option_to_list, ◌&&◌, not, Bool, true, false, Option, Some, None, is_some, if◌then◌else◌, refl, sym, ap, ◌∙◌, subst, arith, ◌<◌, List}
 use Rattle.std.specs.Option.{option_map_or}
-use Rattle.std.proofs.lemmas.Bool.{and_parts, eqb-true, false≢true}
+use Rattle.std.proofs.lemmas.Bool.{and_parts, eqb-true, false≢true, or_parts}
 use Rattle.std.proofs.lemmas.Option.{none-some, slice_get_past}
 use Rattle.mm_meta.proofs.ShapeLemmas.{opposites_are_pairs}
 use Rattle.mm_types.specs.Conditions.{◌unless◌, ◌where_so◌, ◌else_by◌}
@@ -78,7 +78,7 @@ there-of : (r : Reading) (o : ObjectNo) (f : FeatureNo) (c : Option ClassNo) →
 there-of r o f None is h = absurd (false≢true h)
 there-of r o f (Some c) is h = record { object = o; class = c; node = refl; class_is = is; has = h }
 
--- what a resource has is `contents`
+-- the only feature of a resource is `contents`
 pub resource-shape : (r : Reading) (k : ResourceNo) (f : FeatureNo) → has_feature r (node.Resource k) f ≡ true → shape r.metamodel f ≡ contents_shape r.metamodel
 resource-shape r k f h =
     let m = r.metamodel in
@@ -89,7 +89,7 @@ resource-shape r k f h =
 pub resource-keeps-none : (r : Reading) (k : ResourceNo) (f : FeatureNo) → has_feature r (node.Resource k) f ≡ true → (shape r.metamodel f).is_reference ≡ false → ⊥
 resource-keeps-none r k f h attribute = false≢true (sym attribute ∙ ap (λ (a : Shape). a.is_reference) (resource-shape r k f h))
 
--- it has no opposite
+-- `contents` has no opposite
 pub resource-alone : (r : Reading) (k : ResourceNo) (f g : FeatureNo) → has_feature r (node.Resource k) f ≡ true → (shape r.metamodel f).opposite ≡ Some g → ⊥
 resource-alone r k f g h opposite = none-some g (sym (ap (λ (a : Shape). a.opposite) (resource-shape r k f h)) ∙ opposite)
 
@@ -110,7 +110,7 @@ value-named r n f v h =
       feature-named r n f both.1,
     )
 
--- a value, a node and its feature that are there; the feature is single, or it is not
+-- the value exists, and the node exists and has the feature, which is single or not
 pub record IsNamed (one : Bool) (r : Reading) (n : Node) (f : FeatureNo) (v : Value) : Type 0 where
   pub live : is_value_live r v ≡ true
   pub there : has_feature r n f ≡ true
@@ -133,7 +133,7 @@ list-named r n f h =
     let both = none-else_by (end_refusal r (at_end n f)) (many_refusal r.metamodel f) h in
     (feature-named r n f both.0, none-where_so NotMany (shape r.metamodel f).is_single both.1)
 
--- an early refusal of None, of each change
+-- facts if `early_refusal` is None, for each kind of change
 pub delete-named : (r : Reading) (o : ObjectNo) → early_refusal r (Delete o) ≡ None → is_live r o ≡ true
 delete-named r o h = none-unless NoObject (is_live r o) (none-else_by (NoObject unless is_live r o) (NoResource unless true) h).0
 
@@ -158,7 +158,7 @@ take-named r n f v h = many-named r n f v h
 pub move-named : (r : Reading) (n : Node) (f : FeatureNo) (to from : ℕ) → early_refusal r (At (at_end n f) (Move to from)) ≡ None → (has_feature r n f ≡ true) × ((shape r.metamodel f).is_single ≡ false)
 move-named r n f to from h = list-named r n f h
 
--- so the end is there at which something is done
+-- so the end of an act exists
 pub act-there : (r : Reading) (e : End) (a : Act) → early_refusal r (At e a) ≡ None → has_feature r e.node e.feature ≡ true
 act-there r e (Set v) h = set-there r e.node e.feature v h
 act-there r e Unset h = unset-there r e.node e.feature h
@@ -182,10 +182,6 @@ pub record IsResolvable (r : Reading) (e : End) (i : ℕ) (x : Target) : Type 0 
 not-true : (a : Bool) → not a ≡ false → a ≡ true
 not-true true h = refl
 not-true false h = absurd (false≢true (sym h))
-
-pub or-none : (a b : Bool) → (a || b) ≡ false → (a ≡ false) × (b ≡ false)
-or-none true b h = absurd (false≢true (sym h))
-or-none false b h = (refl, h)
 
 -- none of the reasons holds for which a proxy can't be resolved to what it finds
 record IsUnrefused (r : Reading) (e : End) (i : ℕ) (q : Option Target) : Type 0 where
@@ -219,10 +215,10 @@ unrefused r e i q h =
 
 resolvable-to : (r : Reading) (e : End) (i : ℕ) (x : Target) → IsFound r e i x → IsUnrefused r e i (Some x) → IsResolvable r e i x
 resolvable-to r e i x found h =
-    let typed = or-none (not (shape r.metamodel e.feature).is_reference) (not (takes r e.feature (value.Object x.object))) h.typed in
+    let typed = or_parts (not (shape r.metamodel e.feature).is_reference) (not (takes r e.feature (value.Object x.object))) h.typed in
     record { reference = not-true _ typed.0; low = h.low; takes = not-true _ typed.1; absent = h.absent; found = found; matched = h.matched }
 
--- what a proxy finds that nothing keeps from being resolved
+-- the target of a proxy that can be resolved
 pub record IsResolved (r : Reading) (e : End) (i : ℕ) : Type 0 where
   pub target : Target
   pub is : target_at r e i ≡ Some target
@@ -235,7 +231,7 @@ resolvable r e i h = by (target_at r e i) refl h
     by None is allowed = absurd (false≢true (unrefused r e i None allowed).led)
     by (Some x) is allowed = record { target = x; is = is; resolvable = resolvable-to r e i x (found-is r e i x is) (unrefused r e i (Some x) allowed) }
 
--- a value is one of the feature's type, and short
+-- a value is of the feature's type, and short
 pub record IsTyped (r : Reading) (f : FeatureNo) (v : Value) : Type 0 where
   pub takes : takes r f v ≡ true
   pub short : is_short v ≡ true
@@ -245,7 +241,7 @@ typed-of r f v h =
     let typed = none-else_by (WrongType unless takes r f v) (TextLength unless is_short v) h in
     record { takes = none-unless WrongType (takes r f v) typed.0; short = none-unless TextLength (is_short v) typed.1 }
 
--- a set that nothing refuses: the value is one of the feature's type, short, and the end can have it
+-- a set that nothing refuses: the value is of the feature's type and short, and the end can have it
 pub record IsTaken (r : Reading) (n : Node) (f : FeatureNo) (v : Value) : Type 0 where
   pub takes : takes r f v ≡ true
   pub short : is_short v ≡ true
@@ -257,7 +253,7 @@ set-taken r n f v h =
     let typed = typed-of r f v both.0 in
     record { takes = typed.takes; short = typed.short; allowed = both.1 }
 
--- an addition that nothing refuses: besides, the position is one of the list or the one after the last
+-- an addition that nothing refuses: in addition, the position is in the list or right after its last value
 pub record IsAdded (r : Reading) (n : Node) (f : FeatureNo) (v : Value) (i : Option ℕ) : Type 0 where
   pub takes : takes r f v ≡ true
   pub short : is_short v ≡ true
@@ -272,7 +268,7 @@ add-taken r n f v i h =
     let rest = none-else_by (Index unless nat_le (position_for r e i) (length (r.values e))) (add_refusal r e v i) both.1 in
     record { takes = typed.takes; short = typed.short; placed = none-unless Index _ rest.0; allowed = rest.1 }
 
--- what an addition of a value that is no repeat asks of its end
+-- what an addition of a value that the list lacks requires of its end
 pub add-gains : (r : Reading) (e : End) (v : Value) (i : Option ℕ) → is_repeat r e v ≡ false → add_refusal r e v i ≡ None → gain_refusal r e v ≡ None
 add-gains r e v i new h = subst (λ (b : Bool). (if b then (Duplicate where_so is_some i) else gain_refusal r e v) ≡ None) new h
 
@@ -295,13 +291,13 @@ linkable r e o h =
     let later = none-else_by (Recursive where_so is_recursive r e o) (Limit where_so of_either (is_at_limit r) r e o) first.1 in
     record { room = none-where_so Bound _ first.0; clear = none-where_so Recursive _ later.0; few = none-where_so Limit _ later.1 }
 
--- so an object is set under a reference
+-- so a feature that is set to an object is a reference
 pub set-reference : (r : Reading) (n : Node) (f : FeatureNo) (o : ObjectNo) → late_refusal r (At (at_end n f) (Set (value.Object o))) ≡ None → (shape r.metamodel f).is_reference ≡ true
 set-reference r n f o h = object-reference r.metamodel r.class f o (set-taken r n f (value.Object o) h).takes
 
 ---------------------------------------------------------------- resources
 
--- what is known of the URI of a new resource
+-- facts about the URI of a new resource
 pub record UriTaken (r : Reading) (u : List ℕ) : Type 0 where
   pub short : is_short_text u ≡ true
   pub room : length r.uris < RESOURCES

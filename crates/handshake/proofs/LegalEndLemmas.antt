@@ -1,4 +1,4 @@
--- The ends of a legal model stay legal: once links are cut, where a link is made, and where objects come.
+-- The ends of a legal model stay legal: after links are cut, after a link is made, and after objects are made.
 use Rattle.std.proofs.Common.{◌≡◌, ℕ, zero, suc, ◌<◌, ◌≤◌, nat_le, pos, negsuc, ℤ, Bool, true, false, ◌&&◌, not, List, [], ◌∷◌, ◌++◌, filter, length, Option, Some, None, is_some, if◌then◌else◌, slice_get, remove, refl, sym, ap, ◌∙◌, subst, arith, nat_lt}
 use Rattle.std.specs.Prelude.{int_le, int_lt}
 use Rattle.std.specs.List.{AllByRecursion, insert, list_all}
@@ -44,6 +44,7 @@ use Rattle.handshake.proofs.CutLinkEndLemmas.{far-emptied, values-linked}
 use Rattle.removal.specs.Laws.{names_of}
 use Rattle.handshake.proofs.KnownLemmas.{far-reference, feature-there}
 use Rattle.handshake.proofs.LinkLemmas.{IsNewLink, below-limit, far-of, fewer-left, near-empty, near-of, new-fits, without_displaced}
+use Rattle.doc_loader.proofs.TypedLemmas.{bounded-less}
 
 ---------------------------------------------------------------- lists
 
@@ -53,21 +54,6 @@ list_all-filter q p (x ∷ xs) h =
     let both = and_parts (q x) (list_all q xs) h in
     let rest = list_all-filter q p xs both.1 in
     elim (p x) as (λ b. list_all q (if b then x ∷ filter p xs else filter p xs) ≡ true) [ true ↦ and_from (q x) (list_all q (filter p xs)) both.0 rest | false ↦ rest ]
-
-int-less : (u : ℤ) (m n : ℕ) → m ≤ n → int_le (pos n) u ≡ true → int_le (pos m) u ≡ true
-int-less (pos k) m n le h = grind (arith, nat_tests)
-int-less (negsuc k) m n le h = absurd (false≢true h)
-
--- fewer values are no more than an end may have
-pub bounded-less : (a : Shape) (m n : ℕ) → m ≤ n → is_bounded a n ≡ true → is_bounded a m ≡ true
-bounded-less a m n le h =
-    let both = and_parts (nat_le n LIST_VALUES) (if int_le (pos 1) a.upper then int_le (pos n) a.upper else true) h in
-    let low : nat_le m LIST_VALUES ≡ true = let high = both.0 in grind (arith, nat_tests) in
-    let upper : (b : Bool) → (if b then int_le (pos n) a.upper else true) ≡ true → (if b then int_le (pos m) a.upper else true) ≡ true = λ b. elim b as (λ b. (if b then int_le (pos n) a.upper else true) ≡ true → (if b then int_le (pos m) a.upper else true) ≡ true) [
-      | true ↦ λ within. int-less a.upper m n le within
-      | false ↦ λ _. refl
-    ] in
-    and_from (nat_le m LIST_VALUES) (if int_le (pos 1) a.upper then int_le (pos m) a.upper else true) low (upper (int_le (pos 1) a.upper) both.1)
 
 pub one-bounded : (a : Shape) → is_bounded a 1 ≡ true
 one-bounded a = elim (int_le (pos 1) a.upper) as (λ b. (nat_le 1 LIST_VALUES && (if b then b else true)) ≡ true) [ true ↦ refl | false ↦ refl ]
@@ -98,7 +84,7 @@ single-kind : (m : Metamodel) (f : FeatureNo) (g : Feature) (k : Kind) → (shap
 single-kind m f g (Attribute t unique unsettable default) h = (Decides-int_eq g.upper (pos 1)).1 h
 single-kind m f g (Reference target containment opposite) h = (Decides-int_eq g.upper (pos 1)).1 h
 
--- a feature of one value at most is single
+-- a feature that can have at most one value is single
 pub single-of : (m : Metamodel) (f : FeatureNo) → (shape m f).upper ≡ pos 1 → (shape m f).is_single ≡ true
 single-of m f h = by (lookups.feature m f) h
   where
@@ -117,7 +103,7 @@ upper-more (pos (suc (suc k))) m n le room one =
     let fits : int_le (pos (suc m)) (pos (suc (suc k))) ≡ true = grind (arith, nat_tests) in
     rw least fits
 
--- an end that is not full may have one value more, a single one where it has none
+-- an end that is not full may have one more value; a single end may have one if it is empty
 pub bounded-more : (a : Shape) (m n : ℕ) → m ≤ n → n < most → is_full_list a n ≡ false → (a.upper ≡ pos 1 → m ≡ 0) → is_bounded a (suc m) ≡ true
 bounded-more a m n le few room one =
     let low : nat_le (suc m) LIST_VALUES ≡ true = grind (arith, nat_tests) in
@@ -166,7 +152,7 @@ module _ (s : Model) (legal : IsLegal s) (e : End) (o : ObjectNo) (new : IsNewLi
   linked-length : (d : End) → (shape s.metamodel d.feature).is_reference ≡ true → length ((reading s).values d) ≡ length (end s.links d)
   linked-length d reference = ap (λ (vs : List Value). length vs) (values-linked s d reference)
 
-  -- an end of the new link may have one value more than is left
+  -- an end of the new link may have one value more than the values that are left
   gains : (d : End) → (shape s.metamodel d.feature).is_reference ≡ true → is_full_at (reading s) d ≡ false → is_at_limit (reading s) d ≡ false
       → ((shape s.metamodel d.feature).is_single ≡ true → end left d ≡ []) → is_bounded (shape s.metamodel d.feature) (suc (length (end left d))) ≡ true
   gains d reference room few empty =
@@ -217,7 +203,7 @@ module _ (s : Model) (legal : IsLegal s) (e : End) (o : ObjectNo) (new : IsNewLi
 
 ---------------------------------------------------------------- a move
 
--- what is taken out of a list, and what is left
+-- the value that is taken out of a list, and the rest of the list
 pub taken_out : (vs : List Value) (k : ℕ) (v : Value) → slice_get vs k ≡ Some v → (p : Value → Bool) → list_all p vs ≡ true → (p v ≡ true) × (list_all p (remove vs k) ≡ true) × (suc (length (remove vs k)) ≡ length vs)
 taken_out [] k v at p all = absurd (none-some v at)
 taken_out (w ∷ ws) zero v at p all = let both = and_parts (p w) (list_all p ws) all in (subst (λ (x : Value). p x ≡ true) (same_Some w v at) both.0, both.1, refl)
@@ -251,7 +237,7 @@ shifted-end s e to from legal low_from low_to d =
 
 ---------------------------------------------------------------- classes
 
--- each object that stays and has a class in the one still has it in the other
+-- each remaining object with a class in the first model has the same class in the second
 abbrev pub HaveClasses : (Node → Bool) → (ObjectNo → Option ClassNo) → (ObjectNo → Option ClassNo) → Type 0
 HaveClasses goes x y = (o : ObjectNo) → goes (node.Object o) ≡ false → (c : ClassNo) → x o ≡ Some c → y o ≡ Some c
 
@@ -300,12 +286,12 @@ takes-kept m x y f v kept h = by (lookups.feature m f) h
     by None h = live-kept x y v kept h
     by (Some g) h = kind-kept m x y (lookups.is_single g) g.kind v kept h
 
--- neither the node of an end that holds something goes, nor anything that it holds
+-- if an end has values, neither its node nor any of its values is destroyed
 abbrev pub IsUntouched : (Node → Bool) → End → List Value → Type 0
 IsUntouched g e [] = Unit {0}
 IsUntouched g e (v ∷ vs) = (g e.node ≡ false) × AllByRecursion (λ (w : Value). goes g w ≡ false) (v ∷ vs)
 
--- if nothing goes
+-- the case that nothing is destroyed
 abbrev pub none_goes : Node → Bool
 none_goes n = false
 
@@ -331,7 +317,7 @@ list_all-kept : (p q : Value → Bool) (g : Node → Bool) → ((w : Value) → 
 list_all-kept p q g kept [] stay h = refl
 list_all-kept p q g kept (w ∷ ws) stay h = let both = and_parts (p w) (list_all p ws) h in and_from (q w) (list_all q ws) (kept w stay.0 both.0) (list_all-kept p q g kept ws stay.1 both.1)
 
--- objects that keep their classes, but for those that go, and no fewer resources
+-- objects keep their classes, except the destroyed ones, and there are no fewer resources
 module _ (g : Node → Bool) (s : Model) (v : ValuesState) (l : Links) (kept : HaveClasses g (class_of s.values) (class_of v)) (more : length s.values.uris ≤ length v.uris) where
   has-kept : (n : Node) (f : FeatureNo) → g n ≡ false → has_feature (reading s) n f ≡ true → has_feature (reading (model_of s.metamodel v l)) n f ≡ true
   has-kept (node.Object o) f stays h = test-kept (class_of s.values o) (class_of v o) (λ c. lookups.has_feature s.metamodel c f) (kept o stays) h

@@ -2,7 +2,7 @@
 use Rattle.std.proofs.Common.{◌≡◌, ℕ, zero, suc, ◌≤◌, nat_le, nat_lt, insert, remove, nat_eq, Bool, true, false, ◌&&◌, ◌||◌, not, List, [], ◌∷◌, ◌++◌, filter, map, length, slice_index_or, slice_set, Option, Some, None, unwrap_or, option_map, if◌then◌else◌, refl, sym, ap, ◌∙◌, subst, arith, ◌<◌, IsTrue}
 use Rattle.std.specs.List.{All, AllByRecursion, list_any}
 use Rattle.std.specs.Option.{option_map_or}
-use Rattle.std.proofs.lemmas.Bool.{false≢true, true≢false}
+use Rattle.std.proofs.lemmas.Bool.{false≢true, true≢false, ltb-true}
 use Rattle.std.proofs.lemmas.Bool.Decides.{nat_tests}
 use Rattle.std.proofs.lemmas.Option.{none-some}
 use Rattle.std.proofs.lemmas.List.{length-set, length-append}
@@ -41,6 +41,7 @@ use Rattle.links.proofs.LegalLemmas.{plan_keeps_legal}
 use Rattle.models.specs.Legal.{AreLegalLinks, AreLegalUris, IsLegal, IsLegalObject, IsLegalStored, is_legal_end, is_short_text, kinds_of}
 use Rattle.models.specs.Model.{Model, attribute_values, kept_values, reading}
 use Rattle.models.specs.Reading.{at_end, first_at, has_feature, has_resource, is_repeat, position_for, takes}
+use Rattle.models.proofs.PlaceLemmas.{legal-at}
 use Rattle.resource_docs.specs.declared.doc.Doc.{Doc}
 use Rattle.doc_loader.proofs.TypedLemmas.{read-typed}
 use Rattle.containment.proofs.PartLemmas.{kinds-are, object-reference}
@@ -64,20 +65,20 @@ use Rattle.handshake.proofs.LoadEndLemmas.{linked-legal, no-fewer, same-classes}
 use Rattle.handshake.proofs.LoadLemmas.{few}
 use Rattle.handshake.proofs.LoadValueLemmas.{load-values}
 use Rattle.handshake.proofs.ListLegalLemmas.{insert-legal, move-legal, remove-legal}
-use Rattle.handshake.proofs.PlanLemmas.{add-new, add-site, below, plan-for, set-new}
+use Rattle.handshake.proofs.PlanLemmas.{add-new, add-site, plan-for, set-new}
 use Rattle.std.specs.Str.{bytes_eq}
 use Rattle.std.proofs.lemmas.Cmp.{nat_list_eq_equiv}
 use Rattle.std.proofs.lemmas.Map.Keys.{IsDistinct-push}
 use Rattle.web_uris.specs.Joined.{IsJoined}
 use Rattle.handshake.proofs.ProxyLemmas.{proxies-after, read-brings}
 use Rattle.web_uris.specs.Addresses.{IsProxyText}
-use Rattle.handshake.proofs.ObjectLegalLemmas.{class-append, class-put, created, has-of, keeps-taken, legal-at, nothing-legal, one-legal, put-at, put-legal}
+use Rattle.handshake.proofs.ObjectLegalLemmas.{class-append, class-put, created, has-of, keeps-taken, nothing-legal, one-legal, put-at, put-legal}
 use Rattle.handshake.proofs.ResolvedLemmas.{resolved-as}
 use Rattle.handshake.proofs.ResolveLemmas.{alone-legal, joint-legal}
 
 ---------------------------------------------------------------- the objects after a change
 
--- legal objects and URIs, where each object of before that stays keeps its class, and each resource is still there
+-- objects and URIs are legal, each remaining object keeps its class, and each resource still exists
 record AreLegalValues (s : Model) (g : Node → Bool) (v : ValuesState) : Type 0 where
   pub count : length v.objects ≤ OBJECTS
   pub objects : All (IsLegalObject s.metamodel) v.objects
@@ -135,12 +136,12 @@ changed-values s o f g legal held =
       more = not-fewer s.values.uris;
     }
 
--- of an attribute alone
+-- only a change of an attribute edits values
 of-attribute : (s : Model) (f : FeatureNo) (es : List ValueEdit) → IsLegal s → ((shape s.metamodel f).is_reference ≡ false → AreLegalValues s none_goes (applied s.values es)) → AreLegalValues s none_goes (applied s.values (if (shape s.metamodel f).is_reference then [] else es))
 of-attribute s f es legal of =
     elim (shape s.metamodel f).is_reference as (λ b. (shape s.metamodel f).is_reference ≡ b → AreLegalValues s none_goes (applied s.values (if b then [] else es))) [ true ↦ λ _. same-values s legal | false ↦ of ] refl
 
--- what an attribute's list has is what its object stores
+-- the list of an attribute is the list that its object stores
 module _ (s : Model) (legal : IsLegal s) (o : ObjectNo) (f : FeatureNo) (many : (shape s.metamodel f).is_single ≡ false) (has : has_feature (reading s) (node.Object o) f ≡ true) (attribute : (shape s.metamodel f).is_reference ≡ false) where
   abbrev e : End
   e = at_end (node.Object o) f
@@ -184,7 +185,7 @@ module _ (s : Model) (legal : IsLegal s) (o : ObjectNo) (f : FeatureNo) (many : 
   moved-values : (to from : ℕ) → AreLegalValues s none_goes (record { objects = with_changed s.values.objects o f (λ vs. shifted vs to from); uris = s.values.uris })
   moved-values to from = changed-values s o f (λ vs. shifted vs to from) legal (λ x is. move-legal s.metamodel x.class f (stored_under x f) many (stored-has x is) (stored-legal x is) to from)
 
--- one URI more, which no resource has
+-- one more URI, which no resource has
 with-new : (us : List (List ℕ)) (u : List ℕ) → AreLegalUris us → IsJoined u → is_short_text u ≡ true → length us < RESOURCES → list_any (bytes_eq u) us ≡ false
     → AreLegalUris (with_uri us u) × (length us ≤ length (with_uri us u))
 with-new us u legal is short room free =
@@ -252,7 +253,7 @@ load-legal s k doc legal late read =
       more = no-fewer s k doc legal late read (after s (Load k doc)).values made;
     }
 
--- what an act makes of an attribute, which is one of an object
+-- an attribute, whose node is an object, after an act
 act-values : (s : Model) (n : Node) (f : FeatureNo) (a : Act) → IsLegal s → early_refusal (reading s) (At (at_end n f) a) ≡ None → late_refusal (reading s) (At (at_end n f) a) ≡ None → (shape s.metamodel f).is_reference ≡ false
     → AreLegalValues s none_goes (applied s.values (act_edits (reading s) (at_end n f) a))
 act-values s (node.Object o) f (Set v) legal early late attribute =
@@ -309,7 +310,7 @@ values-after s (Load k doc) legal early late read brought = load-legal s k doc l
 
 ---------------------------------------------------------------- the links after a change
 
--- of a set and an addition that may cut links
+-- the case of a set and an addition that may cut links
 set-ends : (s : Model) (n : Node) (f : FeatureNo) (v : Value) → IsLegal s → early_refusal (reading s) (At (at_end n f) (Set v)) ≡ None → late_refusal (reading s) (At (at_end n f) (Set v)) ≡ None → is_plain_set (reading s) (at_end n f) v ≡ false → (d : End)
     → is_legal_end (reading s) d (end (with_value (without_all s.links (names_of (cut_by_set (reading s) (at_end n f) v))) (reading s) (at_end n f) None v) d) ≡ true
 set-ends s n f (value.Object o) legal early late h d =
@@ -338,9 +339,9 @@ move-ends s n f to from legal late reference d =
     let e = at_end n f in
     let placed = move-placed (reading s) n f to from late in
     let linked = values-linked s e reference in
-    shifted-end s e to from legal (below from _ (subst (λ (vs : List Value). nat_lt from (length vs) ≡ true) linked placed.1)) (below to _ (subst (λ (vs : List Value). nat_lt to (length vs) ≡ true) linked placed.0)) d
+    shifted-end s e to from legal (ltb-true from _ (subst (λ (vs : List Value). nat_lt from (length vs) ≡ true) linked placed.1)) (ltb-true to _ (subst (λ (vs : List Value). nat_lt to (length vs) ≡ true) linked placed.0)) d
 
--- of a change that loads nothing and doesn't resolve all proxies
+-- the case of a change that loads nothing and doesn't resolve all proxies
 ends-by-pairs : (s : Model) (c : Change) → loaded_by c ≡ None → resolves_all c ≡ false → IsLegal s → early_refusal (reading s) c ≡ None → late_refusal (reading s) c ≡ None → (d : End)
     → is_legal_end (reading s) d (end (put_by (without_all s.links (names_of (cut_link_ends (reading s) c))) (reading s) c) d) ≡ true
 ends-by-pairs s (At e (Set v)) none one legal early late d =
@@ -375,7 +376,7 @@ ends-after : (s : Model) (c : Change) → loaded_by c ≡ None → resolves_all 
 ends-after s c none one legal early late d =
     subst (λ (t : Links). is_legal_end (reading s) d (end (put_by t (reading s) c) d) ≡ true) (sym (left-cuts s c legal early)) (ends-by-pairs s c none one legal early late d)
 
--- what is left of an end does not go
+-- the values that are left at an end are not destroyed
 left-stays : (g : Node → Bool) (vs : List Value) → AllByRecursion (λ (w : Value). goes g w ≡ false) (filter (λ w. not (goes g w)) vs)
 left-stays g [] = tt
 left-stays g (v ∷ vs) =
@@ -388,7 +389,7 @@ untouched-left : (g : Node → Bool) (e : End) (vs : List Value) → g e.node �
 untouched-left g e [] stays all = tt
 untouched-left g e (v ∷ vs) stays all = (stays, all)
 
--- no end that is left names what goes
+-- no remaining end has a destroyed object
 untouched-after : (s : Model) (c : Change) → IsLegal s → (e : End) → IsUntouched (goes_with (reading s) c) e (end (links_after s.links (reading s) c) e)
 untouched-after s (Delete o) legal e =
     let g = gone (reading s) o in
@@ -400,7 +401,7 @@ untouched-after s (Delete o) legal e =
     ] refl)
 untouched-after s _ legal e = untouched-end e _
 
--- a load leaves legal ends, and so does each other change
+-- a load leaves legal ends, and each other change does too
 load-ends : (s : Model) (c : Change) (doc : Doc) → loaded_by c ≡ Some doc → IsLegal s → early_refusal (reading s) c ≡ None → late_refusal (reading s) c ≡ None → HasReadDocument s.metamodel c → (d : End)
     → is_legal_end (reading (after s c)) d (end (after s c).links d) ≡ true
 load-ends s (Load k doc) x is legal early late read d =

@@ -1,4 +1,4 @@
--- A link has a name at each of its ends. Two links share no single end, so if both have a name, they are one.
+-- A link has a name at each of its ends. Two links share no single end, so two links with the same name there are the same link.
 use Rattle.std.proofs.Common.{◌≡◌, ℕ, zero, suc, ◌<◌, ◌≤◌, eq-eqb, eqb-true, Bool, if◌then◌else◌, arith, true, false, IsTrue, List, [], ◌∷◌, slice_get, Option, Some, None, option_to_list, refl, sym, ap, ◌∙◌, subst, inl, inr}
 use Rattle.std.specs.Prelude.{◌⊎◌}
 use Rattle.std.specs.List.{list_all}
@@ -34,7 +34,7 @@ use Rattle.removal.specs.declared.link_end.LinkEnd.{LinkEnd}
 
 ---------------------------------------------------------------- what is in legal ends
 
--- an end that has something is one of a reference of its node
+-- an end that has a value is the end of a reference of its node
 pub record IsOpen (s : Model) (e : End) : Type 0 where
   pub has : has_feature (reading s) e.node e.feature ≡ true
   pub reference : (shape s.metamodel e.feature).is_reference ≡ true
@@ -93,7 +93,7 @@ module _ (s : Model) (legal : IsLegal s) where
       (opposites_are_pairs s.metamodel legal.metamodel e.feature g opposite).apart (ap (λ (x : End). x.feature.0) far)
   turned_by-apart e v q y opposite is same = absurd (none-some y is)
 
-  -- the two ends of a link are two
+  -- the two ends of a link are different
   pub turned-apart : (t y : LinkEnd) → turned (reading s) t ≡ Some y → t.end ≡ y.end → ⊥
   turned-apart t y is = turned_by-apart t.end t.value (shape s.metamodel t.end.feature).opposite y refl is
 
@@ -106,7 +106,7 @@ module _ (s : Model) (legal : IsLegal s) where
   turned_by-back (node.Resource k) f (value.Object o) (Some g) y opposite has is = absurd (resource-alone (reading s) k f g has opposite)
   turned_by-back n f v q y opposite has is = absurd (none-some y is)
 
-  -- what is turned twice is as it was
+  -- a name that is turned twice is as it was
   turned-back : (t y : LinkEnd) → Stands s.links t → turned (reading s) t ≡ Some y → turned (reading s) y ≡ Some t
   turned-back t y at is = turned_by-back t.end.node t.end.feature t.value (shape s.metamodel t.end.feature).opposite y refl (open-of s legal t at).has is
 
@@ -115,7 +115,7 @@ module _ (s : Model) (legal : IsLegal s) where
   linked_by : (t u y : LinkEnd) → turned (reading s) t ≡ Some y → same_link_end u y ≡ true → same_link (reading s) u t ≡ true
   linked_by t u y is same = or_right (same_link_end u t) _ (ap (λ (o : Option LinkEnd). option_map_or (same_link_end u) o false) is ∙ same)
 
-  -- if two links have a name in common, they are one
+  -- two links with a name in common are the same link
   one_link : (t u y : LinkEnd) → Stands s.links t → Stands s.links u → IsNameOf (reading s) t y → IsNameOf (reading s) u y → same_link (reading s) u t ≡ true
   one_link t u y at_t at_u (inl is_t) (inl is_u) = or_left (same_link_end u t) _ (subst (λ (x : LinkEnd). same_link_end u x ≡ true) (sym is_u ∙ is_t) (same_link_end-self u))
   one_link t u y at_t at_u (inr is_t) (inl is_u) = linked_by t u y is_t (subst (λ (x : LinkEnd). same_link_end u x ≡ true) (sym is_u) (same_link_end-self u))
@@ -133,7 +133,7 @@ module _ (s : Model) (legal : IsLegal s) where
 
 ---------------------------------------------------------------- the names of what a new link displaces
 
--- a name of a displaced link: in a single end, or of the object, of the node, or of the part that the new link is of
+-- a name of a displaced link: in a single end, or of the object, the node or the part of the new link
 pub data IsYielded (s : Model) (e : End) (o : ObjectNo) (y : LinkEnd) : Type 0 where
   InSingle : (shape s.metamodel y.end.feature).is_single ≡ true → IsYielded s e o y
   OfObject : y.end.feature ≡ e.feature → y.value ≡ value.Object o → IsYielded s e o y
@@ -162,7 +162,7 @@ module _ (s : Model) (legal : IsLegal s) (e : End) (o : ObjectNo) where
       OfObject (ap (λ (z : LinkEnd). z.end.feature) (sym made) ∙ same) (ap (λ (z : LinkEnd). z.value) (sym made))
   turned-far t y f v same is = absurd (none-some y is)
 
-  -- the other end of what is contained is single
+  -- the other end of a containing link is single
   turned-held : (d : End) (v : Value) (q : Option FeatureNo) (y : LinkEnd) → (shape s.metamodel d.feature).containing ≡ Some d.feature → (shape s.metamodel d.feature).opposite ≡ q → other_side d.node v q ≡ Some y → IsYielded s e o y
   turned-held d (value.Object c) (Some g) y contains opposite is =
       let p = pair d.feature g opposite in
@@ -190,7 +190,7 @@ module _ (s : Model) (legal : IsLegal s) (e : End) (o : ObjectNo) where
       OfPart held.part held.becomes (subst (λ (z : LinkEnd). (shape s.metamodel z.end.feature).containing ≡ Some z.end.feature) (sym is) (holder-contains s held.part t.end legal held.held)) (ap (λ (z : LinkEnd). z.value) is ∙ held.value)
   yielded t y (inr (inr held)) (inr is) = turned-held t.end t.value (shape s.metamodel t.end.feature).opposite y (holder-contains s held.part t.end legal held.held) refl is
 
-  -- the part, where the near feature contains, and where the far one does
+  -- the part, if the near feature is a containment, and if the far one is
   near-part : (p : Node) (f : FeatureNo) → f ≡ e.feature → (shape s.metamodel f).containing ≡ Some f → contained e o (shape s.metamodel e.feature).containing ≡ Some p → node_value p ≡ value.Object o
   near-part p f same contains becomes =
       let own : (shape s.metamodel e.feature).containing ≡ Some e.feature = subst (λ (x : FeatureNo). (shape s.metamodel x).containing ≡ Some x) same contains in
@@ -205,7 +205,7 @@ module _ (s : Model) (legal : IsLegal s) (e : End) (o : ObjectNo) where
       let other : same_feature g e.feature ≡ false = elim (same_feature g e.feature) as (λ b. same_feature g e.feature ≡ b → b ≡ false) [ true ↦ λ h. absurd (two.apart (eqb-true g.0 e.feature.0 h)) | false ↦ λ _. refl ] refl in
       ap node_value (sym (same_Some _ p (sym (ap (λ (b : Bool). Some (if b then node.Object o else e.node)) other) ∙ becomes_far)))
 
-  -- names in one end are of one value
+  -- names in one end have the same value
   pub yielded-agree : (y z : LinkEnd) → Stands s.links y → Stands s.links z → IsYielded s e o y → IsYielded s e o z → y.end ≡ z.end → y.value ≡ z.value
   yielded-agree y z at_y at_z (InSingle single) other same = one_value s legal y z single same at_y at_z
   yielded-agree y z at_y at_z name (InSingle single) same = sym (one_value s legal z y single (sym same) at_z at_y)
@@ -223,7 +223,7 @@ module _ (s : Model) (legal : IsLegal s) (e : End) (o : ObjectNo) where
       v ∙ far-part p y.end.feature (opposite ∙ ap (λ (d : End). Some d.feature) (sym same)) contains becomes ∙ sym w
   yielded-agree y z at_y at_z (OfPart p becomes contains v) (OfPart q also more w) same = v ∙ ap node_value (same_Some p q (sym becomes ∙ also)) ∙ sym w
 
-  -- a name in a list at an end of the new link would be of what the new link is of
+  -- a name in a list at an end of the new link would have the value of the new link
   pub yielded-near : (y : LinkEnd) → IsYielded s e o y → (shape s.metamodel e.feature).is_single ≡ false → y.end ≡ e → y.value ≡ value.Object o
   yielded-near y (InSingle single) many same = absurd (true≢false (sym single ∙ ap (λ (d : End). (shape s.metamodel d.feature).is_single) same ∙ many))
   yielded-near y (OfObject f v) many same = v

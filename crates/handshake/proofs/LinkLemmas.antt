@@ -1,4 +1,4 @@
--- A new link: what is known if nothing refuses it, and that it fits after the cuts of what it displaces.
+-- A new link: facts that hold if nothing refuses it, and that it fits after the links that it displaces are cut.
 use Rattle.std.proofs.Common.{◌≡◌, ℕ, zero, suc, ◌<◌, ◌≤◌, nat_le, Bool, true, false, List, [], length, slice_get, Option, Some, None, option_map, option_to_list, unwrap_or, if◌then◌else◌, refl, sym, ap, ◌∙◌, subst, arith}
 use Rattle.std.specs.List.{list_any}
 use Rattle.std.specs.Option.{option_map_or}
@@ -30,7 +30,7 @@ use Rattle.links.specs.Plans.{EditFits, FarFitsIn, Has, IsFree, Lacks, MakesNoCy
 use Rattle.links.specs.declared.plan.Edit.TheVariants as edit
 use Rattle.links.proofs.CutNamedLemmas.{lacks-without_all, length-without_all, without_all_above, without_all_legal, without_all_no_cycle}
 use Rattle.mm_types.specs.SameValues.{same_value-self}
-use Rattle.links.proofs.PutEndLemmas.{put_outside}
+use Rattle.links.proofs.PutEndLemmas.{put_outside, same_feature-turned}
 use Rattle.links.proofs.SideLemmas.{both_ends_agree}
 use Rattle.models.proofs.EndLemmas.{value_at-first, values-single}
 use Rattle.models.proofs.PlaceLemmas.{has-at}
@@ -45,6 +45,7 @@ use Rattle.handshake.proofs.CutLinkEndLemmas.{freed, near-emptied, values-linked
 use Rattle.removal.specs.Laws.{names_of}
 use Rattle.handshake.proofs.KnownLemmas.{IsLinkable, far-reference, resource-alone}
 use Rattle.handshake.proofs.YieldLemmas.{near-kept}
+use Rattle.notice_chain.proofs.ReleasedLemmas.{same_node-turned}
 
 -- a node that has a feature with an opposite is an object
 pub object-has : (r : Reading) (n : Node) (f g : FeatureNo) → (shape r.metamodel f).opposite ≡ Some g → has_feature r n f ≡ true → IsObject n
@@ -57,7 +58,7 @@ unique-kind : (m : Metamodel) (f : FeatureNo) (x : Feature) (k : Kind) → (shap
 unique-kind m f x (Attribute t unique unsettable default) h = absurd (false≢true h)
 unique-kind m f x (Reference target containment opposite) h = refl
 
--- a reference repeats nothing
+-- a reference has no value twice
 pub reference-unique : (m : Metamodel) (f : FeatureNo) → (shape m f).is_reference ≡ true → (shape m f).is_unique ≡ true
 reference-unique m f h = by (lookups.feature m f) h
   where
@@ -78,14 +79,14 @@ single-lacks s e o legal reference single other k at =
     let held = sym (value_at-first s e) ∙ one-of (slice_get ((reading s).values e) 0) k (value.Object o) (subst (λ (vs : List Value). slice_get vs k ≡ Some (value.Object o)) is at) in
     false≢true (sym other ∙ ap (same_value (value.Object o)) held ∙ same_value-self (value.Object o))
 
--- so does a list of which it is no repeat
+-- a list in which the object would be no repetition lacks it
 pub many-lacks : (s : Model) (e : End) (o : ObjectNo) → (shape s.metamodel e.feature).is_reference ≡ true → is_repeat (reading s) e (value.Object o) ≡ false → Lacks s.links e (value.Object o)
 many-lacks s e o reference new k at =
     let has = has-at (end s.links e) (value.Object o) k at in
     let repeat : is_repeat (reading s) e (value.Object o) ≡ true = rw (reference-unique s.metamodel e.feature reference, values-linked s e reference) has in
     false≢true (sym new ∙ repeat)
 
--- the far end of a link that an end lacks, lacks the node
+-- if an end lacks an object, the far end of the object lacks the node
 pub lacks-far : (s : Model) → IsLegal s → (e : End) (o : ObjectNo) → Lacks s.links e (value.Object o) → (g : FeatureNo) → (shape s.metamodel e.feature).opposite ≡ Some g → Lacks s.links (far_end o g) (node_value e.node)
 lacks-far s legal e o lacks g opposite k at =
     let back = (opposites_are_pairs s.metamodel legal.metamodel e.feature g opposite).back in
@@ -101,14 +102,14 @@ pub record IsNewLink (s : Model) (e : End) (o : ObjectNo) : Type 0 where
   pub lacks : Lacks s.links e (value.Object o)
   pub linkable : IsLinkable (reading s) e o
 
--- the links, but those that a new link of o at e displaces
+-- the links without those that a new link of o at e displaces
 abbrev pub without_displaced : Model → End → ObjectNo → Links
 without_displaced s e o = without_all s.links (names_of (yields (reading s) e o))
 
 abbrev pub new_edit : Model → End → ℕ → ObjectNo → Edit
 new_edit s e i o = edit.Put e i o (shape s.metamodel e.feature).opposite (shape s.metamodel e.feature).containing
 
--- something that holds of neither end of a new link
+-- a test that fails for both ends of a new link
 pub near-of : (p : End → Bool) (r : Reading) (e : End) (o : ObjectNo) → of_either p r e o ≡ false → p e ≡ false
 near-of p r e o h = (or_parts (p e) (option_map_or p (opposite_end r e o) false) h).0
 
@@ -124,15 +125,6 @@ is-free t None free = tt
 is-free t (Some n) free = free n refl
 
 ---------------------------------------------------------------- no cycle
-
-same_feature-turned : (f g : FeatureNo) → same_feature f g ≡ same_feature g f
-same_feature-turned f g = grind (arith, nat_tests)
-
-same_node-turned : (x y : Node) → same_node x y ≡ false → same_node y x ≡ false
-same_node-turned (node.Object x) (node.Object y) h = grind (arith, nat_tests)
-same_node-turned (node.Object x) (node.Resource y) h = refl
-same_node-turned (node.Resource x) (node.Object y) h = refl
-same_node-turned (node.Resource x) (node.Resource y) h = grind (arith, nat_tests)
 
 -- d is neither x nor below it
 abbrev IsClear : Links → Node → Node → Type 0
@@ -155,7 +147,7 @@ clear-of s e o (Some h) is x d at_x at_d =
     let here : IsClear s.links (if b then node.Object o else e.node) (if b then e else far_end o h).node = clear-by s e o h b (subst (λ (c : Bool). (if c then is_within (reading s) (node.Object o) e.node else is_within (reading s) e.node (node.Object o)) ≡ false) (same_feature-turned e.feature h) is) in
     subst (λ (y : Node). IsClear s.links y d.node) (same_Some _ x at_x) (subst (λ (y : End). IsClear s.links (if b then node.Object o else e.node) y.node) (same_Some _ d at_d) here)
 
--- what is not above in a model is not above once links are cut
+-- a node that is not above another one is not above it after links are cut
 clear-cut : (s : Model) (ts : List (End × Value)) → IsLegal s → (x d : Node) → IsClear s.links x d → IsClear (without_all s.links ts) x d
 clear-cut s ts legal x d clear = (clear.0, without_all_above s.links ts legal.links.set legal.links.forest d x clear.1)
 
@@ -204,7 +196,7 @@ module _ (s : Model) (legal : IsLegal s) (e : End) (o : ObjectNo) (new : IsNewLi
       put_outside left e i o (shape s.metamodel e.feature).opposite q (without_all_legal s.links ts legal.links.set) (new-fits i placed) (without_all_no_cycle s.links ts legal.links.set legal.links.forest)
       (λ x d at_x at_d. clear-cut s ts legal x d.node (clear-of s e o q new.linkable.clear x d at_x at_d))
 
-  -- a single near end is empty then, and a list as long as it was
+  -- then a single near end is empty, and a list is as long as it was
   pub near-empty : (shape s.metamodel e.feature).is_single ≡ true → end left e ≡ []
   near-empty single = near-emptied s e o legal new.reference single
 

@@ -1,4 +1,4 @@
--- The list of an attribute stays legal where a value is put into it, taken out or moved.
+-- The list of an attribute stays legal if a value is put into it, taken out or moved.
 use Rattle.std.proofs.Common.{◌≡◌, ℕ, zero, suc, ◌<◌, ◌≤◌, nat_le, Bool, true, false, ◌&&◌, not, List, [], ◌∷◌, length, insert, remove, slice_get, ℤ, pos, negsuc, IsTrue, if◌then◌else◌, Some, None, refl, sym, ap, ◌∙◌, subst, arith}
 use Rattle.std.specs.Prelude.{int_le}
 use Rattle.std.specs.List.{AllByRecursion, IsDistinct, list_all}
@@ -19,7 +19,8 @@ use Rattle.mm_types.specs.Lists.{put_back, shifted}
 use Rattle.links.specs.LegalSets.{most}
 use Rattle.models.specs.Legal.{IsLegalStored, IsUniqueList, is_legal_list, is_legal_value, is_short}
 use Rattle.handshake.proofs.CutLinkEndLemmas.{same_value-symmetric}
-use Rattle.handshake.proofs.LegalEndLemmas.{bounded-less, bounded-more, length-put, list_all-insert, single-of, taken_out}
+use Rattle.handshake.proofs.LegalEndLemmas.{bounded-more, length-put, list_all-insert, single-of, taken_out}
+use Rattle.doc_loader.proofs.TypedLemmas.{bounded-less}
 
 ---------------------------------------------------------------- lists that repeat nothing
 
@@ -56,7 +57,7 @@ distinct-remove [] (suc i) distinct = tt
 distinct-remove (w ∷ ws) zero distinct = distinct.1
 distinct-remove (w ∷ ws) (suc i) distinct = (all-remove (λ x. same_value w x ≡ false) ws i distinct.0, distinct-remove ws i distinct.1)
 
--- what is taken out differs from what is left
+-- a value that is taken out differs from the remaining values
 removed-differs : (vs : List Value) (i : ℕ) (v : Value) → IsDistinct same_value vs → slice_get vs i ≡ Some v → Differs v (remove vs i)
 unfolding IsDistinct
 removed-differs [] i v distinct h = absurd (none-some v h)
@@ -73,7 +74,7 @@ put_back-cases P vs to from none some =
 
 ---------------------------------------------------------------- legal lists
 
--- a list that is legal in each of its values, in how many there are, and repeats nothing where it may not
+-- a list is legal if each value is legal, there are not too many, and a unique list has no repetitions
 record IsLegalList (m : Metamodel) (c : ClassNo) (f : FeatureNo) (vs : List Value) : Type 0 where
   pub all : list_all (is_legal_value m f) vs ≡ true
   pub few : is_bounded (shape m f) (length vs) ≡ true

@@ -1,9 +1,10 @@
--- The notifications of a change of an attribute are what it makes of it.
+-- The notifications of a change of an attribute, replayed, give the attribute after the change.
 use Rattle.std.proofs.Common.{◌≡◌, ℕ, zero, suc, ◌<◌, ◌≤◌, nat_lt, pos, insert, remove, length, slice_get, slice_set, unwrap_or, option_map, arith, Bool, true, false, ◌&&◌, not, IsTrue, List, [], ◌∷◌, Option, Some, None, is_some, if◌then◌else◌, refl, sym, ap, ◌∙◌, subst}
 use Rattle.std.specs.List.{AllByRecursion}
 use Rattle.std.specs.Option.{option_map_or}
 use Rattle.std.proofs.lemmas.Bool.{false≢true}
 use Rattle.std.proofs.lemmas.Bool.Decides.{nat_tests}
+use Rattle.std.proofs.Math.Bool.{and-false}
 use Rattle.mm_types.proofs.SameLemmas.{same_end-self}
 use Rattle.mm_types.specs.Ends.{Held, shown}
 use Rattle.mm_types.specs.Lookups as lookups
@@ -25,7 +26,6 @@ use Rattle.models.specs.Model.{Model, reading}
 use Rattle.models.specs.Reading.{at_end, has_feature, held_at}
 use Rattle.notice_chain.specs.Replay as replay
 use Rattle.notice_chain.specs.Replay.{moved}
-use Rattle.removal.proofs.OuterLemmas.{and-false}
 use Rattle.handshake.specs.Effects.{put_values}
 use Rattle.handshake.specs.FeatureChange.{feature_change}
 use Rattle.handshake.specs.FeatureChanges.{all_lost, gain_at}
@@ -62,7 +62,7 @@ pub all_lost-own : (e : End) (n : ℕ) → AllByRecursion (λ (t : FeatureChange
 all_lost-own e zero = tt
 all_lost-own e (suc n) = (refl, all_lost-own e n)
 
--- a move that fits is what a shift makes
+-- a move that fits is a shift
 pub moved-shifted : (vs : List Value) (to from : ℕ) → nat_lt to (length vs) ≡ true → nat_lt from (length vs) ≡ true → moved vs (pos from) (pos to) ≡ shifted vs to from
 moved-shifted vs to from low_to low_from =
     ap (λ (b : Bool). if b then (if nat_lt to (length vs) then replay.shifted vs to from else vs) else vs) low_from
@@ -75,7 +75,7 @@ live-of : (m : Metamodel) (f : FeatureNo) (c : Option ClassNo) → option_map_or
 live-of m f None has = absurd (false≢true has)
 live-of m f (Some k) has = refl
 
--- what is put where an attribute gains a value, and where it is unset
+-- the list that is put if an attribute gains a value, and if it is unset
 abbrev value_stored : Shape → Value → Stored
 value_stored a v = record { list = v ∷ []; flag = a.is_unsettable }
 
@@ -112,7 +112,7 @@ module _ (s : Model) (legal : IsLegal s) (o : ObjectNo) (f : FeatureNo) (has : h
   single-unset single = put-replays s o f (feature_change e Unsets ∷ []) nothing_stored live (own-one e Unsets) (λ vs. one-done s.metamodel e Unsets (held_at (reading s) e) ∙ unset-stored a vs (held_at (reading s) e) single attribute)
 
   module _ (many : a.is_single ≡ false) where
-    -- the object, and what it stores under the attribute
+    -- the object, and the list that it stores under the attribute
     at-object : (x : ObjectState) × (object_at s.values.objects o ≡ Some x)
     at-object = by (object_at s.values.objects o) live
       where
@@ -135,7 +135,7 @@ module _ (s : Model) (legal : IsLegal s) (o : ObjectNo) (f : FeatureNo) (has : h
     of-list : (vs ws : List Value) (b : Bool) → record { values = ws; flag = b } ≡ held_of a vs (record { list = ws; flag = b })
     of-list vs ws b = rw (many, attribute, kept-values s legal o f many has attribute ws) refl
 
-    -- a list that is changed as its tellings say
+    -- a list that is changed as its feature changes say
     list-replays : (own : List FeatureChange) (g : List Value → List Value) → AllByRecursion (λ (t : FeatureChange). t.at ≡ e) own
         → happened_at s.metamodel own e (record { values = stored.list; flag = stored.flag }) ≡ record { values = g stored.list; flag = stored.flag }
         → Replays s own (record s { values = record s.values { objects = with_changed s.values.objects o f g } })

@@ -1,4 +1,4 @@
--- The chain of a load: the list of the resource's roots gains each root, one after the other, and nothing else that was there changes.
+-- The chain of a load: the list of the resource's roots gains each root, one after the other, and no other end of existing nodes changes.
 use Rattle.std.proofs.Common.{◌≡◌, ◌∙◌, ◌+◌, ◌++◌, ℕ, Bool, true, false, List, [], ◌∷◌, Some, None, append_assoc, append-nil, length, map, nat_le, nat_lt, not, pos, if◌then◌else◌, arith, refl, sym, ap, subst, ◌<◌}
 use Rattle.std.specs.List.{AllByRecursion, enumerate_from}
 use Rattle.std.proofs.lemmas.Bool.{true≢false}
@@ -68,7 +68,7 @@ some-length : (vs : List Value) → not (is_nil vs) ≡ nat_lt 0 (length vs)
 some-length [] = refl
 some-length (v ∷ vs) = grind (arith, nat_tests)
 
--- the notification of a gain after so many values
+-- the notification of a gain after a number of values
 gain-notice : (m : Metamodel) (e : End) (many : (shape m e.feature).is_single ≡ false) (n : ℕ) (h : Held) (j : ℕ) (o : ObjectNo) → length h.values ≡ j
     → notice_of (shape m e.feature) e (Gains (value.Object (loaded n o))) h ≡ root_notice n e (j, o)
 gain-notice m e many n h j o len =
@@ -140,7 +140,7 @@ module _ (s : Model) (k : ResourceNo) (doc : Doc) (legal : IsLegal s) (late : la
   roots-replay : happened_at m (gains e (roots_loaded n doc)) e (held_at (reading s) e) ≡ held_at (reading t) e
   roots-replay = ap (happened_at m (gains e (roots_loaded n doc)) e) (roots-before s k doc legal late) ∙ gained m e (roots-many s k doc legal late) (roots_loaded n doc) (record { values = []; flag = false }) ∙ sym roots-after
 
-  -- an end of a node that was there holds what it held
+  -- an end of an existing node has the same values as before
   others-stay : (x : Node) (f : FeatureNo) → comes_with (reading s) (Load k doc) x ≡ false → same_end e (at_end x f) ≡ false → held_at (reading s) (at_end x f) ≡ held_at (reading t) (at_end x f)
   others-stay (node.Object o) f old other =
       let high : nat_le n o.0 ≡ false = old in

@@ -1,4 +1,4 @@
--- What ends hold after a document is loaded, and that it is legal.
+-- The values of ends after a document is loaded, and that they are legal.
 use Rattle.std.proofs.Common.{◌≡◌, ◌≢◌, ◌∙◌, ◌+◌, ◌<◌, ◌≤◌, ℕ, zero, suc, true, false, List, [], ◌∷◌, Option, Some, None, is_some, length, map, nat_le, nat_lt, option_map, slice_get, arith, refl, sym, ap, subst, inl, inr}
 use Rattle.std.specs.List.{AllByRecursion, list_all}
 use Rattle.std.specs.Option.{option_map_or}
@@ -55,7 +55,7 @@ kept-kind : (m : Metamodel) (f : FeatureNo) (g : Feature) (k : Kind) (v : Value)
 kept-kind m f g (Attribute t unique unsettable default) v h = refl
 kept-kind m f g (Reference target containment opposite) v h = absurd (false≢true h)
 
--- what keeps a value is an attribute
+-- a feature that stores a value is an attribute
 keeps-attribute : (m : Metamodel) (f : FeatureNo) (v : Value) → lookups.keeps m f v ≡ true → (shape m f).is_reference ≡ false
 keeps-attribute m f v h = by (lookups.feature m f) refl h
   where
@@ -87,17 +87,17 @@ module _ (s : Model) (k : ResourceNo) (doc : Doc) (legal : IsLegal s) (late : la
   pub linked-roots : end linked (contents_end m k) ≡ roots_loaded n doc
   linked-roots = end-of (contents_end m k) (roots_loaded n doc) (end-roots m n k doc (sound s k doc legal late read) s.links legal.links.set legal.links.kinds legal.links.forest (room s k doc legal late) (few s k doc legal late))
 
-  -- a near feature has what the document has there
+  -- an end of a near feature has the values of the document
   pub linked-near : (o : ObjectNo) (f : FeatureNo) → IsNearSide m f → end linked (object_end n o f) ≡ loaded_values n (values_in doc o f)
   linked-near o f side =
       end-of (object_end n o f) (loaded_values n (values_in doc o f)) (end-near m n k doc (sound s k doc legal late read) s.links legal.links.set legal.links.kinds legal.links.forest (room s k doc legal late) (few s k doc legal late) o f side)
 
-  -- a container has those that name the object
+  -- a container reference has the object that names its object
   pub linked-held : (b : ObjectNo) (g f c : FeatureNo) → IsFarSide m g f → (shape m g).containing ≡ Some c → end linked (object_end n b g) ≡ sources_from n (λ (x : DocObject). values_under x f) b 0 doc.objects
   linked-held b g f c side contains =
       end-of (object_end n b g) (sources_from n (λ (x : DocObject). values_under x f) b 0 doc.objects) (end-held m n k doc (sound s k doc legal late read) s.links legal.links.set legal.links.kinds legal.links.forest (room s k doc legal late) (few s k doc legal late) b g f c side contains)
 
-  -- and there is one of them at most
+  -- there is at most one of these objects
   pub no-second : (b : ObjectNo) (f c : FeatureNo) → (shape m f).containing ≡ Some c → (u v : Value) (vs : List Value) → sources_from n (λ (x : DocObject). values_under x f) b 0 doc.objects ≡ u ∷ v ∷ vs → ⊥
   no-second b f c holds u v vs is =
       let from = sources_from n (λ (x : DocObject). values_under x f) b 0 doc.objects in
@@ -107,7 +107,7 @@ module _ (s : Model) (k : ResourceNo) (doc : Doc) (legal : IsLegal s) (late : la
       let index = ascending-distinct (n + 0) from (sources-ascending n (λ (x : DocObject). values_under x f) b 0 doc.objects) 0 1 u first (second ∙ ap Some (sym same)) in
       omega (arith, index)
 
-  -- so has each reference that is no container
+  -- each reference that is no container reference has the values of the document
   pub linked-values : (o : ObjectNo) (f : FeatureNo) → (shape m f).is_reference ≡ true → IsPlainFeature m f → end linked (object_end n o f) ≡ loaded_values n (values_in doc o f)
   linked-values o f reference plain =
       end-of (object_end n o f) (loaded_values n (values_in doc o f)) (end-values m n k doc (sound s k doc legal late read) s.links legal.links.set legal.links.kinds legal.links.forest (room s k doc legal late) (few s k doc legal late) o f reference plain)
@@ -116,7 +116,7 @@ module _ (s : Model) (k : ResourceNo) (doc : Doc) (legal : IsLegal s) (late : la
   linked-elsewhere d outside other =
       end-of d (end s.links d) (end-elsewhere m n k doc (sound s k doc legal late read) s.links legal.links.set legal.links.kinds legal.links.forest (room s k doc legal late) (few s k doc legal late) d outside other)
 
-  -- an end of a node that was there has what it had, but for the roots of the resource
+  -- an end of an existing node has the same values as before, except the roots of the resource
   pub linked-before : (d : End) → comes_with (reading s) (Load k doc) d.node ≡ false → contents_end m k ≢ d → end linked d ≡ end s.links d
   linked-before d old other = linked-elsewhere d (λ o f reference q. (
       let high : nat_le n (n + o.0) ≡ true = grind (arith, nat_tests) in
@@ -189,7 +189,7 @@ module _ (s : Model) (k : ResourceNo) (doc : Doc) (legal : IsLegal s) (late : la
     ---------------------------------------------------------------- containers
 
     module _ (b : ObjectNo) (g f c : FeatureNo) (side : IsFarSide m g f) (contains : (shape m g).containing ≡ Some c) where
-      -- what holds an object is one that the object may have there, and the object's class has the feature
+      -- a value of a container reference is one that the object may have there, and the object's class has the feature
       record IsFitting (u : Value) : Type 0 where
         has : has_feature r (node.Object (loaded n b)) g ≡ true
         takes : is_legal_target r g u ≡ true

@@ -1,4 +1,4 @@
--- What holds each node that was there before a document is loaded, holds it still, and nothing else holds it.
+-- After a document is loaded, each node that existed before has the same holder as before.
 use Rattle.std.proofs.Common.{◌≡◌, ◌≢◌, ◌∙◌, ◌<◌, ℕ, zero, suc, false, List, [], ◌∷◌, Option, Some, None, length, map, nat_le, slice_get, arith, eq-eqb, refl, sym, ap, subst}
 use Rattle.std.specs.Option.{option_map_or}
 use Rattle.std.proofs.lemmas.Bool.Decides.{nat_tests}
@@ -16,6 +16,7 @@ use Rattle.links.specs.Holders.{above, holder}
 use Rattle.links.specs.Links.{end}
 use Rattle.links.specs.Plans.{Has}
 use Rattle.links.proofs.AboveLemmas.{above_falls, above_is, resource_top}
+use Rattle.links.proofs.ShownLemmas.{object_value}
 use Rattle.models.specs.Legal.{IsLegal}
 use Rattle.models.specs.Model.{Model, reading}
 use Rattle.containment.proofs.PartLemmas.{IsMade, contains-reference, end-made, holder-at, values-linked}
@@ -24,7 +25,7 @@ use Rattle.resource_docs.specs.declared.doc.Doc.{Doc}
 use Rattle.doc_loader.specs.Loading.{loaded, loaded_value, object_end, roots_loaded}
 use Rattle.doc_loader.proofs.NearLemmas.{IsPlaceOf, at_far, at_near, at_roots, elsewhere, place_of}
 use Rattle.doc_loader.proofs.SoundLemmas.{map-at}
-use Rattle.doc_loader.proofs.SourceLemmas.{at-loaded, loaded-value-object, same-object}
+use Rattle.doc_loader.proofs.SourceLemmas.{at-loaded, loaded-value-object}
 use Rattle.handshake.specs.Effects.{after}
 use Rattle.handshake.specs.Laws.{comes_with}
 use Rattle.handshake.specs.Changes.{IsDocument}
@@ -37,7 +38,7 @@ use Rattle.handshake.proofs.LoadLemmas.{few, no-roots, room, sound}
 use Rattle.handshake.proofs.YieldLemmas.{holder-contains}
 use Rattle.models.specs.Reading.{contents_end}
 
--- an object that is at an end of a containment is held there
+-- an object at an end of a containment has this end as its holder
 pub stands-held : (s : Model) → IsLegal s → (e : End) (i : ℕ) (o : ObjectNo) → (shape s.metamodel e.feature).containing ≡ Some e.feature → slice_get (end s.links e) i ≡ Some (value.Object o)
     → holder s.links (node.Object o) ≡ Some e
 stands-held s legal e i o own at =
@@ -68,7 +69,7 @@ module _ (s : Model) (k : ResourceNo) (doc : Doc) (legal : IsLegal s) (early : e
       let low : o.0 < length s.values.objects = grind (arith, nat_tests) in
       low
 
-  -- if nothing is, no object does
+  -- if an end is empty, it has no object
   not-there : (vs : List Value) (i : ℕ) (o : ObjectNo) → vs ≡ [] → slice_get vs i ≡ Some (value.Object o) → ⊥
   not-there vs i o none at = none-some (value.Object o) (sym (ap (λ (us : List Value). slice_get us i) none) ∙ at)
 
@@ -79,7 +80,7 @@ module _ (s : Model) (k : ResourceNo) (doc : Doc) (legal : IsLegal s) (early : e
       let other : contents_end s.metamodel k ≢ e = λ q. not-there (end s.links e) at.0 o (sym (ap (λ (d : End). end s.links d) q) ∙ no-roots s k doc legal late) at.1 in
       stands-held t loaded-legal e at.0 o (holder-contains s (node.Object o) e legal h) (ap (λ (vs : List Value). slice_get vs at.0) (linked-before s k doc legal late read e old other) ∙ at.1)
 
-  -- an object that was there is not one of the new ones
+  -- an object that existed before is not one of the new objects
   no-new : (o a : ObjectNo) → o.0 < n → loaded n a ≡ o → ⊥
   no-new o a low same = let number = ap (λ (x : ObjectNo). x.0) same in omega (arith, number, low)
 
@@ -94,7 +95,7 @@ module _ (s : Model) (k : ResourceNo) (doc : Doc) (legal : IsLegal s) (early : e
       no-root : (i : ℕ) → slice_get (end t.links (contents_end s.metamodel k)) i ≡ Some (value.Object o) → ⊥
       no-root i at =
           let x = map-at (λ (a : ObjectNo). value.Object (loaded n a)) doc.roots i (value.Object o) (at-now (contents_end s.metamodel k) (roots_loaded n doc) i (linked-roots s k doc legal late read) at) in
-          no-new o x.0 low (same-object (loaded n x.0) o x.2)
+          no-new o x.0 low (object_value (loaded n x.0) o x.2)
 
       no-target : (vs : List Value) (i : ℕ) → slice_get (map (loaded_value n) vs) i ≡ Some (value.Object o) → ⊥
       no-target vs i at =
@@ -110,7 +111,7 @@ module _ (s : Model) (k : ResourceNo) (doc : Doc) (legal : IsLegal s) (early : e
       by d own at (at_far b g f q side) = absurd (side.holds_not (subst (λ (x : End). (shape s.metamodel x.feature).containing ≡ Some x.feature) (sym q) own))
       by d own at (elsewhere outside other) = stands-held s legal d at.0 o own (at-now d (end s.links d) at.0 (linked-elsewhere s k doc legal late read d outside other) at.1)
 
-  -- a node that was there has the holder that it had
+  -- a node that existed before has the same holder as before
   pub holder-stays : (x : Node) → comes_with (reading s) (Load k doc) x ≡ false → holder t.links x ≡ holder s.links x
   holder-stays (node.Resource j) old = resource_top t.links j loaded-legal.links.set ∙ sym (resource_top s.links j legal.links.set)
   holder-stays (node.Object o) old = by (holder s.links (node.Object o)) refl (holder t.links (node.Object o)) refl

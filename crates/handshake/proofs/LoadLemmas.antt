@@ -1,6 +1,6 @@
 -- A document that is loaded into a legal model, if nothing refuses it: its numbers and its resource are free, and its edits make its
 -- links.
-use Rattle.std.proofs.Common.{◌≡◌, ◌∙◌, ◌+◌, ◌≤◌, ℕ, zero, suc, Bool, true, false, List, [], ◌∷◌, Option, Some, None, is_some, length, slice_get, slice_index_or, option_map, nat_le, arith, refl, sym, ap, subst}
+use Rattle.std.proofs.Common.{◌≡◌, ◌∙◌, ◌+◌, ◌≤◌, ℕ, zero, suc, Bool, true, false, List, [], ◌∷◌, Option, Some, None, is_some, length, slice_get, slice_index_or, option_map, nat_le, arith, refl, sym, ap}
 use Rattle.std.specs.List.{list_all}
 use Rattle.std.specs.Option.{option_map_or}
 use Rattle.std.proofs.lemmas.Bool.{and_parts, false≢true, true≢false}
@@ -38,7 +38,7 @@ use Rattle.doc_loader.proofs.FitLemmas.{read-fits}
 use Rattle.doc_loader.proofs.SameLemmas.{links-made}
 use Rattle.doc_loader.proofs.SideLemmas.{contents-shape}
 use Rattle.doc_loader.proofs.SoundLemmas.{IsSound}
-use Rattle.containment.proofs.PartLemmas.{object-typed}
+use Rattle.containment.proofs.PartLemmas.{object-typed, all-get}
 use Rattle.handshake.specs.Changes.{HasFittingDocument, HasReadDocument, IsDocument}
 use Rattle.handshake.specs.Refusals.{late_refusal}
 use Rattle.handshake.specs.declared.change.Change.{Change}
@@ -65,11 +65,6 @@ takes-dead m class f o dead = by (lookups.feature m f)
     by None = ap (λ (c : Option ClassNo). is_some c) dead
     by (Some g) = kind-dead m class (lookups.is_single g) g.kind o dead
 
-all-get : (p : Value → Bool) (vs : List Value) (i : ℕ) (v : Value) → list_all p vs ≡ true → slice_get vs i ≡ Some v → p v ≡ true
-all-get p [] i v all at = absurd (none-some v at)
-all-get p (w ∷ ws) zero v all at = subst (λ (o : Option Value). option_map_or p o true ≡ true) at (and_parts (p w) (list_all p ws) all).0
-all-get p (w ∷ ws) (suc i) v all at = all-get p ws i v (and_parts (p w) (list_all p ws) all).1 at
-
 pub nil-is : (vs : List Value) → is_nil vs ≡ true → vs ≡ []
 nil-is [] h = refl
 nil-is (v ∷ vs) h = absurd (false≢true h)
@@ -84,7 +79,7 @@ module _ (s : Model) (legal : IsLegal s) where
   pub unborn : (o : ObjectNo) → n ≤ o.0 → class_of s.values o ≡ None
   unborn o past = ap (option_map (λ x. x.class)) (past-none s.values.objects o.0 past)
 
-  -- nothing is at an end of one, and it is at no end
+  -- an object that was not made has empty ends, and is at no end
   pub unborn-end : (o : ObjectNo) (f : FeatureNo) → n ≤ o.0 → end s.links (at_end (node.Object o) f) ≡ []
   unborn-end o f past = by (end s.links e) (legal.links.ends e)
     where
@@ -139,7 +134,7 @@ module _ (s : Model) (k : ResourceNo) (doc : Doc) (legal : IsLegal s) (late : la
     pub load-makes : MakesLinks s.metamodel (length s.values.objects) k doc s.links
     load-makes = links-made s.metamodel (length s.values.objects) k doc sound s.links legal.links.set legal.links.kinds legal.links.forest room few
 
--- a document that may be loaded has no more objects than get numbers
+-- a document that may be loaded has no more objects than there are free numbers
 pub fits-in : (s : Model) (c : Change) → IsLegal s → late_refusal (reading s) c ≡ None → HasReadDocument s.metamodel c → HasFittingDocument (length s.values.objects) c
 fits-in s (Load k doc) legal late read = read-fits s.metamodel read.uri doc (length s.values.objects) read.read (few s k doc legal late)
 fits-in s _ legal late read = tt

@@ -1,4 +1,4 @@
--- What the attributes of the objects that a document makes keep: what is written there.
+-- The attributes of the objects that a document makes store the values that are written there.
 use Rattle.std.proofs.Common.{◌≡◌, ◌∙◌, ℕ, zero, suc, ◌+◌, ◌<◌, Bool, true, false, cond, ◌&&◌, List, [], ◌∷◌, ◌++◌, Option, Some, None, is_some, append-nil, flat_map, length, map, nat_eq, option_map, slice_get, slice_index_or, unwrap_or, if◌then◌else◌, arith, eq-eqb, eqb-true, refl, sym, ap, subst}
 use Rattle.std.specs.List.{All, AllByRecursion, enumerate_from}
 use Rattle.std.specs.Option.{option_map_or}
@@ -34,7 +34,7 @@ use Rattle.handshake.proofs.ObjectLegalLemmas.{class-put}
 
 ---------------------------------------------------------------- lists that are put, one after another
 
--- what an object keeps under a feature after a list is put, and after some edits
+-- the list that an object stores under a feature, after a list is put, and after some edits
 abbrev put_over : ObjectNo → FeatureNo → ObjectNo → FeatureNo → Stored → Stored → Stored
 put_over p g o f new h = if same_object o p && same_feature f g then new else h
 
@@ -80,7 +80,7 @@ module _ (m : Metamodel) (n : ℕ) where
   abbrev put_of : Content → Stored
   put_of c = record { list = c.values; flag = (shape m c.feature).is_unsettable && (shape m c.feature).is_single }
 
-  -- what is put for another object, or under another feature, changes nothing
+  -- a put for another object, or under another feature, changes nothing
   other-put : (p : ObjectNo) (g : FeatureNo) (o : ObjectNo) (c : Content) (h : Stored) → (same_object (loaded n o) p && same_feature c.feature g) ≡ false → last p g (attribute_edits m n o c) h ≡ h
   other-put p g o c h other =
       elim (shape m c.feature).is_reference as (λ b. last p g (if b then [] else PutList (loaded n o) c.feature c.values ((shape m c.feature).is_unsettable && (shape m c.feature).is_single) ∷ []) h ≡ h) [
@@ -96,7 +96,7 @@ module _ (m : Metamodel) (n : ℕ) where
       ∙ ap (last p g (flat_map (attribute_edits m n o) cs)) (other-put p g o c h all.0)
       ∙ others-put p g o cs h all.1
 
-  -- the contents of one object, each of another feature, leave what is written under the feature
+  -- the contents of one object, each of a different feature, leave the list that is written under the feature
   written : (o : ObjectNo) (g : FeatureNo) (cs : List Content) → (shape m g).is_reference ≡ false → Apart HaveOtherFeatures cs
       → (last (loaded n o) g (flat_map (attribute_edits m n o) cs) nothing_stored).list ≡ flat_map (λ (c : Content). cond (same_feature g c.feature) c.values []) cs
   written o g [] attribute apart = refl
@@ -162,7 +162,7 @@ fresh-stored f [] i = refl
 fresh-stored f (d ∷ ds) zero = ap (λ (h : Option Stored). unwrap_or h nothing_stored) (finmap.get-empty nat_cmp f.0)
 fresh-stored f (d ∷ ds) (suc i) = fresh-stored f ds i
 
--- no object keeps nothing
+-- if there is no object, nothing is stored
 dead-stored : (f : FeatureNo) (q : Option ObjectState) → option_map (λ (x : ObjectState). x.class) q ≡ None → (stored_for f q).list ≡ []
 dead-stored f None dead = refl
 dead-stored f (Some x) dead = absurd (none-some x.class (sym dead))
@@ -205,7 +205,7 @@ module _ (m : Metamodel) (v : ValuesState) (doc : Doc) (typed : IsTyped m doc) (
       ∙ ap (λ (i : ℕ). last p g (of_object (attribute_edits m n) (i, x)) nothing_stored) zero_on)
       ∙ written m n o g x.contents attribute (others o.0 x at)
 
-  -- an attribute of a new object keeps what is written under it
+  -- an attribute of a new object stores the values that are written under it
   pub stored-loaded : (o : ObjectNo) (g : FeatureNo) → (shape m g).is_reference ≡ false → (stored_for g (object_at w.objects (loaded n o))).list ≡ values_in doc o g
   stored-loaded o g attribute =
       elim (slice_get doc.objects o.0) as (λ q. slice_get doc.objects o.0 ≡ q → (stored_for g (object_at w.objects (loaded n o))).list ≡ option_map_or (λ x. values_under x g) q []) [

@@ -1,4 +1,5 @@
--- The objects that a document makes: the last ones, of its classes, with the values of their attributes. Those before stay as they were.
+-- The objects that a document makes: they are the last ones, and have the classes and the values of attributes of the document. The earlier
+-- objects stay as they were.
 use Rattle.std.proofs.Common.{◌≡◌, ◌∙◌, ◌+◌, ◌<◌, ◌≤◌, ◌++◌, ℕ, zero, suc, Bool, true, false, ◌&&◌, not, List, [], ◌∷◌, Option, Some, None, append_assoc, append-nil, length, map, option_map, slice_get, slice_index_or, slice_set, if◌then◌else◌, IsTrue, arith, refl, sym, ap, subst}
 use Rattle.std.specs.List.{All, AllByRecursion, enumerate_from, list_all}
 use Rattle.std.specs.FinMap as finmap
@@ -20,6 +21,7 @@ use Rattle.mm_values.specs.Values.{ObjectState, Objects, ValuesState, applied, c
 use Rattle.mm_values.specs.declared.edit.ValueEdit.{ValueEdit}
 use Rattle.mm_values.specs.declared.edit.ValueEdit.TheVariants.{NewObject, PutList}
 use Rattle.models.specs.Legal.{IsLegalObject, IsLegalStored, is_legal_list, is_legal_value}
+use Rattle.models.proofs.PlaceLemmas.{legal-at}
 use Rattle.resource_docs.specs.declared.doc.Content.{Content}
 use Rattle.resource_docs.specs.declared.doc.Doc.{Doc}
 use Rattle.resource_docs.specs.declared.doc.DocObject.{DocObject}
@@ -27,7 +29,7 @@ use Rattle.doc_loader.specs.Loading.{attribute_edits, loaded, loaded_values, of_
 use Rattle.doc_loader.specs.Typed.{IsTyped, IsTypedContent, IsTypedObject, IsTypedValue, class_in}
 use Rattle.doc_loader.proofs.PairLemmas.{all-at, all-flat_map, numbered-all}
 use Rattle.containment.proofs.PartLemmas.{object-reference}
-use Rattle.handshake.proofs.ObjectLegalLemmas.{class-put, created, legal-at, put-at}
+use Rattle.handshake.proofs.ObjectLegalLemmas.{class-put, created, put-at}
 
 ---------------------------------------------------------------- lists of objects
 
@@ -40,7 +42,7 @@ before [] ys i low = absurd (omega (arith, low))
 before (o ∷ os) ys zero low = refl
 before (o ∷ os) ys (suc i) low = before os ys i (omega (arith, low))
 
--- what is put after a position changes nothing there
+-- a put after a position changes nothing at the position
 set-behind : (os : Objects) (k i : ℕ) (x : Option ObjectState) → i < k → slice_index_or (slice_set os k x) i None ≡ slice_index_or os i None
 set-behind [] k i x low = refl
 set-behind (o ∷ os) zero i x low = absurd (omega (arith, low))
@@ -76,7 +78,7 @@ IsLegalPut : Metamodel → ℕ → (ObjectNo → Option ClassNo) → ValueEdit �
 IsLegalPut m n class (PutList o f vs flag) = (n ≤ o.0) × ((c : ClassNo) → class o ≡ Some c → IsLegalStored m c f (record { list = vs; flag = flag }))
 IsLegalPut m n class _ = ⊥
 
--- legal objects, of the same classes, where those below n are the same
+-- the objects are legal and have the same classes, and the objects below n are the same
 record ArePut (m : Metamodel) (n : ℕ) (v w : ValuesState) : Type 0 where
   count : length w.objects ≡ length v.objects
   objects : All (IsLegalObject m) w.objects
@@ -162,7 +164,7 @@ module _ (m : Metamodel) (v : ValuesState) (doc : Doc) (typed : IsTyped m doc) (
   abbrev ds : List DocObject
   ds = doc.objects
 
-  -- the values once the objects are made
+  -- the values after the objects are made
   abbrev pub after_made : ValuesState
   after_made = record v { objects = v.objects ++ map fresh doc.objects }
 

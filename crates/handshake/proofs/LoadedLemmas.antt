@@ -1,4 +1,5 @@
--- What can be read once a document is loaded: the new objects as it has them, its roots in their resource, and all else as it was.
+-- The reading after a document is loaded: the new objects are those of the document, its roots are in their resource, and everything else
+-- is as it was.
 use Rattle.std.proofs.Common.{◌≡◌, ◌∙◌, ℕ, zero, suc, Bool, true, false, ◌&&◌, not, List, [], ◌∷◌, Option, Some, None, length, map, option_map, slice_get, unwrap_or, if◌then◌else◌, refl, sym, ap, subst, inl, inr}
 use Rattle.std.specs.Prelude.{option_and_then}
 use Rattle.std.specs.Option.{option_map_or}
@@ -46,12 +47,13 @@ use Rattle.handshake.proofs.LoadHolderLemmas.{above-stays, holder-stays, loaded-
 use Rattle.handshake.proofs.LoadLemmas.{sound}
 use Rattle.handshake.proofs.LoadStoredLemmas.{stored-loaded}
 use Rattle.handshake.proofs.LoadValueLemmas.{AreLoaded, load-values}
-use Rattle.handshake.proofs.ObjectLegalLemmas.{flag-off, legal-at}
+use Rattle.handshake.proofs.ObjectLegalLemmas.{flag-off}
 use Rattle.models.specs.Reading.{contents_end}
+use Rattle.models.proofs.PlaceLemmas.{legal-at}
 
 ---------------------------------------------------------------- container references
 
--- the opposite of a container reference contains
+-- the opposite of a container reference is a containment
 container-contains : (m : Metamodel) (g f : FeatureNo) → lookups.is_container m g ≡ true → (shape m g).opposite ≡ Some f → (shape m f).containing ≡ Some f
 container-contains m g f container pair = by (lookups.feature m f) (ap (λ (o : Option FeatureNo). option_map_or (λ (x : Feature). lookups.is_containment_kind x.kind) (option_and_then (lookups.feature m) o) false) (sym (sym (shape_opposite m g) ∙ pair)) ∙ container)
   where
@@ -63,7 +65,7 @@ container-contains m g f container pair = by (lookups.feature m f) (ap (λ (o : 
     by None h = absurd (false≢true h)
     by (Some x) h = by_kind x x.kind h
 
--- of a pair, a feature that is no container reference contains itself, if one of them contains
+-- if one feature of a pair is a containment, the one that is no container reference is
 plain-pair : (m : Metamodel) (f g : FeatureNo) → lookups.is_container m f ≡ false → (shape m f).opposite ≡ Some g → IsPlainFeature m f
 plain-pair m f g plain pair h = by (lookups.feature m f) pair
   where
@@ -85,7 +87,7 @@ list-kept : (f : FeatureNo) (x : Option ObjectState) → unwrap_or (option_map (
 list-kept f None = refl
 list-kept f (Some y) = refl
 
--- a legal object has a flag where a single unsettable attribute keeps something
+-- a legal object has a set flag if a single unsettable attribute stores a value
 flag-kept : (m : Metamodel) (f : FeatureNo) (x : Option ObjectState) → IsLegalObject m x
     → unwrap_or (option_map (λ y. (stored_under y f).flag) x) false ≡ ((shape m f).is_unsettable && ((shape m f).is_single && not (is_nil (stored_for f x).list)))
 flag-kept m f None legal = flag-off (shape m f).is_unsettable (shape m f).is_single
@@ -198,7 +200,7 @@ module _ (s : Model) (k : ResourceNo) (doc : Doc) (legal : IsLegal s) (early : e
 
   ---------------------------------------------------------------- all else
 
-  -- an object that was there keeps what it kept
+  -- an object that existed before stores the same lists as before
   old-state : (o : ObjectNo) → comes_with (reading s) (Load k doc) (node.Object o) ≡ false → object_at t.values.objects o ≡ object_at s.values.objects o
   old-state o old = made.below o (old-made s k doc legal early late read o old)
 

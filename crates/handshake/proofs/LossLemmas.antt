@@ -1,4 +1,4 @@
--- What the losses at the ends of links make of one end.
+-- One end after the losses at the ends of links.
 use Rattle.std.proofs.Common.{◌≡◌, Bool, true, false, not, List, [], ◌∷◌, flat_map, Option, Some, None, if◌then◌else◌, refl, sym, ap, ◌∙◌}
 use Rattle.std.specs.Option.{option_map_or}
 use Rattle.mm_types.specs.Ends.{Held}
@@ -15,7 +15,7 @@ use Rattle.handshake.specs.declared.change_kind.ChangeKind.TheVariants.{Gains, L
 use Rattle.removal.specs.declared.link_end.LinkEnd.{LinkEnd}
 use Rattle.handshake.proofs.HappenedLemmas.{done, happened_at, happened_at-append, happened_at-filter}
 
--- what a single end holds after a gain, and after a loss
+-- the value of a single end after a gain, and after a loss
 abbrev pub gained : Shape → Value → Held
 gained a v = record { values = v ∷ []; flag = a.is_unsettable }
 
@@ -28,7 +28,7 @@ IsSingle a = a.is_single ≡ true
 pub gained-single : (a : Shape) (v : Value) (h : Held) → IsSingle a → done a (Gains v) h ≡ gained a v
 gained-single a v h single = rw single refl
 
--- where a new link replaces nothing, the other losses are all
+-- if a new link replaces no value, all losses are made
 pub happened_at-other_losses : (r : Reading) (e : End) (o : ObjectNo) (ts : List LinkEnd) (d : End) (h : Held) → is_replaced r e o d ≡ false
     → happened_at r.metamodel (flat_map (other_losses r e o) ts) d h ≡ happened_at r.metamodel (flat_map (losses r) ts) d h
 happened_at-other_losses r e o [] d h kept = refl
@@ -39,7 +39,7 @@ happened_at-other_losses r e o (t ∷ ts) d h kept =
     ∙ ap (happened_at m (flat_map (losses r) ts) d) (happened_at-filter m (λ x. not (is_replaced r e o x)) (losses r t) d h (ap not kept))
     ∙ sym (happened_at-append m (losses r t) (flat_map (losses r) ts) d h)
 
--- at an end other than the near one, the far losses are all
+-- at an end other than the near one, the losses of the far end are all losses
 pub happened_at-far_loss : (r : Reading) (t : LinkEnd) (d : End) (h : Held) → same_end t.end d ≡ false → happened_at r.metamodel (far_loss r t) d h ≡ happened_at r.metamodel (losses r t) d h
 happened_at-far_loss r t d h other = by (turned r t)
   where

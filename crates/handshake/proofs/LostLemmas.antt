@@ -1,4 +1,4 @@
--- The notifications if objects are destroyed: the losses of each end in order, at the positions of the moment.
+-- The notifications if objects are destroyed: the losses of each end in order, each with its position at that moment.
 use Rattle.std.proofs.Common.{◌≡◌, ℕ, ◌+◌, suc, pos, nat_lt, remove, length, slice_get, Bool, true, false, ◌||◌, not, List, [], ◌∷◌, ◌++◌, filter, flat_map, map, Option, Some, None, option_to_list, if◌then◌else◌, refl, sym, ap, ◌∙◌, subst, arith}
 use Rattle.std.specs.List.{AllByRecursion}
 use Rattle.std.proofs.lemmas.Bool.{false≢true}
@@ -68,12 +68,12 @@ distinct-middle ks v vs distinct = subst IsDistinct (remove-middle ks v vs) (dis
 push-middle : (ks : List Value) (v : Value) (vs : List Value) → ks ++ v ∷ vs ≡ (ks ++ v ∷ []) ++ vs
 push-middle ks v vs = sym (append_assoc ks (v ∷ []) vs)
 
----------------------------------------------------------------- one telling
+---------------------------------------------------------------- one feature change
 
 abbrev pub loses : End → Value → FeatureChange
 loses d v = feature_change d (Loses v)
 
--- what its end holds once a loss is replayed
+-- the values of an end after a loss is replayed
 next-at : (m : Metamodel) (e : Ends) (d : End) (v : Value) (h : Held) → e d ≡ h → replayed_in (has_flag m) e (notice_of (shape m d.feature) d (Loses v) (e d)) d ≡ done (shape m d.feature) (Loses v) h
 next-at m e d v h is =
     ap (λ (f : Ends). f d) (replayed_all-told m e (loses d v ∷ [])) ∙ happened_all-at m e (loses d v ∷ []) d ∙ done-here m d (loses d v) (e d) (same_end-self d)
@@ -81,7 +81,7 @@ next-at m e d v h is =
 
 ---------------------------------------------------------------- one end
 
--- the notification of a loss from a list that has something
+-- the notification of a loss from a list that is not empty
 abbrev removal : Loss → Notice
 removal l = record { notifier = l.end.node; feature = Some l.end.feature; kind = kind.Remove; old_value = l.value; new_value = value.Null; position = pos l.position; was_set = true }
 
@@ -146,7 +146,7 @@ module _ (s : Model) (legal : IsLegal s) (o : ObjectNo) (d : End) (reference : (
   listed : a.is_single ≡ false → held_at r d ≡ record { values = r.values d; flag = r.flag d }
   listed many = ap (λ (b : Bool). record { values = shown b (r.values d); flag = r.flag d }) many
 
-  -- a loss from a list that has something is read the same before the losses before it
+  -- the notification of a loss from a list that is not empty is the same, computed before the earlier losses
   removal-read : a.is_single ≡ false → (v : Value) (vs : List Value) → r.values d ≡ v ∷ vs → (l : Loss) → l.end ≡ d → removal l ≡ lost_notice r l
   removal-read many v vs has l at =
       subst (λ (x : End). removal (record l { end = x }) ≡ lost_notice r (record l { end = x })) (sym at) here
@@ -165,7 +165,7 @@ module _ (s : Model) (legal : IsLegal s) (o : ObjectNo) (d : End) (reference : (
       many-notices s.metamodel d many (is_lost r o d) (r.flag d) (lost_notice r) (λ w k. removal-read many v vs has (loss d w k) refl) e [] (v ∷ vs) (subst IsDistinct has values-apart)
       (is ∙ listed many ∙ ap (λ (ws : List Value). record { values = ws; flag = r.flag d }) has)
 
-  -- a single end has one value at most
+  -- a single end has at most one value
   single-notices : a.is_single ≡ true → (q : Option Value) → (e : Ends) → e d ≡ held_at r d
       → (let vs = option_to_list q in told s.metamodel e (map (loses d) (filter (is_lost r o d) vs)) ≡ map (lost_notice r) (lost_from (is_lost r o d) d vs 0))
   single-notices single None e is = refl
@@ -182,7 +182,7 @@ module _ (s : Model) (legal : IsLegal s) (o : ObjectNo) (d : End) (reference : (
           ∙ ap (λ (b : Bool). if b then notice a d (held_at r d) kind.Set v value.Null no_index else notice a d (held_at r d) kind.Remove v value.Null (pos (index_in (held_at r d).values v))) single
           ∙ ap (λ (b : Bool). if b then notice a d (held_at r d) kind.Set v value.Null no_index else notice a d (held_at r d) kind.Remove v value.Null (pos 0)) (sym single)
 
-  -- the notifications of what the end loses
+  -- the notifications of the losses of the end
   pub end-notices : (e : Ends) → e d ≡ held_at r d → told s.metamodel e (lost_with r o d) ≡ map (lost_notice r) (lost_at r o d)
   end-notices e is =
       let lost = is_lost r o d in
@@ -204,7 +204,7 @@ module _ (s : Model) (legal : IsLegal s) (o : ObjectNo) (d : End) (reference : (
         | false ↦ refl
       ]
 
-  -- and what it then holds
+  -- the values of the end after its losses
   pub end-held : happened_at s.metamodel (lost_with r o d) d (held_at r d) ≡ record { values = shown a.is_single (kept_at r o d); flag = r.flag d }
   end-held =
       let lost = is_lost r o d in
@@ -243,7 +243,7 @@ module _ (s : Model) (legal : IsLegal s) (o : ObjectNo) where
       others (x ∷ xs) apart are =
           (happened_all-at s.metamodel e (lost_with rd o d) x ∙ at-own s.metamodel d x (lost_with rd o d) (e x) (own-losses d (filter (is_lost rd o d) (rd.values d))) apart.0 ∙ are.0, others xs apart.1 are.1)
 
-  -- other ends than these are as they were
+  -- all other ends are as they were
   pub ends-away : (ds : List End) (x : End) (h : Held) → AllByRecursion (λ (d : End). same_end d x ≡ false) ds → happened_at s.metamodel (lost_ends ds) x h ≡ h
   ends-away [] x h away = refl
   ends-away (d ∷ ds) x h away =
@@ -252,7 +252,7 @@ module _ (s : Model) (legal : IsLegal s) (o : ObjectNo) where
       ∙ ap (happened_at m (lost_ends ds) x) (at-own m d x (lost_with rd o d) h (own-losses d (filter (is_lost rd o d) (rd.values d))) away.0)
       ∙ ends-away ds x h away.1
 
-  -- and each of them loses what it loses
+  -- each of these ends loses its own losses
   pub ends-here : (ds : List End) (x : End) (h : Held) → AreInOrder ds → has_end ds x ≡ true → happened_at s.metamodel (lost_ends ds) x h ≡ happened_at s.metamodel (lost_with rd o x) x h
   ends-here [] x h order has = absurd (false≢true has)
   ends-here (d ∷ ds) x h order has =

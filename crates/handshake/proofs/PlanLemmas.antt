@@ -1,6 +1,6 @@
 -- The edits of links that make a change that doesn't resolve all proxies: they fit, are of the metamodel's names_of, make no cycle, and make what the change makes of links.
-use Rattle.std.proofs.Common.{◌≡◌, ℕ, ◌<◌, ◌≤◌, nat_lt, unwrap_or, option_to_list, Bool, true, false, List, [], ◌∷◌, ◌++◌, length, map, Option, Some, None, if◌then◌else◌, refl, sym, ap, ◌∙◌, subst, arith, slice_get, ◌-◌}
-use Rattle.std.proofs.lemmas.Bool.{true≢false}
+use Rattle.std.proofs.Common.{◌≡◌, ℕ, ◌≤◌, nat_lt, unwrap_or, option_to_list, Bool, true, false, List, [], ◌∷◌, ◌++◌, length, map, Option, Some, None, if◌then◌else◌, refl, sym, ap, ◌∙◌, subst, arith, slice_get, ◌-◌}
+use Rattle.std.proofs.lemmas.Bool.{true≢false, ltb-true}
 use Rattle.std.proofs.lemmas.Bool.Decides.{nat_tests}
 use Rattle.mm_types.specs.Shapes.{shape}
 use Rattle.mm_types.specs.declared.end.End.{End}
@@ -77,7 +77,7 @@ add-new s n f o i early late h =
 
 ---------------------------------------------------------------- the edit after the cuts
 
--- edits after the cuts fit, and make of the links that are left what the change makes
+-- the edits after the cuts fit, and lead from the remaining links to the links after the change
 record ArePuts (s : Model) (t : Links) (xs : List Edit) (u : Links) : Type 0 where
   pub fits : PlanFits t xs
   pub of_kind : IsPlanOfKind (kinds_of s.metamodel) xs
@@ -91,7 +91,7 @@ one-put : (s : Model) (legal : IsLegal s) (e : End) (o : ObjectNo) (new : IsNewL
     → ArePuts s (without_displaced s e o) (new_edit s e i o ∷ []) u
 one-put s legal e o new i u placed makes = record { fits = (new-fits s legal e o new i placed, tt); of_kind = ((refl, refl), tt); no_cycle = (new-outside s legal e o new i placed, tt); makes = makes }
 
--- of a set of an end that may cut links
+-- the edits of a set of an end that may cut links
 set-puts : (s : Model) (n : Node) (f : FeatureNo) (v : Value) → IsLegal s → early_refusal (reading s) (At (at_end n f) (Set v)) ≡ None → late_refusal (reading s) (At (at_end n f) (Set v)) ≡ None → is_plain_set (reading s) (at_end n f) v ≡ false
     → (let t = without_all s.links (names_of (cut_by_set (reading s) (at_end n f) v)) in ArePuts s t (option_to_list (new_put (reading s) (at_end n f) 0 v)) (with_value t (reading s) (at_end n f) None v))
 set-puts s n f (value.Object o) legal early late h =
@@ -103,7 +103,7 @@ set-puts s n f (value.Object o) legal early late h =
     one-put s legal e o new 0 _ (omega arith) (ap (λ (vs : List Value). put t e (length vs) o a.opposite a.containing) (sym empty))
 set-puts s n f _ legal early late h = no-puts s _
 
--- the position of an addition is one of the list that is left
+-- the position of an addition is in the list that is left
 pub add-site : (s : Model) (n : Node) (f : FeatureNo) (o : ObjectNo) (i : Option ℕ) → IsLegal s → (early : early_refusal (reading s) (At (at_end n f) (Add (value.Object o) i)) ≡ None) (late : late_refusal (reading s) (At (at_end n f) (Add (value.Object o) i)) ≡ None)
     → (h : is_plain_add (reading s) (at_end n f) (value.Object o) ≡ false) → (let xs = end (without_displaced s (at_end n f) o) (at_end n f) in let k = position_for (reading s) (at_end n f) i in (k ≤ length xs) × (k ≡ unwrap_or i (length xs)) × (xs ≡ end s.links (at_end n f)))
 add-site s n f o i legal early late h =
@@ -128,9 +128,6 @@ add-puts s n f (value.Object o) i legal early late h =
     one-put s legal e o (add-new s n f o i early late h) (position_for r e i) _ at.0 (ap (λ (k : ℕ). put t e k o a.opposite a.containing) at.1)
 add-puts s n f _ i legal early late h = no-puts s _
 
-pub below : (k n : ℕ) → nat_lt k n ≡ true → k < n
-below k n h = grind (arith, nat_tests)
-
 -- of a move of a reference
 move-puts : (s : Model) (n : Node) (f : FeatureNo) (to from : ℕ) → late_refusal (reading s) (At (at_end n f) (Move to from)) ≡ None → (shape s.metamodel f).is_reference ≡ true
     → ArePuts s s.links (edit.Shift (at_end n f) to from ∷ []) (shift s.links (at_end n f) to from)
@@ -140,9 +137,9 @@ move-puts s n f to from late reference =
     let linked = values-linked s e reference in
     let low_to = subst (λ (vs : List Value). nat_lt to (length vs) ≡ true) linked placed.0 in
     let low_from = subst (λ (vs : List Value). nat_lt from (length vs) ≡ true) linked placed.1 in
-    record { fits = ((below from _ low_from, below to _ low_to), tt); of_kind = (tt, tt); no_cycle = (tt, tt); makes = refl }
+    record { fits = ((ltb-true from _ low_from, ltb-true to _ low_to), tt); of_kind = (tt, tt); no_cycle = (tt, tt); makes = refl }
 
--- of a proxy that is resolved
+-- the edits of a proxy that is resolved
 joint-puts : (s : Model) (legal : IsLegal s) (e : End) (i : ℕ) (x : Target) (is : IsResolvable (reading s) e i x) (g : FeatureNo) (opposite : (shape s.metamodel e.feature).opposite ≡ Some g) (j : ℕ) (text : List ℕ)
     (stands : slice_get ((reading s).values (far_end x.object g)) j ≡ Some (value.Proxy text))
     → (let d = far_end x.object g in let t = left s legal e i x is (both s legal e i x is g opposite j text stands) in
@@ -158,7 +155,7 @@ joint-puts s legal e i x is g opposite j text stands =
       makes = refl;
     })
 
--- of a document that is loaded
+-- the edits of a document that is loaded
 load-puts : (s : Model) (k : ResourceNo) (doc : Doc) → IsLegal s → late_refusal (reading s) (Load k doc) ≡ None → IsDocument s.metamodel doc
     → ArePuts s s.links (load_edits s.metamodel (length s.values.objects) k doc) (with_links s.links (loaded_links s.metamodel (length s.values.objects) k doc))
 load-puts s k doc legal late read =
@@ -200,7 +197,7 @@ cut_edits-pairs : (ts : List LinkEnd) → map cut_of ts ≡ cut_edits (names_of 
 cut_edits-pairs [] = refl
 cut_edits-pairs (t ∷ ts) = ap (λ (xs : List Edit). cut_of t ∷ xs) (cut_edits-pairs ts)
 
--- what the edits of a change are to the links of its model
+-- how the edits of a change act on the links of its model
 pub record IsPlanFor (s : Model) (c : Change) (xs : List Edit) : Type 0 where
   pub fits : PlanFits s.links xs
   pub of_kind : IsPlanOfKind (kinds_of s.metamodel) xs

@@ -1,4 +1,4 @@
--- What holds of the text of each proxy, and of each URI, holds of them after a change that brings no others.
+-- A property of the text of each proxy, and of each URI, still holds after a change that brings no text without it.
 use Rattle.std.proofs.Common.{◌≡◌, ◌∙◌, ℕ, Bool, true, false, List, [], ◌∷◌, ◌++◌, Option, Some, None, filter, find, fold, length, map, unwrap_or, if◌then◌else◌, sym, ap, inl, inr}
 use Rattle.std.specs.Prelude.{◌&&◌}
 use Rattle.std.specs.FinSet as set
@@ -244,7 +244,7 @@ module _ (Holds : List ℕ → Type 0) where
 
 ---------------------------------------------------------------- what a change brings
 
--- a document that is read has proxies with the texts of ones
+-- a document that is read has proxies with legal texts
 pub read-brings : (m : Metamodel) (c : Change) → HasReadDocument m c → BringsProxies IsProxyText c
 read-brings m (Load k doc) read = read-proxies m read.uri doc read.read
 read-brings m _ read = tt

@@ -1,4 +1,4 @@
--- The notifications of a change of a reference are what it makes of each end.
+-- The notifications of a change of a reference, replayed, give each end after the change.
 use Rattle.std.proofs.Common.{slice_get, ◌≡◌, ℕ, suc, ◌≤◌, nat_lt, length, unwrap_or, arith, inl, inr, Bool, true, false, ◌&&◌, ◌||◌, List, [], ◌∷◌, ◌++◌, flat_map, Option, Some, None, option_map, option_to_list, if◌then◌else◌, refl, sym, ap, ◌∙◌, subst}
 use Rattle.std.specs.Prelude.{◌⊎◌}
 use Rattle.std.specs.List.{AllByRecursion, insert}
@@ -47,7 +47,7 @@ use Rattle.handshake.proofs.KnownLemmas.{far-reference}
 use Rattle.handshake.proofs.LossLemmas.{gained, gained-single, happened_at-far_loss, happened_at-other_losses}
 use Rattle.handshake.proofs.LinkLemmas.{IsNewLink, near-empty, new-fits, without_displaced}
 
--- what holds at e, and at each other end, holds at each
+-- a property of e and of each other end holds for each end
 pub at-each : (P : End → Type 0) (e d : End) → P e → (same_end e d ≡ false → P d) → P d
 at-each P e d here other = elim (same_end e d) as (λ b. same_end e d ≡ b → P d) [ true ↦ λ same. subst P (same_end-true e d same) here | false ↦ other ] refl
 
@@ -71,7 +71,7 @@ module _ (s : Model) (e : End) (legal : IsLegal s) (reference : (shape s.metamod
       let off = (reference-plain s.metamodel e.feature reference).0 ∙ sym (reference-flag s e.node e.feature legal reference) in
       λ i. record { values = sym one i; flag = off i }
 
-  -- to give it that value again changes nothing
+  -- setting a single end to its value again changes nothing
   pub kept-replays : (v : Value) → has_already (reading s) e v ≡ true → Replays s (feature_change e (Gains v) ∷ []) s
   kept-replays v already d =
       let m = s.metamodel in
@@ -96,7 +96,7 @@ far_losses-all r e (t ∷ ts) d h here other =
     ∙ sym (happened_at-append m (losses r t) (flat_map (losses r) ts) d h)
 
 module _ (s : Model) (legal : IsLegal s) (e : End) (ts : List LinkEnd) (here : AllByRecursion (λ (t : LinkEnd). t.end ≡ e) ts) (different : AreDifferent (reading s) ts) (stand : AllByRecursion (Stands s.links) ts) where
-  -- the far ends' losses, and then the end's own tellings, where they make of it what the cuts do
+  -- the losses of the far ends, and then the feature changes of the end itself, if these have the same effect on it as the cuts
   pub cut-replays : (own : List FeatureChange) → AllByRecursion (λ (t : FeatureChange). t.at ≡ e) own → happened_at s.metamodel own e (held_at (reading s) e) ≡ held_in s (without_all s.links (names_of ts)) e
       → Replays s (far_losses (reading s) ts ++ own) (record s { links = without_all s.links (names_of ts) })
   cut-replays own own_here makes d =
@@ -146,7 +146,7 @@ module _ (s : Model) (legal : IsLegal s) (e : End) (o : ObjectNo) (new : IsNewLi
       end-put left e i o (shape s.metamodel e.feature).opposite (shape s.metamodel e.feature).containing
       (without_all_legal s.links (names_of (yields (reading s) e o)) legal.links.set) (new-fits s legal e o new i placed) d
 
-  -- what put_end gives, where the tests answer so
+  -- the values of `put_end`, by the results of its tests
   abbrev end_if : Bool → Bool → End → List Value
   end_if near far d = if near then insert (end left d) i (value.Object o) else if far then end left d ++ node_value e.node ∷ [] else end left d
 
@@ -162,7 +162,7 @@ module _ (s : Model) (legal : IsLegal s) (e : End) (o : ObjectNo) (new : IsNewLi
   there : AreThere s.links (names_of (yields (reading s) e o))
   there = stand-there s.links (yields (reading s) e o) (yields-stand s e o legal new.reference)
 
-  -- the notifications of the displaced links, and those before the end itself gains
+  -- the feature changes of the displaced links, which come before the end itself gains
   abbrev kept : List FeatureChange
   kept = flat_map (other_losses (reading s) e o) (yields (reading s) e o)
 
@@ -189,7 +189,7 @@ module _ (s : Model) (legal : IsLegal s) (e : End) (o : ObjectNo) (new : IsNewLi
         ∙ done-other m d (feature_change e gain) (happened_at m before d (held_at r d)) other
         ∙ happened_at-append m kept (far_gain r e o) d (held_at r d)
 
-    -- the far end has the node alone, or after what it has
+    -- the far end has only the node, or has it after its other values
     far-gained : (g : FeatureNo) (is : (shape s.metamodel e.feature).opposite ≡ Some g) → same_end e (far_end o g) ≡ false → done (shape s.metamodel g) (Gains (node_value e.node)) (happened_at s.metamodel kept (far_end o g) (held_at (reading s) (far_end o g))) ≡ held_in s joined (far_end o g)
     far-gained g is other =
         let a = shape s.metamodel g in
@@ -234,7 +234,7 @@ module _ (s : Model) (legal : IsLegal s) (e : End) (o : ObjectNo) (new : IsNewLi
           | false ↦ λ far. at-rest d other (ap (λ (q : Option FeatureNo). is_far o q d) is ∙ far)
         ] refl
 
-    -- the losses of what is displaced, the far end's gain, and then the near end's, where it makes of it what the put does
+    -- the losses of the displaced links, the gain of the far end, and then the gain of the near end, which has the same effect as the put
     linked-replays : ((k : Held) → (k ≡ held_in s left e) ⊎ ((shape s.metamodel e.feature).is_single ≡ true) → done (shape s.metamodel e.feature) gain k ≡ held_in s joined e) → Replays s (before ++ feature_change e gain ∷ []) (record s { links = joined })
     linked-replays makes d =
         let m = s.metamodel in
@@ -260,7 +260,7 @@ module _ (s : Model) (legal : IsLegal s) (e : End) (o : ObjectNo) (new : IsNewLi
               | false ↦ λ _. refl
             ] refl
 
--- a single end has the object alone
+-- a single end has only the object
 pub set-replays : (s : Model) (legal : IsLegal s) (e : End) (o : ObjectNo) (new : IsNewLink s e o) → (shape s.metamodel e.feature).is_single ≡ true
     → Replays s ((flat_map (other_losses (reading s) e o) (yields (reading s) e o) ++ far_gain (reading s) e o) ++ feature_change e (Gains (value.Object o)) ∷ [])
     (record s { links = put (without_displaced s e o) e 0 o (shape s.metamodel e.feature).opposite (shape s.metamodel e.feature).containing })
@@ -272,14 +272,14 @@ set-replays s legal e o new single =
     linked-replays s legal e o new 0 zero (Gains v) (λ k _.
     gained-single a v k single ∙ held-one s t e legal new.reference single v (near-joined s legal e o new 0 zero ∙ ap (λ (vs : List Value). insert vs 0 v) (near-empty s legal e o new single)))
 
--- a list has it at its position
+-- a list has the object at its position
 pub gained-list : (a : Shape) (j : Option ℕ) (v : Value) (vs : List Value) (i : ℕ) (b : Bool) → a.is_single ≡ false → i ≡ unwrap_or j (length vs) → i ≤ length vs → done a (gain_at j v) (record { values = vs; flag = b }) ≡ record { values = insert vs i v; flag = b }
 gained-list a None v vs i b many is low = rw (many, is) (ap (λ (ws : List Value). record { values = ws; flag = b }) (sym (insert_end vs v)))
 gained-list a (Some k) v vs i b many is low =
     let below : nat_lt k (suc (length vs)) ≡ true = grind (arith, nat_tests) in
     ap (λ (ws : List Value). record { values = ws; flag = b }) (ap (λ (x : Bool). if x then insert vs k v else vs) below ∙ ap (λ (x : ℕ). insert vs x v) (sym is))
 
--- what a list of a reference holds
+-- the values of a list of a reference
 pub list-held : (s : Model) (l : Links) (y : End) → (shape s.metamodel y.feature).is_reference ≡ true → (shape s.metamodel y.feature).is_single ≡ false → held_in s l y ≡ record { values = end l y; flag = kept_flag s.values y.node y.feature }
 list-held s l y reference many = rw (many, reference) refl
 

@@ -1,4 +1,4 @@
--- Replaying what tellings report gives what they do.
+-- Replaying the notifications of feature changes makes these changes.
 use Rattle.std.proofs.Common.{◌≡◌, ℕ, zero, suc, nat_lt, pos, Bool, true, false, List, [], ◌∷◌, ◌++◌, length, remove, if◌then◌else◌, refl, ap, ◌∙◌, arith}
 use Rattle.std.proofs.lemmas.Bool.{lt-ltb}
 use Rattle.std.proofs.lemmas.Bool.Decides.{nat_tests}
@@ -18,9 +18,9 @@ use Rattle.handshake.specs.declared.change_kind.ChangeKind.{ChangeKind}
 use Rattle.handshake.specs.declared.change_kind.ChangeKind.TheVariants.{Gains, GainsAt, Loses, LosesAt, Unsets, Moves, Resolves}
 use Rattle.handshake.specs.declared.change_kind.FeatureChange.{FeatureChange}
 
----------------------------------------------------------------- what tellings report is what they do
+---------------------------------------------------------------- notifications replay their feature changes
 
--- a value that is added after the last is there
+-- a value that is added after the last one is at the end
 added-length : (vs : List Value) (v : Value) → added vs (pos (length vs)) v ≡ vs ++ v ∷ []
 added-length vs v = rw (lt-ltb (length vs) (suc (length vs)) (omega arith)) (insert_end vs v)
 
@@ -37,7 +37,7 @@ cons-if : (b : Bool) (v : Value) (xs ys : List Value) → (if b then v ∷ xs el
 cons-if true v xs ys = refl
 cons-if false v xs ys = refl
 
--- removed at the position of a value is the list without it
+-- removing at the position of a value gives the list without it
 pub removed-index : (vs : List Value) (v : Value) → removed vs (pos (index_in vs v)) ≡ without vs v
 removed-index [] v = refl
 removed-index (w ∷ ws) v =

@@ -1,4 +1,4 @@
--- The proxies of a legal model are resolved one after another: what holds of one holds of all.
+-- The proxies of a legal model are resolved one after another: a property of one resolve holds for all.
 use Rattle.std.proofs.Common.{◌≡◌, Bool, true, false, List, [], ◌∷◌, ◌++◌, flat_map, fold, map, Option, Some, None, is_some, if◌then◌else◌, refl, sym, ap, ◌∙◌, subst}
 use Rattle.std.specs.Option.{option_map_or}
 use Rattle.std.proofs.lemmas.Bool.{false≢true}
@@ -45,7 +45,7 @@ use Rattle.handshake.proofs.PlanLemmas.{plan-for}
 use Rattle.handshake.proofs.ResolveLemmas.{feature-there}
 use Rattle.handshake.proofs.ResolvedReadingLemmas.{reading-after, with_links}
 
--- these edits and tellings lead from a legal model to a legal one, of these links, where the ends hold these values
+-- these edits and feature changes lead from a legal model to a legal model with these links, in which the ends have these values
 pub record Leads (s : Model) (es : List Edit) (ts : List FeatureChange) (u : Links) (ends : End → List Value) : Type 0 where
   pub legal : IsLegal (with_links s u)
   pub reads : reading (with_links s u) ≡ record (reading s) { values = ends }
@@ -122,7 +122,7 @@ module _ (s : Model) (legal : IsLegal s) (p : ProxySite) (x : Target) (late : re
 
 ---------------------------------------------------------------- one after another
 
--- what is resolved is not refused, and is what is found
+-- a proxy that is resolved is not refused, and is resolved to its target
 pub record IsResolvedTo (r : Reading) (p : ProxySite) (x : Target) : Type 0 where
   pub late : resolve_refusal r (end_of p) p.index ≡ None
   pub found : target_at r (end_of p) p.index ≡ Some x
@@ -137,7 +137,7 @@ resolved-to r p x = by (resolve_refusal r (end_of p) p.index) refl
 abbrev resolution : Reading → ProxySite → Target → Resolution
 resolution r p x = record { reads = r; site = p; target = x }
 
--- what is resolved at locations, and what ends hold after it, lead to a legal model
+-- resolving the proxies at some locations, with the resulting values of ends, leads to a legal model
 pub all-lead : (ps : List ProxySite) (s : Model) → IsLegal s
     → (let xs = resolutions (reading s) ps in Leads s (flat_map edits_of xs) (flat_map resolution_told xs) (fold with_resolution s.links xs) (values_left (reading s) ps))
 all-lead [] s legal = leads-nowhere s legal

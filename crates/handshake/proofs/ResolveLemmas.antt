@@ -1,10 +1,10 @@
 -- What resolving a proxy makes of the links: the object is where the proxy was, and all else is as it was, but that in a reference
 -- with an opposite the object that refers is where the proxy of the same link was.
-use Rattle.std.proofs.Common.{◌≡◌, ℕ, zero, suc, ◌<◌, ◌≤◌, ◌&&◌, ◌||◌, not, Bool, true, false, List, [], ◌∷◌, ◌++◌, filter, length, slice_get, insert, remove, Option, Some, None, is_some, option_map, option_to_list, if◌then◌else◌, refl, sym, ap, ◌∙◌, subst, arith, ◌-◌}
+use Rattle.std.proofs.Common.{◌≡◌, ℕ, zero, suc, ◌≤◌, ◌&&◌, ◌||◌, not, Bool, true, false, List, [], ◌∷◌, ◌++◌, filter, length, slice_get, insert, remove, Option, Some, None, is_some, option_map, option_to_list, if◌then◌else◌, refl, sym, ap, ◌∙◌, subst, arith, ◌-◌}
 use Rattle.std.specs.Prelude.{slice_set}
 use Rattle.std.specs.List.{list_all}
 use Rattle.std.proofs.lemmas.Bool.{and_parts, false≢true, true≢false}
-use Rattle.std.proofs.lemmas.Option.{none-some}
+use Rattle.std.proofs.lemmas.Option.{none-some, slice_get_within}
 use Rattle.mm_meta.proofs.ShapeLemmas.{opposites_are_pairs}
 use Rattle.mm_types.proofs.SameLemmas.{same_end-self, same_end-true}
 use Rattle.mm_types.specs.Ends.{has_value}
@@ -52,23 +52,18 @@ length-with vs zero v = refl
 length-with [] (suc i) v = refl
 length-with (w ∷ ws) (suc i) v = ap suc (length-with ws i v)
 
--- to take a value out and to put another there is to write it over the first
+-- taking a value out and putting another one there is writing over the first
 pub set-there : (vs : List Value) (i : ℕ) (v w : Value) → slice_get vs i ≡ Some v → slice_set vs i w ≡ insert (remove vs i) i w
 set-there [] i v w at = absurd (none-some v at)
 set-there (x ∷ xs) zero v w at = refl
 set-there (x ∷ xs) (suc i) v w at = ap (λ (ys : List Value). x ∷ ys) (set-there xs i v w at)
 
--- in a list of one it is then alone
+-- in a list of one value the other one is then the only value
 pub alone-there : (vs : List Value) (i : ℕ) (v w : Value) → length vs ≤ 1 → slice_get vs i ≡ Some v → insert (remove vs i) i w ≡ w ∷ []
 alone-there [] i v w few at = absurd (none-some v at)
 alone-there (x ∷ []) zero v w few at = refl
 alone-there (x ∷ []) (suc i) v w few at = absurd (none-some v at)
 alone-there (x ∷ y ∷ xs) i v w few at = absurd (omega (arith, few))
-
-pub site-below : (vs : List Value) (i : ℕ) (v : Value) → slice_get vs i ≡ Some v → i < length vs
-site-below [] i v at = absurd (none-some v at)
-site-below (w ∷ ws) zero v at = omega arith
-site-below (w ∷ ws) (suc i) v at = let low = site-below ws i v at in omega (arith, low)
 
 -- the last value, taken out and put in at an index
 last-there : (vs : List Value) (w : Value) → slice_get (vs ++ w ∷ []) (length vs) ≡ Some w
@@ -87,7 +82,7 @@ pub length-pushed : (vs : List Value) (w : Value) → length (vs ++ w ∷ []) �
 length-pushed [] w = refl
 length-pushed (v ∷ vs) w = ap suc (length-pushed vs w)
 
--- an end with a value of its type over another is legal as before
+-- an end stays legal if a value of its type is written over another
 pub swapped-legal : (s : Model) (e : End) (i : ℕ) (v w : Value) → slice_get (end s.links e) i ≡ Some v → is_legal_end (reading s) e (end s.links e) ≡ true → is_legal_target (reading s) e.feature w ≡ true
     → is_legal_end (reading s) e (insert (remove (end s.links e) i) i w) ≡ true
 swapped-legal s e i v w at h takes = by (end s.links e) at h
@@ -133,7 +128,7 @@ module _ (s : Model) (legal : IsLegal s) (e : End) (i : ℕ) (x : Target) (is : 
   pub there : slice_get was i ≡ Some proxy
   there = subst (λ (vs : List Value). slice_get vs i ≡ Some proxy) linked is.found.proxy
 
-  -- the proxy is all that is cut here
+  -- only the proxy is cut at this end
   pub one-cut : link_end_in (reading s) e i ≡ link_end e proxy ∷ []
   one-cut = ap (λ (q : Option Value). option_to_list (option_map (link_end e) q)) is.found.proxy
 
@@ -187,7 +182,7 @@ module _ (s : Model) (legal : IsLegal s) (e : End) (i : ℕ) (x : Target) (is : 
         plain true = refl
         plain false = refl
 
-    -- another end loses what the others name
+    -- another end loses the values that the other names name
     other-left : (d : End) → same_end e d ≡ false → end rest d ≡ filter (λ w. not (is_named (kinds_of s.metamodel) ms d w)) (end s.links d)
     other-left d other =
         gives d
@@ -199,7 +194,7 @@ module _ (s : Model) (legal : IsLegal s) (e : End) (i : ℕ) (x : Target) (is : 
 
     near-fits : PutFits rest e i v
     near-fits =
-        let low = site-below was i proxy there in
+        let low = slice_get_within was i proxy there in
         let less = length-without was i proxy there in
         let few = legal.links.set.placed.few e in
         let long = ap (λ (vs : List Value). length vs) near-left in
@@ -240,7 +235,7 @@ module _ (s : Model) (legal : IsLegal s) (e : End) (i : ℕ) (x : Target) (is : 
     pub alone-outside : MakesNoCycle (left []) (edit.Put e i x.object a.opposite a.containing)
     alone-outside = outside [] alone-apart alone-fits
 
-    -- the object is where the proxy was, and each other end is as it was
+    -- the object is at the position of the proxy, and each other end is as it was
     pub end-alone : (d : End) → end (placed []) d ≡ swapped e now (end s.links) d
     end-alone d =
         elim (same_end e d) as (λ b. same_end e d ≡ b → end (placed []) d ≡ (if b then now else end s.links d)) [
@@ -347,7 +342,7 @@ module _ (s : Model) (legal : IsLegal s) (e : End) (i : ℕ) (x : Target) (is : 
     pub shift-fits : EditFits (placed both) (edit.Shift far j (length (end (left both) far)))
     shift-fits =
         let less = length-without met j mate far-there in
-        let low = site-below met j mate far-there in
+        let low = slice_get_within met j mate far-there in
         let long = ap (λ (vs : List Value). length vs) far-left in
         let more = ap (λ (vs : List Value). length vs) far-placed ∙ length-pushed (remove met j) self in
         (omega (arith, less, long, more), omega (arith, less, low, more))
@@ -366,7 +361,7 @@ module _ (s : Model) (legal : IsLegal s) (e : End) (i : ℕ) (x : Target) (is : 
         let n = length (end (left both) far) in
         end-shift_other (placed both) (placed-legal both both-apart joint-fits).placed far j n shift-fits.0 shift-fits.1 d (λ same. true≢false (sym (same_end-self far) ∙ ap (same_end far) same ∙ other))
 
-    -- the objects are where the proxies were, and each other end is as it was
+    -- the objects are at the positions of the proxies, and each other end is as it was
     pub end-joint : (d : End) → end joint d ≡ swapped e now (swapped far far-now (end s.links)) d
     end-joint d =
         elim (same_end e d) as (λ b. same_end e d ≡ b → end joint d ≡ (if b then now else swapped far far-now (end s.links) d)) [

@@ -13,7 +13,7 @@ use Rattle.proxies.specs.declared.target.Target.{Target}
 use Rattle.proxies.proofs.TargetLemmas.{IsFound, IsMatch, found-is, match-is}
 use Rattle.handshake.specs.Displaced.{counter_link_end, link_end_in, link_ends_resolved}
 
--- what holds of the link of a proxy, and of those of both proxies of a link, holds of those that resolving cuts
+-- a property of the link of a proxy, and of the links of both proxies of a link, holds for the links that resolving cuts
 pub resolved-cuts : (P : List LinkEnd → Type 0) (r : Reading) (e : End) (i : ℕ) → P (link_end_in r e i)
     → ((o : ObjectNo) (c : Counterpart) (t : List ℕ) → IsMatch r e o c → slice_get (r.values e) i ≡ Some (value.Proxy t) → P (link_end_in r e i ++ link_end_in r c.end c.index)) → P (link_ends_resolved r e i)
 resolved-cuts P r e i one two = by (target_at r e i) refl

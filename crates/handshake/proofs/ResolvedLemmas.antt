@@ -32,18 +32,18 @@ use Rattle.handshake.proofs.LinkLemmas.{new_edit}
 use Rattle.handshake.proofs.ResolveLemmas.{joint, one-cut, placed}
 use Rattle.proxies.proofs.TargetLemmas.{IsMatch, alone-of, match-is}
 
--- something holds of the links that are cut, the edits after the cuts, the notifications, and the links that are made
+-- a property of the links that are cut, the edits after the cuts, the feature changes, and the links that are made
 abbrev pub Resolving : Type 1
 Resolving = List LinkEnd → List Edit → List FeatureChange → Links → Type 0
 
 module _ (s : Model) (legal : IsLegal s) (e : End) (i : ℕ) where
-  -- of a reference without an opposite
+  -- the property for a reference without an opposite
   abbrev pub OfAlone : Resolving → Type 0
   OfAlone P =
       (x : Target) (is : IsResolvable (reading s) e i x) → (shape s.metamodel e.feature).opposite ≡ None
       → P (link_end e (value.Proxy is.found.text) ∷ []) (new_edit s e i x.object ∷ []) (feature_change e (Resolves i (value.Object x.object)) ∷ []) (placed s legal e i x is [])
 
-  -- of a link with a proxy at both ends
+  -- the property for a link with a proxy at both ends
   abbrev pub OfJoint : Resolving → Type 0
   OfJoint P =
       (x : Target) (is : IsResolvable (reading s) e i x) (g : FeatureNo) (opposite : (shape s.metamodel e.feature).opposite ≡ Some g) (j : ℕ) (text : List ℕ)
@@ -54,7 +54,7 @@ module _ (s : Model) (legal : IsLegal s) (e : End) (i : ℕ) where
       (feature_change d (Resolves j (node_value e.node)) ∷ feature_change e (Resolves i (value.Object x.object)) ∷ [])
       (joint s legal e i x is g opposite j text stands))
 
-  -- of what is found, where these links are cut
+  -- the property for the target that is found, if these links are cut
   abbrev Of : Resolving → List LinkEnd → Option Target → Type 0
   Of P ts q =
       let t = without_all s.links (names_of ts) in

@@ -1,5 +1,5 @@
--- What can be read once a proxy is resolved: the object is where the proxy was, the object that refers where its counterpart was, and
--- all else is as it was.
+-- The reading after a proxy is resolved: the object is at the position of the proxy, the referring object is at the position of its
+-- counterpart, and everything else is as it was.
 use Rattle.std.proofs.Common.{◌≡◌, ℕ, zero, suc, Bool, true, false, List, [], ◌∷◌, Option, Some, None, length, slice_get, if◌then◌else◌, refl, sym, ap, ◌∙◌, subst}
 use Rattle.std.specs.Prelude.{slice_set}
 use Rattle.std.specs.List.{list_all}
@@ -52,7 +52,7 @@ use Rattle.proxies.proofs.TargetLemmas.{found-is, match-apart, match-is}
 abbrev pub with_links : Model → Links → Model
 with_links s u = record s { links = u }
 
--- what ends hold after the notifications
+-- the values of ends after the feature changes
 abbrev done_in : (End → List Value) → End → ChangeKind → End → List Value
 done_in ends d (Resolves i v) = replaced ends d i v
 done_in ends d _ = ends
@@ -68,11 +68,11 @@ module _ (s : Model) (legal : IsLegal s) (e : End) (i : ℕ) (x : Target) (is : 
   abbrev kept : End → List Value
   kept d = attribute_values (shape s.metamodel d.feature) (kept_values s.values d.node d.feature)
 
-  -- what is at an end that is a reference, or an attribute
+  -- the values of an end of a reference, or of an attribute
   abbrev out : End → Bool → Links → List Value
   out d b t = if b then end t d else kept d
 
-  -- it is an end other than an attribute's
+  -- an end of a reference is not an end of an attribute
   attribute-apart : (y d : End) → (shape s.metamodel y.feature).is_reference ≡ true → (shape s.metamodel d.feature).is_reference ≡ false → same_end y d ≡ false
   attribute-apart y d reference attribute = elim (same_end y d) as (λ b. same_end y d ≡ b → b ≡ false) [
     | true ↦ λ same. absurd (true≢false (sym reference ∙ ap (λ (z : End). (shape s.metamodel z.feature).is_reference) (same_end-true y d same) ∙ attribute))

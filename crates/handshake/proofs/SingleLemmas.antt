@@ -1,4 +1,4 @@
--- No end of one value has two notifications, whatever the change.
+-- No single end has two notifications, whatever the change.
 use Rattle.std.proofs.Common.{◌≡◌, ◌≤◌, ◌&&◌, ℕ, zero, suc, length, slice_get, slice_set, arith, Bool, true, false, not, List, [], ◌∷◌, ◌++◌, filter, flat_map, map, Option, Some, None, option_to_list, if◌then◌else◌, refl, sym, ap, ◌∙◌, subst, true≢false}
 use Rattle.std.specs.List.{AllByRecursion}
 use Rattle.std.specs.Option.{option_map_or}
@@ -54,7 +54,7 @@ use Rattle.proxies.proofs.ReplacedLemmas.{replaced-length}
 
 ---------------------------------------------------------------- lists of which some are kept
 
--- a feature change is at no end of some
+-- a feature change is at a different end than each of some others
 abbrev IsAway : FeatureChange → List FeatureChange → Type 0
 IsAway t us = AllByRecursion (λ (u : FeatureChange). t.at ≡ u.at → ⊥) us
 
@@ -66,7 +66,7 @@ away-append p t (x ∷ ts) us first rest =
       | false ↦ λ all. away-append p t ts us all rest
     ] first
 
--- what is kept of both is apart, if each that is kept of the first is away from the second
+-- the elements that a filter keeps of two lists have different ends, if each that it keeps of the first is away from the second
 kept-apart : (p : FeatureChange → Bool) (ts us : List FeatureChange) → AreApart (filter p ts) → AreApart (filter p us) → AllByRecursion (λ (t : FeatureChange). p t ≡ true → IsAway t us) ts → AreApart (filter p (ts ++ us))
 kept-apart p [] us first rest away = rest
 kept-apart p (t ∷ ts) us first rest away =
@@ -75,7 +75,7 @@ kept-apart p (t ∷ ts) us first rest away =
       | false ↦ λ _ apart. kept-apart p ts us apart rest away.1
     ] refl first
 
--- of what is all at one list nothing is kept
+-- a filter of single ends keeps no feature change of a list
 none-kept : (m : Metamodel) (e : End) (k : Value → ChangeKind) (vs : List Value) → (shape m e.feature).is_single ≡ false → filter (is_of_single m) (map (λ v. feature_change e (k v)) vs) ≡ []
 none-kept m e k [] many = refl
 none-kept m e k (v ∷ vs) many = rw many (none-kept m e k vs many)
@@ -116,7 +116,7 @@ none-set (v ∷ vs) zero w plain none (suc i) t at = none (suc i) t at
 none-set (v ∷ vs) (suc k) w plain none zero t at = none zero t at
 none-set (v ∷ vs) (suc k) w plain none (suc i) t at = none-set vs k w plain (λ j u here. none (suc j) u here) i t at
 
--- where the only value is replaced, no proxy is left
+-- if the only value is replaced, no proxy is left
 only-set : (vs : List Value) (k : ℕ) (v w : Value) → IsNoProxy w → length vs ≤ 1 → slice_get vs k ≡ Some v → AreResolved (slice_set vs k w)
 only-set [] k v w plain few at i t here = none-some v at
 only-set (x ∷ []) zero v w plain few at zero t here = plain t (same_Some _ _ here)
@@ -133,7 +133,7 @@ object-no-proxy o t is = cc
 
 ---------------------------------------------------------------- all proxies
 
--- what ends hold once a proxy and its counterpart are replaced
+-- the values of ends after a proxy and its counterpart are replaced
 abbrev swapped : (End → List Value) → End → ℕ → Target → Option Counterpart → End → List Value
 swapped ends e i x q = replaced (option_map_or (λ c. replaced ends c.end c.index (node_value e.node)) q ends) e i (value.Object x.object)
 
@@ -158,7 +158,7 @@ far-none : (ends : End → List Value) (c : End) (j : ℕ) (n : Node) (v : Value
 far-none ends c j n v few at =
     subst (λ (b : Bool). AreResolved (if b then slice_set (ends c) j (node_value n) else ends c)) (sym (same_end-self c)) (only-set (ends c) j v (node_value n) (node-no-proxy n) few at)
 
--- an end without proxies has no notification of one that is resolved
+-- an end without proxies has no feature change of a proxy that is resolved
 resolved-away : (r : Reading) (e : End) (i : ℕ) (x : Target) (d : End) → IsFound r e i x → AreResolved (r.values d) → AllByRecursion (λ (u : FeatureChange). d ≡ u.at → ⊥) (resolved e i x)
 resolved-away r e i x d found none =
     let own : d ≡ e → ⊥ = λ same. none i found.text (ap (λ (y : End). slice_get (r.values y) i) same ∙ found.proxy) in
@@ -188,14 +188,14 @@ proxies-away (p ∷ ps) r d none =
           (proxies-away ps (with_resolved r p x) d (swapped-none r.values (end_of p) p.index x x.counterpart d none))
     ] refl
 
--- a single reference holds one value at most
+-- a single reference has at most one value
 abbrev AreFew : Reading → Type 0
 AreFew r = (d : End) → (shape r.metamodel d.feature).is_reference ≡ true → (shape r.metamodel d.feature).is_single ≡ true → length (r.values d) ≤ 1
 
 few-with : (r : Reading) (p : ProxySite) (x : Target) → AreFew r → AreFew (with_resolved r p x)
 few-with r p x few d reference single = subst (λ n. n ≤ 1) (sym (swapped-length r.values (end_of p) p.index x x.counterpart d)) (few d reference single)
 
--- one proxy, and those that come after it
+-- one proxy, and the proxies after it
 one-then : (r : Reading) (p : ProxySite) (x : Target) (us : List FeatureChange) → IsOfDocument r.metamodel → AreFew r → (shape r.metamodel p.feature).is_reference ≡ true → IsFound r (end_of p) p.index x
     → ((d : End) → AreResolved ((with_resolved r p x).values d) → AllByRecursion (λ (u : FeatureChange). d ≡ u.at → ⊥) us)
     → AreApart (filter (is_of_single r.metamodel) us) → AreApart (filter (is_of_single r.metamodel) (resolved (end_of p) p.index x ++ us))
@@ -243,7 +243,7 @@ single-few s legal d reference single = subst (λ (vs : List Value). length vs �
 
 ---------------------------------------------------------------- what is destroyed
 
--- the ends that hold some of what goes are of references
+-- the ends that have a destroyed object are ends of references
 touched-refer : (r : Reading) (is_gone : Node → Bool) (es : List End) → AllByRecursion (λ (e : End). (shape r.metamodel e.feature).is_reference ≡ true) (filter (holds_some r is_gone) es)
 touched-refer r is_gone [] = tt
 touched-refer r is_gone (e ∷ es) =

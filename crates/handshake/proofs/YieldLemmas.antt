@@ -1,4 +1,4 @@
--- The links that a new link displaces, and what a list keeps when they are cut.
+-- The links that a new link displaces, and the values that a list keeps when they are cut.
 use Rattle.std.proofs.Common.{◌≡◌, ℕ, zero, suc, ◌≤◌, eq-eqb, Bool, true, false, ◌&&◌, List, [], ◌∷◌, length, map, slice_get, Option, Some, None, option_map, option_to_list, if◌then◌else◌, refl, sym, ap, ◌∙◌, subst, inl, inr, arith}
 use Rattle.std.specs.Prelude.{◌⊎◌, ◌||◌}
 use Rattle.std.specs.List.{AllByRecursion, list_any}
@@ -42,7 +42,7 @@ use Rattle.removal.proofs.ListLemmas.{all-weaker}
 
 ---------------------------------------------------------------- where they come from
 
--- a link of a single near end, of a single far end, or the one that contains what becomes contained
+-- a link of a single near end, a link of a single far end, or the link that contains the node that becomes contained
 abbrev pub AtNear : Model → End → LinkEnd → Type 0
 AtNear s e t = (t.end ≡ e) × ((shape s.metamodel e.feature).is_single ≡ true)
 
@@ -145,7 +145,7 @@ neither : (a b : Bool) → a ≡ false → b ≡ false → (a || b) ≡ false
 neither a b h q = rw (h, q) refl
 
 module _ (s : Model) (legal : IsLegal s) (e : End) (o : ObjectNo) (has : has_feature (reading s) e.node e.feature ≡ true) (many : (shape s.metamodel e.feature).is_single ≡ false) where
-  -- the value of a list that is other than o
+  -- a value of a list that is different from o
   module _ (w : Value) (other : w ≡ value.Object o → ⊥) where
     other-value : same_value w (value.Object o) ≡ true → ⊥
     other-value h = other (same_value-true w (value.Object o) h)
@@ -161,7 +161,7 @@ module _ (s : Model) (legal : IsLegal s) (e : End) (o : ObjectNo) (has : has_fea
         let apart : same_end e t.end ≡ true → ⊥ = λ same. (opposites_are_pairs s.metamodel legal.metamodel e.feature at.feature at.opposite).apart (ap (λ (x : End). x.feature.0) (sym (same_end-true e t.end same ∙ at.here))) in
         neither (same_link_end (link_end e w) t) _ (and_first (same_end e t.end) (same_value w t.value) apart) (turned-not t.end.node t.value (shape s.metamodel t.end.feature).opposite (ap (λ (x : End). x.node) at.here))
 
-    -- the end of an object whose opposite contains it is single, so it is no list
+    -- an end whose opposite is a containment is single, so it is no list
     not-container : (d : End) (q : Option FeatureNo) → (shape s.metamodel d.feature).opposite ≡ q → (shape s.metamodel d.feature).containing ≡ Some d.feature → (shape s.metamodel e.feature).containing ≡ Some e.feature
         → option_map_or (same_link_end (link_end e w)) (other_side d.node (value.Object o) q) false ≡ false
     not-container d None opposite contains own = refl
@@ -202,7 +202,7 @@ module _ (s : Model) (legal : IsLegal s) (e : End) (o : ObjectNo) (has : has_fea
   none-any p [] all = refl
   none-any p (t ∷ ts) all = rw all.0 (none-any p ts all.1)
 
-  -- a list that lacks an object keeps all its values when what a new link of the object displaces is cut
+  -- a list that lacks an object keeps all its values when the links that a new link of the object displaces are cut
   pub near-kept : Lacks s.links e (value.Object o) → end (without_all s.links (names_of (yields (reading s) e o))) e ≡ end s.links e
   near-kept lacks =
       let m = kinds_of s.metamodel in

@@ -1,5 +1,5 @@
--- Which links a change cuts: those that a new link displaces (EMF: EObjectWithInverse.eInverseRemove, eBasicRemoveFromContainer), or
--- those of values that an end loses.
+-- Which links a change cuts: the links that a new link displaces (EMF: EObjectWithInverse.eInverseRemove, eBasicRemoveFromContainer), or
+-- the links of the values that an end loses.
 use Rattle.std.specs.Prelude.{ℕ, ◌&&◌, ◌||◌, Bool, false, not, List, [], ◌∷◌, ◌++◌, length, map, nat_lt, Option, fold, Some, None, is_some, option_map, option_to_list, slice_get, if◌then◌else◌}
 use Rattle.std.specs.List.{list_any}
 use Rattle.std.specs.Option.{option_map_or}
@@ -21,7 +21,7 @@ use Rattle.proxies.specs.Resolving.{opposite_end, target_at}
 use Rattle.handshake.specs.declared.change.Change.TheVariants.{At, Delete}
 use Rattle.handshake.specs.declared.act.Act.TheVariants.{Set, Unset, Add, Remove, RemoveValue, Resolve}
 
--- the same link by its other end, if it has one
+-- the same link, named by its other end, if it has one
 abbrev pub other_side : Node → Value → Option FeatureNo → Option LinkEnd
 other_side n (value.Object o) (Some g) = Some (link_end (far_end o g) (node_value n))
 other_side n _ _ = None
@@ -35,16 +35,16 @@ same_link_end t u = same_end t.end u.end && same_value t.value u.value
 abbrev pub same_link : Reading → LinkEnd → LinkEnd → Bool
 same_link r t u = same_link_end t u || option_map_or (same_link_end t) (turned r u) false
 
--- those that are in an end
+-- the links of the values of an end
 abbrev pub link_ends_at : Reading → End → List LinkEnd
 link_ends_at r e = map (link_end e) (r.values e)
 
--- those of values of an end, the last value's first
+-- the links of the values of an end, from the last value to the first
 abbrev pub link_ends_backwards : End → List Value → List LinkEnd
 link_ends_backwards e [] = []
 link_ends_backwards e (v ∷ vs) = link_ends_backwards e vs ++ link_end e v ∷ []
 
--- the one of the value at a position of an end
+-- the link of the value at a position of an end
 abbrev pub link_end_in : Reading → End → ℕ → List LinkEnd
 link_end_in r e i = option_to_list (option_map (link_end e) (slice_get (r.values e) i))
 
@@ -55,47 +55,48 @@ link_ends_if_single r e = if (shape_at r e).is_single then link_ends_at r e else
 abbrev pub holding_link_end : Reading → Node → Option LinkEnd
 holding_link_end r n = option_map (λ d. link_end d (node_value n)) (r.holder n)
 
--- a link after the links before it, unless it is one of them
+-- the links with one more at the end, unless it is one of them
 abbrev pub with_link_end : Reading → List LinkEnd → LinkEnd → List LinkEnd
 with_link_end r ts t = if list_any (same_link r t) ts then ts else ts ++ t ∷ []
 
--- each link once, by the first of its names
+-- each link once, by the first name that the list has for it
 abbrev pub once : Reading → List LinkEnd → List LinkEnd
 once r ts = fold (with_link_end r) [] ts
 
--- the link of what a single end has, the link of what the opposite end has, and the one that contains what becomes contained
+-- the links that a new link may displace: the link of the value of the end, if the end is single; the link of the value of the opposite
+-- end, if that is single; and the link that contains the node that becomes contained
 abbrev pub in_the_way : Reading → End → ObjectNo → List LinkEnd
 in_the_way r e o =
     link_ends_if_single r e
     ++ (option_map_or (link_ends_if_single r) (opposite_end r e o) []
     ++ option_map_or (λ n. option_to_list (holding_link_end r n)) (contained e o (shape_at r e).containing) [])
 
--- a single end has a link
+-- whether an end is single and has a link
 abbrev pub is_taken : Reading → End → Bool
 is_taken r e = (shape_at r e).is_single && nat_lt 0 (length (r.values e))
 
--- a new link of an object at e displaces a link
+-- whether a new link of an object at e displaces a link
 abbrev pub displaces : Reading → End → ObjectNo → Bool
 displaces r e o =
     is_taken r e
     || (option_map_or (is_taken r) (opposite_end r e o) false
     || option_map_or (λ n. is_some (r.holder n)) (contained e o (shape_at r e).containing) false)
 
--- what a new link of an object at e displaces
+-- the links that a new link of an object at e displaces
 abbrev pub yields : Reading → End → ObjectNo → List LinkEnd
 yields r e o = once r (in_the_way r e o)
 
 ---------------------------------------------------------------- changes
 
--- a single end has the value already
+-- whether a single end has the value already
 abbrev pub has_already : Reading → End → Value → Bool
 has_already r e v = same_value v (value_at r e)
 
--- a set that makes and cuts no link: of an attribute, or to the value that is there
+-- whether a set makes and cuts no link: it is of an attribute, or the end has the value already
 abbrev pub is_plain_set : Reading → End → Value → Bool
 is_plain_set r e v = not (shape_at r e).is_reference || has_already r e v
 
--- an addition that makes no link: to an attribute, or of a value that a unique list has
+-- whether an addition makes no link: it is to an attribute, or the list is unique and has the value already
 abbrev pub is_plain_add : Reading → End → Value → Bool
 is_plain_add r e v = not (shape_at r e).is_reference || is_repeat r e v
 
@@ -103,11 +104,11 @@ abbrev pub cut_by_new : Reading → End → Value → List LinkEnd
 cut_by_new r e (value.Object o) = yields r e o
 cut_by_new r e v = []
 
--- the links of the proxies at both ends of a link that is resolved
+-- the link of the counterpart of a proxy that is resolved, if it has one
 abbrev pub counter_link_end : Reading → Target → List LinkEnd
 counter_link_end r x = option_map_or (λ c. link_end_in r c.end c.index) x.counterpart []
 
--- of a proxy at an index, and of its counterpart
+-- the links of a proxy at an index and of its counterpart
 abbrev pub link_ends_joined : Reading → End → ℕ → Target → List LinkEnd
 link_ends_joined r e i x = link_end_in r e i ++ counter_link_end r x
 
@@ -118,7 +119,7 @@ abbrev pub cut_by_set : Reading → End → Value → List LinkEnd
 cut_by_set r e (value.Object o) = yields r e o
 cut_by_set r e v = link_ends_at r e
 
--- the links that a change cuts, in order; where all proxies are resolved, each is cut where its object replaces it
+-- the links that a change cuts, in order. When all proxies are resolved, the edits of each proxy cut its link
 abbrev pub cut_link_ends : Reading → Change → List LinkEnd
 cut_link_ends r (At e (Set v)) = if is_plain_set r e v then [] else cut_by_set r e v
 cut_link_ends r (At e Unset) = if (shape_at r e).is_reference then link_ends_backwards e (r.values e) else []

@@ -28,14 +28,14 @@ abbrev pub new_put : Reading → End → ℕ → Value → Option Edit
 new_put r e i (value.Object o) = Some (Put e i o (shape_at r e).opposite (shape_at r e).containing)
 new_put r e i v = None
 
--- the edit after the cuts, if there is one: it makes a link, or moves what is in a list. What a single end had is cut by then
+-- the edit after the cuts, if there is one: it makes a link, or moves a value in a list. The old value of a single end is cut by then
 abbrev pub made_edit : Reading → Change → Option Edit
 made_edit r (At e (Set v)) = if is_plain_set r e v then None else new_put r e 0 v
 made_edit r (At e (Add v i)) = if is_plain_add r e v then None else new_put r e (position_for r e i) v
 made_edit r (At e (Move to from)) = if (shape_at r e).is_reference then Some (Shift e to from) else None
 made_edit r _ = None
 
--- the edit that moves a new link from the last index of the opposite end to that of its proxy
+-- the edit that moves a new link, at the opposite end, from the last index to the index of the proxy that it replaces
 abbrev pub back_edit : Reading → Counterpart → Edit
 back_edit r c = Shift c.end c.index (length (r.values c.end) - 1)
 
@@ -43,7 +43,7 @@ back_edit r c = Shift c.end c.index (length (r.values c.end) - 1)
 abbrev pub joining : Reading → End → ℕ → Target → List Edit
 joining r e i x = option_to_list (new_put r e i (value.Object x.object)) ++ option_to_list (option_map (back_edit r) x.counterpart)
 
--- the edits that resolve a proxy, one of several: they cut its link and that of its counterpart, and put the new one there
+-- the edits of one proxy when all are resolved: they cut the links of the proxy and of its counterpart, and put the new link in their place
 abbrev pub edits_of : Resolution → List Edit
 edits_of x =
     let e = end_of x.site in

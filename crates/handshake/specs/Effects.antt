@@ -1,4 +1,4 @@
--- What a change makes of values and of links.
+-- The values and the links after a change.
 use Rattle.std.specs.Prelude.{ℕ, Bool, false, List, [], ◌∷◌, fold, length, map, Option, Some, None, unwrap_or, if◌then◌else◌}
 use Rattle.std.specs.Option.{option_map_or}
 use Rattle.mm_types.specs.declared.numbers.FeatureNo.{FeatureNo}
@@ -31,7 +31,7 @@ use Rattle.proxies.specs.Resolving.{target_at}
 
 ---------------------------------------------------------------- values
 
--- the new values of an attribute of a node; a resource has none
+-- the edit that puts new values of an attribute; a resource has no attributes
 abbrev pub put_under : FeatureNo → List Value → Bool → Node → List ValueEdit
 put_under f vs flag (node.Object o) = PutList o f vs flag ∷ []
 put_under f vs flag (node.Resource k) = []
@@ -39,11 +39,11 @@ put_under f vs flag (node.Resource k) = []
 abbrev pub put_values : End → List Value → Bool → List ValueEdit
 put_values e vs flag = put_under e.feature vs flag e.node
 
--- of an attribute alone
+-- the edits, if the end is of an attribute
 abbrev pub if_attribute : Reading → End → List ValueEdit → List ValueEdit
 if_attribute r e edits = if (shape_at r e).is_reference then [] else edits
 
--- the edit of an object; a resource has no attribute
+-- the edit of an object; a resource has no attributes
 abbrev pub of_object : Node → (ObjectNo → ValueEdit) → List ValueEdit
 of_object (node.Object o) edit = edit o ∷ []
 of_object (node.Resource k) edit = []
@@ -58,7 +58,7 @@ take_value e i = of_object e.node (λ o. TakeValue o e.feature i)
 abbrev pub take_first : Reading → End → Value → List ValueEdit
 take_first r e v = option_map_or (take_value e) (first_at r e v) []
 
--- what an act makes of the values of an attribute
+-- the edits of an attribute's values by an act
 abbrev pub act_edits : Reading → End → Act → List ValueEdit
 act_edits r e (Set v) = put_values e (v ∷ []) (shape_at r e).is_unsettable
 act_edits r e Unset = put_values e [] false
@@ -87,7 +87,7 @@ abbrev pub with_value : Links → Reading → End → Option ℕ → Value → L
 with_value s r e i (value.Object o) = put s e (unwrap_or i (length (end s e))) o (shape_at r e).opposite (shape_at r e).containing
 with_value s r e i v = s
 
--- what a link has gained last at the opposite end goes where its proxy stood
+-- the value that a new link has last at the opposite end moves to index n
 abbrev pub put_back : Links → ℕ → Counterpart → Links
 put_back s n c = shift s c.end c.index n
 
@@ -97,13 +97,13 @@ joined s r e i x =
     let t = with_value s r e (Some i) (value.Object x.object) in
     option_map_or (λ c. put_back t (length (end s c.end)) c) x.counterpart t
 
--- a proxy is resolved, one of several
+-- the links after one proxy is resolved, while all are resolved
 abbrev pub with_resolution : Links → Resolution → Links
 with_resolution s x =
     let e = end_of x.site in
     joined (without_link_ends s (link_ends_joined x.reads e x.site.index x.target)) x.reads e x.site.index x.target
 
--- the link that a change makes, or what it moves
+-- the links after a change made its link, or moved a value
 abbrev pub put_by : Links → Reading → Change → Links
 put_by s r (At e (Set v)) = if is_plain_set r e v then s else with_value s r e None v
 put_by s r (At e (Add v i)) = if is_plain_add r e v then s else with_value s r e i v
@@ -113,7 +113,7 @@ put_by s r ResolveAll = fold with_resolution s (resolutions r (sites r))
 put_by s r (Load k doc) = with_links s (loaded_links r.metamodel r.next k doc)
 put_by s r _ = s
 
--- the links that a change leaves: all but those that name an object that is destroyed, or but those that it cuts
+-- the links that a change leaves: a deletion takes all links that name a destroyed object, any other change the links that it cuts
 abbrev pub links_left : Links → Reading → Change → Links
 links_left s r (Delete o) = without_nodes s (gone r o)
 links_left s r c = without_link_ends s (cut_link_ends r c)

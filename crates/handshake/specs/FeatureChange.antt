@@ -1,4 +1,5 @@
--- What happens to ends, without positions; and the notifications that report it, each read in the ends that the ones before it left.
+-- What happens to ends, without positions; and the notifications that report it. Each notification is read in the ends as the notifications
+-- before it left them.
 use Rattle.std.specs.Prelude.{ℤ, pos, Bool, false, List, [], ◌∷◌, ◌++◌, length, Some, if◌then◌else◌}
 use Rattle.mm_types.specs.Resolved.{Metamodel}
 use Rattle.mm_types.specs.Same.{same_value}
@@ -49,7 +50,7 @@ notice_at r t = notice_of (shape_at r t.at) t.at t.does (held_at r t.at)
 abbrev pub has_flag : Metamodel → FeatureNo → Bool
 has_flag m f = (shape m f).is_unsettable
 
--- each feature change becomes a notification, read in the ends so far, and the ends go on by replaying it
+-- the notification of each feature change is read in the ends so far; replaying it gives the ends for the next one
 abbrev pub told : Metamodel → Ends → List FeatureChange → List Notice
 told m e [] = []
 told m e (t ∷ ts) =
@@ -63,7 +64,7 @@ abbrev pub without : List Value → Value → List Value
 without [] v = []
 without (w ∷ ws) v = if same_value v w then ws else w ∷ without ws v
 
--- the values after it
+-- the values of an end after a feature change
 abbrev pub changed : Shape → ChangeKind → List Value → List Value
 changed a (Gains v) vs = if a.is_single then v ∷ [] else vs ++ v ∷ []
 changed a (GainsAt i v) vs = added vs (pos i) v
@@ -73,7 +74,7 @@ changed a Unsets vs = a.default ∷ []
 changed a (Moves to from) vs = moved vs (pos from) (pos to)
 changed a (Resolves i v) vs = if a.is_single then v ∷ [] else resolved vs (pos i) v
 
--- the flag after it: a gain or loss of a single end turns it on, if there is one, and unsetting turns it off
+-- the set flag of an end after a feature change: a gain or loss of an unsettable single end turns it on, and unsetting turns it off
 abbrev pub flagged : Shape → ChangeKind → Bool → Bool
 flagged a (Gains v) b = if a.is_single then a.is_unsettable else b
 flagged a (GainsAt i v) b = b

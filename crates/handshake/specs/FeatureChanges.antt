@@ -1,4 +1,4 @@
--- What a change makes happen, end by end in the order of the rules, and its chain of notifications.
+-- The feature changes that a change makes, end by end in the order of the rules, and its chain of notifications.
 use Rattle.std.specs.Prelude.{ℕ, zero, suc, ◌&&◌, ◌||◌, Bool, true, false, not, List, [], ◌∷◌, ◌++◌, filter, flat_map, length, map, Option, Some, None, option_to_list, if◌then◌else◌}
 use Rattle.std.specs.Option.{option_map_or}
 use Rattle.mm_types.specs.Same.{node_value, same_end}
@@ -35,19 +35,19 @@ use Rattle.handshake.specs.FeatureChange.{feature_change, told}
 abbrev pub loss : LinkEnd → FeatureChange
 loss t = feature_change t.end (Loses t.value)
 
--- the losses at both ends of a link, the containing end's first
+-- the losses at both ends of a link; an end that contains comes first
 abbrev pub losses : Reading → LinkEnd → List FeatureChange
 losses r t =
     option_map_or (λ u. if is_containment r.metamodel u.end.feature then loss u ∷ loss t ∷ [] else loss t ∷ loss u ∷ []) (turned r t) (loss t ∷ [])
 
--- the loss at the other end, and at the other ends of several
+-- the loss at the other end of a link; and `far_losses`, at the other ends of several links
 abbrev pub far_loss : Reading → LinkEnd → List FeatureChange
 far_loss r t = option_map_or (λ u. loss u ∷ []) (turned r t) []
 
 abbrev pub far_losses : Reading → List LinkEnd → List FeatureChange
 far_losses r ts = flat_map (far_loss r) ts
 
--- a new link between e and an object replaces what d holds
+-- whether a new link between e and an object replaces the value of d
 abbrev pub is_replaced : Reading → End → ObjectNo → End → Bool
 is_replaced r e o d = (shape_at r d).is_single && (same_end e d || option_map_or (same_end d) (opposite_end r e o) false)
 
@@ -58,15 +58,15 @@ other_losses r e o t = filter (λ x. not (is_replaced r e o x.at)) (losses r t)
 abbrev pub far_gain : Reading → End → ObjectNo → List FeatureChange
 far_gain r e o = option_map_or (λ d. feature_change d (Gains (node_value e.node)) ∷ []) (opposite_end r e o) []
 
--- a list of so many values loses each, the last one first
+-- a list of so many values loses each, from the last to the first
 abbrev pub all_lost : End → ℕ → List FeatureChange
 all_lost e zero = []
 all_lost e (suc n) = feature_change e (LosesAt n) ∷ all_lost e n
 
 ---------------------------------------------------------------- changes
 
--- what a change that cuts these links makes happen before the end itself gains: of a new link, the displaced links' losses and the far
--- end's gain; of null, the far ends' losses
+-- the feature changes before the end itself gains a value; ts are the links that are cut. For an object they are the losses of the
+-- displaced links and the far end's gain; for null, the losses at the far ends
 abbrev pub before_gain : Reading → End → Value → List LinkEnd → List FeatureChange
 before_gain r e (value.Object o) ts = flat_map (other_losses r e o) ts ++ far_gain r e o
 before_gain r e v ts = far_losses r ts
@@ -76,11 +76,11 @@ abbrev pub gain_at : Option ℕ → Value → ChangeKind
 gain_at None v = Gains v
 gain_at (Some i) v = GainsAt i v
 
--- the far ends' losses, and then the end's own
+-- the losses at the far ends of the links that are cut, and then the end's own
 abbrev pub taken_out : Reading → End → List LinkEnd → ℕ → List FeatureChange
 taken_out r e ts i = far_losses r ts ++ feature_change e (LosesAt i) ∷ []
 
--- nothing if no value is the same
+-- the losses when the first occurrence of a value is taken out; none if the value is not there
 abbrev pub value_taken_out : Reading → End → List LinkEnd → Value → List FeatureChange
 value_taken_out r e ts v = option_map_or (taken_out r e ts) (first_at r e v) []
 
@@ -90,16 +90,16 @@ emptied r e = if (shape_at r e).is_single then feature_change e Unsets ∷ [] el
 abbrev pub set_to : Reading → End → Value → List LinkEnd → List FeatureChange
 set_to r e v ts = (if is_plain_set r e v then [] else before_gain r e v ts) ++ feature_change e (Gains v) ∷ []
 
--- nothing where the list repeats nothing and has the value
+-- the feature changes of an addition; none if the list is unique and has the value already
 abbrev pub added : Reading → End → Value → Option ℕ → List LinkEnd → List FeatureChange
 added r e v i ts = if is_repeat r e v then [] else before_gain r e v ts ++ feature_change e (gain_at i v) ∷ []
 
--- the object that a change destroys, with all that is below it
+-- the object that a change destroys, with all objects below it
 abbrev pub destroyed_by : Change → Option ObjectNo
 destroyed_by (Delete o) = Some o
 destroyed_by _ = None
 
--- what the proxy finds that a change resolves
+-- the target of the proxy that a change resolves
 abbrev pub target_of : Reading → Change → Option Target
 target_of r (At e (Resolve i)) = target_at r e i
 target_of r _ = None
@@ -109,21 +109,21 @@ abbrev pub loaded_by : Change → Option Doc
 loaded_by (Load k doc) = Some doc
 loaded_by _ = None
 
--- a change resolves all proxies
+-- whether a change resolves all proxies
 abbrev pub resolves_all : Change → Bool
 resolves_all ResolveAll = true
 resolves_all _ = false
 
--- how many proxies it resolves, and how many are afterwards
+-- how many proxies a change that resolves all resolves, and how many remain
 abbrev pub resolved_by : Reading → Change → Option Resolved
 resolved_by r ResolveAll = Some (record { done = done r; left = left r })
 resolved_by r _ = None
 
--- what an end of another node loses with an object and all that is below it, in order
+-- the losses of an end of another node, in order, when an object and all objects below it are destroyed
 abbrev pub lost_with : Reading → ObjectNo → End → List FeatureChange
 lost_with r o d = map (λ v. feature_change d (Loses v)) (filter (is_lost r o d) (r.values d))
 
--- each such end in order, and last the end that contains the object
+-- the losses of a deletion: at each end of other nodes in order, and last at the end that contains the object
 abbrev pub destroyed : Reading → ObjectNo → List FeatureChange
 destroyed r o =
     flat_map (lost_with r o) (touched_ends r o)
@@ -133,7 +133,7 @@ destroyed r o =
 abbrev pub loaded : Reading → ResourceNo → Doc → List FeatureChange
 loaded r k doc = map (λ v. feature_change (contents_end r.metamodel k) (Gains v)) (roots_loaded r.next doc)
 
--- the opposite end's proxy is resolved, and then the end's own
+-- the proxy at the opposite end, if there is one, is resolved, and then the proxy of the end itself
 abbrev pub resolved : End → ℕ → Target → List FeatureChange
 resolved e i x =
     option_map_or (λ c. feature_change c.end (Resolves c.index (node_value e.node)) ∷ []) x.counterpart []
@@ -143,7 +143,7 @@ resolved e i x =
 abbrev pub resolution_told : Resolution → List FeatureChange
 resolution_told x = resolved (end_of x.site) x.site.index x.target
 
--- a change that cuts these links
+-- the feature changes of a change that cuts the links ts
 abbrev pub feature_changes_with : Reading → Change → List LinkEnd → List FeatureChange
 feature_changes_with r (At e (Set v)) ts = set_to r e v ts
 feature_changes_with r (At e Unset) ts = far_losses r ts ++ emptied r e

@@ -1,4 +1,4 @@
--- What holds of every change of a legal model that nothing refuses.
+-- Laws on every change of a legal model that is not refused.
 use Rattle.std.specs.Prelude.{◌≡◌, Bool, true, false, not, nat_le, IsFalse, List, [], ◌∷◌, ◌++◌, filter, None}
 use Rattle.std.specs.List.{AllByRecursion}
 use Rattle.mm_types.specs.Resolved.{Metamodel}
@@ -27,44 +27,45 @@ use Rattle.handshake.specs.Refusals.{early_refusal, late_refusal}
 use Rattle.handshake.specs.FeatureChange.{has_flag, feature_change}
 use Rattle.handshake.specs.FeatureChanges.{chain, far_losses, feature_changes}
 
--- something holds of a change of a model, where the model is legal and nothing refuses the change
+-- `Holds` is true of a change of a model, if the model is legal and the change is not refused
 abbrev pub OfAllowed : (Model → Change → Type 0) → Model → Change → Type 0
 OfAllowed Holds s c = IsLegal s → early_refusal (reading s) c ≡ None → late_refusal (reading s) c ≡ None → Holds s c
 
--- the URI that a change brings is as joining gives it
+-- if a change brings a URI, it is a result of joining
 abbrev pub IsBrought : Change → Type 0
 IsBrought (NewResource u) = IsJoined u
 IsBrought _ = Unit {0}
 
--- it leaves a legal model
+-- a change leaves a legal model
 abbrev pub KeepsLegal : Model → Change → Type 0
 KeepsLegal = OfAllowed (λ s c. HasReadDocument s.metamodel c → IsBrought c → IsLegal (after s c))
 
--- joining leaves the URI that a change brings as it is, and those of the proxies
+-- the URI that a change brings, and the URIs of the proxies that it brings, are normalised
 abbrev pub BringsSteadyTexts : Change → Type 0
 BringsSteadyTexts (NewResource u) = IsWebUri u
 BringsSteadyTexts (Load k doc) = HasSteadyProxies doc
 BringsSteadyTexts _ = Unit {0}
 
--- then it leaves those of the model as they are
+-- if the URIs of a model and of a change are normalised, so are the URIs of the model after the change
 abbrev pub KeepsSteady : Model → Change → Type 0
 KeepsSteady s c = HasSteadyTexts s → BringsSteadyTexts c → HasSteadyTexts (after s c)
 
--- a node is one of the objects that a change destroys
+-- whether a node is an object that a change destroys
 abbrev pub goes_with : Reading → Change → Node → Bool
 goes_with r (Delete o) n = gone r o n
 goes_with r _ n = false
 
--- a node is an object whose number is the first that a load gives, or a higher one
+-- whether a change is a load, and a node is an object that the load may make: its number is the next number or higher
 abbrev pub comes_with : Reading → Change → Node → Bool
 comes_with r (Load k doc) (node.Object o) = nat_le r.next o.0
 comes_with r _ n = false
 
--- its chain, replayed at each end of a node that it neither destroys nor makes with its values, gives what the end holds after it
+-- the chain of a change, replayed at an end, gives the values of the end after the change. Excepted are the ends of nodes that it destroys,
+-- or that a load makes
 abbrev pub ChainReplays : Model → Change → Type 0
 ChainReplays = OfAllowed (λ s c. HasReadDocument s.metamodel c → (d : End) → goes_with (reading s) c d.node ≡ false → comes_with (reading s) c d.node ≡ false → replayed_all (has_flag s.metamodel) (held_at (reading s)) (chain (reading s) c) d ≡ held_at (reading (after s c)) d)
 
--- a change that may take several values out of one list, or put several in
+-- whether a change may take several values out of one list, or put several in
 abbrev pub takes_many : Reading → Change → Bool
 takes_many r (At e Unset) = not (shape_at r e).is_single
 takes_many r (Delete o) = true
@@ -77,15 +78,15 @@ abbrev pub AreApart : List FeatureChange → Type 0
 AreApart [] = Unit {0}
 AreApart (t ∷ ts) = AllByRecursion (λ (u : FeatureChange). t.at ≡ u.at → ⊥) ts × AreApart ts
 
--- but a list that is unset, which comes last, value by value, the lists that hold what is destroyed, and that of the roots of a load
+-- a change gives no end two notifications. Excepted are an unset of a list, a deletion, a resolve of all proxies, and a load
 abbrev pub TellsNoEndTwice : Model → Change → Type 0
 TellsNoEndTwice = OfAllowed (λ s c. IsFalse (takes_many (reading s) c) → AreApart (feature_changes (reading s) c))
 
--- a feature change is at a single end
+-- whether a feature change is at a single end
 abbrev pub is_of_single : Metamodel → FeatureChange → Bool
 is_of_single m t = (shape m t.at.feature).is_single
 
--- no end of one value has two notifications, whatever the change
+-- no change gives a single end two notifications
 abbrev pub TellsNoSingleEndTwice : Model → Change → Type 0
 TellsNoSingleEndTwice = OfAllowed (λ s c. AreApart (filter (is_of_single s.metamodel) (feature_changes (reading s) c)))
 
@@ -100,6 +101,6 @@ abbrev pub AreDifferent : Reading → List LinkEnd → Type 0
 AreDifferent r [] = Unit {0}
 AreDifferent r (t ∷ ts) = AllByRecursion (λ (u : LinkEnd). same_link r u t ≡ false) ts × AreDifferent r ts
 
--- it cuts no link twice
+-- a change cuts no link twice
 abbrev pub CutsNoLinkTwice : Model → Change → Type 0
 CutsNoLinkTwice = OfAllowed (λ s c. AreDifferent (reading s) (cut_link_ends (reading s) c))

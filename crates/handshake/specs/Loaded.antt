@@ -1,5 +1,5 @@
--- What can be read of a model once a document is loaded into a resource: of the new objects and the roots, what the document says; of all
--- else, what was there before.
+-- What can be read of a model after a document was loaded into a resource: the new objects and the roots are as the document says, and all
+-- else is as before.
 use Rattle.std.specs.Prelude.{◌≡◌, ◌+◌, ◌<◌, ℕ, ◌&&◌, true, false, not, [], ◌∷◌, length, map, Some, slice_get}
 use Rattle.mm_types.specs.Lookups as lookups
 use Rattle.mm_types.specs.Resolved.{Metamodel}
@@ -23,7 +23,7 @@ use Rattle.handshake.specs.Effects.{after}
 use Rattle.handshake.specs.Laws.{OfAllowed, comes_with}
 use Rattle.handshake.specs.Changes.{HasReadDocument}
 
--- a feature of an object of a document is written with another object of it
+-- a feature of an object of a document is written with object b of the document
 abbrev pub IsWrittenWith : Doc → ObjectNo → FeatureNo → ObjectNo → Type 0
 IsWrittenWith doc o f b = (i : ℕ) × (slice_get (values_in doc o f) i ≡ Some (value.Object b))
 
@@ -31,18 +31,18 @@ IsWrittenWith doc o f b = (i : ℕ) × (slice_get (values_in doc o f) i ≡ Some
 abbrev pub IsContainer : Metamodel → FeatureNo → FeatureNo → Type 0
 IsContainer m f c = (lookups.is_container m f ≡ true) × ((shape m f).opposite ≡ Some c)
 
--- the objects of a document, by the numbers that follow on those before: r is read before, and t after
+-- the objects of a document have the next numbers, in order; r is read before the load, and t after it
 pub record HasObjectsOf (r : Reading) (doc : Doc) (t : Reading) : Type 0 where
   pub next : t.next ≡ r.next + length doc.objects
-  -- each has its class
+  -- each object has its class
   pub classes : (o : ObjectNo) → t.class (loaded r.next o) ≡ class_in doc o
-  -- an attribute has what is written, and else its default
+  -- an attribute has the values that are written, else its default
   pub attributes : (o : ObjectNo) (f : FeatureNo) → (shape r.metamodel f).is_reference ≡ false
       → t.values (object_end r.next o f) ≡ attribute_values (shape r.metamodel f) (values_in doc o f)
-  -- a single unsettable attribute is set where it is written; nothing else has the flag
+  -- a single unsettable attribute is set if it is written; no other feature has the flag
   pub flags : (o : ObjectNo) (f : FeatureNo)
       → t.flag (object_end r.next o f) ≡ ((shape r.metamodel f).is_unsettable && ((shape r.metamodel f).is_single && not (is_nil (values_in doc o f))))
-  -- a reference that is no container reference has what is written, in that order: objects by their new numbers, and proxies
+  -- a reference that is no container reference has the values that are written, in that order: objects by their new numbers, and proxies
   pub references : (o : ObjectNo) (f : FeatureNo) → (shape r.metamodel f).is_reference ≡ true → lookups.is_container r.metamodel f ≡ false
       → t.values (object_end r.next o f) ≡ map (loaded_value r.next) (values_in doc o f)
   -- the container reference of an object has the object in whose containment it is written, and is empty for an object that no object contains
@@ -50,18 +50,18 @@ pub record HasObjectsOf (r : Reading) (doc : Doc) (t : Reading) : Type 0 where
       → t.values (object_end r.next o f) ≡ value.Object (loaded r.next b) ∷ []
   pub no_containers : (o : ObjectNo) (f c : FeatureNo) → IsContainer r.metamodel f c → ((b : ObjectNo) → IsWrittenWith doc b c o → ⊥)
       → t.values (object_end r.next o f) ≡ []
-  -- what a containment is written with is held there
+  -- an object that is written under a containment is held there
   pub holders : (o b : ObjectNo) (f : FeatureNo) → is_containment r.metamodel f ≡ true → IsWrittenWith doc o f b
       → t.holder (node.Object (loaded r.next b)) ≡ Some (object_end r.next o f)
 
--- the roots of a document, in a resource
+-- the roots of a document are in a resource
 pub record HasRootsOf (r : Reading) (k : ResourceNo) (doc : Doc) (t : Reading) : Type 0 where
-  -- they are in their order
+  -- the roots are in the document's order
   pub contents : t.values (contents_end r.metamodel k) ≡ roots_loaded r.next doc
-  -- each is held there
+  -- each root is held by the resource
   pub holders : (i : ℕ) (o : ObjectNo) → slice_get doc.roots i ≡ Some o → t.holder (node.Object (loaded r.next o)) ≡ Some (contents_end r.metamodel k)
 
--- all else is as it was: the metamodel, the URIs, and what can be read of each node with no new number, but for the roots of the resource
+-- all else is as before: the metamodel, the URIs, and each node without a new number, except the roots of the resource
 pub record IsElseAsBefore (r : Reading) (k : ResourceNo) (doc : Doc) (t : Reading) : Type 0 where
   pub metamodel : t.metamodel ≡ r.metamodel
   pub uris : t.uris ≡ r.uris
@@ -77,6 +77,6 @@ pub record IsLoaded (r : Reading) (k : ResourceNo) (doc : Doc) (t : Reading) : T
   pub roots : HasRootsOf r k doc t
   pub others : IsElseAsBefore r k doc t
 
--- the load of a document that reading gives leaves what the document says
+-- after the load of a document that was read, the model is as the document says
 abbrev pub LoadsEnds : Model → ResourceNo → Doc → Type 0
 LoadsEnds s k doc = OfAllowed (λ s c. HasReadDocument s.metamodel c → IsLoaded (reading s) k doc (reading (after s c))) s (Load k doc)

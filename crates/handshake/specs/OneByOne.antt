@@ -1,4 +1,5 @@
--- To resolve all proxies is to resolve one after another: each in the model that the earlier ones left, if nothing refuses it.
+-- Resolving all proxies does the same as resolving one after another, each in the model that the earlier ones left; a proxy that is refused
+-- is skipped.
 use Rattle.std.specs.Prelude.{◌≡◌, ℕ, zero, suc, Bool, List, [], ◌∷◌, ◌++◌, length, is_some, if◌then◌else◌}
 use Rattle.mm_types.specs.Conditions.{◌else_by◌}
 use Rattle.notice_chain.specs.declared.notice.Notice.{Notice}
@@ -19,18 +20,18 @@ resolve p = At (end_of p) (Resolve p.index)
 abbrev pub is_refused : Model → Change → Bool
 is_refused s c = is_some (early_refusal (reading s) c else_by late_refusal (reading s) c)
 
--- the model afterwards
+-- the model after the proxies at some locations were resolved one after another
 abbrev pub after_each : Model → List ProxySite → Model
 after_each s [] = s
 after_each s (p ∷ ps) = if is_refused s (resolve p) then after_each s ps else after_each (after s (resolve p)) ps
 
--- the notifications of each
+-- the notifications of these resolves, one after another
 abbrev pub told_by_each : Model → List ProxySite → List Notice
 told_by_each s [] = []
 told_by_each s (p ∷ ps) =
     if is_refused s (resolve p) then told_by_each s ps else chain (reading s) (resolve p) ++ told_by_each (after s (resolve p)) ps
 
--- how many are resolved
+-- how many proxies these resolves resolve
 abbrev pub count_of_each : Model → List ProxySite → ℕ
 count_of_each s [] = zero
 count_of_each s (p ∷ ps) = if is_refused s (resolve p) then count_of_each s ps else suc (count_of_each (after s (resolve p)) ps)

@@ -1,5 +1,5 @@
--- Why a change is refused: by what it names, by a value's type or length, an index, a repeated value, a full end, a cycle of parts, or a
--- limit. What is looked for after is the repository's.
+-- Why a change is refused: something that it names is not there, or a value's type or length, an index, a repeated value, a full end, a
+-- cycle of containment or a limit forbids it. The repository looks for the refusals that come after these.
 use Rattle.std.specs.Prelude.{ℕ, ◌+◌, ◌&&◌, ◌||◌, Bool, false, not, List, length, nat_le, nat_lt, Option, None, is_some, if◌then◌else◌}
 use Rattle.std.specs.Option.{option_map_or}
 use Rattle.mm_types.specs.Conditions.{◌unless◌, ◌where_so◌, ◌else_by◌}
@@ -34,7 +34,7 @@ type_refusal r f v =
     WrongType unless takes r f v else_by
     TextLength unless is_short v
 
--- the node that would hold the other, by the feature h, is that other or below it
+-- whether the node that would contain the other, by the containment h, is that other or below it
 abbrev pub is_recursive_for : Reading → End → ObjectNo → FeatureNo → Bool
 is_recursive_for r e o h =
     if same_feature e.feature h then is_within r (node.Object o) e.node else is_within r e.node (node.Object o)
@@ -46,14 +46,14 @@ is_recursive r e o = option_map_or (is_recursive_for r e o) (shape_at r e).conta
 abbrev pub count_at : Reading → End → ℕ
 count_at r e = length (r.values e)
 
--- an end of an upper bound above 1 has as many values as it may have, and an end as many as any list may have
+-- whether an end has reached its upper bound, which is above 1; and `is_at_limit`, whether it has as many values as any list may have
 abbrev pub is_full_at : Reading → End → Bool
 is_full_at r e = is_full_list (shape_at r e) (count_at r e)
 
 abbrev pub is_at_limit : Reading → End → Bool
 is_at_limit r e = nat_le LIST_VALUES (count_at r e)
 
--- something holds of an end, or of the opposite end of a new link
+-- whether `holds` is true of an end, or of the opposite end of a new link
 abbrev pub of_either : (End → Bool) → Reading → End → ObjectNo → Bool
 of_either holds r e o = holds e || option_map_or holds (opposite_end r e o) false
 
@@ -71,16 +71,16 @@ gain_refusal r e v =
     Bound where_so is_full_at r e else_by
     Limit where_so is_at_limit r e
 
--- a single end is never full; nothing more is looked for where it is set to the object that it has
+-- why an end can't be set to a value; a set to the object that the end has already is never refused here
 abbrev pub set_refusal : Reading → End → Value → Option Refused
 set_refusal r e (value.Object o) = if has_already r e (value.Object o) then None else link_refusal r e o
 set_refusal r e v = None
 
--- a value that a unique list has is refused at an index, and else nothing more is looked for
+-- why a value can't be added; if a unique list has it already, it is refused only at an index
 abbrev pub add_refusal : Reading → End → Value → Option ℕ → Option Refused
 add_refusal r e v i = if is_repeat r e v then (Duplicate where_so is_some i) else gain_refusal r e v
 
--- why there can be no resource more of a URI
+-- why no resource of a URI can be made
 abbrev pub uri_refusal : Reading → List ℕ → Option Refused
 uri_refusal r u =
     TextLength unless is_short_text u else_by
@@ -93,18 +93,18 @@ load_refusal r k doc =
     Limit unless nat_le (r.next + length doc.objects) OBJECTS else_by
     NotEmpty unless is_empty_resource r k
 
--- a single-valued feature is set, and a list is edited under a many-valued one
+-- a set needs a single feature; and `many_refusal`: an edit of a list needs a many-valued feature
 abbrev pub single_refusal : Metamodel → FeatureNo → Option Refused
 single_refusal m f = NotSingle unless (shape m f).is_single
 
 abbrev pub many_refusal : Metamodel → FeatureNo → Option Refused
 many_refusal m f = NotMany where_so (shape m f).is_single
 
--- an addition of a value to a list, and a removal of one
+-- why a value can't be added to a list, or removed from it, as far as that is known early
 abbrev pub list_refusal : Reading → End → Value → Option Refused
 list_refusal r e v = value_refusal r e v else_by many_refusal r.metamodel e.feature
 
--- why a change is refused before it is planned: what it names is not there, or is a feature of another kind
+-- why a change is refused before it is planned: something that it names is not there, or the feature is of another kind
 abbrev pub early_refusal : Reading → Change → Option Refused
 early_refusal r (At e (Set v)) = value_refusal r e v else_by single_refusal r.metamodel e.feature
 early_refusal r (At e Unset) = end_refusal r e

@@ -1,4 +1,4 @@
--- What is reported of an end, as a notification.
+-- The notifications of reports, which say what happened at an end, and of losses.
 use Rattle.std.specs.Prelude.{ℕ, pos, nat_lt, Some, if◌then◌else◌}
 use Rattle.mm_types.specs.declared.end.End.{End}
 use Rattle.mm_types.specs.declared.numbers.ObjectNo.{ObjectNo}
@@ -12,18 +12,19 @@ use Rattle.doc_loader.specs.Loading.{loaded}
 use Rattle.handshake.specs.declared.chain.Report.{Report}
 use Rattle.handshake.specs.FeatureChange.{notice}
 
--- the notification of a report that is read in a model
+-- the notification of a report, read in a model
 abbrev pub reported : Reading → End → Report → Notice
 reported r e p = notice (shape_at r e) e (held_at r e) p.kind p.old_value p.new_value p.position
 
--- the notification of a loss at its position, read in a model in which the end still has the value: SET to null at a single end
+-- the notification of a loss, read in a model in which the end still has the value: SET to null at a single end, else REMOVE at its
+-- position
 abbrev pub lost_notice : Reading → Loss → Notice
 lost_notice r l =
     if (shape_at r l.end).is_single
     then notice (shape_at r l.end) l.end (held_at r l.end) kind.Set l.value value.Null no_index
     else notice (shape_at r l.end) l.end (held_at r l.end) kind.Remove l.value value.Null (pos l.position)
 
--- the notification that an end gains a root of a document after so many others: it was set if there were any
+-- the notification that an end gains a root of a document, after n values; the end was set if n is above 0
 abbrev pub root_notice : ℕ → End → ℕ × ObjectNo → Notice
 root_notice n e x =
     record {

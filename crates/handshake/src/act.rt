@@ -4,7 +4,7 @@ use mm_types::Value;
 /// What a change does at an end, which is a feature of a node.
 #[derive(Drop)]
 pub enum Act {
-    /// Sets a feature of one value (EMF: EObject.eSet; MOF 2.5.1: Reflection, Object.set).
+    /// Sets a single feature (EMF: EObject.eSet; MOF 2.5.1: Reflection, Object.set).
     Set(Value),
     /// Takes a feature back to its default, or empties a list (EMF: EObject.eUnset; MOF 2.5.1: Reflection, Object.unset).
     Unset,
@@ -17,7 +17,7 @@ pub enum Act {
     RemoveValue(Value),
     /// Moves the value at `from` of a list, so that it is then at `to` (EMF: EList.move).
     Move { to: u32, from: u32 },
-    /// Puts the object at the address of a proxy instead of the proxy, at an index of a reference (EMF: EcoreUtil.resolve). In a
-    /// reference with an opposite the object that refers replaces the proxy at the other end.
+    /// Replaces the proxy at an index of a reference by the object at its address (EMF: EcoreUtil.resolve). If the reference has an
+    /// opposite, the referring object replaces the proxy at the other end.
     Resolve(u32),
 }

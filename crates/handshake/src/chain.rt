@@ -1,4 +1,4 @@
-//! The notifications of what happens to ends.
+//! The notifications of feature changes.
 ghost use Rattle.std.specs.Prelude.{◌≡◌, ◌∷◌, ◌++◌, [], map, IfOk, OnOk};
 ghost use Rattle.mm_types.specs.Ends.{index_in};
 ghost use Rattle.mm_types.specs.Shapes.{shape};
@@ -18,7 +18,7 @@ use notice_chain::{Chain, NO_INDEX, Notice, NoticeKind};
 use removal::{Loss, Removal, losses};
 use std::alloc::{AllocError, Global};
 
-/// The notifications of what happens to ends, each read in the model as it is.
+/// The notifications of feature changes. All are computed in the same model, the model before the change.
 pub fn notices<L: LinkStore>(
     alloc: Global,
     model: &ModelRef<L>,
@@ -33,7 +33,7 @@ pub fn notices<L: LinkStore>(
     Ok(chain)
 }
 
-/// Adds the notification of what happens to an end.
+/// Adds the notification of a feature change.
 fn push_notice<L: LinkStore>(
     alloc: Global,
     model: &ModelRef<L>,
@@ -46,7 +46,7 @@ fn push_notice<L: LinkStore>(
     Ok(())
 }
 
-/// The notifications of what is lost with an object and all that is below it.
+/// The notifications of the losses with an object and all objects below it.
 pub fn lost_notices<L: LinkStore>(
     alloc: Global,
     model: &ModelRef<L>,
@@ -72,7 +72,7 @@ fn each_lost<L: LinkStore>(
     Ok(chain)
 }
 
-/// The notification of a loss: SET to null at a single end, and else REMOVE at the loss's position.
+/// The notification of a loss: SET to null at a single end, else REMOVE at the loss's position.
 fn lost_notice<L: LinkStore>(model: &ModelRef<L>, loss: Loss) -> Notice
     ensures { result ≡ lost_notice_of (reading model.now) loss }
 {
@@ -106,8 +106,8 @@ pub(crate) struct Report {
     position: i64,
 }
 
-/// The notification of what happens to an end.
-fn notice<L: LinkStore>(
+/// The notification of a feature change, computed in the model before the change.
+pub fn notice<L: LinkStore>(
     alloc: Global,
     model: &ModelRef<L>,
     feature_change: FeatureChange,
@@ -186,7 +186,7 @@ fn resolved<L: LinkStore>(
     })
 }
 
-/// A gain: SET at a single end, from what it has, and else ADD after the last value.
+/// A gain: SET at a single end, with the old value; else ADD after the last value.
 fn gain<L: LinkStore>(
     alloc: Global,
     model: &ModelRef<L>,
@@ -211,7 +211,7 @@ fn gain<L: LinkStore>(
     })
 }
 
-/// A loss: SET to null at a single end, and else REMOVE at the position of the value.
+/// A loss: SET to null at a single end, else REMOVE at the position of the value.
 fn loss<L: LinkStore>(model: &ModelRef<L>, at: End, value: Value) -> Report
     ensures { reported (reading model.now) at result ≡ notice_at (reading model.now) (feature_change at (Loses value)) }
 {
@@ -242,7 +242,7 @@ fn index_of<L: LinkStore>(model: &ModelRef<L>, at: End, value: &Value) -> u32
     }
 }
 
-/// UNSET, from what a single end has to its default.
+/// UNSET, from the value of a single end to its default.
 fn unset<L: LinkStore>(alloc: Global, model: &ModelRef<L>, at: End) -> Result<Report, AllocError>
     ensures { IfOk result (λ p. reported (reading model.now) at p ≡ notice_at (reading model.now) (feature_change at Unsets)) }
 {

@@ -9,26 +9,25 @@ use resource_docs::Doc;
 /// A change of objects, their values and their links, or of resources.
 #[derive(Drop)]
 pub enum Change {
-    /// Changes what a feature of a node has.
+    /// Changes the values of a feature of a node.
     At(End, Act),
     /// Makes an object of a class (EMF: EFactory.create).
     Create(ClassNo),
-    /// Destroys an object and all that is below it, and takes them out of every end that holds them (EMF: EcoreUtil.delete,
-    /// recursively).
+    /// Destroys an object and all objects below it, and takes them out of every end that holds them (EMF: EcoreUtil.delete, recursively).
     Delete(ObjectNo),
-    /// Makes a resource of a URI, which is as joining gives it (EMF: ResourceSet.createResource).
+    /// Makes a resource of a URI, which is a result of joining (EMF: ResourceSet.createResource).
     NewResource(Text),
-    /// Resolves all proxies one after another, by object number, by feature in the order of all features, and by index; a proxy that
-    /// can't be resolved then is passed over (EMF: EcoreUtil.resolveAll).
+    /// Resolves all proxies one after another, by object number, by feature in the order of all features, and by index; a proxy that can't
+    /// be resolved in its turn is skipped (EMF: EcoreUtil.resolveAll).
     ResolveAll,
-    /// Makes what a document holds in an empty resource (EMF: Resource.load).
+    /// Makes the objects of a document, with their values and links, in an empty resource (EMF: Resource.load).
     Load(ResourceNo, Doc),
 }
 
 impl Change {
-    ghost use Rattle.handshake.specs.Changes.{edits_values_alone};
+    ghost use Rattle.handshake.specs.Changes.{edits_links_alone, edits_values_alone};
 
-    /// Whether it edits values alone, and no link: it makes an object, or changes an attribute. Takes no memory.
+    /// Whether it edits only values, and no link: it makes an object, or changes an attribute. Takes no memory.
     pub fn edits_values_alone(&self, meta: &Meta) -> bool
         ensures { result ≡ edits_values_alone meta.now self.now }
     {
@@ -36,6 +35,17 @@ impl Change {
             Change::Create(_) => true,
             Change::At(_, Act::Resolve(_)) => false,
             Change::At(end, _) => !meta.is_reference(end.feature),
+            _ => false,
+        }
+    }
+
+    /// Whether it edits only links, and no value: it changes a reference, and resolves no proxy. Takes no memory.
+    pub fn edits_links_alone(&self, meta: &Meta) -> bool
+        ensures { result ≡ edits_links_alone meta.now self.now }
+    {
+        match self {
+            Change::At(_, Act::Resolve(_)) => false,
+            Change::At(end, _) => meta.is_reference(end.feature),
             _ => false,
         }
     }

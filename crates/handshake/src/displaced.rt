@@ -51,7 +51,7 @@ fn is_taken<L: LinkStore>(model: &ModelRef<L>, end: End) -> bool
     model.meta().is_single(end.feature) && model.len(end) > 0
 }
 
-/// What a new link of an object at an end displaces, each link once.
+/// The links that a new link of an object at an end displaces, each once.
 pub(crate) fn yields<L: LinkStore>(
     alloc: Global,
     model: &ModelRef<L>,
@@ -73,7 +73,7 @@ pub(crate) fn yields<L: LinkStore>(
     Ok(link_ends)
 }
 
-/// Adds the link of what a single end has.
+/// Adds the link of the value of a single end.
 fn add_held<L: LinkStore>(
     alloc: Global,
     model: &ModelRef<L>,
@@ -187,7 +187,7 @@ fn cut_by_act<L: LinkStore>(
     }
 }
 
-/// The links of the proxies at both ends of a link that is resolved; none of an attribute.
+/// The links of the proxies at both ends of a link that is resolved; none for an attribute.
 fn link_ends_resolved<L: LinkStore>(
     alloc: Global,
     model: &ModelRef<L>,
@@ -230,7 +230,7 @@ pub fn add_counterpart<L: LinkStore>(
     }
 }
 
-/// The links that go; none if nothing goes.
+/// The links that are cut with the object that a change destroys; none if it destroys none.
 fn gone_link_ends<L: LinkStore>(
     alloc: Global,
     model: &ModelRef<L>,
@@ -295,7 +295,7 @@ fn link_ends_at<L: LinkStore>(
     Ok(link_ends)
 }
 
-/// The links of an end, the last one first; none of an attribute.
+/// The links of an end, the last one first; none for an attribute.
 fn link_ends_backwards<L: LinkStore>(
     alloc: Global,
     model: &ModelRef<L>,
@@ -313,7 +313,7 @@ fn link_ends_backwards<L: LinkStore>(
     Ok(link_ends)
 }
 
-/// The link that is at a position of an end, if one is named; none of an attribute.
+/// The link at a position of an end, if a position is given; none for an attribute.
 fn link_end_in<L: LinkStore>(
     alloc: Global,
     model: &ModelRef<L>,
@@ -332,7 +332,7 @@ fn link_end_in<L: LinkStore>(
     Ok(link_ends)
 }
 
-/// Adds the link of what was found at an end.
+/// Adds the link of the value that was found at an end.
 pub fn push_link_end(
     alloc: Global,
     end: End,
@@ -348,7 +348,7 @@ pub fn push_link_end(
     Ok(())
 }
 
-/// Whether an addition makes no link: to an attribute, or of a value that a unique list has.
+/// Whether an addition makes no link: it is to an attribute, or the list is unique and has the value already.
 pub fn is_plain_add<L: LinkStore>(model: &ModelRef<L>, end: End, value: &Value) -> bool
     ensures { result ≡ d.is_plain_add (reading model.now) end value.now }
 {

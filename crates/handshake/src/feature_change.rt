@@ -1,4 +1,4 @@
-//! What a change makes happen, end by end.
+//! The feature changes of a change, end by end.
 ghost use Rattle.std.specs.Prelude.{◌≡◌, ◌∷◌, ◌++◌, [], None, false, not, flat_map, filter, IfOk, OnOk};
 ghost use Rattle.std.specs.Option.{option_map_or};
 ghost use Rattle.mm_types.specs.Shapes.{is_containment};
@@ -20,8 +20,8 @@ use proxies::{Target, opposite_end};
 use removal::LinkEnd;
 use std::alloc::{AllocError, Global};
 
-/// What a change makes happen at each end, in the order of the notifications, given the links that it cuts. For changes that destroy and
-/// load nothing and don't resolve all proxies.
+/// The feature changes of a change, in the order of the notifications, given the links that it cuts. For changes that neither destroy nor
+/// load anything, and don't resolve all proxies.
 pub fn feature_changes<L: LinkStore>(
     alloc: Global,
     model: &ModelRef<L>,
@@ -43,7 +43,7 @@ pub fn feature_changes<L: LinkStore>(
     Ok(out)
 }
 
-/// Adds what an act makes happen, at its end and at others.
+/// Adds the feature changes of an act, at its end and at others.
 fn push_act<L: LinkStore>(
     model: &ModelRef<L>,
     end: End,
@@ -66,7 +66,7 @@ fn push_act<L: LinkStore>(
     }
 }
 
-/// Adds what happens when a feature is unset: the losses at the far ends, and then the end's own.
+/// Adds the feature changes of an unset: the losses at the far ends, and then the losses of the end itself.
 fn push_unset<L: LinkStore>(
     model: &ModelRef<L>,
     end: End,
@@ -79,7 +79,7 @@ fn push_unset<L: LinkStore>(
     push_emptied(model, end, out)
 }
 
-/// Adds what happens when a proxy is resolved: to the opposite end first.
+/// Adds the feature changes of a proxy that is resolved; the opposite end comes first.
 pub fn push_resolved(
     end: End,
     index: u32,
@@ -102,7 +102,7 @@ pub fn push_resolved(
     )
 }
 
-/// Adds what happens when a single feature is set.
+/// Adds the feature changes of a set of a single feature.
 fn push_set<L: LinkStore>(
     model: &ModelRef<L>,
     end: End,
@@ -118,7 +118,7 @@ fn push_set<L: LinkStore>(
     push(out, end, ChangeKind::Gains(value.clone()?))
 }
 
-/// Adds what happens when a value is added to a list: nothing if the list repeats nothing and has it.
+/// Adds the feature changes of an addition to a list; none if the list is unique and has the value already.
 fn push_added<L: LinkStore>(
     model: &ModelRef<L>,
     end: End,
@@ -146,7 +146,7 @@ fn gain_at(index: Option<u32>, value: Value) -> ChangeKind
     }
 }
 
-/// Adds what happens when a value is taken out of a list, and its link is cut.
+/// Adds the feature changes if a value is taken out of a list, and its link is cut.
 fn push_taken_out<L: LinkStore>(
     model: &ModelRef<L>,
     end: End,
@@ -160,7 +160,7 @@ fn push_taken_out<L: LinkStore>(
     push(out, end, ChangeKind::LosesAt(index))
 }
 
-/// Adds what happens when the first value that is the same is taken out of a list: nothing if there is none.
+/// Adds the feature changes if the first occurrence of a value is taken out of a list; none if the list lacks the value.
 fn push_value_taken_out<L: LinkStore>(
     model: &ModelRef<L>,
     end: End,
@@ -176,7 +176,7 @@ fn push_value_taken_out<L: LinkStore>(
     }
 }
 
-/// Adds what happens to an end that is unset: a list loses each value, the last one first.
+/// Adds the feature changes of an end that is unset: a list loses each value, the last one first.
 fn push_emptied<L: LinkStore>(
     model: &ModelRef<L>,
     end: End,
@@ -199,7 +199,7 @@ fn push_all_lost(end: End, len: u32, out: &mut Vec<FeatureChange>) -> Result<(),
     Ok(())
 }
 
-/// Adds what a change that cuts these links makes happen before the end itself gains.
+/// Adds the feature changes that come before the end itself gains a value, for a change that cuts these links.
 fn push_cuts<L: LinkStore>(
     model: &ModelRef<L>,
     end: End,
@@ -274,7 +274,7 @@ fn push_other_losses<L: LinkStore>(
     Ok(())
 }
 
-/// The containing end's loss comes first.
+/// Adds the losses at both ends of a link; an end that contains comes first.
 fn push_losses<L: LinkStore>(
     model: &ModelRef<L>,
     link: NewLink,
@@ -293,7 +293,7 @@ fn push_losses<L: LinkStore>(
     }
 }
 
-/// Adds the losses at both ends of a link, each unless a new link replaces what is lost.
+/// Adds the losses at both ends of a link; a loss is left out if a new link replaces the lost value.
 fn push_both<L: LinkStore>(
     model: &ModelRef<L>,
     link: NewLink,
@@ -308,7 +308,7 @@ fn push_both<L: LinkStore>(
     Ok(())
 }
 
-/// Adds a loss, unless a new link replaces what is lost.
+/// Adds a loss, unless a new link replaces the lost value.
 fn push_other_loss<L: LinkStore>(
     model: &ModelRef<L>,
     link: NewLink,
@@ -323,7 +323,7 @@ fn push_other_loss<L: LinkStore>(
     push_loss(link_end, out)
 }
 
-/// Whether a new link replaces what another end holds.
+/// Whether a new link replaces the value of another end.
 fn is_replaced<L: LinkStore>(model: &ModelRef<L>, link: NewLink, other: End) -> bool
     ensures { result ≡ t.is_replaced (reading model.now) link.end link.object other }
 {

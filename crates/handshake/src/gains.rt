@@ -1,4 +1,4 @@
-//! Whether an end can gain a value. None of this takes memory.
+//! Whether an end can gain a value. No function here takes memory.
 ghost use Rattle.std.specs.Prelude.{◌≡◌, ◌&&◌, ◌||◌, false, int_lt, pos};
 ghost use Rattle.std.specs.Option.{option_map_or};
 ghost use Rattle.mm_types.specs.Shapes.{shape};
@@ -71,7 +71,7 @@ fn is_either_at_limit<L: LinkStore>(model: &ModelRef<L>, end: End, far: Option<E
     }
 }
 
-/// Whether an end of an upper bound above 1 has as many values as it may have.
+/// Whether an end has reached its upper bound, which is above 1.
 fn is_full_at<L: LinkStore>(model: &ModelRef<L>, end: End) -> bool
     ensures { result ≡ refusals.is_full_at (reading model.now) end }
 {
@@ -94,14 +94,14 @@ fn is_at_limit<L: LinkStore>(model: &ModelRef<L>, end: End) -> bool
     ensures { result ≡ refusals.is_at_limit (reading model.now) end }
 {
     model.lemma_is_legal();
-    // it has one value at most
+    // a single reference has at most one value
     if is_single_reference(model.meta(), end.feature) {
         return false;
     }
     model.len(end) as usize >= limits::LIST_VALUES
 }
 
-/// Whether a feature is a reference of one value.
+/// Whether a feature is a single reference.
 fn is_single_reference(meta: &Meta, feature: FeatureNo) -> bool
     ensures { result ≡ ((shape meta.now feature).is_reference && (shape meta.now feature).is_single) }
 {

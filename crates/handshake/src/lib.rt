@@ -1,7 +1,7 @@
-//! Changes of a model: why a change is refused, which links it cuts, what it makes of the model, and the notifications that it tells.
+//! Changes of a model: why a change is refused, which links it cuts, how it changes the model, and its notifications.
 //!
-//! `specs/Refusals.antt` says when a change is refused, `specs/Effects.antt` what it makes of a model, `specs/FeatureChanges.antt` what
-//! happens at which ends, and `specs/Displaced.antt` which links a new link displaces.
+//! `specs/Refusals.antt` says when a change is refused, `specs/Effects.antt` has the model after it, `specs/FeatureChanges.antt` the
+//! feature changes at ends, and `specs/Displaced.antt` which links a new link displaces.
 #![tactic(auto)]
 
 mod act;
@@ -17,7 +17,7 @@ mod named;
 mod recursion;
 
 pub use act::Act;
-pub use chain::{lost_notices, notices};
+pub use chain::{lost_notices, notice, notices};
 pub use change::Change;
 pub use change_kind::{ChangeKind, FeatureChange};
 pub use displaced::{

@@ -11,7 +11,7 @@ use models::{ModelRef, is_same};
 use proxies::opposite_end;
 use removal::LinkEnd;
 
-/// An object as a value; a resource is the value of no end.
+/// A node as a value; null for a resource, which is the value of no end.
 pub(crate) fn node_value(node: Node) -> Value
     ensures { result ≡ same.node_value node }
 {
@@ -21,7 +21,7 @@ pub(crate) fn node_value(node: Node) -> Value
     }
 }
 
-/// The same link by its other end, if it has one.
+/// The same link, named by its other end, if it has one.
 pub(crate) fn turned<L: LinkStore>(model: &ModelRef<L>, link_end: &LinkEnd) -> Option<LinkEnd>
     ensures { result ≡ d.turned (reading model.now) link_end.now }
 {

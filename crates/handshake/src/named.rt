@@ -1,4 +1,4 @@
-//! Whether what a change names is there, and is a feature of the right kind. None of this takes memory.
+//! Whether a change names only things that are there, and a feature of the right kind. No function here takes memory.
 ghost use Rattle.std.specs.Prelude.{◌≡◌};
 ghost use Rattle.models.specs.Model.{reading};
 ghost use Rattle.handshake.specs.Refusals as refusals;
@@ -12,10 +12,10 @@ use mm_meta::Meta;
 use mm_types::{End, FeatureNo, Node, Refused, Value};
 use models::{ModelRef, class_refusal, end_refusal, node_refusal, value_refusal};
 
-/// The first refusal of a change that needs no memory to be found: what it names is not there.
+/// The first refusal of a change that is found without memory: something that it names is not there, or a feature is of another kind.
 ///
-/// `NoObject` if the node, or the value, is an object that does not live; `NoResource`, `NoClass`, `Abstract`, `NoFeature`;
-/// `NotSingle` if one value is set under a list's feature, `NotMany` if a list is edited under the feature of one value.
+/// `NoObject` if the node, or the value, is an object that does not live; `NoResource`, `NoClass`, `Abstract`, `NoFeature`; `NotSingle` if
+/// a value is set under a many-valued feature, `NotMany` if a list is edited under a single one.
 pub fn early_refusal<L: LinkStore>(model: &ModelRef<L>, change: &Change) -> Option<Refused>
     ensures { result ≡ refusals.early_refusal (reading model.now) change.now }
 {
@@ -28,7 +28,7 @@ pub fn early_refusal<L: LinkStore>(model: &ModelRef<L>, change: &Change) -> Opti
     }
 }
 
-/// `early_refusal` of what is done at an end.
+/// `early_refusal` of an act at an end.
 fn act_early_refusal<L: LinkStore>(model: &ModelRef<L>, end: End, act: &Act) -> Option<Refused>
     ensures { result ≡ refusals.early_refusal (reading model.now) (At end act.now) }
 {
@@ -42,7 +42,7 @@ fn act_early_refusal<L: LinkStore>(model: &ModelRef<L>, end: End, act: &Act) -> 
     }
 }
 
-/// `early_refusal` of a set, whose parts come one by one.
+/// `early_refusal` of a set, whose parts are the arguments.
 #[inline(always)]
 pub fn set_early_refusal<L: LinkStore>(
     model: &ModelRef<L>,
@@ -54,7 +54,7 @@ pub fn set_early_refusal<L: LinkStore>(
     value_refusal(model, end, value).or(single_refusal(model.meta(), end.feature))
 }
 
-/// `early_refusal` of an addition or a removal of a value, whose parts come one by one.
+/// `early_refusal` of an addition or a removal of a value, whose parts are the arguments.
 #[inline(always)]
 pub fn list_early_refusal<L: LinkStore>(
     model: &ModelRef<L>,

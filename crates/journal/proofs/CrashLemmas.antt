@@ -28,7 +28,7 @@ module _ (file text : List ℕ) (end : ℕ) (file_is : file ≡ at_rest (recover
   abbrev tail : List ℕ
   tail = tail_of text
 
-  -- the file after the first write: a newline is still in the place of the mark
+  -- the file after the first write: in place of the mark there is still a newline
   abbrev pub staged : List ℕ
   staged = entries lines ++ NEWLINE ∷ tail
 
@@ -46,7 +46,7 @@ module _ (file text : List ℕ) (end : ℕ) (file_is : file ≡ at_rest (recover
 
   -- ---- the first write
 
-  -- the newline is there in whatever it leaves
+  -- whatever a crash in the first write leaves, the newline is there
   torn_behind : (n : ℕ) (c : List ℕ) → Torn (end + 1) n file c → recovered c ≡ lines
   torn_behind n c torn =
       let front : take (end + 1) c ≡ at_rest lines = torn.front ∙ take_all (end + 1) file (omega (arith, length-file)) ∙ file_is in
@@ -77,7 +77,7 @@ module _ (file text : List ℕ) (end : ℕ) (file_is : file ≡ at_rest (recover
       let split : staged ≡ at_rest lines ++ tail = sym (append_assoc (entries lines) (NEWLINE ∷ []) tail) in
       ap (λ (l : List ℕ). drop (end + 1) l) split ∙ drop_at (at_rest lines) tail (end + 1) (sym (ap length file_is) ∙ length-file)
 
-  -- whatever byte is in the place of the mark: all lines of the text count, or none
+  -- whatever byte is in place of the mark, all lines of the text count, or none does
   marked_by : (b : ℕ) → IsBeforeOrAfter lines more (entries lines ++ b ∷ tail)
   marked_by b = elim (cases_eq b MARK) [
     | inl is ↦ inr

@@ -75,7 +75,7 @@ read_more bytes rest line more so_far one = record {
 }
 
 module _ (bytes rest : List ℕ) (read : Read bytes rest) (none : recovered rest ≡ []) where
-  -- all of them were read if the rest stands for nothing
+  -- all entries were read if the rest stands for no line
   recovered-read : recovered bytes ≡ read.lines
   recovered-read =
       ap recovered read.bytes_are

@@ -1,4 +1,4 @@
--- What files of entries stand for.
+-- The lines that files of entries stand for.
 use Rattle.std.proofs.Common.{◌≡◌, ◌≢◌, inl, inr, ℕ, zero, suc, ◌≤◌, List, [], ◌∷◌, ◌++◌, length, take, refl, sym, ◌∙◌, ap, subst, arith, append_assoc}
 use Rattle.std.specs.List.{AllByRecursion}
 use Rattle.std.proofs.lemmas.List.{append-nil}
@@ -18,7 +18,7 @@ Lines = AllByRecursion Line
 ended-newline : (c : ℕ) (cs : List ℕ) → c ≡ NEWLINE → ended (c ∷ cs) ≡ [] ∷ ended cs
 ended-newline c cs is = grind (arith, nat_tests)
 
--- any other byte is of the first line
+-- any other byte is a byte of the first line
 pub ended-byte : (c : ℕ) (cs : List ℕ) → c ≢ NEWLINE → ended (c ∷ cs) ≡ with_byte c (ended cs)
 ended-byte c cs other = grind (arith, nat_tests)
 
@@ -73,14 +73,14 @@ recovered-entries (l ∷ ls) rest plain =
     ∙ recovered-entry l (entries ls ++ rest) plain.0
     ∙ ap (λ (more : List (List ℕ)). l ∷ more) (recovered-entries ls rest plain.1)
 
--- a file stands for nothing if its first byte is not the mark
+-- a file stands for no line if its first byte is not the mark
 pub recovered-other : (c : ℕ) (rest : List ℕ) → c ≢ MARK → recovered (c ∷ rest) ≡ []
 recovered-other c rest other = elim (cases_eq c NEWLINE) [
   | inl is ↦ ap marked (ended-newline c rest is)
   | inr no_end ↦ ap marked (ended-byte c rest no_end) ∙ marked-with_other c (ended rest) other
 ]
 
--- entries, and a rest that stands for nothing
+-- entries, and a rest that stands for no line
 pub recovered-entries_alone : (ls : List (List ℕ)) (rest : List ℕ) → Lines ls → recovered rest ≡ [] → recovered (entries ls ++ rest) ≡ ls
 recovered-entries_alone ls rest plain none =
     recovered-entries ls rest plain ∙ ap (λ (more : List (List ℕ)). ls ++ more) none ∙ append-nil ls

@@ -1,4 +1,4 @@
--- What is noted, and the journal after a commit.
+-- The lines that are noted, and the journal after a commit.
 use Rattle.std.proofs.Common.{◌≡◌, ◌≢◌, ℕ, ◌+◌, ◌-◌, List, [], ◌∷◌, ◌++◌, length, sym, ◌∙◌, ap, arith, length-append}
 use Rattle.std.proofs.lemmas.List.Elements.{recursion_from_All}
 use Rattle.journal.specs.Disk.{IsDurable}
@@ -35,7 +35,7 @@ pub lines_both : (xs ys : List (List ℕ)) → Lines xs → Lines ys → Lines (
 lines_both [] ys px py = py
 lines_both (x ∷ xs) ys px py = (px.0, lines_both xs ys px.1 py)
 
--- where the entries end when those of a text are after them
+-- the end of the entries after the entries of a text are appended
 pub end_after : (lines : List (List ℕ)) (pending text : List ℕ) (end : ℕ) → AreEntries pending → text ≡ pending ++ NEWLINE ∷ [] → end ≡ length (entries lines)
     → end + (length text - 1) ≡ length (entries (lines ++ recovered text))
 end_after lines pending text end are is ends =

@@ -7,7 +7,7 @@ module _ {D : Type 0} (moment : D → ℕ) (left_since : D → ℕ → List ℕ 
   pub begins : (disk : D) (P : List ℕ → Type 0) → ((c : List ℕ) → left_since disk (moment disk) c → P c) → LeavesOnly moment left_since disk disk P
   begins disk P now = record { later = omega arith; each = now; before = λ t c le left. inl left }
 
-  -- after one more call, if what it may leave has P
+  -- after one more call, if all that it may leave has P
   pub goes_on : (old mid new : D) (P may_leave : List ℕ → Type 0) → LeavesOnly moment left_since old mid P
       → Elapses (moment mid) (moment new) (left_since mid) (left_since new) may_leave → ((c : List ℕ) → may_leave c → P c) → LeavesOnly moment left_since old new P
   goes_on old mid new P may_leave so_far time now = record {

@@ -15,7 +15,7 @@ take-append-beyond (x ∷ xs) ys (suc m) n is = ap (λ (l : List ℕ). x ∷ l) 
 
 -- ---- files
 
--- a file of entries, and after them what stands for nothing
+-- a file of entries, with bytes after them that stand for no line
 module _ (file : List ℕ) (end : ℕ) (split : file ≡ entries (recovered file) ++ drop end file) (ends : end ≡ length (entries (recovered file)))
     (none : recovered (drop end file) ≡ []) where
   abbrev kept_entries : List ℕ
@@ -27,7 +27,7 @@ module _ (file : List ℕ) (end : ℕ) (split : file ≡ entries (recovered file
   pub room : end ≤ length file
   room = omega (arith, ends, ap length split, length-append kept_entries (drop end file))
 
-  -- the lines are there in whatever the cut leaves
+  -- whatever a crash in the cut leaves, the lines are there
   pub cut_crash : (c : List ℕ) → PartlyCut end file c → recovered c ≡ recovered file
   cut_crash c cut =
       let n = length c - end in
@@ -39,7 +39,7 @@ module _ (file : List ℕ) (end : ℕ) (split : file ≡ entries (recovered file
   pub cut_is : take end file ≡ kept_entries
   cut_is = ap (λ (l : List ℕ). take end l) split ∙ take_at kept_entries (drop end file) end (sym ends)
 
-  -- and in whatever the newline leaves, since one byte is no line
+  -- whatever a crash in the write of the newline leaves, the lines are there, since one byte is no line
   pub newline_crash : (c : List ℕ) → Torn end 1 kept_entries c → recovered c ≡ recovered file
   newline_crash c torn =
       let front : take end c ≡ kept_entries = torn.front ∙ take_all end kept_entries (omega (arith, ends)) in

@@ -1,40 +1,41 @@
--- What the calls of a disk make of its file, and what a crash may leave of it.
+-- How the calls of a disk change its file, and what a crash may leave of it.
 use Rattle.std.specs.Prelude.{◌<◌, ◌≡◌, ◌⊎◌, ℕ, ◌+◌, ◌≤◌, max, List, ◌++◌, length, take, drop, Result, IsErrOf}
 use Rattle.journal.specs.declared.disk.DiskFault.{DiskFault}
 use Rattle.journal.specs.declared.disk.DiskFault.TheVariants.{Failed, Full}
 
--- These bytes took the place of those from an offset on, and more at the end of the file if they reach beyond it.
+-- These bytes replaced the bytes of the file from an offset on; if they reach beyond its end, the file grew.
 abbrev pub Overwrites : ℕ → List ℕ → List ℕ → List ℕ → Type 0
 Overwrites at bytes old new = new ≡ take at old ++ bytes ++ drop (at + length bytes) old
 
--- A write of `n` bytes at an offset was cut short. Nothing is known of the bytes of that range, nor of how far the file grew.
+-- A write of `n` bytes at an offset was cut short. Nothing is known of the bytes in that range; the file may have grown, up to the end of
+-- the range.
 pub record Torn (at n : ℕ) (old new : List ℕ) : Type 0 where
   pub front : take at new ≡ take at old
   pub back : drop (at + n) new ≡ drop (at + n) old
   pub at_least : length old ≤ length new
   pub at_most : length new ≤ max (length old) (at + n)
 
--- A cut to a length was cut short: the file lost some of what it was to lose.
+-- A cut of the file to a length was interrupted: the file may have lost some of the bytes that it was to lose.
 pub record PartlyCut (len : ℕ) (old new : List ℕ) : Type 0 where
   pub at_least : len ≤ length new
   pub front : take (length new) old ≡ new
 
--- each file that may be left is one that might have been left before, after a step
+-- each file that a crash may leave after a step comes by that step from a file that a crash could leave before it
 abbrev pub Follows : (List ℕ → List ℕ → Type 0) → (List ℕ → Type 0) → (List ℕ → Type 0) → Type 0
 Follows step old new = (c : List ℕ) → new c → (d : List ℕ) × old d × step d c
 
--- nothing but these bytes may be left
+-- a crash leaves exactly these bytes
 abbrev pub IsDurable : List ℕ → (List ℕ → Type 0) → Type 0
 IsDurable bytes may_leave = (c : List ℕ) → may_leave c → c ≡ bytes
 
--- The clock of a disk moved on. What may have been left since a moment may have been left before, or it may be left now.
+-- The clock of a disk moved on. A file that a crash may have left since a moment could have been left before, or may be left now.
 pub record Elapses (before now : ℕ) (past since : ℕ → List ℕ → Type 0) (may_leave : List ℕ → Type 0) : Type 0 where
   pub later : before ≤ now
   pub no_other : (t : ℕ) (c : List ℕ) → t ≤ before → since t c → past t c ⊎ may_leave c
   pub kept : (t : ℕ) (c : List ℕ) → t ≤ before → past t c → since t c
 
--- From `old` to `new`, a crash at any moment leaves a file that has P. And what may have been left since a moment before `old` had been left
--- by then, or it has P.
+-- P is true of each file that a crash can leave at a moment from `old` to `new`. For an earlier moment, each file that a crash can have
+-- left since then could be left before `old`, or P is true of it.
 pub record LeavesOnly {D : Type 0} (moment : D → ℕ) (left_since : D → ℕ → List ℕ → Type 0) (old new : D) (P : List ℕ → Type 0) : Type 0 where
   pub later : moment old ≤ moment new
   pub each : (c : List ℕ) → left_since new (moment old) c → P c

@@ -17,7 +17,8 @@ module _ {D : Type 0} (seen : D → List ℕ) where
   abbrev pub kept : Journal D → List (List ℕ)
   kept journal = recovered (seen journal.disk)
 
-  -- The file is the entries of its lines and an empty line, all of it is on the disk, and the journal knows how long the entries are.
+  -- The file is the entries of its lines and an empty line; a crash leaves exactly that file; and the journal knows how long the entries
+  -- are.
   pub record IsSettled (may_leave : D → List ℕ → Type 0) (journal : Journal D) : Type 0 where
     pub file : seen journal.disk ≡ at_rest (kept journal)
     pub end : journal.end ≡ length (entries (kept journal))
@@ -28,6 +29,6 @@ module _ {D : Type 0} (seen : D → List ℕ) where
 abbrev pub StandsFor : List (List ℕ) → List ℕ → Type 0
 StandsFor ls file = recovered file ≡ ls
 
--- a file stands for these lines alone, or for these and all of some more
+-- a file stands for only these lines, or for these lines and all further ones
 abbrev pub IsBeforeOrAfter : List (List ℕ) → List (List ℕ) → List ℕ → Type 0
 IsBeforeOrAfter ls more file = StandsFor ls file ⊎ StandsFor (ls ++ more) file

@@ -1,4 +1,4 @@
--- The lines that a file stands for, whatever a crash left of it.
+-- The lines that a file stands for, also after a crash.
 use Rattle.std.specs.Prelude.{◌≡◌, ◌≢◌, ◌<◌, ℕ, List, [], ◌∷◌, ◌++◌, length, Option, Some, None, if◌then◌else◌, ◌==◌}
 use Rattle.std.specs.Borrow.{Bor}
 use Rattle.std.specs.List.{All}
@@ -9,12 +9,12 @@ abbrev pub with_byte : ℕ → List (List ℕ) → List (List ℕ)
 with_byte c [] = []
 with_byte c (l ∷ ls) = (c ∷ l) ∷ ls
 
--- the lines that a newline ends, each without it
+-- the lines that end with a newline, without the newlines
 abbrev pub ended : List ℕ → List (List ℕ)
 ended [] = []
 ended (c ∷ cs) = if c == NEWLINE then [] ∷ ended cs else with_byte c (ended cs)
 
--- the lines before the first that does not begin with the mark, each without its mark
+-- the lines before the first line without a mark at its front, each without its mark
 abbrev pub marked : List (List ℕ) → List (List ℕ)
 marked [] = []
 marked ([] ∷ ls) = []
@@ -48,7 +48,7 @@ pub record IsCut (bytes line rest : List ℕ) : Type 0 where
   pub bytes_are : bytes ≡ line ++ NEWLINE ∷ rest
   pub in_line : IsLine line
 
--- the first line and the rest are returned, or nothing if no newline ends a line
+-- the result of a cut is the first line and the rest, or none if no line ends with a newline
 abbrev pub CutsLine : Option (Bor (List ℕ) × Bor (List ℕ)) → List ℕ → Type 0
 CutsLine None bytes = ended bytes ≡ []
 CutsLine (Some p) bytes = IsCut bytes p.0.now p.1.now
@@ -60,7 +60,7 @@ pub record IsEntry (bytes line rest : List ℕ) : Type 0 where
   pub lines_are : recovered bytes ≡ line ∷ recovered rest
   pub shorter : length rest < length bytes
 
--- the line of the first entry and the rest are returned, or nothing if the bytes stand for no line
+-- the result of a cut is the line of the first entry and the rest, or none if the bytes stand for no line
 abbrev pub CutsEntry : Option (Bor (List ℕ) × Bor (List ℕ)) → List ℕ → Type 0
 CutsEntry None bytes = recovered bytes ≡ []
 CutsEntry (Some p) bytes = IsEntry bytes p.0.now p.1.now

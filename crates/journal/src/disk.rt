@@ -32,21 +32,22 @@ impl<T: Drop> From<AllocFailed<T>> for DiskFault {
     }
 }
 
-/// A file that is written, cut and synced. A call that fails leaves the file in doubt: it is to be opened again.
+/// A file that is written, cut and synced. After a call that failed, the content of the file is unknown, and the file has to be opened
+/// again.
 ///
-/// The clauses speak of a crash at each moment, between two calls or inside one. Until a sync, a crash may leave any bytes in the
-/// range of a write, and any length from that of a cut on.
+/// The clauses speak of a crash at any moment, between two calls or inside one. Until a sync, a crash may leave any bytes in the range of a
+/// write, and any length that is at least the length of a cut.
 pub trait Disk {
-    /// The bytes of the file, as a program reads them that asks now.
+    /// The bytes of the file, as a program reads them now.
     ghost seen: { Self → List ℕ };
 
     /// A crash now may leave a file of these bytes.
     ghost may_leave: { Self → List ℕ → Type 0 };
 
-    /// The number of a moment. It never falls.
+    /// The current moment, as a number. It never falls.
     ghost moment: { Self → ℕ };
 
-    /// A crash at that moment or at one that followed might have left a file of these bytes.
+    /// A crash at a given moment, or at a later one, might have left a file of these bytes.
     ghost left_since: { Self → ℕ → List ℕ → Type 0 };
 
     /// How many calls of the disk failed.
@@ -68,7 +69,7 @@ pub trait Disk {
         ensures time { Elapses (moment self.old) (moment self.new) (left_since self.old) (left_since self.new) (may_leave self.new) }
         ensures cause { HasCause (faults self.old) (faults self.new) result };
 
-    /// Puts the file on the disk: from then on a crash leaves what the file has.
+    /// Puts the file on the disk: from then on a crash leaves the file as it is.
     fn sync(&mut self) -> Result<(), DiskFault>
         ensures durable { OnOk result (IsDurable (seen self.old) (may_leave self.new)) }
         ensures seen { seen self.new ≡ seen self.old }
@@ -76,9 +77,9 @@ pub trait Disk {
         ensures time { Elapses (moment self.old) (moment self.new) (left_since self.old) (left_since self.new) (may_leave self.new) }
         ensures cause { HasCause (faults self.old) (faults self.new) result };
 
-    /// What a crash now may leave, it may have left since any moment up to now.
+    /// If a crash may leave a file now, the file is one of those that a crash may have left since each moment up to now.
     ghost counts_now: { (file : Self) (t : ℕ) (c : List ℕ) → t ≤ moment file → may_leave file c → left_since file t c };
 
-    /// Since this moment, only what a crash now may leave.
+    /// A crash may have left a file since the current moment only if it may leave the file now.
     ghost only_now: { (file : Self) (c : List ℕ) → left_since file (moment file) c → may_leave file c };
 }

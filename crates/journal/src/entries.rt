@@ -31,7 +31,7 @@ pub fn next_entry(bytes: &[u8]) -> Option<(&[u8], &[u8])>
     }
 }
 
-/// How many bytes the entries have that a file begins with.
+/// How many bytes the entries at the front of a file have.
 pub(crate) fn entries_len(bytes: &[u8]) -> usize
     ensures split { bytes.now ≡ entries (recovered bytes.now) ++ drop result bytes.now }
     ensures len { result ≡ length (entries (recovered bytes.now)) }

@@ -9,7 +9,7 @@ use crate::disk::{Disk, DiskFault};
 use crate::entries::{MARK, NEWLINE, entries_len, put_entry};
 use std::alloc::{AllocError, Global};
 
-/// A file whose entries have this many bytes gets no more.
+/// If the entries of a file have this many bytes, the file gets no more entries.
 const MAX_BYTES: usize = 1 << 62;
 
 /// A file of lines, and the lines that were noted since the last commit.
@@ -22,7 +22,8 @@ pub struct Journal<D: Disk> {
     pending: Vec<u8>,
 }
 
-/// Puts a text of entries after those of a file: first all of it but its first mark, and the mark when that is on the disk.
+/// Puts a text of entries after the entries of a file. First it writes all but the first mark of the text; when that is on the disk, it
+/// writes the mark.
 fn append<D: Disk>(disk: &mut D, end: usize, text: &[u8]) -> Result<(), DiskFault>
     requires file { D.seen disk.old ≡ at_rest (recovered (D.seen disk.old)) }
     requires end { end ≡ length (entries (recovered (D.seen disk.old))) }
@@ -39,14 +40,14 @@ fn append<D: Disk>(disk: &mut D, end: usize, text: &[u8]) -> Result<(), DiskFaul
     ensures full { IsErrOf result DiskFault.Full → ⊥ }
 {
     disk.write_at(end + 1, &text[1..])?;
-    // A torn write may leave whole lines that nobody sent. So the mark that makes them count is written when the text can't be torn
-    // any more.
+    // A torn write may leave whole lines that were never sent. So the mark that makes the lines count is written only when the text can't
+    // be torn any more.
     disk.sync()?;
     disk.write_at(end, &[MARK])?;
     disk.sync()
 }
 
-/// Cuts off what a file has after its entries, and ends it with an empty line.
+/// Cuts a file off after its entries, and ends it with an empty line.
 fn repair<D: Disk>(disk: &mut D, end: usize) -> Result<(), DiskFault>
     requires split { D.seen disk.old ≡ entries (recovered (D.seen disk.old)) ++ drop end (D.seen disk.old) }
     requires end { end ≡ length (entries (recovered (D.seen disk.old))) }
@@ -59,7 +60,7 @@ fn repair<D: Disk>(disk: &mut D, end: usize) -> Result<(), DiskFault>
     ensures full { IsErrOf result DiskFault.Full → ⊥ }
 {
     disk.cut(end)?;
-    // If the newline were torn into a mark, the lines after it would count: so they have to be gone from the disk by then.
+    // If the newline were torn into a mark, the lines after it would count. So these lines have to be gone from the disk before.
     disk.sync()?;
     disk.write_at(end, &[NEWLINE])?;
     disk.sync()
@@ -92,13 +93,13 @@ fn settle<D: Disk>(disk: &mut D, bytes: &[u8], end: usize) -> Result<(), DiskFau
     repair(disk, end)
 }
 
-/// Opens the journal in a file that has these bytes: any bytes, and so whatever a crash left. The file keeps the lines that it
-/// stands for, and what it has after them is cut off. An empty file stands for no line.
+/// Opens the journal in a file that has these bytes, which may be any bytes, also those that a crash left. The file keeps the lines that it
+/// stands for, and the bytes after them are cut off. An empty file stands for no line.
 ///
 /// Errs with `Failed` if the disk fails. An error returns the disk too; a crash at any moment of the call leaves the same lines.
 pub fn open<D: Disk>(alloc: Global, mut disk: D, bytes: &[u8]) -> Result<Journal<D>, (DiskFault, D)>
     requires bytes { D.seen disk ≡ bytes.now }
-    // After a restart, what is read is what is on the disk.
+    // After a restart, the bytes that are read are those on the disk.
     requires durable { IsDurable (D.seen disk) (D.may_leave disk) }
     ensures settled { IfOk result (λ journal. IsSettled D.seen D.may_leave journal) }
     ensures kept { IfOk result (λ journal. kept D.seen journal ≡ recovered bytes.now) }
@@ -148,10 +149,10 @@ impl<D: Disk> Journal<D> {
         ensures settled { OnOk result (IsSettled D.seen D.may_leave self.new) }
         ensures kept { OnOk result (kept D.seen self.new ≡ kept D.seen self.old ++ noted self.old) }
         ensures noted { OnOk result (noted self.new ≡ []) }
-        // A crash at any moment leaves the lines from before the call, alone or with all that were noted.
+        // A crash at any moment leaves the lines from before the call, without the noted lines or with all of them.
         ensures any_moment { LeavesOnly D.moment D.left_since (disk_of self.old) (disk_of self.new)
             (IsBeforeOrAfter (kept D.seen self.old) (noted self.old)) }
-        // An error is never its own.
+        // The number of failed calls of the disk never falls.
         ensures later { D.faults (disk_of self.old) ≤ D.faults (disk_of self.new) }
         ensures failed { IsErrOf result DiskFault.Failed → D.faults (disk_of self.old) < D.faults (disk_of self.new) }
         ensures full { IsErrOf result DiskFault.Full → 2 ^ 62 ≤ length (entries (kept D.seen self.old)) }

@@ -12,7 +12,7 @@ use std::io::BufReader;
 use std::process::Abort;
 use std::test::Fail;
 
-/// Counts the lines that begin with `+`: these are kept. It prints a digit for `?`, and refuses any other line.
+/// Counts the lines that begin with `+`, which are kept. It prints a digit for `?`, and refuses any other line.
 #[derive(Drop)]
 struct Counter {
     count: u8,
@@ -42,16 +42,16 @@ impl Session for Counter {
 
 const INPUT: &[u8] = b"+a\n?c\n+b\n!d\n+e\n";
 
-/// What is written for it.
+/// The answers that are written for the input.
 const WRITTEN: &[u8] = b"ok\n\n1\n\nok\n\nno\n\nok\n\n";
 
-/// What the file has then.
+/// The file after the input.
 const FILE: &[u8] = b" +a\n +b\n +e\n\n";
 
 /// How many calls of the disk a new file takes.
 const NEW: u64 = 4;
 
-/// The lines that are kept of its first lines, so many of them kept.
+/// The first so many lines of the input that are kept.
 fn lines_kept(count: u8) -> &'static [u8] {
     match count {
         0 => b"",
@@ -61,7 +61,7 @@ fn lines_kept(count: u8) -> &'static [u8] {
     }
 }
 
-/// How many lines are kept of those whose answers were written whole.
+/// How many of the lines whose answers were written whole are kept.
 fn answered(written: usize) -> u8 {
     match written {
         0..=3 => 0,
@@ -71,7 +71,7 @@ fn answered(written: usize) -> u8 {
     }
 }
 
-/// What is left of a dialogue.
+/// The state after a dialogue.
 #[derive(Drop)]
 struct Left {
     fault: Option<RunFault>,
@@ -80,7 +80,7 @@ struct Left {
     calls_left: u64,
 }
 
-/// Runs a dialogue over a new file on a disk that makes so many calls. The input comes in by so many bytes a read.
+/// Runs a dialogue over a new file on a disk that makes so many calls. Each read gives so many bytes of the input.
 fn run(alloc: Global, size: usize, calls: u64, seed: u64) -> Result<Left, Fail> {
     let disk = TornDisk::new(alloc, b"", calls, seed)?;
     let Ok(journal) = open(alloc, disk, b"") else {
@@ -131,7 +131,7 @@ fn lines_that_come_in_together_are_put_on_the_disk_together(rt: HostRuntime) -> 
     Ok(())
 }
 
-/// Stops a dialogue after so many calls of the disk: what was answered is in the file, and what comes back from it.
+/// Stops a dialogue after so many calls of the disk. The answered lines are in the file, and come back from it.
 fn check(
     rt: &impl Abort,
     alloc: Global,
@@ -184,6 +184,6 @@ fn what_was_answered_comes_back(rt: HostRuntime) -> Result<(), Fail> {
 #[test]
 fn a_line_that_is_not_done_again_is_refused(rt: HostRuntime) {
     assert_eq!(rt; replayed(rt.alloc(), b" +a\n no\n +b\n\n"), None);
-    // What does not count is not run.
+    // A line that does not count is not run.
     assert_eq!(rt; replayed(rt.alloc(), b" +a\n\n no\n"), Some(1));
 }

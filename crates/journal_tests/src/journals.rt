@@ -9,7 +9,7 @@ use std::alloc::{AllocError, Global};
 use std::process::Abort;
 use std::test::Fail;
 
-/// The lines that bytes stand for, each with a bar after it.
+/// The lines that bytes stand for, each followed by a bar.
 pub(crate) fn lines_of(alloc: Global, bytes: &[u8]) -> Result<Vec<u8>, AllocError> {
     let mut lines = Vec::new(alloc);
     let mut rest = bytes;
@@ -75,7 +75,7 @@ fn lines_after(commits: usize) -> &'static [u8] {
 /// How many calls of a disk three commits take: four for a new file, and four a commit.
 const CALLS: u64 = 16;
 
-/// Opens a new file on a disk that makes so many calls, and commits. Returns how many commits succeeded, and what a crash leaves.
+/// Opens a new file on a disk that makes so many calls, and commits. Returns how many commits succeeded, and the file that a crash leaves.
 fn run(alloc: Global, calls: u64, seed: u64) -> Result<(usize, Vec<u8>), AllocError> {
     let disk = TornDisk::new(alloc, b"", calls, seed)?;
     match open(alloc, disk, b"") {
@@ -87,7 +87,7 @@ fn run(alloc: Global, calls: u64, seed: u64) -> Result<(usize, Vec<u8>), AllocEr
     }
 }
 
-/// Opens what a crash left, on a disk that makes so many calls, and returns what a second crash leaves.
+/// Opens a file that a crash left, on a disk that makes so many calls, and returns the file that a second crash leaves.
 fn left_again(alloc: Global, left: &[u8], calls: u64, seed: u64) -> Result<Vec<u8>, AllocError> {
     let disk = TornDisk::new(alloc, left, calls, seed)?;
     match open(alloc, disk, left) {

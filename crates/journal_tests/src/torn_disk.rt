@@ -1,12 +1,12 @@
-//! A disk that stops, and what it leaves then.
+//! A disk that stops, and the file that it leaves.
 ghost use Rattle.std.specs.Prelude.{◌≡◌, IfOk, if◌then◌else◌};
 ghost use Rattle.journal.specs.Disk.{HasCause};
 
 use journal::{Disk, DiskFault};
 use std::alloc::{AllocError, Global};
 
-/// A disk that makes a number of calls, and fails at all that follow. A call that fails may be done in part, and so may those since
-/// the last sync. Its clauses say nothing of a crash: a test looks at what is left.
+/// A disk that makes a number of calls, and fails at all further ones. A call that fails may be done in part, and so may the calls since
+/// the last sync. Its clauses say nothing of a crash; a test looks at the file that is left.
 #[derive(Drop)]
 pub(crate) struct TornDisk {
     alloc: Global,
@@ -72,7 +72,7 @@ impl TornDisk {
         k >= self.synced.len() || (k >= self.from && k < self.to)
     }
 
-    /// What a crash now may leave, drawn at random.
+    /// A file that a crash now may leave, drawn at random.
     pub(crate) fn left(&mut self) -> Result<Vec<u8>, AllocError> {
         let mut image = Vec::new(self.alloc);
         let short = self.bytes.len().min(self.synced.len());

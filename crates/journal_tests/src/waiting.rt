@@ -1,4 +1,4 @@
-//! What is done before a wait.
+//! The calls before a wait.
 ghost use Rattle.std.specs.Prelude.{⊤};
 
 use script_streams::{RunFault, Waits, read_line_waiting};
@@ -6,7 +6,7 @@ use std::alloc::Global;
 use std::io::{BufReader, Read};
 use std::test::Fail;
 
-/// Gives a text by so many bytes a read.
+/// Gives so many bytes of a text at each read.
 #[derive(Drop)]
 pub(crate) struct Pieces<'a> {
     rest: &'a [u8],
@@ -54,7 +54,7 @@ impl Waits for Counted {
     }
 }
 
-/// How often a read may wait until a line of two bytes is read, with so many bytes a read.
+/// How often a read may wait until a line of two bytes is read, if each read gives so many bytes.
 fn waits_for_a_line(alloc: Global, size: usize) -> Result<u64, Fail> {
     let mut reader = BufReader::new(alloc, Pieces::new(b"+a\n+b\n", size))?;
     let mut counted = Counted { waits: 0 };

@@ -1,4 +1,4 @@
--- What is read yet of an array, and the keys of an object one by one.
+-- The items of an array that were read so far, and the keys of an object one by one.
 use Rattle.std.proofs.Common.{◌≡◌, ◌∙◌, ◌++◌, ◌||◌, Bool, true, false, cond, Bor, List, Option, Some, None, [], ◌∷◌, ℕ, map, option_map, refl, string_bytes}
 use Rattle.std.specs.Prelude.{Result, String}
 use Rattle.std.specs.declared.alloc.Global.{Global}
@@ -11,11 +11,11 @@ use Rattle.serde_json.specs.declared.value.Value.{Value}
 use Rattle.json_fields.specs.declared.read_fault.ReadFault.{ReadFault}
 use Rattle.json_fields.specs.Fields.{Gives, Fields, has_only, object_of, only_keys}
 
--- the list, and after it what is read yet
+-- a list, and after it the items that are still to be read
 abbrev pub with_front : {X : Type 0} → List X → Option (List X) → Option (List X)
 with_front front reading = option_map (λ xs. front ++ xs) reading
 
-any_map : (names : List (Bor (List ℕ))) (k : List ℕ) → list_any (λ n. bytes_eq n k) (map (λ n. n.now) names) ≡ list_any (λ n. bytes_eq n.now k) names
+pub any_map : (names : List (Bor (List ℕ))) (k : List ℕ) → list_any (λ n. bytes_eq n k) (map (λ n. n.now) names) ≡ list_any (λ n. bytes_eq n.now k) names
 any_map [] k = refl
 any_map (n ∷ ns) k = rw (any_map ns k) refl
 
@@ -35,7 +35,7 @@ opened_at reading r m d true is h =
     rw (← same) h
 opened_at reading r m d false is h = cc
 
--- an object with no other keys is what its fields say
+-- an object with no other keys is read by its fields
 pub opened : {X : Type 0} (fields : Fields X) (r : Result X ReadFault) (m d : Data) → Some m ≡ cond (has_only fields.keys d) (Some d) None
     → Gives r (fields.reading m) → Gives r (object_of fields d)
 opened fields r m d is h = opened_at fields.reading r m d (has_only fields.keys d) is h

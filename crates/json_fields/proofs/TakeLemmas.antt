@@ -1,4 +1,4 @@
--- What is left of an object after a member was taken.
+-- The rest of an object after a member was taken.
 use Rattle.std.proofs.Common.{◌≡◌, ◌∙◌, Bool, true, false, cond, List, [], ◌∷◌, Some, ℕ, ap, bytes_eq, is_eq, nat_cmp, refl, string_bytes, sym, true≢false}
 use Rattle.std.proofs.lemmas.Map.Text.{is_eq-slice_cmp}
 use Rattle.std.proofs.lemmas.Slice.Eq.{bytes_eq-Decides}

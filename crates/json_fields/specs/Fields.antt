@@ -1,4 +1,4 @@
--- A layout is fields, one for each key that an object may have: the key, whether it is required, and how its value is read.
+-- A layout is a list of fields. A field describes a key that an object may have: whether it is required, and how its value is read.
 use Rattle.std.specs.Prelude.{ℕ, ◌≡◌, ◌&&◌, ◌++◌, ℤ, Bool, true, false, List, [], ◌∷◌, Option, Some, None, Result, Ok, Err, if◌then◌else◌, option_and_then, option_map}
 use Rattle.std.specs.List.{list_any}
 use Rattle.std.specs.Str.{bytes_eq}
@@ -12,13 +12,13 @@ infixl 10 ◌>>=◌
 abbrev pub ◌>>=◌ : {A B : Type 0} → Option A → (A → Option B) → Option B
 o >>= f = option_and_then f o
 
--- What a reader returned is what the reading gives, unless memory was refused.
+-- A reader returns the value that a reading gives, or `Layout` if it gives none; or `Memory`.
 abbrev pub Gives : {X : Type 0} → Result X ReadFault → Option X → Type 0
 Gives (Ok x) reading = reading ≡ Some x
 Gives (Err Layout) reading = reading ≡ None
 Gives (Err Memory) reading = Unit {0}
 
--- what passes the test, and else nothing
+-- the value if it passes the test, else none
 infixl 5 ◌such_that◌
 abbrev pub ◌such_that◌ : {X : Type 0} → Option X → (X → Bool) → Option X
 o such_that passes = option_and_then (λ x. if passes x then Some x else None) o
@@ -29,7 +29,7 @@ o such_that passes = option_and_then (λ x. if passes x then Some x else None) o
 abbrev pub text : Data → Option (List ℕ)
 text = as_str
 
--- what may be absent, and is not
+-- a value that may be absent and is there
 abbrev pub given : {X : Type 0} → (Data → Option X) → Data → Option (Option X)
 given reading d = option_map Some (reading d)
 
@@ -45,13 +45,13 @@ whole_number d = as_number d >>= as_i64 such_that is_of_bits 32
 abbrev pub whole_number_of_64 : Data → Option ℤ
 whole_number_of_64 d = as_number d >>= as_i64 such_that is_of_bits 64
 
--- this text and no other
+-- whether a value is this text
 abbrev pub word : List ℕ → Data → Option (Unit {0})
 word wanted d = do
   found ← as_str d
   if bytes_eq found wanted then Some tt else None
 
--- each item in turn
+-- all items, each read in turn; none if one can't be read
 abbrev pub each : {X : Type 0} → (Data → Option X) → Items → Option (List X)
 each reading no_items = Some []
 each reading (item d ds) = do
@@ -59,7 +59,7 @@ each reading (item d ds) = do
   xs ← each reading ds
   Some (x ∷ xs)
 
--- an array of such values
+-- an array whose items are read one by one
 abbrev pub array_of : {X : Type 0} → (Data → Option X) → Data → Option (List X)
 array_of reading d = as_array d >>= each reading
 
@@ -67,7 +67,7 @@ abbrev pub if_any : {X : Type 0} → List X → Option (List X)
 if_any [] = None
 if_any (x ∷ xs) = Some (x ∷ xs)
 
--- an array of one such value at least
+-- an array of at least one item
 abbrev pub array_of_some : {X : Type 0} → (Data → Option X) → Data → Option (List X)
 array_of_some reading d = array_of reading d >>= if_any
 
@@ -83,7 +83,7 @@ required_at key reading d = get key d >>= reading
 abbrev pub optional_at : {X : Type 0} → List ℕ → (Data → Option X) → X → Data → Option X
 optional_at key reading absent d = or_absent reading absent (get key d)
 
--- the keys of the fields, and what they say of an object
+-- the keys of some fields, and what the fields read from an object
 pub record Fields (X : Type 0) : Type 0 where
   pub keys : List (List ℕ)
   pub reading : Data → Option X
@@ -92,11 +92,11 @@ pub record Fields (X : Type 0) : Type 0 where
 abbrev pub required : {X : Type 0} → List ℕ → (Data → Option X) → Fields X
 required key reading = record { keys = key ∷ []; reading = required_at key reading }
 
--- a key that may be absent, and what that says
+-- a key that may be absent, and its value then
 abbrev pub optional : {X : Type 0} → List ℕ → (Data → Option X) → X → Fields X
 optional key reading absent = record { keys = key ∷ []; reading = optional_at key reading absent }
 
--- no fields yet: a value is made of what the fields after it say
+-- no fields yet; x is the value itself, or a function of the values that further fields read
 abbrev pub makes : {X : Type 0} → X → Fields X
 makes x = record { keys = []; reading = λ d. Some x }
 
@@ -126,14 +126,14 @@ abbrev pub object_has_only : List (List ℕ) → Option Members → Bool
 object_has_only names (Some ms) = only_keys names ms
 object_has_only names None = false
 
--- an object with no other keys
+-- whether a value is an object whose keys are all among the names
 abbrev pub has_only : List (List ℕ) → Data → Bool
 has_only names d = object_has_only names (as_object d)
 
--- an object of these fields and no other
+-- an object that has only the keys of the fields
 abbrev pub object_of : {X : Type 0} → Fields X → Data → Option X
 object_of fields d = if has_only fields.keys d then fields.reading d else None
 
--- the members of other names than these are in the new object as they were in the old
+-- a member whose key is not among the names is the same in both objects
 abbrev pub KeepsOthers : List (List ℕ) → Members → Members → Type 0
 KeepsOthers names old new = (k : List ℕ) → list_any (λ n. bytes_eq n k) names ≡ false → get_member k new ≡ get_member k old

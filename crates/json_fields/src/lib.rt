@@ -1,4 +1,4 @@
-//! JSON objects are read by their fields: each key, whether it is required, and how its value is read.
+//! JSON objects are read by their fields. A field describes a key: whether it is required, and how its value is read.
 //!
 //! `specs/Fields.antt` has the fields and the values; here are the functions on members that readers of objects share.
 #![tactic(auto)]

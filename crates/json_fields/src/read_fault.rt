@@ -7,7 +7,7 @@ use std::alloc::{AllocError, AllocFailed};
 /// Why a JSON value is not read.
 #[derive(Debug, Drop)]
 pub enum ReadFault {
-    /// The value does not have the shape that is asked for.
+    /// The value does not have the required shape.
     Layout,
     /// Memory was refused.
     Memory,

@@ -106,7 +106,7 @@ rows_put_proxy rows rs ns e i t is push =
     ∙ set.from_list_push link_cmp_total link_cmp_exact rs (new_proxy e i t)
     ∙ ap (λ (s : Links). set.insert s (new_proxy e i t)) (ap (λ (ls : List Link). of_rows ls) is ∙ of_rows-map rows e (raise i))
 
--- the near end closed up
+-- the rows after the gap of the near end is closed
 near_rows : (rows os rs : List Link) (e : End) (v : Value) (l : Link) → IsPlaced (of_rows rows) → find (has_value e v) rows ≡ Some l → os ≡ filter (λ x. not (is_value_at v (indexed x e))) rows → rs ≡ map (λ x. moved x l.end (lower l.index)) os → of_rows rs ≡ renumbered (set.remove (of_rows rows) l) l.end (lower l.index)
 near_rows rows os rs e v l placed at out is =
     ap (λ (ls : List Link). of_rows ls) is

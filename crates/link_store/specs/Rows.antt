@@ -24,42 +24,42 @@ changed_index (Raise i) k = raise i k
 changed_index (Lower i) k = lower i k
 changed_index (Shift to from) k = shifted_index to from k
 
--- the position k becomes one of 32 bits
+-- the position that k becomes fits 32 bits
 abbrev pub CanChange : Renumbering → ℕ → Type 0
 CanChange (Raise i) k = k + 1 < 2 ^ 32
 CanChange (Lower i) k = ⊤
 CanChange (Shift to from) k = k + 1 < 2 ^ 32
 
--- the link's position in e can change so
+-- the position that the link has in e, if any, can change
 abbrev pub CanMove : Renumbering → End → Link → Type 0
 CanMove r e l = MatchOption (indexed l e) ⊤ (λ p. CanChange r p.0)
 
 abbrev pub index_of : Option (ℕ × Value) → Option ℕ
 index_of p = option_map (λ q. q.0) p
 
--- the position of the first of the links that has v in e
+-- the position in e of the first link that has v there
 abbrev pub position_in : List Link → End → Value → Option ℕ
 position_in [] e v = None
 position_in (l ∷ ls) e v = if has_value e v l then index_of (indexed l e) else position_in ls e v
 
--- k is the position of a position
+-- whether a position with its value is position k
 abbrev pub is_index : ℕ → Option (ℕ × Value) → Bool
 is_index k p = option_map_or (λ q. q.0 == k) p false
 
--- the object at a position
+-- the object of a position with its value
 abbrev pub object_on : Option (ℕ × Value) → Option ObjectNo
 object_on p = option_and_then (λ (q : ℕ × Value). object_of q.1) p
 
--- the object of the first of the links that is at position k of e
+-- the object of the first link that has position k in e
 abbrev pub first_object : List Link → End → ℕ → Option ObjectNo
 first_object [] e k = None
 first_object (l ∷ ls) e k = if is_index k (indexed l e) then object_on (indexed l e) else first_object ls e k
 
--- the text of the proxy at a position
+-- the text of the proxy at a position with its value
 abbrev pub text_on : Option (ℕ × Value) → Option (List ℕ)
 text_on p = option_and_then (λ (q : ℕ × Value). text_of q.1) p
 
--- the text of the first of the links that is at position k of e
+-- the proxy's text of the first link that has position k in e
 abbrev pub first_text : List Link → End → ℕ → Option (List ℕ)
 first_text [] e k = None
 first_text (l ∷ ls) e k = if is_index k (indexed l e) then text_on (indexed l e) else first_text ls e k

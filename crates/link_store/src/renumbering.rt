@@ -7,9 +7,9 @@ ghost use Rattle.links.specs.Links.{lower, raise};
 pub(crate) enum Renumbering {
     /// A value comes in at a position.
     Raise(u32),
-    /// The value at a position goes.
+    /// The value at a position is taken out.
     Lower(u32),
-    /// What is at the second position moves, so that it is then at the first.
+    /// The value at the second position moves, so that it is then at the first.
     Shift(u32, u32),
 }
 

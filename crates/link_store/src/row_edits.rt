@@ -152,7 +152,7 @@ fn put_proxy_row(rows: &mut Vec<Link>, end: End, index: u32, text: Text)
     rows.push_reserved(link);
 }
 
-/// Moves what is at a position of an end.
+/// Moves the value at a position of an end.
 fn shift_rows(rows: &mut Vec<Link>, end: End, to: u32, from: u32)
     requires placed { IsPlaced (set.from_list rows.old.items) }
     ensures shifted { set.from_list rows.new.items ≡ shift (set.from_list rows.old.items) end to from }

@@ -1,4 +1,4 @@
--- What is above a node: the node that holds it, and what is above that one.
+-- The nodes above a node: the node that contains it, and the nodes above that one.
 use Rattle.std.proofs.Common.{◌≡◌, ℕ, zero, suc, ◌<◌, true, false, List, [], ◌∷◌, length, Option, Some, None, if◌then◌else◌, refl, sym, ap, ◌∙◌, subst, inl, inr, arith}
 use Rattle.std.specs.Prelude.{◌&&◌, ◌↔◌}
 use Rattle.std.specs.List.{list_any}
@@ -55,7 +55,7 @@ resource_top s r legal = elim (holder s (node.Resource r)) as (λ o. holder s (n
 
 ---------------------------------------------------------------- above
 
--- once a chain has ended, more steps list no more
+-- after the end of a chain further steps list no more nodes
 climbed_more : (s : Links) (k : ℕ) (n : Node) → climb s (suc k) n ≡ None → climbed (holder s) k n ≡ climbed (holder s) (suc k) n
 climbed_more s zero n h =
     elim (holder s n) as (λ o. holder s n ≡ o → [] ≡ option_map_or (λ (e : End). e.node ∷ climbed (holder s) zero e.node) o []) [
@@ -68,7 +68,7 @@ climbed_more s (suc k) n h =
       | Some e ↦ λ q. ap (λ (ns : List Node). e.node ∷ ns) (climbed_more s k e.node (sym (climb_step s n e (suc k) q) ∙ h))
     ] refl
 
--- what is found above is reached by holders
+-- a node that is found above is reached by holders
 climbed-under : (s : Links) (k : ℕ) (x y : Node) → list_any (same_node y) (climbed (holder s) k x) ≡ true → IsUnder s x y
 climbed-under s zero x y h = absurd (false≢true h)
 climbed-under s (suc k) x y h =
@@ -85,7 +85,7 @@ unfolding above
 above-under s x y h = climbed-under s (set.len s) x y h
 
 module _ (s : Links) (legal : IsLegalSet s) (free : HasNoCycle s) where
-  -- what is above a node is what is above its holder, and the holder's node before it
+  -- the nodes above a node are the holder's node and then the nodes above it
   pub above_is : (n : Node) → above s n ≡ option_map_or (λ (e : End). e.node ∷ above s e.node) (holder s n) []
   unfolding above
   above_is n = climbed_more s (set.len s) n (IsForest_no_cycle s legal.held free n)
@@ -93,7 +93,7 @@ module _ (s : Links) (legal : IsLegalSet s) (free : HasNoCycle s) where
   pub above_held : (n : Node) (e : End) → holder s n ≡ Some e → above s n ≡ e.node ∷ above s e.node
   above_held n e h = above_is n ∙ ap (λ (o : Option End). option_map_or (λ (d : End). d.node ∷ above s d.node) o []) h
 
-  -- each step up is nearer to the top
+  -- each step up is one step nearer to the top
   pub above_falls : (n : Node) (e : End) → holder s n ≡ Some e → length (above s e.node) < length (above s n)
   above_falls n e h = omega (arith, ap (λ (ns : List Node). length ns) (above_held n e h))
 
@@ -109,11 +109,11 @@ module _ (s : Links) (legal : IsLegalSet s) (free : HasNoCycle s) where
         | Some e ↦ λ q. ap (list_any (same_node y)) (above_held x e q) ∙ or_right _ _ (climb-above k e.node y (sym (climb_step s x e (suc k) q) ∙ at))
       ] refl
 
-  -- a node is under those above it, and no other
+  -- a node is under exactly the nodes above it
   pub above_under : (x y : Node) → (list_any (same_node y) (above s x) ≡ true) ↔ IsUnder s x y
   above_under x y = (above-under s x y, λ u. climb-above u.0 x y u.1)
 
-  -- and not above itself
+  -- a node is not above itself
   pub not_above_itself : (x : Node) → list_any (same_node x) (above s x) ≡ false
   not_above_itself x = elim (list_any (same_node x) (above s x)) as (λ b. list_any (same_node x) (above s x) ≡ b → b ≡ false) [
     | true ↦ λ h. absurd (free x (above-under s x x h))

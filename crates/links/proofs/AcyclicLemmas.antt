@@ -21,7 +21,7 @@ module _ (s : Links) (once : IsHeldOnce s) (x : Node) (l : Link) (within : In l 
   less_once : IsHeldOnce less
   less_once a b n d e p q = once a b n d e (In-remove s l a p).1 (In-remove s l b q).1
 
-  -- without the link, each other node is held as it was
+  -- without the link, each other node has the same holder
   same_holder : (y : Node) → y ≢ x → holder less y ≡ holder s y
   same_holder y ne =
       elim (holder s y) as (λ o. holder s y ≡ o → holder less y ≡ o) [

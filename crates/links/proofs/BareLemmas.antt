@@ -1,4 +1,4 @@
--- What a link is but for its positions: it has the same values and holds the same, and a cut leaves it to all others.
+-- A link without its positions: it has the same values and the same holder, and a cut does not change this for the other links.
 use Rattle.std.proofs.Common.{◌≡◌, true, false, Option, Some, None, if◌then◌else◌, refl, sym, ap, ◌∙◌}
 use Rattle.std.specs.FinSet as set
 use Rattle.links.proofs.EditLemmas.{In-remove, In-renumbered}
@@ -47,7 +47,7 @@ same_holding k l n same = sym (holding-bare k n) ∙ ap (λ (x : Link). holding 
 
 ---------------------------------------------------------------- a cut
 
--- each link of t is one of s but for its positions
+-- each link of t is a link of s, up to its positions
 abbrev pub IsPart : Links → Links → Type 0
 IsPart t s = (k : Link) → In k t → (l : Link) × In l s × (bare k ≡ bare l)
 
@@ -56,7 +56,7 @@ In-lowered near (At d j) m h = let from = In-renumbered near d (lower j) m h in 
 In-lowered near (Alone n) m h = (m, h, refl)
 In-lowered near (Proxy t) m h = (m, h, refl)
 
--- what a cut leaves was there
+-- a link that remains after a cut was there before
 pub In-cut : (s : Links) (l : Link) → IsPart (cut s l) s
 unfolding cut
 In-cut s l m h =

@@ -1,4 +1,4 @@
--- Chains of holders: one step up, and how many are left.
+-- Chains of holders: one step up, and the number of steps that are left.
 use Rattle.std.proofs.Common.{◌≡◌, ℕ, zero, suc, ◌<◌, ◌≤◌, Option, Some, None, refl, sym, ap, ◌∙◌, inl, inr, arith}
 use Rattle.std.specs.Prelude.{◌⊎◌}
 use Rattle.std.specs.Option.{option_and_then}
@@ -22,11 +22,11 @@ not_under s x y h (n, at) = none-some y (sym (climb_stop s x n h) ∙ at)
 pub under_holder : (s : Links) (x : Node) (e : End) (y : Node) → holder s x ≡ Some e → e.node ≡ y → IsUnder s x y
 under_holder s x e y h same = (zero, climb_step s x e zero h ∙ ap Some same)
 
--- what is above the holder is above its node
+-- a node above the holder is above the node that it contains
 pub under_more : (s : Links) (x : Node) (e : End) (y : Node) → holder s x ≡ Some e → IsUnder s e.node y → IsUnder s x y
 under_more s x e y h (n, at) = (suc n, climb_step s x e (suc n) h ∙ at)
 
--- and nothing else but the holder
+-- besides these only the holder is above the node
 pub under_cases : (s : Links) (x : Node) (e : End) (y : Node) → holder s x ≡ Some e → IsUnder s x y → (e.node ≡ y) ⊎ IsUnder s e.node y
 under_cases s x e y h (zero, at) = inl (same_Some e.node y (sym (climb_step s x e zero h) ∙ at))
 under_cases s x e y h (suc n, at) = inr (n, sym (climb_step s x e (suc n) h) ∙ at)
@@ -44,7 +44,7 @@ steps (suc n) s x = or_zero (holder s x) (λ (e : End). steps n s e.node)
 abbrev pub depth : Links → Node → ℕ
 depth s x = steps (suc (set.len s)) s x
 
--- once a chain has ended, more steps are the same
+-- after the end of a chain further steps change nothing
 steps_more : (s : Links) (n : ℕ) (x : Node) → climb s n x ≡ None → steps n s x ≡ steps (suc n) s x
 steps_more s zero x h = absurd (none-some x (sym h))
 steps_more s (suc n) x h =
@@ -60,7 +60,7 @@ depth_falls s x e forest h =
     let same = steps_more s (set.len s) e.node (sym (climb_step s x e (set.len s) h) ∙ forest x) in
     omega (arith, one, same)
 
--- one step up is one less
+-- after one step up there is one step less
 pub depth_child : (s : Links) (x : Node) (e : End) → IsForest s → holder s x ≡ Some e → depth s x ≡ suc (depth s e.node)
 depth_child s x e forest h =
     ap (λ (o : Option End). or_zero o (λ (d : End). steps (set.len s) s d.node)) h

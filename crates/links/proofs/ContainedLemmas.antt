@@ -1,4 +1,4 @@
--- What a new link contains is the node that `contained` names.
+-- The node that a new link contains is the one that `contained` names.
 use Rattle.std.proofs.Common.{◌≡◌, ℕ, length, true, false, ltb, Option, Some, None, if◌then◌else◌, refl, sym, ap, ◌∙◌, subst}
 use Rattle.std.specs.Prelude.{◌&&◌}
 use Rattle.std.proofs.lemmas.Bool.{and_parts, eqb-true, eqb-false, eq-eqb, ne_eqb}
@@ -23,7 +23,7 @@ contained_object e o h x f n =
     let back = eq-eqb h.0 e.feature.0 (sym (eqb-true e.feature.0 h.0 f)) in
     rw back (ap Some (same_node-true (node.Object o) x n))
 
--- it is the other feature, and e's node becomes contained
+-- the containing feature is the other one, and e's node becomes contained
 contained_node : (e : End) (o : ObjectNo) (h : FeatureNo) (x : Node) → ((h.0 ≡ e.feature.0) → ⊥) → same_node e.node x ≡ true → contained e o (Some h) ≡ Some x
 contained_node e o h x f n =
     let other = ne_eqb h.0 e.feature.0 f in
@@ -40,7 +40,7 @@ alone_contained e i o (Some h) x d at =
       | false ↦ λ q p. absurd (none-some d p)
     ] refl at
 
--- written from e
+-- a link that is written from e
 near_contained : (e : End) (i : ℕ) (o : ObjectNo) (g : FeatureNo) (j : ℕ) (c : Option FeatureNo) (x : Node) (d : End) → holding (record { end = e; index = i; far = At (far_end o g) j; container = c }) x ≡ Some d → contained e o c ≡ Some x
 near_contained e i o g j None x d at = absurd (none-some d at)
 near_contained e i o g j (Some h) x d at =
@@ -49,7 +49,7 @@ near_contained e i o g j (Some h) x d at =
       | false ↦ λ q p. contained_node e o h x (not_own e h q) (and_parts (same_feature g h) (same_node e.node x) (test_some (same_feature g h && same_node e.node x) (far_end o g) d p).0).1
     ] refl at
 
--- written from the far end
+-- a link that is written from the far end
 far_contained : (e : End) (i : ℕ) (o : ObjectNo) (g : FeatureNo) (j : ℕ) (c : Option FeatureNo) (x : Node) (d : End) → ((g.0 ≡ e.feature.0) → ⊥) → holding (record { end = far_end o g; index = j; far = At e i; container = c }) x ≡ Some d → contained e o c ≡ Some x
 far_contained e i o g j None x d apart at = absurd (none-some d at)
 far_contained e i o g j (Some h) x d apart at =
@@ -69,6 +69,6 @@ new_contained s e i o (Some g) c x d apart at =
       | false ↦ λ p. far_contained e i o g j c x d apart.0 p
     ] at
 
--- if what becomes contained is free, so is all that the new link contains
+-- if the node that becomes contained has no holder, then no node that the new link contains has one
 pub free_new : (s : Links) (e : End) (i : ℕ) (o : ObjectNo) (g c : Option FeatureNo) → IsApart e g → IsFree s (contained e o c) → (x : Node) (d : End) → holding (new_link s e i o g c) x ≡ Some d → holder s x ≡ None
 free_new s e i o g c apart free x d at = subst (λ (n : Option Node). IsFree s n) (new_contained s e i o g c x d apart at) free

@@ -1,4 +1,4 @@
--- What a cut and a shift do to each end, and that each link keeps a position of its own.
+-- The ends after a cut and after a shift; each link still has a position of its own.
 use Rattle.std.proofs.Common.{◌≡◌, ◌≢◌, ℕ, ◌<◌, ◌≤◌, List, [], length, Option, Some, None, refl, sym, ap, ◌∙◌, subst, inl, inr, arith}
 use Rattle.std.specs.List.{remove}
 use Rattle.std.specs.FinSet as set
@@ -42,7 +42,7 @@ pub indexed_proxy : (l : Link) (d : End) (t : List ℕ) → l.far ≡ Proxy t �
 indexed_proxy l d t h ne = let other = ne-same_end l.end d ne in rw (other, h) refl
 
 module _ (s : Links) (placed : IsPlaced s) (l : Link) (within : In l s) where
-  -- the set without the link, and then with the near end closed up
+  -- the set without the link, in which then the gap of the near end is closed
   abbrev less : Links
   less = set.remove s l
 
@@ -61,7 +61,7 @@ module _ (s : Links) (placed : IsPlaced s) (l : Link) (within : In l s) where
   apart_at : (c : End) (j : ℕ) → l.far ≡ At c j → l.end ≢ c
   apart_at c j h same = (subst (λ (x : Far). HasTwoSides l.end x) h (placed.sides l within)).0 (λ i. (sym same i).feature.0)
 
-  -- where the far side is nowhere
+  -- the case that the far side is at no end
   one_end : (d : End) → (l.end ≢ d → indexed l d ≡ None) → IsEnd near d (without (end s d) (indexed l d))
   one_end d out = elim (cases_end l.end d) [
     | inl same ↦ subst (λ (y : End). IsEnd near y (without (end s y) (indexed l y))) same (subst (λ (o : Option (ℕ × Value)). IsEnd near l.end (without (end s l.end) o)) (sym (indexed_near l)) near_end)
@@ -90,7 +90,7 @@ module _ (s : Links) (placed : IsPlaced s) (l : Link) (within : In l s) where
   unfolding cut
   IsEnd-cut d = cut_end l.far refl d
 
-  -- each end loses what stood there
+  -- each end loses the value of the link
   pub end-cut : (d : End) → end (cut s l) d ≡ without (end s d) (indexed l d)
   end-cut d = end_is (cut s l) d (without (end s d) (indexed l d)) (IsEnd-cut d)
 

@@ -1,4 +1,4 @@
--- Links cut by an end and a value: what each end keeps, who still holds what, and the plan that cuts them.
+-- Links that are cut by an end and a value: the ends and the holders afterwards, and the plan that cuts them.
 use Rattle.std.proofs.Common.{◌≡◌, ℕ, ◌≤◌, length, Bool, true, false, not, List, [], ◌∷◌, Option, Some, None, if◌then◌else◌, refl, sym, ap, ◌∙◌, subst, inl, inr}
 use Rattle.std.specs.Prelude.{◌⊎◌, ◌||◌, find, option_and_then}
 use Rattle.std.specs.List.{AllByRecursion, filter, list_any, slice_get}
@@ -32,7 +32,7 @@ use Rattle.mm_types.specs.declared.numbers.Node.{Node}
 use Rattle.mm_types.specs.declared.value.Value.TheVariants as value
 use Rattle.mm_types.specs.declared.value.Value.{Value}
 
--- an end and a value name a link, which is cut, or name none, and nothing changes
+-- an end and a value name a link, which is cut, or they name none, and nothing changes
 pub cut_value-cases : (s : Links) → IsPlaced s → (e : End) (v : Value) → ((l : Link) × (k : ℕ) × In l s × (indexed l e ≡ Some (k, v)) × (cut_value s e v ≡ cut s l)) ⊎ ((cut_value s e v ≡ s) × Lacks s e v)
 unfolding cut_value
 cut_value-cases s placed e v =
@@ -41,7 +41,7 @@ cut_value-cases s placed e v =
       | Some l ↦ λ h. let found = find-some (set.items s) e v l h in inl (l, found.1.0, (items_HasLinks s).only l found.0, found.1.1, refl)
     ] refl
 
--- without one link, an end keeps what that link does not have in it
+-- without one link, an end keeps all values except the value of that link
 pub end-cut_filter : (s : Links) → IsPlaced s → (l : Link) → In l s → (d : End) → end (cut s l) d ≡ filter (λ w. not (is_value_at w (indexed l d))) (end s d)
 end-cut_filter s placed l within d =
     end-cut s placed l within d
@@ -50,21 +50,21 @@ end-cut_filter s placed l within d =
       | Some p ↦ λ h. remove-filter (end s d) p.0 p.1 (placed.distinct d) ((placed.ends d).has p.0 p.1 (l, within, h))
     ] refl
 
--- what is held is where it is held
+-- a node that has a holder is in the end that is its holder
 held_stands : (s : Links) → IsPlaced s → (n : Node) (d : End) → holder s n ≡ Some d → Has s d (node_value n)
 held_stands s placed n d h =
     let l = holder-some s n d h in
     let at = indexed_held l.0 n d (placed.sides l.0 l.1) l.2 in
     (at.0, (placed.ends d).has at.0 (node_value n) (l.0, l.1, at.1))
 
--- one link less: fewer holders
+-- with one link less there are no new holders
 pub cut_value_less : (s : Links) → IsLegalSet s → (e : End) (v : Value) → HoldsLess (cut_value s e v) s
 cut_value_less s legal e v n d h = elim (cut_value-cases s legal.placed e v) [
   | inl (l, k, within, at, is) ↦ cut_less s l legal.placed legal.held within n d (ap (λ (t : Links). holder t n) (sym is) ∙ h)
   | inr (is, lacks) ↦ ap (λ (t : Links). holder t n) (sym is) ∙ h
 ]
 
--- what is cut from its holder has none
+-- a node that is cut from its holder has no holder
 pub cut_free : (s : Links) → IsLegalSet s → (n : Node) (e : End) → holder s n ≡ Some e → holder (cut_value s e (node_value n)) n ≡ None
 cut_free s legal n e h =
     let l = holder-some s n e h in
@@ -76,7 +76,7 @@ cut_free s legal n e h =
 ---------------------------------------------------------------- one cut
 
 module _ (m : Kinds) (ok : AreKinds m) (s : Links) (legal : IsLegalSet s) (kinds : AreOfKind m s) (e : End) (v : Value) where
-  -- each end loses what the name names
+  -- each end loses the value of the named link
   pub end-cut_value : (d : End) → end (cut_value s e v) d ≡ filter (λ w. not (names m e v d w)) (end s d)
   end-cut_value d = elim (cut_value-cases s legal.placed e v) [
     | inl (l, k, within, at, is) ↦
@@ -118,7 +118,7 @@ module _ (m : Kinds) (ok : AreKinds m) (s : Links) (legal : IsLegalSet s) (kinds
       ] refl
     ] refl
 
-    -- n loses its holder if the name names that link, and else keeps it
+    -- n loses its holder if the name names the link to it, and otherwise keeps it
     pub holder-cut_value : holder (cut_value s e v) n ≡ kept (holder s n)
     holder-cut_value = elim (cut_value-cases s legal.placed e v) [
       | inl (l, k, within, at, is) ↦ ap (λ (t : Links). holder t n) is ∙ holder-cut s legal.placed legal.held l within n ∙ after_cut l k within at
@@ -152,7 +152,7 @@ pub without_all_less : (s : Links) (ts : List (End × Value)) → IsLegalSet s �
 without_all_less s [] legal n d h = h
 without_all_less s (t ∷ ts) legal n d h = cut_value_less s legal t.0 t.1 n d (without_all_less (cut_value s t.0 t.1) ts (cut_value_legal s t.0 t.1 legal) n d h)
 
--- and no more is above a node
+-- after the cuts no new node is above a node
 pub without_all_above : (s : Links) (ts : List (End × Value)) → IsLegalSet s → HasNoCycle s → (x y : Node) → list_any (same_node y) (above s x) ≡ false → list_any (same_node y) (above (without_all s ts) x) ≡ false
 without_all_above s ts legal free x y h =
     let t = without_all s ts in
@@ -248,7 +248,7 @@ cuts_without_cycle s [] = tt
 cuts_without_cycle s (t ∷ ts) = (cut_without_cycle s t.0 t.1, cuts_without_cycle (edited s (cut_edit t.0 t.1)) ts)
 
 module _ (m : Kinds) (ok : AreKinds m) where
-  -- a value whose link is not cut is where it was, or before
+  -- a value whose link is not cut is at its old position, or at a lower one
   has_after : (s : Links) → IsLegalSet s → AreOfKind m s → (t u : End × Value) → names m t.0 t.1 u.0 u.1 ≡ false → Has s u.0 u.1 → Has (cut_value s t.0 t.1) u.0 u.1
   has_after s legal kinds t u other has =
       let left = filter_keeps (λ w. not (names m t.0 t.1 u.0 w)) (end s u.0) has.0 u.1 has.1 (ap not other) in
@@ -258,14 +258,14 @@ module _ (m : Kinds) (ok : AreKinds m) where
   there_after s legal kinds t [] others there = tt
   there_after s legal kinds t (u ∷ us) others there = (has_after s legal kinds t u others.0 there.0, there_after s legal kinds t us others.1 there.1)
 
-  -- the plan cuts what the names name
+  -- the plan cuts the links that the names name
   pub applied-cut_edits : (s : Links) (ts : List (End × Value)) → IsLegalSet s → AreOfKind m s → AreThere s ts → AreOnce m ts → applied s (cut_edits ts) ≡ without_all s ts
   applied-cut_edits s [] legal kinds there once = refl
   applied-cut_edits s (t ∷ ts) legal kinds there once =
       ap (λ (u : Links). applied u (cut_edits ts)) (edited_there s t.0 t.1 legal there.0)
       ∙ applied-cut_edits (cut_value s t.0 t.1) ts (cut_value_legal s t.0 t.1 legal) (kinds_cut_value m s t.0 t.1 kinds) (there_after s legal kinds t ts once.0 there.1) once.1
 
-  -- and fits, where each link is there and is named once
+  -- the plan fits, if each named link exists and is named once
   pub cuts_fit : (s : Links) (ts : List (End × Value)) → IsLegalSet s → AreOfKind m s → AreThere s ts → AreOnce m ts → PlanFits s (cut_edits ts)
   cuts_fit s [] legal kinds there once = tt
   cuts_fit s (t ∷ ts) legal kinds there once = (

@@ -38,11 +38,11 @@ pub unheld_less : (o x : Option End) (e : End) → unheld o x ≡ Some e → x �
 unheld_less None x e h = h
 unheld_less (Some d) x e h = absurd (none-some e h)
 
--- a cut leaves fewer holders
+-- a cut makes no new holders
 pub cut_less : (s : Links) (l : Link) → IsPlaced s → IsHeldOnce s → In l s → HoldsLess (cut s l) s
 cut_less s l placed once within y e h = unheld_less (holding l y) (holder s y) e (sym (holder-cut s placed once l within y) ∙ h)
 
--- a link holds one node, or none
+-- a link contains one node, or none
 pub held_one : (l : Link) → ((x : Node) × (d : End) × (holding l x ≡ Some d)) ⊎ ((x : Node) → holding l x ≡ None)
 held_one l = through l.container
   where
@@ -66,7 +66,7 @@ held_one l = through l.container
       | false ↦ far h l.far
     ]
 
--- no link holds two nodes
+-- no link contains two nodes
 pub held_other : (l : Link) (x y : Node) (d : End) → holding l x ≡ Some d → y ≢ x → holding l y ≡ None
 held_other l x y d h ne = elim (holding l y) as (λ o. holding l y ≡ o → o ≡ None) [
   | None ↦ λ _. refl

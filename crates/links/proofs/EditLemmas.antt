@@ -1,4 +1,4 @@
--- What is where after an edit.
+-- The positions of values after an edit.
 use Rattle.std.proofs.Common.{◌≡◌, ◌≢◌, ℕ, zero, suc, ◌<◌, ◌≤◌, true, false, not, List, [], ◌∷◌, ◌++◌, map, length, Option, Some, None, if◌then◌else◌, refl, sym, ap, ◌∙◌, subst, inl, inr, arith}
 use Rattle.std.specs.Prelude.{◌⊎◌}
 use Rattle.std.specs.List.{slice_get}
@@ -80,7 +80,7 @@ In_remove s k l ne h =
 
 ---------------------------------------------------------------- positions
 
--- a renumbered position was one before
+-- a position after renumbering comes from a position before
 renumbered-some : (r : ℕ → ℕ) (o : Option (ℕ × Value)) (k : ℕ) (v : Value) → option_map (renumbered_indexed r) o ≡ Some (k, v) → (j : ℕ) × (o ≡ Some (j, v)) × (r j ≡ k)
 renumbered-some r None k v h = absurd (none-some _ h)
 renumbered-some r (Some p) k v h = let parts = some_pair_parts (r p.0) k p.1 v h in (p.0, (λ i. Some (p.0, parts.1 i)), parts.0)
@@ -177,7 +177,7 @@ module _ (s : Links) (e : End) (xs : List Value) (is : IsEnd s e xs) where
           let now = subst (λ n. Stands (renumbered s e (raise i)) e n v) (lists.raise_above i k (omega (arith, gt))) (Stands_renumbered s e (raise i) k v was) in
           (now.0, In_insert_old _ l now.0 now.1, now.2)
 
--- s, with all of e but what stood at i
+-- s, with all values of e except the value at i
 pub record IsGapped (s : Links) (e : End) (xs : List Value) (i : ℕ) : Type 0 where
   pub has : (k : ℕ) (v : Value) → Stands s e k v → (slice_get xs k ≡ Some v) × (k ≢ i)
   pub only : (k : ℕ) (v : Value) → slice_get xs k ≡ Some v → k ≢ i → Stands s e k v
@@ -198,7 +198,7 @@ IsGapped-renumbered_other s d e r xs i ne is = record {
   only = λ k v h other. Stands_renumbered_other s e r d k v ne (is.only k v h other);
 }
 
--- the gap closed
+-- the same after the gap is closed
 pub IsEnd-lower : (s : Links) (e : End) (xs : List Value) (i : ℕ) → IsGapped s e xs i → IsEnd (renumbered s e (lower i)) e (remove xs i)
 IsEnd-lower s e xs i is = record {
   has = λ k v h.
@@ -266,7 +266,7 @@ IsEnd-shift s e xs to from f t is = record {
 abbrev pub IsOnce : Links → Type 0
 IsOnce s = (l m : Link) (e : End) (k : ℕ) (v w : Value) → In l s → In m s → indexed l e ≡ Some (k, v) → indexed m e ≡ Some (k, w) → l ≡ m
 
--- r keeps apart the positions of e
+-- r gives different positions of e different numbers
 abbrev pub KeepsApart : Links → End → (ℕ → ℕ) → Type 0
 KeepsApart s e r = (j k : ℕ) (v w : Value) → Stands s e j v → Stands s e k w → r j ≡ r k → j ≡ k
 

@@ -1,4 +1,4 @@
--- `end` is the list that `IsEnd` describes, and so is what a scan of any list of the same links finds.
+-- `end` is the list that `IsEnd` describes, and a scan of any list of the same links finds this list too.
 use Rattle.std.proofs.Common.{◌≡◌, ℕ, zero, suc, ◌+◌, ◌<◌, ◌≤◌, true, false, eqb, List, [], ◌∷◌, length, Option, Some, None, if◌then◌else◌, refl, sym, ap, ◌∙◌, subst, inl, inr, arith}
 use Rattle.std.specs.Prelude.{◌⊎◌}
 use Rattle.std.specs.List.{slice_get, list_any}
@@ -16,7 +16,7 @@ use Rattle.links.specs.declared.link.Link.{Link}
 use Rattle.mm_types.specs.declared.end.End.{End}
 use Rattle.mm_types.specs.declared.value.Value.{Value}
 
--- l is one of the links of a list, in the words of a set's look-up
+-- l is one of the links of a list, stated like a look-up in a set
 abbrev pub Among : Link → List Link → Type 0
 Among l ls = list_any (eq_by_cmp link_cmp l) ls ≡ true
 
@@ -48,7 +48,7 @@ Among_cases l m ls h = elim (or_cases (eq_by_cmp link_cmp l m) (list_any (eq_by_
 
 ---------------------------------------------------------------- a scan of a list of links
 
--- the value p where it is at k
+-- the value of p if it is at k
 at_indexed-some : (o : Option (ℕ × Value)) (k : ℕ) (other : Option Value) (v : Value) → at_indexed o k other ≡ Some v → (o ≡ Some (k, v)) ⊎ (other ≡ Some v)
 at_indexed-some None k other v h = inr h
 at_indexed-some (Some p) k other v h =
@@ -91,7 +91,7 @@ length_at-above (l ∷ ls) e m k v among at = elim (Among_cases m l ls among) [
   | inr later ↦ omega (arith, length_at-above ls e m k v later at)
 ]
 
--- and the length is the least such number
+-- the length is the least number that is above all positions
 pub length_at-below : (ls : List Link) (e : End) (n : ℕ) → ((m : Link) (k : ℕ) (v : Value) → Among m ls → indexed m e ≡ Some (k, v) → k < n) → length_at ls e ≤ n
 length_at-below [] e n h = omega arith
 length_at-below (l ∷ ls) e n h =
@@ -99,7 +99,7 @@ length_at-below (l ∷ ls) e n h =
     let here : past (indexed l e) ≤ n = elim (indexed l e) as (λ o. indexed l e ≡ o → past o ≤ n) [ None ↦ λ _. omega arith | Some p ↦ λ at. omega (arith, h l p.0 p.1 (Among_head l ls) at) ] refl in
     omega (arith, later, here)
 
--- a position with nothing is past the end
+-- a position without a value is past the end
 pub not_within : {X : Type 0} (xs : List X) (k : ℕ) → slice_get xs k ≡ None → length xs ≤ k
 not_within [] k h = omega arith
 not_within (x ∷ xs) zero h = absurd (none-some x (sym h))
@@ -124,7 +124,7 @@ module _ (ls : List Link) (s : Links) (e : End) (xs : List Value) (of : HasLinks
         | Some v ↦ λ h. let found = value_at-some ls e k v h in sym (is.has k v (found.0, of.only found.0 found.1, found.2))
       ] refl
 
-  -- and the length
+  -- a scan of the list finds the length
   pub length_at_end : length_at ls e ≡ length xs
   length_at_end =
       let below = length_at-below ls e (length xs) (λ m k v among at. slice_get_within xs k v (is.has k v (m, of.only m among, at))) in

@@ -85,7 +85,7 @@ module _ (s : Links) (distinct : (e : End) → IsDistinct (end s e)) (v : Value)
       let rest = ends_of_entries es (λ d h. all d (or_right (same_end e d) _ h)) in
       rw is (ap (λ (ds : List End). e ∷ ds) rest)
 
--- ends that have the same members hold the object in the same way
+-- two lists with the same ends give the same entries of the object
 pub incoming-same : (s : Links) (o : ObjectNo) (es ds : List End) → ((e : End) → has_end ds e ≡ has_end es e) → AreIncoming s o es → AreIncoming s o ds
 incoming-same s o es ds same are e = (λ h. (are e).0 (sym (same e) ∙ h), λ has. same e ∙ (are e).1 has)
 

@@ -65,7 +65,7 @@ moved_staff = refl
 
 ---------------------------------------------------------------- names and puts
 
--- feature 0 of a person is the opposite of feature 1 of a library, which contains; feature 2 has no opposite
+-- feature 0 of a person is the opposite of feature 1 of a library, which is a containment; feature 2 has no opposite
 abbrev opposite_of : ℕ → Option FeatureNo
 opposite_of zero = Some staff
 opposite_of (suc zero) = Some (record { 0 = 0 })

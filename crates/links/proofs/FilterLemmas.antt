@@ -1,4 +1,4 @@
--- What a filter keeps of a list, and a list that repeats nothing without one value.
+-- The values of a list that a filter keeps, and a list without repetitions from which one value is taken out.
 use Rattle.std.proofs.Common.{◌≡◌, ℕ, zero, suc, ◌≤◌, length, Bool, true, false, not, cond, ◌||◌, List, [], ◌∷◌, Some, if◌then◌else◌, refl, sym, ap, ◌∙◌, subst, arith}
 use Rattle.std.specs.List.{slice_get, filter, remove}
 use Rattle.std.proofs.lemmas.Bool.{true≢false}
@@ -21,7 +21,7 @@ filter_alike p q (x ∷ xs) h =
     let here = h zero x refl in
     λ i. cond (here i) (x ∷ rest i) (rest i)
 
--- what passes the test is still in the list
+-- a value that passes the test is still in the list
 pub filter_keeps : (p : Value → Bool) (xs : List Value) (k : ℕ) (v : Value) → slice_get xs k ≡ Some v → p v ≡ true → (j : ℕ) × (slice_get (filter p xs) j ≡ Some v)
 filter_keeps p [] k v at h = absurd (none-some v at)
 filter_keeps p (x ∷ xs) zero v at h =
@@ -36,7 +36,7 @@ filter_keeps p (x ∷ xs) (suc k) v at h =
       | false ↦ rest
     ]
 
--- with one more value before both, what is in the first list is still in the second
+-- with one more value before both lists, a value of the first list is still in the second
 found_behind : (x : Value) (ys xs : List Value) (v : Value) → ((i : ℕ) → slice_get ys i ≡ Some v → (j : ℕ) × (slice_get xs j ≡ Some v)) → (k : ℕ) → slice_get (x ∷ ys) k ≡ Some v → (j : ℕ) × (slice_get (x ∷ xs) j ≡ Some v)
 found_behind x ys xs v rest zero at = (zero, at)
 found_behind x ys xs v rest (suc k) at = let there = rest k at in (suc there.0, there.1)
@@ -45,7 +45,7 @@ first_passes : (p : Value → Bool) (x : Value) (ys : List Value) (v : Value) �
 first_passes p x ys v h rest zero at = subst (λ (y : Value). p y ≡ true) (same_Some x v at) h
 first_passes p x ys v h rest (suc k) at = rest k at
 
--- what a filter leaves was there
+-- a value that a filter leaves was in the list
 pub filter_from : (p : Value → Bool) (xs : List Value) (k : ℕ) (v : Value) → slice_get (filter p xs) k ≡ Some v → (j : ℕ) × (slice_get xs j ≡ Some v)
 filter_from p [] k v at = absurd (none-some v at)
 filter_from p (x ∷ xs) k v at =
@@ -54,7 +54,7 @@ filter_from p (x ∷ xs) k v at =
       | false ↦ λ q. let there = filter_from p xs k v q in (suc there.0, there.1)
     ] at
 
--- and passes the test
+-- a value that a filter leaves passes the test
 pub filter_passes : (p : Value → Bool) (xs : List Value) (k : ℕ) (v : Value) → slice_get (filter p xs) k ≡ Some v → p v ≡ true
 filter_passes p [] k v at = absurd (none-some v at)
 filter_passes p (x ∷ xs) k v at =
@@ -73,7 +73,7 @@ filter_none : (xs : List Value) → filter (λ v. false) xs ≡ []
 filter_none [] = refl
 filter_none (x ∷ xs) = filter_none xs
 
--- all goes, or what the test finds
+-- either all values are taken out, or the values that the test finds
 pub filter_or : (b : Bool) (p : Value → Bool) (xs : List Value) → filter (λ v. not (b || p v)) xs ≡ (if b then [] else filter (λ v. not (p v)) xs)
 filter_or true p xs = filter_none xs
 filter_or false p xs = refl
@@ -98,7 +98,7 @@ other_value x v ne = elim (same_value v x) as (λ b. same_value v x ≡ b → b 
   | false ↦ λ _. refl
 ] refl
 
--- a removed value is the one that a test for it finds
+-- in a list without repetitions, removing a value is the same as filtering by a test for it
 pub remove-filter : (xs : List Value) (k : ℕ) (x : Value) → IsDistinct xs → slice_get xs k ≡ Some x → remove xs k ≡ filter (λ v. not (same_value x v)) xs
 remove-filter [] k x d at = absurd (none-some x at)
 remove-filter (y ∷ ys) zero x d at =

@@ -1,4 +1,4 @@
--- Containment stays without cycles: where holders go, and where one comes.
+-- Containment stays without cycles if holders are removed, and if one is added.
 use Rattle.std.proofs.Common.{◌≡◌, ◌≢◌, ℕ, zero, suc, Some, None, refl, sym, ap, ◌∙◌, inl, inr}
 use Rattle.std.specs.Prelude.{◌⊎◌}
 use Rattle.std.proofs.lemmas.Bool.{cases_Bool, true≢false}
@@ -33,11 +33,11 @@ climb_less s t less (suc n) y z h =
 pub under_less : (s t : Links) → HoldsLess t s → (y z : Node) → IsUnder t y z → IsUnder s y z
 under_less s t less y z (n, at) = (n, climb_less s t less (suc n) y z at)
 
--- fewer holders make no cycle
+-- without some of the holders there is still no cycle
 pub no_cycle_less : (s t : Links) → HoldsLess t s → HasNoCycle s → HasNoCycle t
 no_cycle_less s t less free x u = free x (under_less s t less x x u)
 
--- a chain goes on where another ends
+-- a chain goes on from the node at which another one ends
 pub climb_on : (s : Links) (j k : ℕ) (p y x : Node) → climb s j p ≡ Some y → climb s k y ≡ Some x → (i : ℕ) × (climb s i p ≡ Some x)
 climb_on s zero k p y x a b = (k, ap (λ (z : Node). climb s k z) (same_Some p y a) ∙ b)
 climb_on s (suc j) k p y x a b =

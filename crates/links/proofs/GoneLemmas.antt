@@ -1,4 +1,4 @@
--- What is left of a legal set when nodes go.
+-- A legal set after some nodes are removed.
 use Rattle.std.proofs.Common.{◌≡◌, ◌≢◌, ℕ, Bool, true, false, not, List, [], ◌∷◌, fold, Option, Some, None, if◌then◌else◌, refl, sym, ap, ◌∙◌, subst, inl, inr}
 use Rattle.std.specs.Prelude.{◌||◌, option_and_then}
 use Rattle.std.specs.List.{filter, list_any, slice_get}
@@ -19,7 +19,7 @@ use Rattle.links.proofs.LegalLemmas.{cut_value_legal}
 use Rattle.links.proofs.PutLemmas.{cases_end}
 use Rattle.links.proofs.AmongLemmas.{Among-filter, Among_filter}
 use Rattle.links.proofs.SameLinksLemmas.{same_by_ends}
-use Rattle.links.proofs.ScanLemmas.{first_holding-none, first_holding-some, is_value_at-indexed, is_value_at-true, one_with, same_bool}
+use Rattle.links.proofs.ScanLemmas.{first_holding-none, first_holding-some, is_value_at-indexed, is_value_at-true, one_with}
 use Rattle.links.specs.Holders.{HasNoCycle, first_holding, holder, holding}
 use Rattle.links.specs.Laws.{goes, is_named, without_all}
 use Rattle.links.specs.LegalSets.{AreKinds, AreOfKind, HasTwoSides, IsLegalSet, IsObject, Kinds}
@@ -29,6 +29,7 @@ use Rattle.links.specs.Plans.{Has}
 use Rattle.links.specs.declared.link.Far.TheVariants.{At, Alone, Proxy}
 use Rattle.links.specs.declared.link.Far.{Far}
 use Rattle.links.specs.declared.link.Link.{Link}
+use Rattle.links.proofs.RankLemmas.{same-tests}
 use Rattle.mm_types.specs.Same.{node_value}
 use Rattle.mm_types.specs.declared.end.End.{End}
 use Rattle.mm_types.specs.declared.numbers.Node.TheVariants as node
@@ -38,11 +39,11 @@ use Rattle.mm_types.specs.declared.value.Value.{Value}
 ---------------------------------------------------------------- one link of a larger set
 
 module _ (s t : Links) (legal_s : IsLegalSet s) (legal : IsLegalSet t) (part : IsPart t s) (l : Link) (within : In l s) where
-  -- the cut of the link, where the smaller set has it
+  -- the smaller set after the link is cut in it, if it has the link
   abbrev less : Links
   less = cut_value t l.end (far_value l.far)
 
-  -- a link of the smaller set that has a value of this one in an end is this one
+  -- if a link of the smaller set has a value of this link in an end, it is this link
   the_same : (k : Link) → In k t → (d : End) (w : Value) → is_value_at w (indexed k d) ≡ true → is_value_at w (indexed l d) ≡ true → bare k ≡ bare l
   the_same k h d w in_k in_l =
       let was = part k h in
@@ -109,7 +110,7 @@ module _ (s t : Links) (legal_s : IsLegalSet s) (legal : IsLegalSet t) (part : I
 
 ---------------------------------------------------------------- several
 
--- cuts links, each where it is still
+-- cuts links, each if it is still there
 abbrev pub cut_each : Links → List Link → Links
 cut_each s ls = fold (λ t l. cut_value t l.end (far_value l.far)) s ls
 
@@ -172,7 +173,7 @@ far_goes gone e (At d j) two = sym (goes_node gone d.node two.2)
 far_goes gone e (Alone o) two = refl
 far_goes gone e (Proxy t) two = refl
 
--- a link names a node that goes, if that is so of the end or of the value at any of its positions
+-- a link names a node that is removed, if the end or the value at any of its positions does
 module _ (gone : Node → Bool) (l : Link) (two : HasTwoSides l.end l.far) (d : End) (j : ℕ) (w : Value) (at : indexed l d ≡ Some (j, w)) where
   touches_far : (x : Far) → l.far ≡ x → l.end ≢ d → touches gone l ≡ (gone d.node || goes gone w)
   touches_far (At c i) h ne = elim (cases_end c d) [
@@ -216,7 +217,7 @@ link_any p (m ∷ ls) l among h = elim (Among_cases l m ls among) [
 ]
 
 module _ (s : Links) (gone : Node → Bool) (legal : IsLegalSet s) where
-  -- the links that name a node that goes
+  -- the links that name a node that is removed
   abbrev going : List Link
   going = filter (touches gone) (set.items s)
 
@@ -230,7 +231,7 @@ module _ (s : Links) (gone : Node → Bool) (legal : IsLegalSet s) where
   going_has d k w at =
       let st = (legal.placed.ends d).only k w at in
       let is = touches_indexed gone st.0 (legal.placed.sides st.0 st.1) d k w st.2 in
-      same_bool _ _
+      same-tests _ _
       (λ h.
       let l = any_link (λ x. is_value_at w (indexed x d)) going h in
       let parts = going_in l.0 l.1 in
@@ -241,7 +242,7 @@ module _ (s : Links) (gone : Node → Bool) (legal : IsLegalSet s) where
   part_itself : IsPart s s
   part_itself k h = (k, h, refl)
 
-  -- ends of nodes that stay lose the values that go
+  -- ends of remaining nodes lose the nodes that are removed
   pub end-without_nodes : (d : End) → end (without_nodes s gone) d ≡ (if gone d.node then [] else filter (λ v. not (goes gone v)) (end s d))
   unfolding without_nodes
   end-without_nodes d =
@@ -258,7 +259,7 @@ module _ (s : Links) (gone : Node → Bool) (legal : IsLegalSet s) where
   without_nodes_no_cycle free = cut_each_no_cycle s going legal free
 
   module _ (n : Node) where
-    -- the end that holds n, unless it or n goes
+    -- the holder of n, unless its node or n is removed
     abbrev left : Option End → Option End
     left o = option_and_then (λ (d : End). if gone d.node || gone n then None else Some d) o
 
@@ -286,7 +287,7 @@ module _ (s : Links) (gone : Node → Bool) (legal : IsLegalSet s) where
           ] refl
         ] refl
 
-    -- who holds n, if neither goes
+    -- n keeps its holder, if neither its node nor n is removed
     pub holder-without_nodes : holder (without_nodes s gone) n ≡ left (holder s n)
     unfolding without_nodes
     holder-without_nodes =
@@ -296,7 +297,7 @@ module _ (s : Links) (gone : Node → Bool) (legal : IsLegalSet s) where
           | Some d ↦ λ h. held_goes d h
         ] refl
 
-  -- what is left names no node that goes
+  -- the remaining links name no node that is removed
   stays : (d : End) (k : ℕ) (v : Value) → slice_get (end (without_nodes s gone) d) k ≡ Some v → (gone d.node ≡ false) × (goes gone v ≡ false)
   stays d k v at =
       elim (gone d.node) as (λ b. slice_get (if b then [] else filter (λ w. not (goes gone w)) (end s d)) k ≡ Some v → (b ≡ false) × (goes gone v ≡ false)) [
@@ -314,7 +315,7 @@ pub without_nodes_kinds : (m : Kinds) (s : Links) (gone : Node → Bool) → Are
 unfolding without_nodes
 without_nodes_kinds m s gone kinds = cut_each_kinds m s (filter (touches gone) (set.items s)) kinds
 
--- cuts that name each link of a node that goes, and no other, leave the same
+-- cutting exactly the links of the removed nodes by their names leaves the same set
 pub without_all-nodes : (m : Kinds) → AreKinds m → (s : Links) (gone : Node → Bool) (ts : List (End × Value)) → IsLegalSet s → AreOfKind m s → ((d : End) (w : Value) → Has s d w → is_named m ts d w ≡ (gone d.node || goes gone w)) → without_all s ts ≡ without_nodes s gone
 without_all-nodes m ok s gone ts legal kinds same =
     same_by_ends m (without_all s ts) (without_nodes s gone) (without_all_legal s ts legal).placed (without_nodes_legal s gone legal).placed

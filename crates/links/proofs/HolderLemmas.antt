@@ -1,4 +1,4 @@
--- Who holds what after an edit.
+-- The holders of nodes after an edit.
 use Rattle.std.proofs.Common.{◌≡◌, ◌≢◌, ℕ, Bool, true, false, Option, Some, None, if◌then◌else◌, refl, sym, ap, ◌∙◌, subst, inl, inr}
 use Rattle.std.specs.FinSet as set
 use Rattle.std.proofs.lemmas.Option.{none-some, same_Some}
@@ -24,7 +24,7 @@ use Rattle.mm_types.specs.declared.numbers.Node.TheVariants as node
 use Rattle.mm_types.specs.declared.numbers.Node.{Node}
 use Rattle.mm_types.specs.declared.numbers.ObjectNo.{ObjectNo}
 
--- what a holder comes from, and that it is the one
+-- a holder comes from a link, and it is the only one
 pub holder-some : (s : Links) (x : Node) (e : End) → holder s x ≡ Some e → (l : Link) × In l s × (holding l x ≡ Some e)
 unfolding holder
 holder-some s x e h = let f = first_holding-some x (set.items s) e h in (f.0, (items_HasLinks s).only f.0 f.1, f.2)
@@ -55,7 +55,7 @@ one_far (At d j) m n a b = sym (same_node-true d.node m a) ∙ same_node-true d.
 one_far (Alone o) m n a b = sym (same_node-true (node.Object o) m a) ∙ same_node-true (node.Object o) n b
 one_far (Proxy t) m n a b = absurd (false≢true a)
 
--- a link holds one node
+-- a link contains one node
 far_one : (f : Far) (h : FeatureNo) (m x y : Node) (d e : End) → far_holding f h m x ≡ Some d → far_holding f h m y ≡ Some e → x ≡ y
 far_one (At c j) h m x y d e a b =
     sym (same_node-true m x (and_parts (same_feature c.feature h) (same_node m x) (test_some _ c d a).0).1) ∙ same_node-true m y (and_parts (same_feature c.feature h) (same_node m y) (test_some _ c e b).0).1
@@ -70,7 +70,7 @@ through_one (Some h) l x y d e a b =
       | false ↦ λ p q. far_one l.far h l.end.node x y d e p q
     ] a b
 
--- positions are of no matter to a holder
+-- a holder does not depend on positions
 far_same : (c : Option FeatureNo) (d : End) (i : ℕ) (x : Far) (e : End) (r : ℕ → ℕ) (n : Node) → holding (record { end = d; index = i; far = far_moved x e r; container = c }) n ≡ holding (record { end = d; index = i; far = x; container = c }) n
 far_same c d i (At k j) e r n = elim (same_end k e) as (λ b. holding (record { end = d; index = i; far = (if b then At k (r j) else At k j); container = c }) n ≡ holding (record { end = d; index = i; far = At k j; container = c }) n) [ true ↦ index_same c | false ↦ refl ]
   where
@@ -115,7 +115,7 @@ module _ (s : Links) (once : IsHeldOnce s) where
   pub IsHeldOnce-remove : (k : Link) → IsHeldOnce (set.remove s k)
   IsHeldOnce-remove k l m n x y p q = once l m n x y (In-remove s k l p).1 (In-remove s k m q).1
 
-  -- a node that a new link holds has no holder yet
+  -- each node has one holder after a new link, if the node that the link contains had none
   pub IsHeldOnce-insert : (k : Link) → ((n : Node) (x : End) → holding k n ≡ Some x → holder s n ≡ None) → IsHeldOnce (set.insert s k)
   IsHeldOnce-insert k new l m n x y hl hm a b = elim (In-insert s k l hl) [
     | inl p ↦ elim (In-insert s k m hm) [
@@ -147,7 +147,7 @@ module _ (s : Links) (once : IsHeldOnce s) where
         ] refl
       ] refl
 
--- the node that a link holds is in the end that holds it
+-- the node that a link contains is in the end that is its holder
 pub indexed_held : (l : Link) (n : Node) (x : End) → HasTwoSides l.end l.far → holding l n ≡ Some x → (k : ℕ) × (indexed l x ≡ Some (k, node_value n))
 indexed_held l n x two h = through l.container h
   where
@@ -171,7 +171,7 @@ indexed_held l n x two h = through l.container h
           | false ↦ λ q. far l.far h refl q
         ] at
 
--- what a link that goes contained has no holder
+-- the holder of a node after a link is removed: none if the link contained the node
 abbrev pub unheld : Option End → Option End → Option End
 unheld gone other = option_map_or (λ x. None) gone other
 
@@ -220,12 +220,12 @@ module _ (s : Links) (placed : IsPlaced s) (once : IsHeldOnce s) (l : Link) (wit
   unfolding cut
   IsHeldOnce-cut = lowered_once l.far
 
-  -- a cut takes away what its link held, and nothing else
+  -- a cut takes away the holder that its link gave, and no other
   pub holder-cut : (n : Node) → holder (cut s l) n ≡ unheld (holding l n) (holder s n)
   unfolding cut
   holder-cut n = lowered_holder l.far n ∙ holder-renumbered (set.remove s l) (IsHeldOnce-remove s once l) l.end (lower l.index) n ∙ holder-remove n
 
--- a put adds what the new link holds, and nothing else
+-- a put adds the holder that the new link gives, and no other
 pub holder-put : (s : Links) (e : End) (i : ℕ) (n : ObjectNo) (g c : Option FeatureNo) → IsHeldOnce s → ((m : Node) (x : End) → holding (new_link s e i n g c) m ≡ Some x → holder s m ≡ None) → (m : Node) → holder (put s e i n g c) m ≡ option_or (holding (new_link s e i n g c) m) (holder s m)
 unfolding put
 holder-put s e i n g c once new m =
@@ -240,7 +240,7 @@ pub IsHeldOnce-put_proxy : (s : Links) (e : End) (i : ℕ) (t : List ℕ) → Is
 unfolding put_proxy
 IsHeldOnce-put_proxy s e i t once = IsHeldOnce-insert (renumbered s e (raise i)) (IsHeldOnce-renumbered s once e (raise i)) (new_proxy e i t) (λ k x h. absurd (none-some x h))
 
--- a proxy holds nothing
+-- a proxy adds no holder
 pub holder-put_proxy : (s : Links) (e : End) (i : ℕ) (t : List ℕ) → IsHeldOnce s → (m : Node) → holder (put_proxy s e i t) m ≡ holder s m
 unfolding put_proxy
 holder-put_proxy s e i t once m =

@@ -1,4 +1,4 @@
--- What `insert`, `remove` and a shift leave at each index of a list, by `slice_get`; and the positions that the edits give.
+-- The values at the indexes of a list after `insert`, `remove` and a shift, by `slice_get`; and the positions after the edits.
 use Rattle.std.proofs.Common.{◌≡◌, ◌≢◌, ℕ, zero, suc, ◌+◌, ◌<◌, ◌≤◌, List, [], ◌∷◌, ◌++◌, length, take, drop, Some, None, refl, sym, ap, ◌∙◌, subst, inl, inr, arith}
 use Rattle.std.specs.List.{slice_get, insert, remove}
 use Rattle.std.proofs.Common.{map, set, get_or}
@@ -130,7 +130,7 @@ shifted_else to from k h = grind (arith, nat_tests)
 
 ---------------------------------------------------------------- lists that repeat nothing
 
--- an index of the longer list is that of the new value, or one before it was raised
+-- an index of the longer list is the index of the new value, or the raised index of an old value
 insert_cases : (xs : List Value) (i : ℕ) (x : Value) (k : ℕ) (v : Value) → i ≤ length xs → slice_get (insert xs i x) k ≡ Some v → ((k ≡ i) × (x ≡ v)) ⊎ ((j : ℕ) × (raise i j ≡ k) × (slice_get xs j ≡ Some v))
 insert_cases xs i x k v h a = elim (cases_order k i) [
   | inl same ↦ inl (same, same_Some x v (sym (slice_get-insert_at xs i x h) ∙ subst (λ n. slice_get (insert xs i x) n ≡ Some v) same a))
@@ -162,7 +162,7 @@ insert_end_is (y ∷ xs) x = ap (λ ys. y ∷ ys) (insert_end_is xs x)
 pub distinct_push : (xs : List Value) (x : Value) → IsDistinct xs → ((k : ℕ) → slice_get xs k ≡ Some x → ⊥) → IsDistinct (xs ++ x ∷ [])
 distinct_push xs x d new = subst (λ (ys : List Value). IsDistinct ys) (insert_end_is xs x) (distinct_insert xs (length xs) x (omega arith) d new)
 
--- an index of the shorter list, and what it was before
+-- an index of the shorter list, and the index of the same value before
 remove_back : (xs : List Value) (i k : ℕ) (v : Value) → slice_get (remove xs i) k ≡ Some v → (j : ℕ) × (j ≢ i) × (lower i j ≡ k) × (slice_get xs j ≡ Some v)
 remove_back xs i k v a = elim (cases_lt k i) [
   | inl lt ↦ (k, λ same. omega (arith, lt, same), lower_below i k lt, sym (slice_get-remove_below xs i k lt) ∙ a)

@@ -7,7 +7,7 @@ use Rattle.std.proofs.lemmas.Option.{none-some, some_pair_parts}
 use Rattle.links.proofs.CutLemmas.{indexed_alone, indexed_at, indexed_near, indexed_out, indexed_proxy}
 use Rattle.mm_types.specs.SameValues.{same_value-self, same_value-true}
 use Rattle.links.proofs.PutLemmas.{cases_end}
-use Rattle.links.proofs.ScanLemmas.{is_value_at-indexed, is_value_at-true, same_bool}
+use Rattle.links.proofs.ScanLemmas.{is_value_at-indexed, is_value_at-true}
 use Rattle.links.proofs.SideLemmas.{both_ends_agree, far_cases, paired_far}
 use Rattle.links.specs.Laws.{names, names_far}
 use Rattle.links.specs.LegalSets.{AreKinds, AreOfKind, FarOfKind, HasTwoSides, IsLegalSet, IsObject, IsOfKind, Kinds}
@@ -17,6 +17,7 @@ use Rattle.links.specs.Plans.{Has, Lacks}
 use Rattle.links.specs.declared.link.Far.TheVariants.{At, Alone, Proxy}
 use Rattle.links.specs.declared.link.Far.{Far}
 use Rattle.links.specs.declared.link.Link.{Link}
+use Rattle.links.proofs.RankLemmas.{same-tests}
 use Rattle.mm_types.proofs.SameLemmas.{same_end-self, same_end-true}
 use Rattle.mm_types.specs.Same.{node_value, same_end, same_value}
 use Rattle.mm_types.specs.declared.end.End.{End}
@@ -147,11 +148,11 @@ module _ (m : Kinds) (l : Link) (ok : IsOfKind m l) (two : HasTwoSides l.end l.f
         is_value_at-indexed (indexed l d) other.0 w (subst (λ (x : Value). indexed l d ≡ Some (other.0, x)) is_w (subst (λ (x : End). indexed l x ≡ Some (other.0, node_value e.node)) is_d other.1))
   ]
 
-  -- a link is where its name says, and nowhere else
+  -- the name of a link says at which positions the link is
   pub indexed-named : is_value_at w (indexed l d) ≡ names m e v d w
-  indexed-named = same_bool _ _ value-named named-value
+  indexed-named = same-tests _ _ value-named named-value
 
--- a name of no link names nothing that is there
+-- if a name names no link of a set, no value of an end is named by it
 pub names_nothing : (m : Kinds) → AreKinds m → (s : Links) → IsLegalSet s → AreOfKind m s → (e : End) (v : Value) → Lacks s e v → (d : End) (w : Value) → Has s d w → names m e v d w ≡ false
 names_nothing m ok s legal kinds e v lacks d w has = elim (names m e v d w) as (λ b. names m e v d w ≡ b → b ≡ false) [
   | false ↦ λ _. refl

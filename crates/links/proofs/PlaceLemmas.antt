@@ -1,4 +1,5 @@
--- What is found the same is equal, for values too; and a link whose position in one end is changed is elsewhere as it was.
+-- Values that the test finds the same are equal too; and a link whose position in one end is changed has the same positions in all other
+-- ends.
 use Rattle.std.proofs.Common.{◌≡◌, ◌≢◌, ℕ, true, false, List, Some, None, if◌then◌else◌, refl, sym, ◌∙◌, subst, eqb-true}
 use Rattle.std.specs.Option.{option_map}
 use Rattle.std.specs.Bool.{Decides}
@@ -75,7 +76,7 @@ far_indexed-moved_other (At c j) v d e r ne =
 far_indexed-moved_other (Alone n) v d e r ne = refl
 far_indexed-moved_other (Proxy t) v d e r ne = refl
 
--- in another end it is as it was
+-- its position in another end is as it was
 pub indexed-moved_other : (l : Link) (d e : End) (r : ℕ → ℕ) → d ≢ e → indexed (moved l e r) d ≡ indexed l d
 indexed-moved_other l d e r ne =
     elim (same_end l.end e) as (λ b. same_end l.end e ≡ b → indexed (if b then record l { index = r l.index } else record l { far = far_moved l.far e r }) d ≡ indexed l d) [
@@ -88,7 +89,7 @@ bare_far-moved (At d j) e r = elim (same_end d e) as (λ b. bare_far (if b then 
 bare_far-moved (Alone n) e r = refl
 bare_far-moved (Proxy t) e r = refl
 
--- a change of positions leaves the rest
+-- a change of positions leaves the rest of the link
 pub bare-moved : (l : Link) (e : End) (r : ℕ → ℕ) → bare (moved l e r) ≡ bare l
 bare-moved l e r = elim (same_end l.end e) as (λ b. bare (if b then record l { index = r l.index } else record l { far = far_moved l.far e r }) ≡ bare l) [
   | true ↦ refl

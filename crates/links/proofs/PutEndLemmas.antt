@@ -1,4 +1,4 @@
--- What a put makes of each end and of each holder; and when it makes no cycle.
+-- The ends and the holders after a put, and when it makes no cycle.
 use Rattle.std.proofs.Common.{◌≡◌, ◌≢◌, ℕ, length, Bool, true, false, ltb, [], ◌∷◌, ◌++◌, Option, Some, None, if◌then◌else◌, refl, sym, ap, ◌∙◌, subst}
 use Rattle.std.specs.Prelude.{◌&&◌, ◌||◌}
 use Rattle.std.specs.List.{insert}
@@ -11,7 +11,6 @@ use Rattle.links.proofs.CycleLemmas.{put_no_cycle}
 use Rattle.links.proofs.HolderLemmas.{holder-put}
 use Rattle.links.proofs.PlaceLemmas.{same_feature-true, same_node_if}
 use Rattle.links.proofs.PutLemmas.{IsApart, apart_of, end-put_near, end-put_other, put_far}
-use Rattle.links.proofs.ScanLemmas.{same_bool}
 use Rattle.links.specs.Holders.{HasNoCycle, contained, containing, holder, holding}
 use Rattle.links.specs.Laws.{IsFar, IsPutOutside, is_contained, is_far, is_of_pair, put_end, put_holder}
 use Rattle.links.specs.LegalSets.{IsLegalSet}
@@ -19,6 +18,7 @@ use Rattle.links.specs.Links.{Links, end, far_end, new_link, put}
 use Rattle.links.specs.Plans.{EditFits, IsOutside}
 use Rattle.links.specs.declared.link.Far.TheVariants.{At, Alone}
 use Rattle.links.specs.declared.plan.Edit.TheVariants as edit
+use Rattle.links.proofs.RankLemmas.{same-tests}
 use Rattle.mm_types.proofs.SameLemmas.{same_end-self, same_end-true, same_node-true}
 use Rattle.mm_types.specs.Same.{node_value, same_end, same_feature, same_node}
 use Rattle.mm_types.specs.declared.end.End.{End}
@@ -54,27 +54,27 @@ module _ (s : Links) (e : End) (i : ℕ) (o : ObjectNo) (g c : Option FeatureNo)
 
 ---------------------------------------------------------------- holders
 
-turned : (f h : FeatureNo) → same_feature f h ≡ same_feature h f
-turned f h = same_bool _ _ (λ p. eq-eqb h.0 f.0 (sym (eqb-true f.0 h.0 p))) (λ p. eq-eqb f.0 h.0 (sym (eqb-true h.0 f.0 p)))
+pub same_feature-turned : (f h : FeatureNo) → same_feature f h ≡ same_feature h f
+same_feature-turned f h = same-tests _ _ (λ p. eq-eqb h.0 f.0 (sym (eqb-true f.0 h.0 p))) (λ p. eq-eqb f.0 h.0 (sym (eqb-true h.0 f.0 p)))
 
--- what a new link contains, and by which end
+-- the node that a new link contains, and its holder
 abbrev held_new : End → ObjectNo → Option FeatureNo → Option FeatureNo → Node → Option End
 held_new e o g c n = if is_of_pair e.feature g c && is_contained e o c n then containing e o c else None
 
 alone_held : (e : End) (i : ℕ) (o : ObjectNo) (c : Option FeatureNo) (n : Node) → holding (record { end = e; index = i; far = Alone o; container = c }) n ≡ held_new e o None c n
 alone_held e i o None n = refl
 alone_held e i o (Some h) n =
-    let flip = turned e.feature h in
+    let flip = same_feature-turned e.feature h in
     rw flip
     (elim (same_feature h e.feature) as (λ b. (if b then (if same_node (node.Object o) n then Some e else None) else None) ≡ (if (b || false) && same_node (if b then node.Object o else e.node) n then Some (if b then e else far_end o h) else None)) [
       | true ↦ refl
       | false ↦ refl
     ])
 
--- by the opposite feature
+-- the same by the opposite feature
 far_held : (e : End) (o : ObjectNo) (g h : FeatureNo) (n : Node) → (if same_feature g h && same_node e.node n then Some (far_end o g) else None) ≡ (if same_feature h g && same_node e.node n then Some (far_end o h) else None)
 far_held e o g h n =
-    let flip = turned g h in
+    let flip = same_feature-turned g h in
     rw flip
     (elim (same_feature h g) as (λ b. same_feature h g ≡ b → (if b && same_node e.node n then Some (far_end o g) else None) ≡ (if b && same_node e.node n then Some (far_end o h) else None)) [
       | true ↦ λ q. ap (λ (f : FeatureNo). if same_node e.node n then Some (far_end o f) else None) (sym (same_feature-true h g q))
@@ -84,7 +84,7 @@ far_held e o g h n =
 near_held : (e : End) (i : ℕ) (o : ObjectNo) (g : FeatureNo) (j : ℕ) (c : Option FeatureNo) (n : Node) → holding (record { end = e; index = i; far = At (far_end o g) j; container = c }) n ≡ held_new e o (Some g) c n
 near_held e i o g j None n = refl
 near_held e i o g j (Some h) n =
-    let flip = turned e.feature h in
+    let flip = same_feature-turned e.feature h in
     rw flip
     (elim (same_feature h e.feature) as (λ b. (if b then (if same_node (node.Object o) n then Some e else None) else (if same_feature g h && same_node e.node n then Some (far_end o g) else None)) ≡ (if (b || same_feature h g) && same_node (if b then node.Object o else e.node) n then Some (if b then e else far_end o h) else None)) [
       | true ↦ refl
@@ -94,7 +94,7 @@ near_held e i o g j (Some h) n =
 turned_held : (e : End) (i : ℕ) (o : ObjectNo) (g : FeatureNo) (j : ℕ) (c : Option FeatureNo) (n : Node) → ((g.0 ≡ e.feature.0) → ⊥) → holding (record { end = far_end o g; index = j; far = At e i; container = c }) n ≡ held_new e o (Some g) c n
 turned_held e i o g j None n apart = refl
 turned_held e i o g j (Some h) n apart =
-    let flip = turned e.feature h in
+    let flip = same_feature-turned e.feature h in
     rw flip
     (elim (same_feature h e.feature) as (λ b. same_feature h e.feature ≡ b → (if same_feature g h then (if same_node e.node n then Some (far_end o g) else None) else (if b && same_node (node.Object o) n then Some e else None)) ≡ (if (b || same_feature h g) && same_node (if b then node.Object o else e.node) n then Some (if b then e else far_end o h) else None)) [
       | true ↦ λ q. let other = ne_eqb g.0 h.0 (λ is. apart (is ∙ eqb-true h.0 e.feature.0 q)) in rw other refl
@@ -120,7 +120,7 @@ some_or true None e o n x = refl
 some_or true (Some h) e o n x = elim (same_node (if same_feature h e.feature then node.Object o else e.node) n) as (λ t. option_or (if t then containing e o (Some h) else None) x ≡ (if t then containing e o (Some h) else x)) [ true ↦ refl | false ↦ refl ]
 
 module _ (s : Links) (e : End) (i : ℕ) (o : ObjectNo) (g c : Option FeatureNo) (legal : IsLegalSet s) (fits : EditFits s (edit.Put e i o g c)) where
-  -- the new link holds what it contains, and else all is held as it was
+  -- the node that the new link contains gets its holder, and all other holders stay
   pub holder-put_is : (n : Node) → holder (put s e i o g c) n ≡ put_holder s e o g c n
   holder-put_is n =
       let apart = apart_of s e o g fits.1 in

@@ -1,4 +1,4 @@
--- What a put does to each end, and that each link keeps a position of its own.
+-- The ends after a put; each link still has a position of its own.
 use Rattle.std.proofs.Common.{◌≡◌, ◌≢◌, ℕ, ◌<◌, ◌≤◌, true, false, ltb, List, [], ◌∷◌, ◌++◌, length, Option, Some, None, if◌then◌else◌, refl, sym, ◌∙◌, subst, inl, inr, arith}
 use Rattle.std.specs.Prelude.{◌⊎◌}
 use Rattle.std.specs.List.{insert}
@@ -110,7 +110,7 @@ module _ (s : Links) (placed : IsPlaced s) (e : End) (i : ℕ) (n : ObjectNo) (c
     pub end-put_other : (d : End) → e ≢ d → (IsFar n g d → ⊥) → end (put s e i n g c) d ≡ end s d
     end-put_other d ne not_far = end_is (put s e i n g c) d (end s d) (IsEnd-put_other g apart d ne not_far)
 
-  -- the far end's gain is appended
+  -- the value that the far end gains is appended
   pub end-put_far : (g : FeatureNo) → IsApart e (Some g) → (d : End) → IsFar n (Some g) d → end (put s e i n (Some g) c) d ≡ end s d ++ node_value e.node ∷ []
   end-put_far g apart d is = end_is (put s e i n (Some g) c) d (end s d ++ node_value e.node ∷ []) (IsEnd-put_far g apart d is)
 
@@ -133,7 +133,7 @@ HasTwoSides-new s e i n (Some g) c apart =
       | false ↦ (λ h. apart.0 (sym h), tt, apart.1)
     ]
 
--- no link is where the new one is put
+-- no link is at the position of the new link
 IsVacant-new : (s : Links) (placed : IsPlaced s) (e : End) (i : ℕ) (n : ObjectNo) (g c : Option FeatureNo) → IsApart e g → IsVacant (renumbered s e (raise i)) (new_link s e i n g c)
 IsVacant-new s placed e i n None c apart d k v w at st =
     elim (cases_end e d) [

@@ -15,7 +15,7 @@ use Rattle.mm_types.specs.declared.end.End.{End}
 use Rattle.mm_types.specs.declared.value.Value.{Value}
 
 module _ (kinds : Kinds) (s t : Links) (ls : IsPlaced s) (lt : IsPlaced t) (ks : AreOfKind kinds s) (kt : AreOfKind kinds t) (same : (e : End) → end s e ≡ end t e) where
-  -- t has at a position what a link of s has there
+  -- t has at a position the value that a link of s has there
   there : (l : Link) → In l s → (e : End) (k : ℕ) (v : Value) → indexed l e ≡ Some (k, v) → slice_get (end t e) k ≡ Some v
   there l h e k v at = sym (ap (λ (xs : List Value). slice_get xs k) (same e)) ∙ (ls.ends e).has k v (l, h, at)
 
@@ -32,6 +32,6 @@ module _ (kinds : Kinds) (s t : Links) (ls : IsPlaced s) (lt : IsPlaced t) (ks :
     far = λ d j far. there l h d j (node_value l.end.node) (indexed_at l d j far (apart l d j h far));
   })
 
--- so a store that has the ends of an edited set has the edited set
+-- so if a store has the ends of an edited set, it has the edited set
 pub same_by_ends : (kinds : Kinds) (s t : Links) → IsPlaced s → IsPlaced t → AreOfKind kinds s → AreOfKind kinds t → ((e : End) → end s e ≡ end t e) → s ≡ t
 same_by_ends kinds s t ls lt ks kt same = same_links s t (below kinds s t ls lt ks kt same) (below kinds t s lt ls kt ks (λ e. sym (same e)))

@@ -1,5 +1,5 @@
 -- What a scan of any list of the links of a set finds: the link that has a value in an end, and the end that contains a node.
-use Rattle.std.proofs.Common.{◌≡◌, ℕ, Bool, true, false, List, [], ◌∷◌, Option, Some, None, if◌then◌else◌, refl, sym, ap, ◌∙◌, subst, inl, inr}
+use Rattle.std.proofs.Common.{◌≡◌, ℕ, true, false, List, [], ◌∷◌, Option, Some, None, if◌then◌else◌, refl, sym, ap, ◌∙◌, subst, inl, inr}
 use Rattle.std.specs.Prelude.{find}
 use Rattle.std.specs.FinSet as set
 use Rattle.std.specs.Option.{option_or}
@@ -13,17 +13,13 @@ use Rattle.links.specs.Links.{In, Links, cut, cut_some, cut_value}
 use Rattle.links.specs.Order.{link_cmp_exact, link_cmp_total}
 use Rattle.links.specs.Indexed.{has_value, is_value_at, indexed}
 use Rattle.links.specs.declared.link.Link.{Link}
+use Rattle.links.proofs.RankLemmas.{same-tests}
 use Rattle.mm_types.specs.declared.end.End.{End}
 use Rattle.mm_types.specs.declared.numbers.Node.{Node}
 use Rattle.mm_types.specs.declared.value.Value.{Value}
 
-pub same_bool : (a b : Bool) → (a ≡ true → b ≡ true) → (b ≡ true → a ≡ true) → a ≡ b
-same_bool true b f g = sym (f refl)
-same_bool false true f g = g refl
-same_bool false false f g = refl
-
 pub same_links : (s t : Links) → ((l : Link) → In l s → In l t) → ((l : Link) → In l t → In l s) → s ≡ t
-same_links s t f g = set.same_set link_cmp_total link_cmp_exact s t (λ l. same_bool _ _ (f l) (g l))
+same_links s t f g = set.same_set link_cmp_total link_cmp_exact s t (λ l. same-tests _ _ (f l) (g l))
 
 pub is_value_at-true : (o : Option (ℕ × Value)) (v : Value) → is_value_at v o ≡ true → (k : ℕ) × (o ≡ Some (k, v))
 is_value_at-true None v h = absurd (false≢true h)
@@ -32,7 +28,7 @@ is_value_at-true (Some p) v h = let same = same_value-true p.1 v h in (p.0, λ i
 pub is_value_at-indexed : (o : Option (ℕ × Value)) (k : ℕ) (v : Value) → o ≡ Some (k, v) → is_value_at v o ≡ true
 is_value_at-indexed o k v h = ap (λ (p : Option (ℕ × Value)). is_value_at v p) h ∙ same_value-self v
 
--- in a placed set one link has v in e
+-- in a placed set at most one link has v in e
 pub one_with : (s : Links) (l m : Link) (e : End) (v : Value) (j k : ℕ) → IsPlaced s → In l s → In m s → indexed l e ≡ Some (j, v) → indexed m e ≡ Some (k, v) → l ≡ m
 one_with s l m e v j k placed hl hm at_l at_m =
     let same = placed.distinct e j k v ((placed.ends e).has j v (l, hl, at_l)) ((placed.ends e).has k v (m, hm, at_m)) in
@@ -104,7 +100,7 @@ module _ (n : Node) where
         | Some y ↦ λ q s. none-some y (sym s)
       ] refl h
 
-  -- if all links that give something give the same, the order of the links does not matter
+  -- if all links that give a holder give the same holder, the order of the links does not matter
   pub same_first_holding : (s : Links) (ls ms : List Link) → HasLinks ls s → HasLinks ms s → ((l m : Link) (x y : End) → In l s → In m s → holding l n ≡ Some x → holding m n ≡ Some y → x ≡ y) → first_holding ls n ≡ first_holding ms n
   same_first_holding s ls ms of_l of_m one =
       elim (first_holding ls n) as (λ o. first_holding ls n ≡ o → o ≡ first_holding ms n) [

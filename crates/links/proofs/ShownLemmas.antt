@@ -28,10 +28,10 @@ pub record IsShown (kinds : Kinds) (t : Links) (l : Link) : Type 0 where
 same_link_parts : (l m : Link) → l.end ≡ m.end → l.index ≡ m.index → l.far ≡ m.far → l.container ≡ m.container → l ≡ m
 same_link_parts l m e i f c = λ t. record { end = e t; index = i t; far = f t; container = c t }
 
-proxy_value : (s t : List ℕ) → value.Proxy s ≡ value.Proxy t → s ≡ t
+pub proxy_value : (s t : List ℕ) → value.Proxy s ≡ value.Proxy t → s ≡ t
 proxy_value s t h = cc
 
-object_value : (x y : ObjectNo) → value.Object x ≡ value.Object y → x ≡ y
+pub object_value : (x y : ObjectNo) → value.Object x ≡ value.Object y → x ≡ y
 object_value x y h = cc
 
 no_feature : (o : Option FeatureNo) (f : FeatureNo) → o ≡ None → o ≡ Some f → ⊥

@@ -87,6 +87,6 @@ module _ (m : Kinds) where
   pub paired : (s : Links) (f g : FeatureNo) → AreOfKind m s → m.opposite f ≡ Some g → ArePaired s f g
   paired s f g kinds o l h = paired_far l.end.feature l.far f g o (kinds l h).far
 
-  -- what one end has, the other has
+  -- if an end has the node of its opposite end, that end has the node of the first end
   pub both_ends_agree : (s : Links) → IsLegalSet s → AreOfKind m s → (x y : End) → m.opposite x.feature ≡ Some y.feature → Has s x (node_value y.node) → Has s y (node_value x.node)
   both_ends_agree s legal kinds x y o h = both_ends s x y legal.placed (paired s x.feature y.feature kinds o) h.0 h.1

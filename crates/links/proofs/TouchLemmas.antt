@@ -1,4 +1,4 @@
--- A plan that edits no link that contains leaves the ends that contain, and those of their opposites, as they were.
+-- A plan that edits no containing link leaves the containment ends, and the ends of their opposites, as they were.
 use Rattle.std.proofs.Common.{◌≡◌, ◌∙◌, ℕ, Bool, true, false, ◌&&◌, ◌||◌, List, [], ◌∷◌, Option, Some, None, refl, sym, ap}
 use Rattle.std.specs.Prelude.{is_some}
 use Rattle.std.specs.List.{list_any}
@@ -55,7 +55,7 @@ module _ (m : Kinds) (ok : AreKinds m) where
   far-none e d (value.Proxy t) w g q out holds = refl
   far-none e d (value.Adapter a) w g q out holds = refl
 
-  -- a cut at an end that contains nothing names no link at one that contains
+  -- a cut at an end that is no containment names no link at a containment end
   names-none : (e d : End) (v w : Value) → contains_by m e.feature ≡ false → contains_by m d.feature ≡ true → names m e v d w ≡ false
   names-none e d v w out holds = rw (other-end e d (apart e d out holds)) (far-none e d v w (m.opposite e.feature) refl out holds)
 

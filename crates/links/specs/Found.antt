@@ -8,7 +8,7 @@ abbrev pub entry_if : End → Option ℕ → List Incoming
 entry_if e None = []
 entry_if e (Some k) = record { feature = e.feature; node = e.node; position = k } ∷ []
 
--- the position of a value in each of the ends, as a search gives it
+-- an entry for each of the ends in which a search finds a position
 abbrev pub entries_by : (End → Option ℕ) → List End → List Incoming
 entries_by found [] = []
 entries_by found (e ∷ es) = entry_if e (found e) ++ entries_by found es

@@ -1,4 +1,4 @@
--- Which end contains a node, and what is above a node: the containment forest (MOF 2.5.1: Element.container).
+-- Which end contains a node, and which nodes are above a node: the containment forest (MOF 2.5.1: Element.container).
 use Rattle.std.specs.Prelude.{◌≡◌, ℕ, zero, suc, ◌&&◌, Bool, false, List, [], ◌∷◌, Option, Some, None, option_and_then, if◌then◌else◌}
 use Rattle.std.specs.Option.{option_or, option_map_or}
 use Rattle.std.specs.FinSet as set
@@ -50,23 +50,23 @@ abbrev pub contained : End → ObjectNo → Option FeatureNo → Option Node
 contained e o None = None
 contained e o (Some h) = Some (if same_feature h e.feature then node.Object o else e.node)
 
--- the end that then contains it
+-- the end that contains a node when an object is put into e, where h is the containing feature of the pair
 abbrev pub containing : End → ObjectNo → Option FeatureNo → Option End
 containing e o None = None
 containing e o (Some h) = Some (if same_feature h e.feature then e else far_end o h)
 
 ---------------------------------------------------------------- above
 
--- the nodes above n, the nearest first, by a function that gives holders: n's holder, its holder, and so on, for so many steps
+-- the nodes above n, the nearest first, at most so many; `up` gives the end that holds a node
 abbrev pub climbed : (Node → Option End) → ℕ → Node → List Node
 climbed up zero n = []
 climbed up (suc k) n = option_map_or (λ (e : End). e.node ∷ climbed up k e.node) (up n) []
 
--- no chain of holders is longer than there are links
+-- the nodes above n, the nearest first; no chain of holders is longer than the number of links
 unfoldable pub above : Links → Node → List Node
 above s n = climbed (holder s) (set.len s) n
 
--- y is reached from x by so many steps of `holder`
+-- the node that so many steps of `holder` lead to from x
 abbrev pub climb : Links → ℕ → Node → Option Node
 climb s zero x = Some x
 climb s (suc n) x = option_and_then (λ (e : End). climb s n e.node) (holder s x)

@@ -1,4 +1,4 @@
--- The positions of a link, and what is there.
+-- The positions of a link at its ends, and its values there.
 use Rattle.std.specs.Prelude.{ℕ, Bool, false, Option, Some, None, if◌then◌else◌}
 use Rattle.std.specs.Option.{option_map_or}
 use Rattle.mm_types.specs.Same.{node_value, same_end, same_value}
@@ -15,7 +15,7 @@ far_value (At d j) = node_value d.node
 far_value (Alone o) = value.Object o
 far_value (Proxy t) = value.Proxy t
 
--- the position of the far side in e, with the value v
+-- the position of the far side in e, with the value v; none if the far side is not in e
 abbrev pub far_indexed : Far → Value → End → Option (ℕ × Value)
 far_indexed (At d j) v e = if same_end d e then Some (j, v) else None
 far_indexed (Alone o) v e = None
@@ -25,7 +25,7 @@ far_indexed (Proxy t) v e = None
 abbrev pub indexed : Link → End → Option (ℕ × Value)
 indexed l e = if same_end l.end e then Some (l.index, far_value l.far) else far_indexed l.far (node_value l.end.node) e
 
--- v is at a position
+-- whether the value at a position is v
 abbrev pub is_value_at : Value → Option (ℕ × Value) → Bool
 is_value_at v p = option_map_or (λ q. same_value q.1 v) p false
 
@@ -48,6 +48,6 @@ bare_far (At d j) = At d 0
 bare_far (Alone o) = Alone o
 bare_far (Proxy t) = Proxy t
 
--- the link without its positions: what no edit of another link changes
+-- the link without its positions, which is the part that no edit of another link changes
 abbrev pub bare : Link → Link
 bare l = record { end = l.end; index = 0; far = bare_far l.far; container = l.container }

@@ -1,4 +1,4 @@
--- What each edit makes of a legal set: of its ends, and of who holds what.
+-- The ends and the holders of a legal set after each edit.
 use Rattle.std.specs.Prelude.{◌≡◌, ◌&&◌, ◌||◌, ℕ, ◌≤◌, Bool, false, List, [], ◌∷◌, ◌++◌, filter, fold, insert, length, map, not, Option, Some, None, is_some, option_and_then, if◌then◌else◌}
 use Rattle.std.specs.List.{AllByRecursion, list_any}
 use Rattle.std.specs.Option.{option_map_or, option_or}
@@ -20,24 +20,25 @@ use Rattle.mm_types.specs.Lists.{shifted}
 use Rattle.links.specs.Indexed.{indexed}
 use Rattle.links.specs.Plans.{Has, Lacks}
 
--- d is the end of the opposite, which gains too
+-- d is the far end of a put: the end of the object that is put, under the opposite
 abbrev pub IsFar : ObjectNo → Option FeatureNo → End → Type 0
 IsFar o None d = ⊥
 IsFar o (Some g) d = far_end o g ≡ d
 
--- the object is at its position, the far end gains last, and each other end is as it was; what the link contains has its end
+-- the object is at its position, the far end gains its value last, and each other end is as it was; the node that the link contains has its
+-- holder
 pub record PutMakes (s : Links) (e : End) (i : ℕ) (o : ObjectNo) (g c : Option FeatureNo) : Type 0 where
   pub near : end (put s e i o g c) e ≡ insert (end s e) i (value.Object o)
   pub far : (d : End) → IsFar o g d → end (put s e i o g c) d ≡ end s d ++ node_value e.node ∷ []
   pub others : (d : End) → (e ≡ d → ⊥) → (IsFar o g d → ⊥) → end (put s e i o g c) d ≡ end s d
   pub holders : (n : Node) → holder (put s e i o g c) n ≡ option_or (holding (new_link s e i o g c) n) (holder s n)
 
--- whether d is the end of the opposite
+-- whether d is the far end of a put
 abbrev pub is_far : ObjectNo → Option FeatureNo → End → Bool
 is_far o None d = false
 is_far o (Some g) d = same_end (far_end o g) d
 
--- what an end has once an object is put at i in e, where g is the opposite of e's feature
+-- the values of an end after an object is put at i in e; g is the opposite of e's feature
 abbrev pub put_end : Links → End → ℕ → ObjectNo → Option FeatureNo → End → List Value
 put_end s e i o g d =
     if same_end e d then insert (end s d) i (value.Object o)
@@ -51,17 +52,17 @@ is_of_pair f g c = option_map_or (λ h. same_feature h f || is_feature h g) c fa
 abbrev pub is_contained : End → ObjectNo → Option FeatureNo → Node → Bool
 is_contained e o c n = option_map_or (λ x. same_node x n) (contained e o c) false
 
--- the end that contains n once an object is put into e, where g is the opposite and c the containing feature of the pair
+-- the end that contains n after an object is put into e, where g is the opposite and c the containing feature of the pair
 abbrev pub put_holder : Links → End → ObjectNo → Option FeatureNo → Option FeatureNo → Node → Option End
 put_holder s e o g c n =
     if is_of_pair e.feature g c && is_contained e o c n then containing e o c else holder s n
 
--- each end and each holder, computed
+-- each end and each holder after a put, computed
 pub record PutGives (s : Links) (e : End) (i : ℕ) (o : ObjectNo) (g c : Option FeatureNo) : Type 0 where
   pub ends : (d : End) → end (put s e i o g c) d ≡ put_end s e i o g d
   pub holders : (n : Node) → holder (put s e i o g c) n ≡ put_holder s e o g c n
 
--- the node that would contain the other is neither that one nor below it
+-- the node that would be the container of x is neither x nor below x
 abbrev pub IsPutOutside : Links → End → ObjectNo → Option FeatureNo → Type 0
 IsPutOutside s e o c =
     (x : Node) (d : End) → contained e o c ≡ Some x → containing e o c ≡ Some d
@@ -73,7 +74,7 @@ pub record PutProxyMakes (s : Links) (e : End) (i : ℕ) (t : List ℕ) : Type 0
   pub others : (d : End) → (e ≡ d → ⊥) → end (put_proxy s e i t) d ≡ end s d
   pub holders : (n : Node) → holder (put_proxy s e i t) n ≡ holder s n
 
--- each end loses what the link had there, and what it contained has no holder; a value at a position of an end names the link
+-- each end loses the link's value there, and the node that the link contained has no holder; the link can be cut by its value at either end
 pub record CutMakes (s : Links) (l : Link) : Type 0 where
   pub named : (e : End) (k : ℕ) (v : Value) → indexed l e ≡ Some (k, v) → cut_value s e v ≡ cut s l
   pub ends : (d : End) → end (cut s l) d ≡ without (end s d) (indexed l d)
@@ -85,7 +86,7 @@ pub record ShiftMakes (s : Links) (e : End) (to from : ℕ) : Type 0 where
   pub others : (d : End) → (e ≡ d → ⊥) → end (shift s e to from) d ≡ end s d
   pub holders : (n : Node) → holder (shift s e to from) n ≡ holder s n
 
--- of a pair of features, what one end has, the other has
+-- for features that are opposites: if end x has the node of y, end y has the node of x
 abbrev pub BothEndsAgree : Kinds → Links → Type 0
 BothEndsAgree m s = (x y : End) → m.opposite x.feature ≡ Some y.feature → Has s x (node_value y.node) → Has s y (node_value x.node)
 
@@ -94,16 +95,16 @@ HaveSameEnds s t = (e : End) → end s e ≡ end t e
 
 ---------------------------------------------------------------- cuts by name
 
--- the far end of the link of e and v, where g is the opposite of e's feature, is d, with the value w
+-- whether the link of v in e has the far end d, with the value w there; g is the opposite of e's feature
 abbrev pub names_far : End → Value → Option FeatureNo → End → Value → Bool
 names_far e (value.Object o) (Some g) d w = same_end (far_end o g) d && same_value (node_value e.node) w
 names_far e _ _ d w = false
 
--- the link that is in e with the value v is the one that is in d with the value w
+-- whether v in e and w in d are values of the same link
 abbrev pub names : Kinds → End → Value → End → Value → Bool
 names m e v d w = (same_end e d && same_value v w) || names_far e v (m.opposite e.feature) d w
 
--- some end and value of a list name the link that is in d with the value w
+-- whether a list of ends with values names the link of w in d
 abbrev pub is_named : Kinds → List (End × Value) → End → Value → Bool
 is_named m ts d w = list_any (λ t. names m t.0 t.1 d w) ts
 
@@ -111,16 +112,16 @@ is_named m ts d w = list_any (λ t. names m t.0 t.1 d w) ts
 abbrev pub without_all : Links → List (End × Value) → Links
 without_all s ts = fold (λ t x. cut_value t x.0 x.1) s ts
 
--- who still holds n, of the end that did
+-- the holder of n that is left: the holder o, if its link is not named
 abbrev pub kept_holder : Kinds → List (End × Value) → Node → Option End → Option End
 kept_holder m ts n o = option_and_then (λ (d : End). if is_named m ts d (node_value n) then None else Some d) o
 
--- each end loses what the name names, and what is held by that link its holder
+-- each end loses the value of the named link, and the node that the link contains loses its holder
 pub record CutByNameMakes (m : Kinds) (s : Links) (e : End) (v : Value) : Type 0 where
   pub ends : (d : End) → end (cut_value s e v) d ≡ filter (λ w. not (names m e v d w)) (end s d)
   pub holders : (n : Node) → holder (cut_value s e v) n ≡ option_and_then (λ (d : End). if names m e v d (node_value n) then None else Some d) (holder s n)
 
--- each end loses what some name names and gains nothing, and no node gets another holder
+-- each end loses the values of the named links and gains none, and no node gets a new holder
 pub record CutsByNameMake (m : Kinds) (s : Links) (ts : List (End × Value)) : Type 0 where
   pub ends : (d : End) → end (without_all s ts) d ≡ filter (λ w. not (is_named m ts d w)) (end s d)
   pub holders : (n : Node) → holder (without_all s ts) n ≡ kept_holder m ts n (holder s n)
@@ -141,31 +142,32 @@ cut_edits ts = map (λ t. cut_edit t.0 t.1) ts
 abbrev pub AreThere : Links → List (End × Value) → Type 0
 AreThere s ts = AllByRecursion (λ (t : End × Value). Has s t.0 t.1) ts
 
--- none of them names the link of an earlier one
+-- no link is named twice
 abbrev pub AreOnce : Kinds → List (End × Value) → Type 0
 AreOnce m [] = Unit {0}
 AreOnce m (t ∷ ts) = AllByRecursion (λ (u : End × Value). names m t.0 t.1 u.0 u.1 ≡ false) ts × AreOnce m ts
 
 ---------------------------------------------------------------- nodes that go
 
--- the value is an object of those that go
+-- whether a value is an object that is removed
 abbrev pub goes : (Node → Bool) → Value → Bool
 goes gone (value.Object o) = gone (node.Object o)
 goes gone _ = false
 
--- what is left of each end and of each holder, and that no link names a node that went
+-- a node that is removed has empty ends and no holder, each other end loses the objects that are removed, and no link names a node that is
+-- removed
 pub record WithoutNodesMakes (s : Links) (gone : Node → Bool) : Type 0 where
   pub ends : (d : End) → end (without_nodes s gone) d ≡ (if gone d.node then [] else filter (λ v. not (goes gone v)) (end s d))
   pub holders : (n : Node) → holder (without_nodes s gone) n ≡ option_and_then (λ (d : End). if gone d.node || gone n then None else Some d) (holder s n)
   pub untouched : (l : Link) → In l (without_nodes s gone) → touches gone l ≡ false
 
--- the names are those of the links that name a node that goes
+-- the names name exactly the links of the nodes that are removed
 abbrev pub NameLinksOf : Kinds → Links → (Node → Bool) → List (End × Value) → Type 0
 NameLinksOf m s gone ts = (d : End) (w : Value) → Has s d w → is_named m ts d w ≡ (gone d.node || goes gone w)
 
 ---------------------------------------------------------------- containment
 
--- the end at which an edit is named
+-- the end that an edit names
 abbrev pub edit_end : Edit → End
 edit_end (edit.Cut e o) = e
 edit_end (edit.Put e i o g c) = e
@@ -173,10 +175,10 @@ edit_end (edit.Shift e to from) = e
 edit_end (edit.PutProxy e i t) = e
 edit_end (edit.CutProxy e t) = e
 
--- a feature is one of a pair that contains, or contains alone
+-- whether a feature or its opposite is a containment
 abbrev pub contains_by : Kinds → FeatureNo → Bool
 contains_by m f = is_some (m.container f)
 
--- some edit is one of a link that contains
+-- whether some edit is of a link that contains
 abbrev pub touches_containment : Kinds → List Edit → Bool
 touches_containment m plan = list_any (λ x. contains_by m (edit_end x).feature) plan

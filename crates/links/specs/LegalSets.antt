@@ -1,5 +1,5 @@
--- Which sets of links are legal: each end is a list, and no node is contained twice. And which are of the kinds of features that a
--- metamodel has.
+-- When a set of links is legal: each end is a list, and no node is contained twice. And when its links agree with the features of a
+-- metamodel.
 use Rattle.std.specs.Prelude.{◌≡◌, ℕ, ◌<◌, ◌≤◌, List, length, slice_get, Option, Some, None}
 use Rattle.mm_types.specs.declared.numbers.FeatureNo.{FeatureNo}
 use Rattle.mm_types.specs.declared.numbers.Node.{Node}
@@ -30,7 +30,7 @@ abbrev pub IsObject : Node → Type 0
 IsObject (node.Object o) = Unit {0}
 IsObject (node.Resource r) = ⊥
 
--- a link between two ends is one of objects, under two features
+-- a link between two ends is between objects, and its two features differ
 abbrev pub HasTwoSides : End → Far → Type 0
 HasTwoSides e (At d j) = ((d.feature.0 ≡ e.feature.0) → ⊥) × IsObject e.node × IsObject d.node
 HasTwoSides e (Alone o) = Unit {0}
@@ -58,7 +58,7 @@ pub record IsLegalSet (s : Links) : Type 0 where
 
 ---------------------------------------------------------------- kinds
 
--- of each feature its opposite, and the feature of the pair that contains
+-- for each feature its opposite, and the containment among the two, if there is one
 pub record Kinds : Type 0 where
   pub opposite : FeatureNo → Option FeatureNo
   pub container : FeatureNo → Option FeatureNo
@@ -74,7 +74,7 @@ FarOfKind m f (At d j) = (m.opposite f ≡ Some d.feature) × (m.opposite d.feat
 FarOfKind m f (Alone o) = m.opposite f ≡ None
 FarOfKind m f (Proxy t) = Unit {0}
 
--- a link is of the kind of its features, and written from the lower one
+-- a link agrees with the opposite and the containment of its feature; between two ends it is written from the lower feature
 pub record IsOfKind (m : Kinds) (l : Link) : Type 0 where
   pub far : FarOfKind m l.end.feature l.far
   pub container : l.container ≡ m.container l.end.feature

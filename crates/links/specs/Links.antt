@@ -32,12 +32,12 @@ In l s = set.contains s l ≡ true
 
 ---------------------------------------------------------------- ends
 
--- the value p, if it is at k, and else the other
+-- the value of p if its position is k, else the other value
 abbrev pub at_indexed : Option (ℕ × Value) → ℕ → Option Value → Option Value
 at_indexed None k other = other
 at_indexed (Some p) k other = if p.0 == k then Some p.1 else other
 
--- what is at position k of e
+-- the value at position k of e
 abbrev pub value_at : List Link → End → ℕ → Option Value
 value_at [] e k = None
 value_at (l ∷ ls) e k = at_indexed (indexed l e) k (value_at ls e k)
@@ -50,7 +50,7 @@ abbrev pub length_at : List Link → End → ℕ
 length_at [] e = 0
 length_at (l ∷ ls) e = max (past (indexed l e)) (length_at ls e)
 
--- what is at n positions of e, from k on
+-- the values at n positions of e, from k on
 abbrev pub values_from : List Link → End → ℕ → ℕ → List Value
 values_from ls e k zero = []
 values_from ls e k (suc n) = cons_option (value_at ls e k) (values_from ls e (suc k) n)
@@ -90,7 +90,7 @@ raise i k = if nat_lt k i then k else suc k
 abbrev pub lower : ℕ → ℕ → ℕ
 lower i k = if nat_lt i k then k - 1 else k
 
--- the new position of k once what is at `from` is taken out and put in at `to`
+-- the new position of k after the value at `from` is taken out and put in at `to`
 abbrev pub shifted_index : ℕ → ℕ → ℕ → ℕ
 shifted_index to from k = if k == from then to else raise to (lower from k)
 
@@ -106,7 +106,7 @@ cut s l = lowered_far (renumbered (set.remove s l) l.end (lower l.index)) l.far
 abbrev pub cut_some : Links → Option Link → Links
 cut_some s o = option_map_or (cut s) o s
 
--- cuts the link that is in e with the value v, if one does
+-- cuts the link that is in e with the value v, if there is one
 unfoldable pub cut_value : Links → End → Value → Links
 cut_value s e v = cut_some s (find (has_value e v) (set.items s))
 
@@ -120,7 +120,7 @@ joined x i y j c =
 abbrev pub far_end : ObjectNo → FeatureNo → End
 far_end o g = record { node = node.Object o; feature = g }
 
--- the link that puts an object at i in e, where g is the opposite of e's feature: it is last in the far end
+-- the link that puts an object at i in e, where g is the opposite of e's feature; at the far end it is last
 abbrev pub new_link : Links → End → ℕ → ObjectNo → Option FeatureNo → Option FeatureNo → Link
 new_link s e i o None c = record { end = e; index = i; far = Alone o; container = c }
 new_link s e i o (Some g) c = joined e i (far_end o g) (length (end s (far_end o g))) c
@@ -137,11 +137,11 @@ new_proxy e i t = record { end = e; index = i; far = Proxy t; container = None }
 unfoldable pub put_proxy : Links → End → ℕ → List ℕ → Links
 put_proxy s e i t = set.insert (renumbered s e (raise i)) (new_proxy e i t)
 
--- moves what is at `from` in e, so that it then is at `to`
+-- moves the value at `from` in e, so that it then is at `to`
 unfoldable pub shift : Links → End → ℕ → ℕ → Links
 shift s e to from = renumbered s e (shifted_index to from)
 
--- a list without what was at a position: what a cut makes of an end
+-- a list without the value at a position: an end after a cut
 abbrev pub without : List Value → Option (ℕ × Value) → List Value
 without vs p = option_map_or (λ q. remove vs q.0) p vs
 
@@ -150,10 +150,10 @@ far_touches gone (At d j) = gone d.node
 far_touches gone (Alone o) = gone (node.Object o)
 far_touches gone (Proxy t) = false
 
--- the link names a node of those that go
+-- whether a link names a node that is removed
 abbrev pub touches : (Node → Bool) → Link → Bool
 touches gone l = if gone l.end.node then true else far_touches gone l.far
 
--- cuts every link that names a node of those that go
+-- cuts every link that names a node that is removed
 unfoldable pub without_nodes : Links → (Node → Bool) → Links
 without_nodes s gone = fold (λ t l. cut_value t l.end (far_value l.far)) s (filter (touches gone) (set.items s))

@@ -1,4 +1,4 @@
--- An order and a code of links, for the type of a set of links alone: those of the numbers that a link is written as.
+-- A code of links as lists of numbers, and the order of these lists. Only the type of a set of links needs them.
 use Rattle.std.specs.Prelude.{◌≡◌, ℕ, zero, suc, List, [], ◌∷◌, Option, Some, None, refl}
 use Rattle.std.specs.declared.cmp.Ordering.{Ordering}
 use Rattle.std.specs.Ordering.{nat_cmp}

@@ -1,4 +1,4 @@
--- Edits as a list: what each makes of a set of links, and when it fits.
+-- Edits as a list: the set of links after an edit, and when the edit fits.
 use Rattle.std.specs.Prelude.{◌≡◌, ◌↔◌, ◌||◌, ◌&&◌, ℕ, ◌<◌, ◌≤◌, Bool, true, false, List, [], ◌∷◌, fold, length, nat_lt, slice_get, Option, Some, None}
 use Rattle.std.specs.List.{Contains}
 use Rattle.mm_types.specs.Same.{node_value, same_end, same_feature}
@@ -43,7 +43,7 @@ Has s e v = (k : ℕ) × (slice_get (end s e) k ≡ Some v)
 abbrev pub Lacks : Links → End → Value → Type 0
 Lacks s e v = (k : ℕ) → slice_get (end s e) k ≡ Some v → ⊥
 
--- the opposite end can gain too
+-- the far end can gain a value too
 pub record FarFits (s : Links) (e : End) (o : ObjectNo) (g : FeatureNo) : Type 0 where
   pub apart : (g.0 ≡ e.feature.0) → ⊥
   pub object : IsObject e.node
@@ -59,7 +59,7 @@ pub record PutFits (s : Links) (e : End) (i : ℕ) (v : Value) : Type 0 where
   pub absent : Lacks s e v
   pub room : length (end s e) < most
 
--- what becomes contained is contained by nothing
+-- the node that becomes contained, if there is one, has no container
 abbrev pub IsFree : Links → Option Node → Type 0
 IsFree s None = Unit {0}
 IsFree s (Some n) = holder s n ≡ None
@@ -78,7 +78,7 @@ PlanFits s (x ∷ xs) = EditFits s x × PlanFits (edited s x) xs
 
 ---------------------------------------------------------------- kinds and cycles
 
--- an edit is of the kinds of its features; a proxy contains nothing
+-- an edit agrees with the opposite and the containment of its feature; a proxy is under no containment
 abbrev pub IsEditOfKind : Kinds → Edit → Type 0
 IsEditOfKind m (edit.Cut e o) = Unit {0}
 IsEditOfKind m (edit.Put e i o g c) = (g ≡ m.opposite e.feature) × (c ≡ m.container e.feature)
@@ -90,11 +90,11 @@ abbrev pub IsPlanOfKind : Kinds → List Edit → Type 0
 IsPlanOfKind m [] = Unit {0}
 IsPlanOfKind m (x ∷ xs) = IsEditOfKind m x × IsPlanOfKind m xs
 
--- the plan is of kinds that the store is of
+-- the plan agrees with kinds of features that the store has
 abbrev pub HasPlanOfKind : (Kinds → Type 0) → List Edit → Type 0
 HasPlanOfKind kinds plan = (m : Kinds) × kinds m × IsPlanOfKind m plan
 
--- the container of what the link contains is neither that node nor below it
+-- the container that a link gives to a node x is neither x nor below x
 abbrev pub IsOutside : Links → Link → Type 0
 IsOutside s l = (x : Node) (d : End) → holding l x ≡ Some d → ((d.node ≡ x) → ⊥) × (IsUnder s d.node x → ⊥)
 
@@ -120,11 +120,11 @@ has_end (e ∷ es) d = same_end e d || has_end es d
 abbrev pub AreIncoming : Links → ObjectNo → List End → Type 0
 AreIncoming s o es = (e : End) → (has_end es e ≡ true) ↔ Has s e (value.Object o)
 
--- the end at which an object comes in
+-- the end of an entry
 abbrev pub incoming_end : Incoming → End
 incoming_end i = record { node = i.node; feature = i.feature }
 
--- the positions are those at which the object is, and no others
+-- the entries are exactly the positions at which the object is
 abbrev pub AreEntriesOf : Links → ObjectNo → List Incoming → Type 0
 AreEntriesOf s o is = (i : Incoming) → Contains is i ↔ (slice_get (end s (incoming_end i)) i.position ≡ Some (value.Object o))
 

@@ -1,7 +1,7 @@
 //! The positions of an object.
 use mm_types::{FeatureNo, Node};
 
-/// A position at which an object is: in the end of a node's feature.
+/// A position of an object: it is in the end of a node's feature.
 #[derive(Clone, Copy)]
 pub struct Incoming {
     pub feature: FeatureNo,

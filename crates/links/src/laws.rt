@@ -31,32 +31,32 @@ pub fn a_plan_that_fits_keeps_a_set_legal()
     ensures { (s : Links) (plan : List Edit) → IsLegalSet s → PlanFits s plan → IsLegalSet (applied s plan) }
 {}
 
-/// A plan of the kinds of features keeps links of those kinds.
+/// A plan that agrees with the kinds of features keeps links that agree with them.
 pub fn a_plan_keeps_the_kinds()
     ensures { (m : Kinds) → AreKinds m → (s : Links) (plan : List Edit) → AreOfKind m s → IsPlanOfKind m plan → AreOfKind m (applied s plan) }
 {}
 
-/// A plan that puts nothing below itself makes no cycle.
+/// A plan that puts no node below itself makes no cycle.
 pub fn a_plan_makes_no_cycle()
     ensures { (s : Links) (plan : List Edit) → IsLegalSet s → PlanFits s plan → PlanMakesNoCycle s plan → HasNoCycle s → HasNoCycle (applied s plan) }
 {}
 
-/// If no node is under itself, no chain of holders is longer than there are links.
+/// If no node is under itself, no chain of holders is longer than the number of links.
 pub fn chains_of_holders_end()
     ensures { (s : Links) → IsLegalSet s → HasNoCycle s → IsForest s }
 {}
 
-/// What is above a node is the node of its holder, and then what is above that (EMF: eContainer, again and again).
+/// The nodes above a node are the node of its holder, and then the nodes above that one (EMF: eContainer, repeated).
 pub fn what_is_above_follows_the_holders()
     ensures { (s : Links) → IsLegalSet s → HasNoCycle s → (n : Node) → above s n ≡ option_map_or (λ (e : End). e.node ∷ above s e.node) (holder s n) [] }
 {}
 
-/// Fewer nodes are above a holder's node than above what it holds: a loop that walks up ends.
+/// Fewer nodes are above a holder's node than above the node that it holds, so a loop that walks up ends.
 pub fn fewer_are_above_a_holder()
     ensures { (s : Links) → IsLegalSet s → HasNoCycle s → (n : Node) (e : End) → holder s n ≡ Some e → length (above s e.node) < length (above s n) }
 {}
 
-/// A node is under those above it and no other, and is not above itself.
+/// A node is under exactly the nodes above it, and is not above itself.
 pub fn a_node_is_under_those_above_it()
     ensures under { (s : Links) → IsLegalSet s → HasNoCycle s → (x y : Node) → (list_any (same_node y) (above s x) ≡ true) ↔ IsUnder s x y }
     ensures itself { (s : Links) → IsLegalSet s → HasNoCycle s → (x : Node) → list_any (same_node x) (above s x) ≡ false }
@@ -67,17 +67,17 @@ pub fn a_resource_has_no_holder()
     ensures { (s : Links) (r : ResourceNo) → IsLegalSet s → holder s (node.Resource r) ≡ None }
 {}
 
-/// What a put makes of each end, and of the holders.
+/// The ends and the holders after a put.
 pub fn a_put_gains_at_both_ends()
     ensures { (s : Links) (e : End) (i : ℕ) (o : ObjectNo) (g c : Option FeatureNo) → IsLegalSet s → EditFits s (edit.Put e i o g c) → PutMakes s e i o g c }
 {}
 
-/// What each end and each holder is after a put, as equations that compute.
+/// Each end and each holder after a put, as equations that compute.
 pub fn a_put_gives_each_end_and_holder()
     ensures { (s : Links) (e : End) (i : ℕ) (o : ObjectNo) (g c : Option FeatureNo) → IsLegalSet s → EditFits s (edit.Put e i o g c) → PutGives s e i o g c }
 {}
 
-/// A put that fits keeps a legal set legal, of its kinds, and, if the node that contains is neither the other nor below it, without cycles.
+/// A put that fits keeps a legal set legal, and its kinds. It makes no cycle if the containing node is neither the other node nor below it.
 pub fn a_put_keeps_a_set_legal()
     ensures legal { (s : Links) (e : End) (i : ℕ) (o : ObjectNo) (g c : Option FeatureNo) → IsLegalSet s → EditFits s (edit.Put e i o g c) → IsLegalSet (put s e i o g c) }
     ensures kinds { (m : Kinds) → AreKinds m → (s : Links) (e : End) (i : ℕ) (o : ObjectNo) → AreOfKind m s → AreOfKind m (put s e i o (m.opposite e.feature) (m.container e.feature)) }
@@ -85,22 +85,22 @@ pub fn a_put_keeps_a_set_legal()
     ensures no_cycle { (s : Links) (e : End) (i : ℕ) (o : ObjectNo) (g c : Option FeatureNo) → IsLegalSet s → EditFits s (edit.Put e i o g c) → HasNoCycle s → IsPutOutside s e o c → HasNoCycle (put s e i o g c) }
 {}
 
-/// What a put of a proxy makes of each end, and of the holders.
+/// The ends and the holders after a put of a proxy.
 pub fn a_proxy_stands_in_one_end()
     ensures { (s : Links) (e : End) (i : ℕ) (t : List ℕ) → IsLegalSet s → EditFits s (edit.PutProxy e i t) → PutProxyMakes s e i t }
 {}
 
-/// What a cut makes of each end, and of the holders.
+/// The ends and the holders after a cut.
 pub fn a_cut_loses_at_both_ends()
     ensures { (s : Links) (l : Link) → IsLegalSet s → In l s → CutMakes s l }
 {}
 
-/// What a cut by an end and a value there makes of each end, and of the holders. A value that is not there cuts nothing.
+/// The ends and the holders after a cut by an end and a value there. A value that is not there cuts nothing.
 pub fn a_cut_by_name_loses_what_it_names()
     ensures { (m : Kinds) → AreKinds m → (s : Links) (e : End) (v : Value) → IsLegalSet s → AreOfKind m s → CutByNameMakes m s e v }
 {}
 
-/// What several cuts, each by an end and a value there, make of each end, and of the holders.
+/// The ends and the holders after several cuts, each by an end and a value there.
 pub fn cuts_by_name_lose_what_they_name()
     ensures { (m : Kinds) → AreKinds m → (s : Links) (ts : List (End × Value)) → IsLegalSet s → AreOfKind m s → CutsByNameMake m s ts }
 {}
@@ -113,12 +113,13 @@ pub fn cuts_by_name_keep_a_set_legal()
     ensures above { (s : Links) (ts : List (End × Value)) → IsLegalSet s → HasNoCycle s → (x y : Node) → list_any (same_node y) (above s x) ≡ false → list_any (same_node y) (above (without_all s ts) x) ≡ false }
 {}
 
-/// What is cut from the end that contains it is contained by nothing.
+/// A node that is cut from the end that contains it has no holder.
 pub fn what_is_cut_from_its_holder_is_free()
     ensures { (s : Links) (n : Node) (e : End) → IsLegalSet s → holder s n ≡ Some e → holder (cut_value s e (node_value n)) n ≡ None }
 {}
 
-/// A plan that cuts links, each there and each named once, fits, makes what the cuts make, is of any kind and makes no cycle.
+/// A plan that cuts links fits if each link is there and is named once. It makes what the cuts make, agrees with all kinds, and makes no
+/// cycle.
 pub fn a_plan_of_cuts_fits()
     ensures fits { (m : Kinds) → AreKinds m → (s : Links) (ts : List (End × Value)) → IsLegalSet s → AreOfKind m s → AreThere s ts → AreOnce m ts → PlanFits s (cut_edits ts) }
     ensures makes { (m : Kinds) → AreKinds m → (s : Links) (ts : List (End × Value)) → IsLegalSet s → AreOfKind m s → AreThere s ts → AreOnce m ts → applied s (cut_edits ts) ≡ without_all s ts }
@@ -126,7 +127,7 @@ pub fn a_plan_of_cuts_fits()
     ensures no_cycle { (s : Links) (ts : List (End × Value)) → PlanMakesNoCycle s (cut_edits ts) }
 {}
 
-/// Plans one after the other: what they make, and that they fit.
+/// What two plans one after the other make, and that they fit.
 pub fn plans_follow_one_another()
     ensures makes { (s : Links) (xs ys : List Edit) → applied s (xs ++ ys) ≡ applied (applied s xs) ys }
     ensures fits { (s : Links) (xs ys : List Edit) → PlanFits s xs → PlanFits (applied s xs) ys → PlanFits s (xs ++ ys) }
@@ -134,22 +135,22 @@ pub fn plans_follow_one_another()
     ensures no_cycle { (s : Links) (xs ys : List Edit) → PlanMakesNoCycle s xs → PlanMakesNoCycle (applied s xs) ys → PlanMakesNoCycle s (xs ++ ys) }
 {}
 
-/// What is left when nodes go, with each link that names one of them: of each end, and of the holders. No link left names one.
+/// The ends and the holders after nodes are removed, with each link that names one of them. No link that is left names one.
 pub fn a_set_without_nodes_names_none_of_them()
     ensures makes { (s : Links) (gone : Node → Bool) → IsLegalSet s → WithoutNodesMakes s gone }
     ensures legal { (s : Links) (gone : Node → Bool) → IsLegalSet s → IsLegalSet (without_nodes s gone) }
     ensures kinds { (m : Kinds) (s : Links) (gone : Node → Bool) → AreOfKind m s → AreOfKind m (without_nodes s gone) }
     ensures no_cycle { (s : Links) (gone : Node → Bool) → IsLegalSet s → HasNoCycle s → HasNoCycle (without_nodes s gone) }
-    // cuts that name each link of a node that goes, and no other, leave the same
+    // cuts of exactly the links of the removed nodes leave the same set
     ensures by_cuts { (m : Kinds) → AreKinds m → (s : Links) (gone : Node → Bool) (ts : List (End × Value)) → IsLegalSet s → AreOfKind m s → NameLinksOf m s gone ts → without_all s ts ≡ without_nodes s gone }
 {}
 
-/// What a shift makes of each end, and of the holders.
+/// The ends and the holders after a shift.
 pub fn a_shift_moves_in_one_end()
     ensures { (s : Links) (e : End) (to from : ℕ) → IsLegalSet s → EditFits s (edit.Shift e to from) → ShiftMakes s e to from }
 {}
 
-/// A plan that edits no link that contains leaves each end of a feature that contains, or whose opposite contains, as it was.
+/// A plan that edits no link that contains leaves each end of a containment or a container reference as it was.
 pub fn a_plan_of_other_links_leaves_what_contains()
     ensures { (m : Kinds) → AreKinds m → (s : Links) (plan : List Edit) → IsLegalSet s → AreOfKind m s → PlanFits s plan → IsPlanOfKind m plan → touches_containment m plan ≡ false → (d : End) → contains_by m d.feature ≡ true → end (applied s plan) d ≡ end s d }
 {}
@@ -159,7 +160,7 @@ pub fn both_ends_agree()
     ensures { (m : Kinds) (s : Links) → IsLegalSet s → AreOfKind m s → BothEndsAgree m s }
 {}
 
-/// Links of the kinds of features are determined by their ends: two legal sets with the same ends are one.
+/// Links of the kinds of features are determined by their ends: two legal sets with the same ends are equal.
 pub fn the_ends_determine_the_links()
     ensures { (m : Kinds) (s t : Links) → IsLegalSet s → IsLegalSet t → AreOfKind m s → AreOfKind m t → HaveSameEnds s t → s ≡ t }
 {}

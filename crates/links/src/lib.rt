@@ -1,5 +1,5 @@
-//! Links between objects, and proxies: what a set of them is, its edits and their laws, and what a store of one is. A plan of edits that
-//! fits a legal set keeps it legal, and a store that has capacity for a plan applies it and cannot fail.
+//! Links between objects, and proxies: sets of links, their edits and the laws of the edits, and the interface of a store. A plan of edits
+//! that fits a legal set keeps it legal, and a store that has capacity for a plan applies it and cannot fail.
 #![tactic(auto)]
 
 mod incoming;

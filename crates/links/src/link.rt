@@ -1,4 +1,4 @@
-//! Links, and proxies, which are links to what is not loaded.
+//! Links, and proxies, which are links to objects that are not loaded.
 use mm_types::{End, FeatureNo, ObjectNo, Text};
 
 /// The other side of a link.
@@ -18,11 +18,11 @@ pub struct Link {
     pub end: End,
     pub index: u32,
     pub far: Far,
-    /// The feature of the pair that contains, if one does.
+    /// The containing feature of the pair, if one of the two is a containment.
     pub container: Option<FeatureNo>,
 }
 
-/// A link that is put in (`Edit::Put`). It is last in the opposite end, if there is one.
+/// A link that is put in (`Edit::Put`). In the opposite end, if there is one, it is put last.
 #[derive(Clone, Copy)]
 pub struct NewLink {
     pub end: End,
@@ -31,6 +31,6 @@ pub struct NewLink {
     pub object: ObjectNo,
     /// The opposite of the end's feature, if it has one.
     pub opposite: Option<FeatureNo>,
-    /// The feature of the pair that contains, if one does.
+    /// The containing feature of the pair, if one of the two is a containment.
     pub container: Option<FeatureNo>,
 }

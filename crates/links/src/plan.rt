@@ -4,7 +4,7 @@ ghost use Rattle.links.specs.Laws.{edit_end};
 
 use mm_types::{End, FeatureNo, ObjectNo, Seq, Text};
 
-/// One edit. A cut names its link by an end and the value there, which no other edit renumbers.
+/// One edit. A cut names its link by an end and the value there, and not by a position, which other edits may change.
 #[derive(Debug, Drop)]
 pub enum Edit {
     /// Takes the link of an object out of an end, and lowers the later positions in each end that
@@ -21,7 +21,7 @@ pub enum Edit {
         opposite: Option<FeatureNo>,
         container: Option<FeatureNo>,
     },
-    /// Moves what is at `from`, so that it is then at `to`.
+    /// Moves the value at `from`, so that it is then at `to`.
     Shift {
         end: End,
         to: u32,

@@ -17,13 +17,14 @@ use std::alloc::{AllocError, Global};
 
 /// A set of links, however it is kept.
 ///
-/// A store may keep for each feature its opposite and what contains, as puts name them. So it is of the kinds of some
-/// metamodel: an empty store of any, and `apply` keeps those of which the plan is.
+/// A store may keep for each feature its opposite and its containing feature, as puts name them. So a store agrees with
+/// the kinds of features of some metamodels: an empty store with all, and `apply` keeps the kinds with which its plan
+/// agrees.
 pub trait LinkStore: Drop {
     /// The links.
     ghost links: { Self → Links };
 
-    /// The kinds of features that it can be of.
+    /// The kinds of features with which the store agrees.
     ghost kinds: { Self → Kinds → Type 0 };
 
     /// Whether there is capacity for a plan.

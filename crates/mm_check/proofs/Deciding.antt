@@ -1,4 +1,4 @@
--- What tests of a place decide.
+-- Whether a condition applies at a place is decided by tests.
 use Rattle.std.proofs.Common.{◌≡◌, ◌∙◌, ◌<◌, ◌≤◌, ◌↔◌, ◌||◌, ◌++◌, ℕ, zero, suc, Bool, true, false, List, [], ◌∷◌, Option, Some, None, ap, arith, length, sym, subst, take, ⊎_elim, inr}
 use Rattle.std.specs.Prelude.{IsTrue, slice_get}
 use Rattle.std.specs.Option.{option_map_or}
@@ -22,7 +22,7 @@ none_past [] i is low = omega arith
 none_past (x ∷ xs) zero is low = cc
 none_past (x ∷ xs) (suc i) is low = none_past xs i is (omega arith)
 
--- if there is no class nothing occurs twice
+-- if there is no class, nothing occurs twice
 pub no_class : (raw : RawMetamodel) (c : ℕ) → None ≡ slice_get raw.classes c → IsTrue false ↔ HasDuplicate raw (Class c)
 no_class raw c is = ((λ (h : false ≡ true). absurd cc), (λ (h : HasDuplicate raw (Class c)). absurd (none_past raw.classes c is (class_inside raw DuplicateName c h))))
 

@@ -32,7 +32,7 @@ number_high BothContain = omega arith
 number_high ContainerBound = omega arith
 number_high Default = omega arith
 
--- the condition at an index has the number that is 4 more
+-- the number of the condition at an index is the index plus 4
 pub number_at : (i : ℕ) (d : Condition) → i < 9 → condition_number (get_or conditions i d) ≡ i + 4
 number_at zero d h = refl
 number_at (suc zero) d h = refl

@@ -1,12 +1,11 @@
 -- A condition applies at no place outside the document.
 use Rattle.std.proofs.Common.{◌≡◌, ◌∙◌, ◌<◌, ℕ, zero, suc, Bool, true, false, List, [], ◌∷◌, Option, Some, None, ap, arith, length, refl, sym, subst, ⊎_elim}
 use Rattle.std.specs.Prelude.{IsTrue, option_map, slice_get}
-use Rattle.std.specs.List.{Contains}
 use Rattle.std.specs.Option.{option_map_or}
 use Rattle.std.proofs.lemmas.List.{length-map}
 use Rattle.std.proofs.lemmas.Option.{option_and_then_some, slice_get_within}
 use Rattle.mm_types.specs.Clashes.{Clash}
-use Rattle.mm_types.specs.Graph.{Walk, by_class}
+use Rattle.mm_types.specs.Graph.{Walk}
 use Rattle.mm_types.specs.Raw.{RawMetamodel}
 use Rattle.mm_types.specs.Resolved.{class_named, graph_of}
 use Rattle.std.specs.List.{filter_map}
@@ -18,6 +17,7 @@ use Rattle.mm_types.specs.declared.raw.RawClass.{RawClass}
 use Rattle.mm_types.specs.declared.raw.RawFeature.{RawFeature}
 use Rattle.mm_check.specs.Search.{feature_count}
 use Rattle.mm_types.proofs.Unique.{names_at}
+use Rattle.mm_graph.proofs.Reaching.{has_row}
 
 test_inside : {X : Type 0} (t : X → Bool) (xs : List X) (i : ℕ) → IsTrue (test_at t xs i) → i < length xs
 test_inside t [] i h = cc
@@ -38,11 +38,6 @@ test_feature_inside t raw c i h = by (feature_at raw c i) refl h
     by None at h = cc
     by (Some f) at h = some_inside raw c i f at
 
-row_inside : (g : List (List ℕ)) (c e : ℕ) → Contains (by_class g c) e → c < length g
-row_inside [] c e h = let bad = h.1 in absurd (omega arith)
-row_inside (r ∷ g) zero e h = omega arith
-row_inside (r ∷ g) (suc c) e h = let low = row_inside g c e h in omega arith
-
 pub long : (cs : List RawClass) → length (graph_of cs) ≡ length cs
 long cs = length-map cs (λ c. filter_map (class_named cs) c.supers)
 
@@ -55,7 +50,7 @@ named_inside raw c i name h = by (feature_at raw c i) refl h
 
 walk_inside : (raw : RawMetamodel) (n c d : ℕ) → Walk (graph_of raw.classes) n c d → d < length raw.classes → c < length raw.classes
 walk_inside raw zero c d walk low = let e : c ≡ d = walk in omega arith
-walk_inside raw (suc n) c d walk low = let h = row_inside (graph_of raw.classes) c walk.0 walk.1 in omega (arith, long raw.classes)
+walk_inside raw (suc n) c d walk low = let h = has_row (graph_of raw.classes) c walk.0 walk.1 in omega (arith, long raw.classes)
 
 clash_inside : (raw : RawMetamodel) (c : ℕ) → Clash (graph_of raw.classes) (own_names raw) c → c < length raw.classes
 clash_inside raw c k =
@@ -76,7 +71,7 @@ pub class_inside : (raw : RawMetamodel) (k : Condition) (c : ℕ) → Applies ra
 class_inside raw condition.Name c h = test_inside _ raw.classes c h
 class_inside raw condition.DuplicateName c h = ⊎_elim (λ a. test_inside _ raw.classes c a) (λ b. clash_inside raw c b) h
 class_inside raw condition.NoType c h = test_inside _ raw.classes c h
-class_inside raw condition.Cycle c h = let low = row_inside (graph_of raw.classes) c h.1.0 h.1.1 in omega (arith, long raw.classes)
+class_inside raw condition.Cycle c h = let low = has_row (graph_of raw.classes) c h.1.0 h.1.1 in omega (arith, long raw.classes)
 class_inside raw condition.Bounds c h = cc
 class_inside raw condition.Opposite c h = absurd h
 class_inside raw condition.BothContain c h = absurd h

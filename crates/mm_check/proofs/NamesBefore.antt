@@ -1,5 +1,5 @@
 -- Names among the first of a list, by the first position at which they are.
-use Rattle.std.proofs.Common.{◌≡◌, ◌∙◌, ◌+◌, ◌<◌, ◌≤◌, ◌||◌, ℕ, zero, suc, Bool, true, false, cond, List, [], ◌∷◌, Option, Some, ap, arith, map, refl, sym, take, nat_lt}
+use Rattle.std.proofs.Common.{◌≡◌, ◌∙◌, ◌+◌, ◌≤◌, ◌||◌, ℕ, zero, suc, Bool, true, false, cond, List, [], ◌∷◌, Option, Some, ap, arith, map, refl, sym, take, nat_lt}
 use Rattle.std.specs.Prelude.{is_some, position}
 use Rattle.std.specs.List.{list_any, position_from}
 use Rattle.std.specs.Option.{option_map_or}
@@ -7,13 +7,11 @@ use Rattle.std.specs.Str.{bytes_eq}
 use Rattle.std.proofs.lemmas.Bool.Decides.{Decides-like, nat_tests, same_from_decides}
 use Rattle.std.proofs.lemmas.Iterator.Adapters.{position_from-zero}
 use Rattle.std.proofs.lemmas.Slice.Eq.{bytes_eq-Decides}
+use Rattle.std.proofs.lemmas.Bool.{lt-ltb}
 use Rattle.mm_types.specs.Names.{is_among}
 
 flip : (a b : List ℕ) → bytes_eq a b ≡ bytes_eq b a
 flip a b = same_from_decides (bytes_eq a b) (bytes_eq b a) (bytes_eq-Decides a b) (Decides-like {P = b ≡ a} {Q = a ≡ b} (bytes_eq b a) (λ e. sym e) (λ e. sym e) (bytes_eq-Decides b a))
-
-less : (a b : ℕ) → a < b → nat_lt a b ≡ true
-less a b h = grind (arith, nat_tests)
 
 not_less : (a b : ℕ) → b ≤ a → nat_lt a b ≡ false
 not_less a b h = grind (arith, nat_tests)
@@ -35,7 +33,7 @@ before_from f n k zero m (x ∷ xs) e = sym (late (λ x. bytes_eq (f x) n) m k (
 before_from f n k (suc i) m (x ∷ xs) e =
     rw (flip n (f x))
     (elim (bytes_eq (f x) n) as (λ b. (b || list_any (bytes_eq n) (take i (map f xs))) ≡ option_map_or (λ j. nat_lt j m) (cond b (Some k) (position_from (λ x. bytes_eq (f x) n) (k + 1) xs)) false) [
-      | true ↦ sym (less k m (omega arith))
+      | true ↦ sym (lt-ltb k m (omega arith))
       | false ↦ before_from f n (k + 1) i m xs (omega arith)
     ])
 

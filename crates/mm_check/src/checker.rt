@@ -1,4 +1,4 @@
-//! A metamodel document with what its check needs.
+//! A metamodel document with the tables that its check needs.
 ghost use Rattle.std.specs.Prelude.{◌≡◌, IfOk, length, map, slice_get};
 ghost use Rattle.std.specs.Option.{option_copied};
 ghost use Rattle.mm_types.specs.WellFormed.{WellFormed, feature_at};

@@ -10,7 +10,7 @@ use mm_graph::{clashes, has_repeats};
 use mm_types::{Enumeration, Place, RawClass, Text};
 use std::alloc::{AllocError, Global};
 
-/// Whether no enumeration or class may have a name.
+/// Whether a name is reserved, so that no enumeration or class may have it.
 fn is_reserved(name: &str) -> bool
     ensures { result ≡ is_among reserved_names name.now }
 {

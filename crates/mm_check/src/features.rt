@@ -90,7 +90,7 @@ impl<'a> Checker<'a> {
         }
     }
 
-    /// Whether there is a feature at a place whose bounds contradict one another.
+    /// Whether a place is a feature whose bounds contradict one another.
     pub fn has_bad_bounds(&self, place: Place) -> bool
         ensures { result ≡ has_bad_bounds_at self.now place }
     {
@@ -138,8 +138,8 @@ impl<'a> Checker<'a> {
         }
     }
 
-    /// Whether there is an attribute at a place whose default literal is not of its type, or that is many-valued
-    /// and has one. Errs only if memory is refused.
+    /// Whether a place is an attribute with a default literal, and the attribute is many-valued or the literal is not
+    /// of its type. Errs only if memory is refused.
     pub fn has_bad_default(&self, alloc: Global, place: Place) -> Result<bool, AllocError>
         ensures { IfOk result (λ b. b ≡ has_bad_default_at self.now place) }
     {

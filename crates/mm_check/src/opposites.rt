@@ -1,4 +1,4 @@
-//! Opposites, and which of them contain.
+//! Opposites, and which of them are containments.
 ghost use Rattle.std.specs.Prelude.{◌≡◌, ◌↔◌, IsTrue, is_some, not, pos};
 ghost use Rattle.std.specs.Option.{option_copied};
 ghost use Rattle.std.specs.Ordering.{int_eq};
@@ -140,7 +140,7 @@ impl<'a> Checker<'a> {
         }
     }
 
-    /// Whether a place is a reference whose opposite is not its opposite.
+    /// Whether a place is a reference that names an opposite, but there is no other reference that it names and that names it back.
     pub fn lacks_opposite(&self, place: Place) -> bool
         requires { NamesAreUnique self.now }
         ensures { IsTrue result ↔ LacksOpposite self.now place }
@@ -151,7 +151,7 @@ impl<'a> Checker<'a> {
         }
     }
 
-    /// Whether a place is a reference that contains, and whose opposite does too.
+    /// Whether a place is a reference, and both it and its opposite are containments.
     pub fn both_contain(&self, place: Place) -> bool
         requires { NamesAreUnique self.now }
         ensures { IsTrue result ↔ BothContain self.now place }
@@ -162,7 +162,7 @@ impl<'a> Checker<'a> {
         }
     }
 
-    /// Whether a place is a reference whose opposite contains, and whose upper bound is not 1.
+    /// Whether a place is a reference whose opposite is a containment, and whose upper bound is not 1.
     pub fn has_bad_container_bound(&self, place: Place) -> bool
         requires { NamesAreUnique self.now }
         ensures { IsTrue result ↔ HasBadContainerBound self.now place }

@@ -1,4 +1,4 @@
--- Which features a class has: those that the classes it conforms to declare.
+-- A class has the features that are declared by the classes to which it conforms.
 use Rattle.std.proofs.Common.{◌≡◌, ◌∙◌, ◌≢◌, ◌↔◌, ◌<◌, ◌≤◌, Bool, true, false, not, List, [], ◌∷◌, ℕ, ⊎_elim, suc, zero, arith, eqb, length, length-set, refl, replicate, set, subst, sym}
 use Rattle.std.specs.Cmp.{nat_eq_equiv}
 use Rattle.std.specs.List.{All, Contains, count_by, flat_map, list_any}
@@ -15,11 +15,11 @@ use Rattle.mm_graph.proofs.Merging.{any-with_new}
 use Rattle.mm_graph.proofs.Reaching.{nothing_in, one_fewer, other_test}
 use Rattle.mm_graph.proofs.Visiting.{walk_more}
 
--- each class of the set reaches c
+-- each class in the set reaches c
 abbrev AllReach : List (List ℕ) → List Bool → ℕ → Type 0
 AllReach g s c = (k : ℕ) → is_in s k ≡ true → Reaches g k c
 
--- and, with c put into it, each supertype of c
+-- after c is put into the set, each class in it reaches each supertype of c
 all_reach_super : (g : List (List ℕ)) (s : List Bool) (c e : ℕ) → AllReach g s c → Contains (by_class g c) e → AllReach g (set s c true) e
 all_reach_super g s c e all step k is = ⊎_elim
     (λ (h : k ≡ c). (0, (e, subst (λ (x : ℕ). Contains (by_class g x) e) (sym h) step, refl)))
@@ -28,7 +28,7 @@ all_reach_super g s c e all step k is = ⊎_elim
     (suc r.0, walk_more g (suc r.0) k c e r.1 step))
     (cases_eq k c)
 
--- without cycles a walk comes to no class that it has left: each step takes one of those that are not in the set
+-- without cycles a walk does not come back to a class: each step goes to a class that is not in the set
 steps_left : (g : List (List ℕ)) → InRange g → (HasCycle g → ⊥) → (s : List Bool) (n c d : ℕ) → length s ≡ length g → c < length g
     → AllReach g s c → Walk g n c d → n < count_by not s
 steps_left g range acyclic s zero c d long low all w =
@@ -90,7 +90,7 @@ listed_cases g own f (suc depth) c h = ⊎_elim
     (λ (b : Contains (by_class own c) f). (c, (0, refl), b))
     (Contains-append_cases (flat_map (listed g own depth) (by_class g c)) (by_class own c) f h)
 
--- the first occurrences of a list are of what is in it
+-- the first occurrences of a list are elements of the list
 in_firsts : (xs : List ℕ) (x : ℕ) → Contains (first_occurrences xs) x ↔ Contains xs x
 in_firsts xs x =
     let same : list_any (eqb x) (first_occurrences xs) ≡ list_any (eqb x) xs = any-with_new x [] xs in (
@@ -98,7 +98,7 @@ in_firsts xs x =
       (λ h. Contains-from_any eqb-true x (first_occurrences xs) (same ∙ list_any-from_Contains nat_eq_equiv x xs h)),
     )
 
--- Without cycles all features of a class are those that the classes it conforms to declare.
+-- Without cycles all features of a class are the features that are declared by the classes to which it conforms.
 pub has_declarer : (g own : List (List ℕ)) → InRange g → (HasCycle g → ⊥) → (c f : ℕ) → c < length g
     → Contains (all_features g own c) f ↔ HasDeclarer g own c f
 unfolding all_features

@@ -17,7 +17,7 @@ one_passes p (x ∷ xs) h = ⊎_elim
     (r.0, (suc r.1.0, omega (arith, r.1.1), r.1.2), r.2))
     (or_cases (p x) (list_any p xs) h)
 
--- what is found is reached
+-- a class that is found is reached
 found_conforms : (g : List (List ℕ)) (n c d : ℕ) → conforms_within g n c d ≡ true → Conforms g c d
 found_conforms g zero c d h = (0, eqb-true c d h)
 found_conforms g (suc n) c d h = ⊎_elim
@@ -28,7 +28,7 @@ found_conforms g (suc n) c d h = ⊎_elim
     (suc rest.0, (e.0, e.1, rest.1)))
     (or_cases (nat_eq c d) (list_any (λ e. conforms_within g n e d) (by_class g c)) h)
 
--- what is reached by few steps is found
+-- a class that is reached by few steps is found
 reached_found : (g : List (List ℕ)) (n k c d : ℕ) → k ≤ n → Walk g k c d → conforms_within g n c d ≡ true
 reached_found g zero zero c d few w = eq-eqb c d w
 reached_found g zero (suc k) c d few w = absurd (omega arith)
@@ -39,7 +39,7 @@ reached_found g (suc n) (suc k) c d few w =
     or_right (nat_eq c d) (list_any (λ e. conforms_within g n e d) (by_class g c))
     (list_any_at (λ e. conforms_within g n e d) (by_class g c) at.0 w.0 at.1 (subst (λ (e : ℕ). conforms_within g n e d ≡ true) (sym at.2) rest))
 
--- Without cycles a class conforms to what is found within as many steps as there are classes, and to nothing else.
+-- Without cycles a class conforms to exactly the classes that are found within as many steps as there are classes.
 pub conforms_found : (g : List (List ℕ)) → InRange g → (HasCycle g → ⊥) → (c d : ℕ) → c < length g
     → (conforms_within g (length g) c d ≡ true) ↔ Conforms g c d
 conforms_found g range acyclic c d low = (

@@ -8,7 +8,7 @@ use Rattle.mm_graph.specs.Order.{IsOrder}
 use Rattle.mm_graph.specs.Rows.{from_supers}
 use Rattle.mm_graph.proofs.Merging.{same_listed, with_new-append, with_new_firsts}
 
--- what each lists may be put by its first occurrences
+-- each of the lists may be replaced by its first occurrences
 flat_firsts : (f : ℕ → List ℕ) (seen es : List ℕ)
     → with_new seen (flat_map (λ e. first_occurrences (f e)) es) ≡ with_new seen (flat_map f es)
 flat_firsts f seen [] = refl

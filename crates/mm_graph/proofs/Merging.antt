@@ -3,6 +3,7 @@ use Rattle.std.proofs.Common.{◌≢◌, ⊎_elim, set, get_or-set_same, get_or-
 use Rattle.std.specs.List.{All, flat_map, list_any}
 use Rattle.std.proofs.lemmas.Bool.{eqb-true, cases_eq}
 use Rattle.std.proofs.lemmas.List.Folds.{list_any-append}
+use Rattle.std.proofs.Math.Bool.{or-false, or-true, or_assoc}
 use Rattle.mm_types.specs.Graph.{by_class}
 use Rattle.mm_types.specs.Features.{all_features, first_occurrences, listed, with_new}
 use Rattle.mm_graph.specs.Rows.{with_rows}
@@ -17,38 +18,26 @@ or_known true e h = refl
 or_known false true h = sym (h refl)
 or_known false false h = refl
 
-or_false : (b : Bool) → (b || false) ≡ b
-or_false true = refl
-or_false false = refl
-
-or_assoc : (a b c : Bool) → ((a || b) || c) ≡ (a || (b || c))
-or_assoc true b c = refl
-or_assoc false b c = refl
-
 same_number : (x y : ℕ) → eqb x y ≡ true → x ≡ y
 same_number x y h = eqb-true x y h
 
 any_grown : (x y : ℕ) (acc : List ℕ) (t : Bool) → list_any (eqb y) acc ≡ t
     → list_any (eqb x) (cond t acc (acc ++ y ∷ [])) ≡ (list_any (eqb x) acc || eqb x y)
 any_grown x y acc true is = sym (or_known (list_any (eqb x) acc) (eqb x y) (λ e. ap (λ (n : ℕ). list_any (eqb n) acc) (same_number x y e) ∙ is))
-any_grown x y acc false is = list_any-append (eqb x) acc (y ∷ []) ∙ ap (λ b. list_any (eqb x) acc || b) (or_false (eqb x y))
+any_grown x y acc false is = list_any-append (eqb x) acc (y ∷ []) ∙ ap (λ b. list_any (eqb x) acc || b) (or-false (eqb x y))
 
--- what is in a list after which what it lacks was put
+-- the members of a list after the elements of another list that it lacks were appended
 pub any-with_new : (x : ℕ) (acc ys : List ℕ) → list_any (eqb x) (with_new acc ys) ≡ (list_any (eqb x) acc || list_any (eqb x) ys)
-any-with_new x acc [] = sym (or_false (list_any (eqb x) acc))
+any-with_new x acc [] = sym (or-false (list_any (eqb x) acc))
 any-with_new x acc (y ∷ ys) =
     any-with_new x (cond (list_any (eqb y) acc) acc (acc ++ y ∷ [])) ys
     ∙ (ap (λ b. b || list_any (eqb x) ys) (any_grown x y acc (list_any (eqb y) acc) refl)
     ∙ or_assoc (list_any (eqb x) acc) (eqb x y) (list_any (eqb x) ys))
 
-or_true : (b : Bool) → (b || true) ≡ true
-or_true true = refl
-or_true false = refl
-
 one_more : (acc seen : List ℕ) (x : ℕ) (t : Bool) → list_any (eqb x) seen ≡ t
     → with_new acc (cond t seen (seen ++ x ∷ [])) ≡ with_new (with_new acc seen) (x ∷ [])
 one_more acc seen x true is =
-    let there : list_any (eqb x) (with_new acc seen) ≡ true = any-with_new x acc seen ∙ (ap (λ b. list_any (eqb x) acc || b) is ∙ or_true (list_any (eqb x) acc)) in
+    let there : list_any (eqb x) (with_new acc seen) ≡ true = any-with_new x acc seen ∙ (ap (λ b. list_any (eqb x) acc || b) is ∙ or-true (list_any (eqb x) acc)) in
     sym (ap (λ b. cond b (with_new acc seen) (with_new acc seen ++ x ∷ [])) there)
 one_more acc seen x false is = with_new-append acc seen (x ∷ [])
 
@@ -58,11 +47,11 @@ with_new_twice acc seen (x ∷ xs) =
     with_new_twice acc (cond (list_any (eqb x) seen) seen (seen ++ x ∷ [])) xs
     ∙ ap (λ s. with_new s xs) (one_more acc seen x (list_any (eqb x) seen) refl)
 
--- The first occurrences of a list put as much after another as the list itself.
+-- Appending the first occurrences of a list gives the same as appending the list itself.
 pub with_new_firsts : (acc xs : List ℕ) → with_new acc (first_occurrences xs) ≡ with_new acc xs
 with_new_firsts acc xs = with_new_twice acc [] xs
 
--- each listed row is the first occurrences of what its class lists
+-- each row that is made has the first occurrences of the features that its class lists
 pub with_rows_listed : (rows : List (List ℕ)) (f : ℕ → List ℕ) (seen es : List ℕ)
     → All (λ (e : ℕ). by_class rows e ≡ first_occurrences (f e)) es → with_rows rows seen es ≡ with_new seen (flat_map f es)
 with_rows_listed rows f seen [] h = refl
@@ -76,7 +65,7 @@ same_flat f h [] all = refl
 same_flat f h (e ∷ es) all =
     ap (λ s. s ++ flat_map f es) (all 0 0 (omega arith)) ∙ ap (λ s. h e ++ s) (same_flat f h es (λ k d low. all (suc k) d (omega arith)))
 
--- Depths past a class's index in the order list the same.
+-- All depths past a class's index in the order list the same features.
 pub same_listed : (g own : List (List ℕ)) (order : List ℕ) → IsOrder g order → (k m j : ℕ) → j < k → j < m → j < length order
     → listed g own k (get_or order j 0) ≡ listed g own m (get_or order j 0)
 same_listed g own order o zero m j low below within = absurd (omega arith)
@@ -87,7 +76,7 @@ same_listed g own order o (suc k) (suc m) j low below within =
     let p = o.behind j within i d less in
     rw (← p.2) (same_listed g own order o k m p.0 (omega arith) (omega arith) (omega arith))))
 
--- The rows before it make the next class's row.
+-- The row of the next class is made of the rows before it.
 pub made_next : (g own rows : List (List ℕ)) (order : List ℕ) (i : ℕ) → IsOrder g order → i < length order
     → ((j : ℕ) → j < i → by_class rows (get_or order j 0) ≡ all_features g own (get_or order j 0))
     → with_new (with_rows rows [] (by_class g (get_or order i 0))) (by_class own (get_or order i 0)) ≡ all_features g own (get_or order i 0)

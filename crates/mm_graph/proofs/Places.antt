@@ -1,4 +1,4 @@
--- The indexes at which the names of a class are in the list that was gathered.
+-- The indexes of a class's names in the list that was gathered.
 use Rattle.std.proofs.Common.{◌≡◌, ◌∙◌, ◌+◌, ◌++◌, ◌⊎◌, Bool, true, false, List, [], ◌∷◌, ℕ, Some, ⊎_elim, inl, inr, suc, zero, ap, arith, length, refl, sym}
 use Rattle.std.specs.List.{slice_get, slice_index_or}
 use Rattle.std.proofs.lemmas.Option.{slice_get_within}

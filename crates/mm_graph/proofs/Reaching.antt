@@ -1,4 +1,4 @@
--- A set that grows by what a class reaches.
+-- A set that grows by the classes that a class reaches.
 use Rattle.std.proofs.Common.{◌≡◌, ◌∙◌, ◌≢◌, ◌⊎◌, ◌+◌, ◌<◌, ◌≤◌, Bool, true, false, not, List, [], ◌∷◌, ℕ, ⊎_elim, inl, inr, suc, zero, ap, arith, cond, get_or, get_or-set_same, get_or-set_other, replicate, length, length-set, refl, set, sym, subst}
 use Rattle.std.specs.List.{Contains, count_by}
 use Rattle.std.proofs.lemmas.Bool.{cases_eq}
@@ -9,7 +9,7 @@ use Rattle.mm_types.specs.Graph.{Conforms, Reaches, Walk, by_class}
 use Rattle.mm_graph.specs.Sets.{HasSupers, IsAdded, IsSetOf, is_in}
 use Rattle.mm_graph.specs.Order.{IsBefore, IsOrder}
 
--- c is in the set, and so do the first i of its supertypes with what they reach
+-- the set has c, the first i of its supertypes, and all classes that these reach
 pub record IsAdding (g : List (List ℕ)) (c : ℕ) (old s : List Bool) (i : ℕ) : Type 0 where
   pub new : is_in old c ≡ false
   pub long : length s ≡ length old
@@ -78,7 +78,7 @@ added g c old s i a within all = record {
   fewer = let x = a.fewer in omega arith;
 }
 
--- a set that has the supertypes of what it has has all that they reach
+-- a set that has all supertypes of its classes has all classes that they reach
 pub closed_reaches : (g : List (List ℕ)) (s : List Bool) → ((k : ℕ) → is_in s k ≡ true → HasSupers g s k)
     → (n c d : ℕ) → is_in s c ≡ true → Walk g n c d → is_in s d ≡ true
 closed_reaches g s closed zero c d h w = ap (is_in s) (sym w) ∙ h
@@ -100,7 +100,7 @@ conforms_set g c n old s e a k =
       (λ h. closed_reaches g s closed h.0 c k a.here h.1),
     )
 
--- what the first i of c's supertypes conform to is in the set
+-- the set has the classes to which the first i of c's supertypes conform
 pub record IsReaching (g : List (List ℕ)) (c : ℕ) (s : List Bool) (i : ℕ) : Type 0 where
   pub long : length s ≡ length g
   pub sound : (k : ℕ) → is_in s k ≡ true → Reaches g c k
@@ -132,7 +132,7 @@ reaching_all g c s i a all k =
     let supers : HasSupers g s c = λ j d low. ap (is_in s) (get_or_default (by_class g c) j d 0 low) ∙ a.visited j (omega arith) in
     (a.sound k, (λ h. closed_reaches g s a.closed h.0 h.1.0 k (All-contains (λ (e : ℕ). is_in s e ≡ true) (by_class g c) h.1.0 supers h.1.1) h.1.2))
 
--- What a class of an order reaches is before it.
+-- The classes that a class of an order reaches are before it.
 pub order_falls : (g : List (List ℕ)) (order : List ℕ) → IsOrder g order → (n j c d : ℕ) → j < length order → get_or order j 0 ≡ c → Walk g (suc n) c d
     → (i : ℕ) × (i < j) × (get_or order i 0 ≡ d)
 order_falls g order o zero j c d low at w =
@@ -150,7 +150,7 @@ never_falls g order o (suc bound) j c below low at r =
     never_falls g order o bound p.0 c (omega (arith, p.1)) (omega (arith, p.1)) p.2 r
 
 -- what has a supertype is a class
-has_row : (g : List (List ℕ)) (c e : ℕ) → Contains (by_class g c) e → c < length g
+pub has_row : (g : List (List ℕ)) (c e : ℕ) → Contains (by_class g c) e → c < length g
 has_row [] c e h = absurd (omega (arith, h.1))
 has_row (x ∷ g) zero e h = omega arith
 has_row (x ∷ g) (suc c) e h = let p = has_row g c e h in omega arith

@@ -71,7 +71,7 @@ behind_push g order c behind supers j less = ⊎_elim
     (λ k d less. (let p = behind j low k d less in (p.0, p.1, get_or_append_left order (c ∷ []) 0 p.0 (omega (arith, p.1)) ∙ p.2))))
     (cases_eq j (length order))
 
--- and closed, once its supertypes are done
+-- the class is closed after its supertypes are done
 pub begun_done : (g : List (List ℕ)) (ms : List Mark) (order : List ℕ) (c : ℕ) → IsBegun g ms order → c < length g → mark ms c ≡ Open
     → ((j : ℕ) → j < length (by_class g c) → mark ms (get_or (by_class g c) j 0) ≡ Done) → IsBegun g (set ms c Done) (order ++ c ∷ [])
 begun_done g ms order c b low is supers =

@@ -4,11 +4,11 @@ use Rattle.std.specs.List.{flat_map}
 use Rattle.mm_types.specs.Graph.{by_class}
 use Rattle.mm_types.specs.Features.{all_features, first_occurrences, with_new}
 
--- what is seen, and after it what is new in the lists of some classes, one list after another
+-- the features seen so far, and after them the new ones from the lists of some classes, one list after another
 abbrev pub with_rows : List (List ℕ) → List ℕ → List ℕ → List ℕ
 with_rows rows seen [] = seen
 with_rows rows seen (e ∷ es) = with_rows rows (with_new seen (by_class rows e)) es
 
--- all features of the direct supertypes in declared order, then the own ones; the first occurrence of each
+-- the first occurrence of each feature among all features of the direct supertypes, in declared order, and then the own features
 abbrev pub from_supers : List (List ℕ) → List (List ℕ) → ℕ → List ℕ
 from_supers g own c = first_occurrences (flat_map (all_features g own) (by_class g c) ++ by_class own c)

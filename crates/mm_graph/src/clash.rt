@@ -47,7 +47,7 @@ fn gather<'a>(
 /// Whether two different features of a class, own or inherited, share a name. `names` has the names
 /// of the features that each class declares. Errs only if memory is refused.
 ///
-/// There may be cycles of supertypes too. It takes one look-up for each feature.
+/// The supertypes may have cycles. It takes one look-up for each feature.
 pub fn clashes(
     alloc: Global,
     graph: &[Seq<usize>],

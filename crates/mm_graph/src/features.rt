@@ -20,7 +20,7 @@ fn add_new(found: &mut IndexSet<u32>, features: &[u32]) -> Result<(), AllocFaile
     Ok(())
 }
 
-/// What the lists of the supertypes hold, in order, and then the own features; each once.
+/// The features in the lists of the supertypes, in order, and then the own features; each feature once.
 fn merged(
     alloc: Global,
     supers: &[usize],

@@ -12,7 +12,7 @@ enum Mark {
     Unseen,
     /// Its supertypes are being visited.
     Open,
-    /// It is in the order, and so is all that it reaches.
+    /// It is in the order, and so is each class that it reaches.
     Done,
 }
 
@@ -49,7 +49,7 @@ fn visit(
 /// The classes in an order in which each comes after its supertypes, or `None` if some class is
 /// reached from itself. Errs only if memory is refused.
 ///
-/// Takes time in the number of classes and of supertypes that they name.
+/// Takes time linear in the number of classes and of the supertypes that they name.
 pub fn order_of(alloc: Global, graph: &[Seq<usize>]) -> Result<Option<Vec<usize>>, AllocError>
     requires { InRange graph.now }
     ensures { IfOk result (λ found. MatchOption found (HasCycle graph.now) (λ order. IsOrder graph.now order.items)) }

@@ -1,4 +1,4 @@
-//! What a class reaches by way of its supertypes.
+//! The classes that a class reaches through its supertypes.
 ghost use Rattle.std.specs.Prelude.{◌≡◌, ◌<◌, IfOk, length};
 ghost use Rattle.mm_types.specs.Graph.{Conforms, Reaches};
 ghost use Rattle.mm_graph.specs.ConformTable.{IsConformTable};
@@ -10,7 +10,7 @@ use crate::order::order_of;
 use mm_types::Seq;
 use std::alloc::{AllocError, Global};
 
-/// Adds a class and what it reaches to a set.
+/// Adds a class, and the classes that it reaches, to a set.
 fn add_reached(graph: &[Seq<usize>], c: usize, seen: &mut [bool])
     requires graph { InRange graph.now }
     requires class { c < length graph.now }

@@ -1,4 +1,4 @@
--- A feature is of one kind: what is an attribute is no reference, and what has not the word is no attribute.
+-- A feature is of one kind: an attribute is no reference, and a feature without the word is no attribute.
 use Rattle.std.proofs.Common.{◌≡◌, Bool, true, false, List, Option, Some, None, ℕ, ap, bytes_eq, cond, refl, sym, true≢false}
 use Rattle.std.proofs.lemmas.Slice.Eq.{bytes_eq-Decides}
 use Rattle.std.specs.Prelude.{Result, Ok, Err, codes, is_some, option_and_then}
@@ -18,7 +18,7 @@ nothing true None = refl
 nothing true (Some f) = refl
 nothing false o = refl
 
--- if one of the rows says nothing, the object does not
+-- if one of the fields can't be read, the object can't be read
 object_lacks : {A B : Type 0} (fields : Fields (A → B)) (field : Fields A) (d : Data) → field.reading d ≡ None → object_of (fields also field) d ≡ None
 object_lacks fields field d h = rw h (nothing (has_only (fields also field).keys d) (fields.reading d))
 
@@ -26,7 +26,7 @@ none_if_not : {X : Type 0} (o : Option X) → is_some o ≡ false → o ≡ None
 none_if_not None h = refl
 none_if_not (Some x) h = absurd (true≢false h)
 
--- without the word
+-- without the word the object is no attribute
 pub no_attribute : (d : Data) → is_some (required_at (codes "kind") (word (codes "attribute")) d) ≡ false → attribute d ≡ None
 unfolding attribute
 no_attribute d h =
@@ -50,7 +50,7 @@ one_word_at : (w v : List ℕ) (o : Option Data) → bytes_eq w v ≡ false → 
 one_word_at w v None apart h = refl
 one_word_at w v (Some d) apart h = one_word w v d apart h
 
--- with the word
+-- with the word the object is no reference
 pub no_reference : (d : Data) → is_some (required_at (codes "kind") (word (codes "attribute")) d) ≡ true → reference d ≡ None
 unfolding reference
 no_reference d h =

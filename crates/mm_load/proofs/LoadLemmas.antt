@@ -1,4 +1,4 @@
--- What the bytes of a document give, by cases.
+-- The result of reading the bytes of a document, by cases.
 use Rattle.std.proofs.Common.{◌≡◌, Bool, true, false, List, ℕ, None, Some, Ok, Err, IsUtf8, ap, cond, refl}
 use Rattle.std.specs.Prelude.{Result}
 use Rattle.std.specs.Str.{is_utf8}

@@ -17,16 +17,16 @@ use Rattle.json_fields.specs.Fields.{Fields, ◌also◌, ◌such_that◌, array_
 abbrev pub new_head : List ℕ → List ℕ → ℤ → ℤ → Head
 new_head name type_name lower upper = record { name = name; type_name = type_name; lower = lower; upper = upper }
 
--- what every feature says
+-- the fields of every feature
 abbrev pub feature_fields : Fields Head
 feature_fields = makes new_head
     -- its name
     also required (codes "name") text
     -- the name of its type
     also required (codes "type") text
-    -- how many values it should have at least, or 0
+    -- its lower bound, or 0
     also optional (codes "lower") whole_number (pos 0)
-    -- how many it may have at most, or 1
+    -- its upper bound, or 1
     also optional (codes "upper") whole_number (pos 1)
 
 abbrev pub new_attribute : Unit {0} → Bool → Bool → Option (List ℕ) → RawKind
@@ -39,7 +39,7 @@ attribute_fields = makes new_attribute
     also required (codes "kind") (word (codes "attribute"))
     -- whether it repeats no value, or true
     also optional (codes "unique") flag true
-    -- whether being set is a state of its own, or false
+    -- whether it is unsettable, or false
     also optional (codes "unsettable") flag false
     -- the literal of its default, or none
     also optional (codes "default") (given text) None
@@ -65,11 +65,11 @@ abbrev pub is_unsettable : RawKind → Bool
 is_unsettable (Attribute unique unsettable default) = unsettable
 is_unsettable (Reference containment opposite) = false
 
--- single if it is unsettable
+-- whether a feature is single or not unsettable
 abbrev pub unsets_one : RawFeature → Bool
 unsets_one f = not (is_unsettable f.kind) || int_eq f.upper (pos 1)
 
--- an object of the fields of features and attributes, which is single if it is unsettable
+-- an object of the fields of features and attributes; an unsettable attribute is single
 unfoldable pub attribute : Data → Option RawFeature
 attribute d = object_of (makes new_feature also feature_fields also attribute_fields) d such_that unsets_one
 
@@ -87,7 +87,7 @@ abbrev pub new_class : List ℕ → Bool → List (List ℕ) → List RawFeature
 new_class name is_abstract supers features =
     record { name = name; is_abstract = is_abstract; supers = supers; features = features }
 
--- what a class says
+-- the fields of a class
 abbrev pub class_fields : Fields RawClass
 class_fields = makes new_class
     -- its name
@@ -108,7 +108,7 @@ class = object_of class_fields
 abbrev pub new_enumeration : List ℕ → List (List ℕ) → Enumeration
 new_enumeration name literals = record { name = name; literals = literals }
 
--- what an enumeration says
+-- the fields of an enumeration
 abbrev pub enumeration_fields : Fields Enumeration
 enumeration_fields = makes new_enumeration
     -- its name
@@ -125,7 +125,7 @@ enumeration = object_of enumeration_fields
 abbrev pub new_document : List Enumeration → List RawClass → RawMetamodel
 new_document enums classes = record { enums = enums; classes = classes }
 
--- what the document says
+-- the fields of the document
 abbrev pub document_fields : Fields RawMetamodel
 document_fields = makes new_document
     -- the enumerations, in order, or none

@@ -8,25 +8,25 @@ use Rattle.mm_types.specs.declared.meta_fault.MetaFault.{MetaFault}
 use Rattle.mm_types.specs.declared.meta_fault.MetaFault.TheVariants.{Syntax, Layout, Limit, Memory}
 use Rattle.mm_load.specs.Layout.{document}
 
--- within the limits or not
+-- the metamodel if it is within the limits, else `Limit`
 abbrev pub limited : RawMetamodel → Result RawMetamodel MetaFault
 limited raw = if is_within_limits raw then Ok raw else Err Limit
 
--- the limits, if the layout is right
+-- `Layout` if the layout is wrong, else what the limits say
 abbrev pub laid_out : Option RawMetamodel → Result RawMetamodel MetaFault
 laid_out None = Err Layout
 laid_out (Some raw) = limited raw
 
--- the layout, if the bytes are JSON
+-- `Syntax` if the bytes are no JSON, else what the layout says
 abbrev pub parsed : Option Data → Result RawMetamodel MetaFault
 parsed None = Err Syntax
 parsed (Some d) = laid_out (document d)
 
--- the metamodel that the bytes write, or the lowest fault that applies
+-- the metamodel that the bytes describe, or the lowest fault that applies
 unfoldable pub loaded : List ℕ → Result RawMetamodel MetaFault
 loaded bytes = if is_utf8 bytes then parsed (read bytes) else Err Syntax
 
--- What the loader returned is that, unless memory was refused.
+-- The loader returns the result that is defined, or `Memory`.
 abbrev pub Loads : Result RawMetamodel MetaFault → Result RawMetamodel MetaFault → Type 0
 Loads (Err Memory) wanted = Unit {0}
 Loads result wanted = wanted ≡ result

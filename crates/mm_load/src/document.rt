@@ -14,7 +14,7 @@ use serde_json::{Map, Value};
 use std::alloc::Global;
 use std::marker::Model;
 
-/// What a document says, seen as the metamodel that it would be within the limits.
+/// The content of a document, which may pass the limits of a metamodel. Contracts see it as a metamodel all the same.
 #[derive(Debug, Drop)]
 pub struct Document {
     enums: Seq<Enumeration>,

@@ -12,7 +12,7 @@ use mm_types::{Enumeration, Seq, Text};
 use serde_json::{Map, Value};
 use std::alloc::Global;
 
-/// The literals of an enumeration, which are taken out.
+/// Takes out and reads the literals of an enumeration.
 fn take_literals(alloc: Global, members: &mut Map<String, Value>) -> Result<Seq<Text>, ReadFault>
     ensures { Gives result (required_at (codes "literals") (array_of_some text) (object (members_view members.old.entries))) }
 {

@@ -1,4 +1,4 @@
-//! Features are read: what every feature says, and what an attribute or a reference says beside.
+//! Features are read: the fields of every feature, and the further fields of an attribute or a reference.
 ghost use Rattle.std.specs.Prelude.{◌≡◌};
 ghost use Rattle.serde_json.specs.Data.{object};
 ghost use Rattle.serde_json.specs.View.{members_view};
@@ -13,10 +13,10 @@ use mm_types::{RawFeature, RawKind};
 use serde_json::{Map, Value};
 use std::alloc::Global;
 
-/// The keys of what every feature says.
+/// The keys of the fields of every feature.
 const HEAD: [&str; 4] = ["name", "type", "lower", "upper"];
 
-/// What every feature says, which is taken out.
+/// Takes out and reads the fields of every feature.
 fn take_head(alloc: Global, members: &mut Map<String, Value>) -> Result<Head, ReadFault>
     ensures read { Gives result (feature_fields.reading (object (members_view members.old.entries))) }
     ensures others { KeepsOthers feature_fields.keys (members_view members.old.entries) (members_view members.new.entries) }
@@ -33,7 +33,7 @@ fn take_head(alloc: Global, members: &mut Map<String, Value>) -> Result<Head, Re
     })
 }
 
-/// What an attribute says beside, which is taken out.
+/// Takes out and reads the further fields of an attribute.
 fn take_attribute(alloc: Global, members: &mut Map<String, Value>) -> Result<RawKind, ReadFault>
     ensures { Gives result (attribute_fields.reading (object (members_view members.old.entries))) }
 {
@@ -50,7 +50,7 @@ fn take_attribute(alloc: Global, members: &mut Map<String, Value>) -> Result<Raw
     })
 }
 
-/// What a reference says beside, which is taken out.
+/// Takes out and reads the further fields of a reference.
 fn take_reference(alloc: Global, members: &mut Map<String, Value>) -> Result<RawKind, ReadFault>
     ensures { Gives result (reference_fields.reading (object (members_view members.old.entries))) }
 {

@@ -1,4 +1,4 @@
-//! JSON values are read as truth values, numbers, texts, and sequences of what is read.
+//! JSON values are read as truth values, numbers, texts, and sequences of values that can be read.
 ghost use Rattle.std.specs.Prelude.{◌≡◌, Option};
 ghost use Rattle.serde_json.specs.Data.{Data};
 ghost use Rattle.serde_json.specs.View.{items_view, view};
@@ -9,12 +9,12 @@ use mm_types::{Seq, Text, limits};
 use serde_json::Value;
 use std::alloc::Global;
 
-/// A type that JSON values are read as, each by the definition that it gives as `reads`.
+/// A type whose values are read from JSON. Its definition `reads` says which value is read.
 pub trait FromJson: Sized {
     ghost reads: { Data → Option Self };
 
-    /// What a value says, or `Layout` if it has a different layout. Its texts are moved, and what is left of it
-    /// is freed, so that reading a document takes little memory beside the parsed one.
+    /// Reads a value; `Layout` if it has a different layout. Its texts are moved and the rest of it is freed, so that
+    /// reading a document takes little memory beside the parsed JSON.
     fn from_json(alloc: Global, value: Value) -> Result<Self, ReadFault>
         ensures { Gives result (reads (view value)) };
 }
@@ -52,7 +52,7 @@ impl FromJson for Text {
 fn each_of<T: FromJson + Drop>(alloc: Global, values: Vec<Value>) -> Result<Seq<T>, ReadFault>
     ensures { Gives result (each T.reads (items_view values.items)) }
 {
-    // The capacity for the whole list at once: within the limits no list is longer than that of the classes may be.
+    // The capacity for the whole list at once: within the limits no list is longer than the longest possible list of classes.
     let mut items = Vec::with_capacity(alloc, values.len().min(limits::CLASSES))?;
     'values: for value in values {
         items.push(T::from_json(alloc, value)?)?;

@@ -1,10 +1,10 @@
-//! What every feature says.
+//! The fields that every feature has.
 ghost use Rattle.std.specs.Prelude.{◌≡◌};
 ghost use Rattle.mm_load.specs.Layout.{new_feature};
 
 use mm_types::{RawFeature, RawKind, Text};
 
-/// A feature without what an attribute or a reference says beside.
+/// A feature without the further fields of an attribute or a reference.
 #[derive(Debug, Drop)]
 pub struct Head {
     pub name: Text,

@@ -1,4 +1,4 @@
-//! What the keys of an object say.
+//! The values of an object's keys are taken out and read.
 ghost use Rattle.std.specs.Prelude.{[], ◌∷◌};
 ghost use Rattle.serde_json.specs.Data.{object};
 ghost use Rattle.serde_json.specs.View.{members_view};
@@ -9,7 +9,7 @@ use json_fields::{ReadFault, take};
 use serde_json::{Map, Value};
 use std::alloc::Global;
 
-/// What a key says, which is taken out. `Layout` if the key is absent or its value has a different layout.
+/// Takes out the value of a key and reads it. `Layout` if the key is absent or its value has a different layout.
 pub fn required<T: FromJson>(
     alloc: Global,
     members: &mut Map<String, Value>,
@@ -24,7 +24,7 @@ pub fn required<T: FromJson>(
     }
 }
 
-/// What a key says, which is taken out, or the given value if the key is absent. `Layout` if its value has a
+/// Takes out the value of a key and reads it; the given value if the key is absent. `Layout` if its value has a
 /// different layout.
 pub fn optional<T: FromJson + Drop>(
     alloc: Global,

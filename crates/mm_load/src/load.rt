@@ -8,15 +8,15 @@ use mm_types::{MetaFault, RawMeta};
 use serde_json::Value;
 use std::alloc::Global;
 
-/// The metamodel that a document writes, with its names unresolved; else the lowest fault that applies:
+/// The metamodel that a document describes, with its names unresolved; else the lowest fault that applies:
 ///
 /// - `Syntax` if the bytes are no JSON, of at most 127 levels, in UTF-8;
 /// - `Layout` if the value does not have the shape of a metamodel, or has a key that is not listed;
 /// - `Limit` if a count or a length passes its limit.
 ///
-/// `Memory` only if memory is refused, whatever else applies. Of equal keys of an object the last counts. The
-/// time is linear in the document, but for the logarithm that the keys of a large object cost. The texts are
-/// moved out of the parsed JSON, which is freed part by part as it is read.
+/// `Memory` only if memory is refused, whatever else applies. Of equal keys of an object the last counts. The time is
+/// linear in the document, except that the keys of a large object cost a logarithm. The texts are moved out of the
+/// parsed JSON, which is freed part by part as it is read.
 pub fn load_meta(alloc: Global, bytes: &[u8]) -> Result<RawMeta, MetaFault>
     ensures { Loads result (loaded bytes.now) }
 {

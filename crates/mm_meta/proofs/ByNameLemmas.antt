@@ -1,4 +1,4 @@
--- The feature of a name that a class has is the only one: it is found by looking at each feature of the name.
+-- A class has at most one feature of a name, which is found by looking at each feature of the name.
 use Rattle.std.proofs.Common.{◌≡◌, ◌≢◌, ◌∙◌, ◌<◌, ◌≤◌, ◌||◌, ◌++◌, ◌⊎◌, ℕ, zero, suc, Bool, true, false, cond, List, [], ◌∷◌, Option, Some, None, ⊎_elim, inl, inr, ap, arith, get_or, length, map, nat_eq, refl, subst, sym}
 use Rattle.std.specs.Prelude.{IfSome, option_and_then, option_map, position, slice_get}
 use Rattle.std.specs.List.{find, list_any}
@@ -85,10 +85,10 @@ only_one raw well c f g name one other = ⊎_elim
     }))))
     (cases_eq f.0 g.0)
 
-numbered_alike : (f g : FeatureNo) → f.0 ≡ g.0 → f ≡ g
+pub numbered_alike : (f g : FeatureNo) → f.0 ≡ g.0 → f ≡ g
 numbered_alike f g e = ap feature_no e
 
--- what has a number is there
+-- a feature that has a number exists
 there : (m : Metamodel) → IsOfDocument m → (c : ClassNo) (f : FeatureNo) → has_feature m c f ≡ true → (x : Feature) × (feature m f ≡ Some x)
 there m d c f has = ⊎_elim
     (λ h. (h.0, h.2))
@@ -133,7 +133,7 @@ find_no p (x ∷ xs) none =
 has_by : (m : Metamodel) (c : ClassNo) (all : List FeatureNo) → features m c ≡ Some all → (f : FeatureNo) → has_feature m c f ≡ list_any (λ g. nat_eq g.0 f.0) all
 has_by m c all is f = ap (λ (o : Option (List FeatureNo)). option_map_or (λ all. list_any (λ g. nat_eq g.0 f.0) all) o false) is
 
--- a feature of the name that the class has is the one
+-- if the class has a feature of the name, it is the one that `feature_by_name` gives
 pub found_here : (m : Metamodel) → IsOfDocument m → (c : ClassNo) (name : List ℕ) (f : FeatureNo) → feature_name m f ≡ name → has_feature m c f ≡ true → feature_by_name m c name ≡ Some f
 found_here m d c name f named has = by (features m c) refl
   where
@@ -146,7 +146,7 @@ found_here m d c name f named has = by (features m c) refl
         (λ g any passes. unique m d c f g has (has_by m c all is g ∙ any) (named ∙ sym (name_is (feature_name m g) name passes)))
         (sym (has_by m c all is f) ∙ has)
 
--- where the class has no feature of the name there is none
+-- if the class has no feature of the name, `feature_by_name` gives none
 pub found_nowhere : (m : Metamodel) → IsOfDocument m → (c : ClassNo) (name : List ℕ)
     → ((h : ℕ) → h < length m.features → feature_name m (feature_no h) ≡ name → has_feature m c (feature_no h) ≡ false) → feature_by_name m c name ≡ None
 found_nowhere m d c name none = by (features m c) refl
@@ -184,7 +184,7 @@ comes_to_first m c name i is =
       here = λ low. sym (named m.features i) ∙ name_is (get_or names i []) name found.1;
     }
 
--- and goes on at the next of the name
+-- the search goes on at the next feature of the name
 pub comes_to_next : (m : Metamodel) (c : ClassNo) (name : List ℕ) (at g : ℕ) → ComesTo m c name at → at < length m.features → has_feature m c (feature_no at) ≡ false
     → IsNext (map (λ f. f.name) m.features) (get_or (map (λ f. f.name) m.features) at []) (suc at) g → ComesTo m c name g
 comes_to_next m c name at g came low has_not n =
@@ -206,7 +206,7 @@ comes_to_next m c name at g came low has_not n =
 pub comes_to_end : (m : Metamodel) → IsOfDocument m → (c : ClassNo) (name : List ℕ) (at : ℕ) → ComesTo m c name at → length m.features ≤ at → feature_by_name m c name ≡ None
 comes_to_end m d c name at came past = found_nowhere m d c name (λ h low same. came.passed h (omega arith) same)
 
--- a name that no feature has names none of any class
+-- a name that no feature has names no feature of any class
 pub named_nowhere : (m : Metamodel) → IsOfDocument m → (c : ClassNo) (name : List ℕ) → position (λ n. bytes_eq n name) (map (λ f. f.name) m.features) ≡ None → feature_by_name m c name ≡ None
 named_nowhere m d c name is =
     let names : List (List ℕ) = map (λ f. f.name) m.features in
@@ -224,7 +224,7 @@ low_named m name i is =
     let low : i < length (map (λ f. f.name) m.features) = (position-Some (λ n. bytes_eq n name) (map (λ f. f.name) m.features) i [] is).0 in
     omega arith
 
--- what a row holds of a class
+-- the entry of a class in a row
 pub kept_is : (m : Metamodel) (name : List ℕ) (by_class : List (Option FeatureNo)) (c : ℕ) (o : Option (Option FeatureNo)) → o ≡ slice_get by_class c → IsRow m name by_class
     → IfSome o (λ found. found ≡ feature_by_name m (class_no c) name)
 kept_is m name by_class c None is known = tt
@@ -289,7 +289,7 @@ known_first m n k c name i found =
     let is : position (λ x. bytes_eq x name) (map (λ f. f.name) m.features) ≡ Some i = sym (found _ k.names) in
     record { low = low_named m name i is; came = comes_to_first m c name i is }
 
--- after a feature that the class has not is the next of its name
+-- if the class does not have a feature, the search goes on at the next feature of its name
 pub known_next : (m : Metamodel) (n : FeatureNames) → Known m n → (c : ClassNo) (name : List ℕ) (at : ℕ) → ComesTo m c name at → at < length m.features
     → has_feature m c (feature_no at) ≡ false → ComesTo m c name (get_or n.next.items at 0)
 known_next m n k c name at came low has_not =

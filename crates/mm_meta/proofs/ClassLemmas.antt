@@ -1,4 +1,4 @@
--- The rows of classes: how long they are, and that what they hold is small.
+-- The rows of classes: their lengths, and that their numbers are small.
 use Rattle.std.proofs.Common.{◌≡◌, ◌∙◌, ◌+◌, ◌<◌, ◌≤◌, ◌^◌, ℕ, suc, List, [], ◌∷◌, Option, Some, None, ap, arith, get_or, length, refl, subst, sym}
 use Rattle.std.specs.Prelude.{IsTrue}
 use Rattle.std.specs.List.{All, cons_option, filter_map}

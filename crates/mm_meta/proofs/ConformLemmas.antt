@@ -60,7 +60,7 @@ says_true None = refl
 says_true (Some true) = refl
 says_true (Some false) = refl
 
--- what the row of a class says of another is whether it conforms to it
+-- the row of a class says of another class whether the first conforms to it
 pub conforms_by_row : (m : Metamodel) → IsOfDocument m → (table : List (List Bool)) → IsConformTable (supertypes m) table → (sub sup : ClassNo) (r : List Bool) → slice_get table sub.0 ≡ Some r
     → option_eq beq (slice_get r sup.0) (Some true) ≡ conforms m sub sup
 conforms_by_row m d table t sub sup r is =

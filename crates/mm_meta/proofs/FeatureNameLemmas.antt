@@ -45,7 +45,7 @@ stands names f low is =
 abbrev pub IsFirstAt : List (List ℕ) → ℕ → Type 0
 IsFirstAt names p = position (λ n. bytes_eq n (get_or names p [])) names ≡ Some p
 
--- from an index on the next index of each name is known, and of each name the first of these indexes
+-- from an index on, the next index of each name is known, and for each name the first of these indexes
 pub record AreMet (names : List (List ℕ)) (f : ℕ) (next met : List ℕ) : Type 0 where
   pub long_next : length next ≡ length names
   pub long_met : length met ≡ length names
@@ -69,7 +69,7 @@ at_once names name f low is = record {
   here = λ within. is;
 }
 
--- the next index from one on is the next from the one before, if another name is there
+-- if another name is at the index before, the next index from there is the next index from this one
 one_before : (names : List (List ℕ)) (name : List ℕ) (f g : ℕ) → IsNext names name (suc f) g → (get_or names f [] ≡ name → ⊥) → IsNext names name f g
 one_before names name f g n other = record {
   behind = let past = n.behind in omega arith;
@@ -126,7 +126,7 @@ met_more names f p next met m is =
       nexts = nexts_more names f (get_or met p 0) next (let long = m.long_next in omega arith) ahead m.nexts;
     }
 
--- what has a name has it among the names
+-- the name of a feature is among the names
 pub name_read : (fs : List Feature) (h : ℕ) (x : Feature) → h < length fs → x ≡ get_or fs h x → get_or (map (λ f. f.name) fs) h [] ≡ x.name
 name_read [] h x low is = absurd (omega arith)
 name_read (y ∷ fs) zero x low is = ap (λ (f : Feature). f.name) (sym is)

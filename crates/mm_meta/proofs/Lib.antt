@@ -1,8 +1,8 @@
 mod ClassLemmas
-mod MetaLemmas
+pub mod MetaLemmas
 mod NameLemmas
 mod FeatureNameLemmas
-mod ByNameLemmas
+pub mod ByNameLemmas
 pub mod OwnerLemmas
 mod ResolverLemmas
 mod TableLemmas

@@ -60,22 +60,22 @@ low_literal m d e name i found =
     literal_low d.raw e name i d.fits
     (subst (λ (es : List Enumeration). option_and_then (λ en. position (λ n. bytes_eq n name) en.literals) (slice_get es e) ≡ Some i) (ap (λ (x : Metamodel). x.enums) d.is) found)
 
-shift_rows : (x : List ℕ) (table : List (List ℕ)) (a n : ℕ) → map (by_class (x ∷ table)) (range_with_len (a + 1) n) ≡ map (by_class table) (range_with_len a n)
+pub shift_rows : (x : List ℕ) (table : List (List ℕ)) (a n : ℕ) → map (by_class (x ∷ table)) (range_with_len (a + 1) n) ≡ map (by_class table) (range_with_len a n)
 shift_rows x table a zero = refl
 shift_rows x table a (suc n) =
     let next : a + 1 ≡ suc a = omega arith in
     let here : by_class (x ∷ table) (a + 1) ≡ by_class table a = rw next refl in
     λ i. here i ∷ shift_rows x table (a + 1) n i
 
-rows_all : (table : List (List ℕ)) → map (by_class table) (range_with_len 0 (length table)) ≡ table
+pub rows_all : (table : List (List ℕ)) → map (by_class table) (range_with_len 0 (length table)) ≡ table
 rows_all [] = refl
 rows_all (x ∷ table) = ap (λ (rest : List (List ℕ)). x ∷ rest) (shift_rows x table 0 (length table) ∙ rows_all table)
 
-numbers_back : (ns : List ℕ) → map (λ (s : ClassNo). s.0) (map class_no ns) ≡ ns
+pub numbers_back : (ns : List ℕ) → map (λ (s : ClassNo). s.0) (map class_no ns) ≡ ns
 numbers_back [] = refl
 numbers_back (n ∷ ns) = ap (λ (rest : List ℕ). n ∷ rest) (numbers_back ns)
 
-supers_from : (all : List RawClass) (c : ℕ) (ks : List RawClass)
+pub supers_from : (all : List RawClass) (c : ℕ) (ks : List RawClass)
     → map (λ (k : Class). map (λ (s : ClassNo). s.0) k.supers) (classes_from all c ks) ≡ map (by_class (graph_of all)) (range_with_len c (length ks))
 supers_from all c [] = refl
 supers_from all c (k ∷ ks) =

@@ -1,4 +1,4 @@
--- How a table of names goes on.
+-- Names that are added to a table of names.
 use Rattle.std.proofs.Common.{◌≡◌, ◌∙◌, ◌+◌, ℕ, suc, Bool, true, false, cond, List, [], ◌∷◌, ◌++◌, length, map, Option, Some, None, ap, arith, refl, rules, sym, subst}
 use Rattle.std.specs.Prelude.{is_some, option_map, position}
 use Rattle.std.specs.List.{position_from}
@@ -62,6 +62,6 @@ position_from-map : {X Y : Type 0} (p : Y → Bool) (f : X → Y) (i : ℕ) (xs 
 position_from-map p f i [] = refl
 position_from-map p f i (x ∷ xs) = ap (cond (p (f x)) (Some i)) (position_from-map p f (i + 1) xs)
 
--- the first position among what items have is that among the items
+-- the first position in a mapped list is that in the list
 pub position-map : {X Y : Type 0} (p : Y → Bool) (f : X → Y) (xs : List X) → position p (map f xs) ≡ position (λ x. p (f x)) xs
 position-map p f xs = position_from-zero p (map f xs) ∙ (position_from-map p f 0 xs ∙ sym (position_from-zero (λ x. p (f x)) xs))

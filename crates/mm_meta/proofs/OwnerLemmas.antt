@@ -45,7 +45,7 @@ get_right [] ys i j is = let same : j ≡ i = omega arith in ap (slice_get ys) s
 get_right (x ∷ xs) ys i zero is = absurd (omega arith)
 get_right (x ∷ xs) ys i (suc j) is = get_right xs ys i j (omega arith)
 
--- at index i of the features of some classes is one whose owner is class j of these; the first of them has the number c
+-- the feature at index i of the features of some classes has class j of these as its owner; the first of these classes has the number c
 record IsOwnedAt (raw : RawMetamodel) (c : ℕ) (ks : List RawClass) (i j : ℕ) : Type 0 where
   pub feature : Feature
   pub here : slice_get (features_from raw c ks) i ≡ Some feature
@@ -111,14 +111,14 @@ all_at all c (k ∷ ks) (suc i) low =
     let next : suc c + i ≡ c + suc i = omega arith in
     all_at all (suc c) ks i (omega arith) ∙ ap (λ (n : ℕ). Some (map feature_no (all_features (graph_of all) (own_of all) n))) next
 
-turned : (m n : ℕ) → nat_eq m n ≡ nat_eq n m
-turned m n = both_ways (nat_eq m n) (nat_eq n m) (λ h. eq-eqb n m (sym (eqb-true m n h))) (λ h. eq-eqb m n (sym (eqb-true n m h)))
+pub nat_eq-turned : (m n : ℕ) → nat_eq m n ≡ nat_eq n m
+nat_eq-turned m n = both_ways (nat_eq m n) (nat_eq n m) (λ h. eq-eqb n m (sym (eqb-true m n h))) (λ h. eq-eqb m n (sym (eqb-true n m h)))
 
 -- whether a feature's number is among some
 any_number : (f : ℕ) (ns : List ℕ) → list_any (λ (g : FeatureNo). nat_eq g.0 f) (map feature_no ns) ≡ list_any (nat_eq f) ns
 any_number f [] = refl
 any_number f (n ∷ ns) =
-    ap (λ (b : Bool). b || list_any (λ (g : FeatureNo). nat_eq g.0 f) (map feature_no ns)) (turned n f) ∙ ap (λ (b : Bool). nat_eq f n || b) (any_number f ns)
+    ap (λ (b : Bool). b || list_any (λ (g : FeatureNo). nat_eq g.0 f) (map feature_no ns)) (nat_eq-turned n f) ∙ ap (λ (b : Bool). nat_eq f n || b) (any_number f ns)
 
 -- a class has the features that the classes it conforms to declare
 has_declared : (raw : RawMetamodel) → WellFormed raw → (c : ClassNo) (f : FeatureNo)
@@ -189,7 +189,7 @@ has_as_owner m d c f x b =
     let known = has_of_owner d.raw d.well_formed c f x is in
     both_ways b (has_feature (resolved d.raw) c f) (λ h. known.1 (tells.0 h)) (λ h. tells.1 (known.0 h)))
 
--- no class has a feature that there is not
+-- no class has a feature that does not exist
 none_of : (raw : RawMetamodel) → WellFormed raw → (c : ClassNo) (f : FeatureNo) → feature (resolved raw) f ≡ None → has_feature (resolved raw) c f ≡ true → ⊥
 unfolding resolved
 none_of raw well c f is h =

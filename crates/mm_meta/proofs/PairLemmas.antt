@@ -20,8 +20,8 @@ use Rattle.mm_types.proofs.Pairing.{HasOpposite, NameEachOther, has_opposite, no
 use Rattle.mm_types.proofs.Unique.{unique_names}
 use Rattle.mm_meta.proofs.PlaceLemmas.{IsDeclared, declared_at, number_of}
 
--- f and g are two references, each of which has the other as its opposite and the other's owner as its type; one of them contains at
--- most, and if one does the other is single
+-- f and g are two references, each of which has the other as its opposite and the other's owner as its type; at most one of them is a
+-- containment, and then the other is single
 pub record AreOpposites (m : Metamodel) (f g : FeatureNo) : Type 0 where
   pub near : Feature
   pub far : Feature
@@ -48,7 +48,7 @@ resolved_reference raw t name (written.Reference containment opposite) d j g typ
     ∙ (ap (λ (o : Option ℕ). Reference (class_no d) containment (option_map feature_no (option_and_then (slice_get (by_class (own_of raw.classes) d)) o))) at
     ∙ ap (λ (o : Option ℕ). Reference (class_no d) containment (option_map feature_no o)) number))
 
--- of two references that name each other, how the one is resolved
+-- the resolved form of one of two references that name each other
 near_resolved : (raw : RawMetamodel) → WellFormed raw → (c i d j : ℕ) (p : NameEachOther raw c i d j) (g : FeatureNo) → IsDeclared raw d j p.far g
     → resolved_kind raw p.near.type_name p.near.kind ≡ Reference (class_no d) (is_containment p.near.kind) (Some g)
 near_resolved raw well c i d j p g far =

@@ -45,7 +45,7 @@ later raw c n k ks f x past p =
       number = p.number ∙ ap Some number;
     }
 
--- what is at a number is declared by some class at some index
+-- the feature with a number is declared by some class at some index
 placed : (raw : RawMetamodel) (c n : ℕ) (ks : List RawClass) (f : ℕ) (x : Feature) → slice_get (features_from raw c ks) f ≡ Some x → IsPlaced raw c n ks f x
 placed raw c n [] f x is = cc
 placed raw c n (k ∷ ks) f x is = ⊎_elim
@@ -77,7 +77,7 @@ record IsNumbered (raw : RawMetamodel) (c n : ℕ) (ks : List RawClass) (j i : �
   pub here : slice_get (features_from raw c ks) place ≡ Some (resolved_feature raw (c + j) r)
   pub number : slice_get (by_class (own_from n ks) j) i ≡ Some (n + place)
 
--- what a class declares at an index has a number
+-- the feature that a class declares at an index has a number
 numbered : (raw : RawMetamodel) (c n : ℕ) (ks : List RawClass) (j i : ℕ) (r : RawFeature) → option_and_then (λ k. slice_get k.features i) (slice_get ks j) ≡ Some r
     → IsNumbered raw c n ks j i r
 numbered raw c n [] j i r at = cc

@@ -1,4 +1,4 @@
--- What the tables of a resolver find.
+-- Look-ups in the tables of a resolver.
 use Rattle.std.proofs.Common.{◌≡◌, ◌∙◌, ◌<◌, ◌≤◌, ◌&&◌, ◌^◌, ℕ, zero, suc, Bool, true, false, List, [], ◌∷◌, length, map, Option, Some, None, ap, arith, get_or, refl, subst, sym, codes, Bor}
 use Rattle.std.specs.Prelude.{option_and_then, option_map, position, slice_get, IsTrue}
 use Rattle.std.specs.List.{ItemBy, list_all}
@@ -16,7 +16,7 @@ use Rattle.mm_types.specs.declared.feature.DataType.TheVariants.{Enum}
 use Rattle.mm_types.specs.declared.raw.RawClass.{RawClass}
 use Rattle.mm_meta.proofs.NameLemmas.{position-map}
 
--- a name that is no data type's is at most an enumeration's
+-- a name that no data type has is at most the name of an enumeration
 pub not_primitive : (enums : List Enumeration) (name : List ℕ) → bytes_eq name (codes "EString") ≡ false → bytes_eq name (codes "EInt") ≡ false → bytes_eq name (codes "ELong") ≡ false
     → bytes_eq name (codes "EBoolean") ≡ false → data_type_named enums name ≡ option_map Enum (enum_named enums name)
 not_primitive enums name a b c d = rw (a, b, c, d) refl
@@ -25,17 +25,17 @@ and_then-map : {X Y Z : Type 0} (f : Y → Option Z) (g : X → Y) (o : Option X
 and_then-map f g None = refl
 and_then-map f g (Some x) = refl
 
--- a name among the names of what is at an index
+-- a name among the names of the item at an index
 pub named_at : {X : Type 0} (names_of : X → List (List ℕ)) (xs : List X) (i : ℕ) (name : List ℕ)
     → option_and_then (position (λ n. bytes_eq n name)) (slice_get (map names_of xs) i) ≡ option_and_then (λ x. position (λ n. bytes_eq n name) (names_of x)) (slice_get xs i)
 named_at names_of xs i name = ap (option_and_then (position (λ n. bytes_eq n name))) (slice_get-map names_of xs i) ∙ and_then-map (position (λ n. bytes_eq n name)) names_of (slice_get xs i)
 
--- what `get` lends is what is at the index
+-- `get` borrows the item at the index
 pub got : {X : Type 0} (xs : List X) (i : ℕ) (r : Option (Bor X)) → ItemBy (λ (x : Bor X). x.now) xs i i r → option_copied r ≡ slice_get xs i
 got xs i None is = sym (slice_get_past xs i is.3)
 got xs i (Some x) is = sym (slice_get_read xs (length xs) i x.now refl is.3.0 is.1)
 
--- the position among the names that a class declares is that among its features
+-- the position of a name among the names that a class declares is that among its features
 pub own_at : (classes : List RawClass) (c : ℕ) (name : List ℕ)
     → option_and_then (position (λ n. bytes_eq n name)) (slice_get (map (λ k. map (λ f. f.name) k.features) classes) c) ≡ own_position classes c name
 own_at classes c name = named_at (λ k. map (λ f. f.name) k.features) classes c name ∙ shown (slice_get classes c)
@@ -57,7 +57,7 @@ all_at p [] i x all is = cc
 all_at p (y ∷ ys) zero x all is = let e : y ≡ x = cc in subst (λ z. p z ≡ true) e (both _ _ all).0
 all_at p (y ∷ ys) (suc i) x all is = all_at p ys i x (both _ _ all).1 is
 
--- literals are few
+-- the number of a literal is small
 pub literal_low : (raw : RawMetamodel) (e : ℕ) (name : List ℕ) (i : ℕ) → IsTrue (is_within_limits raw)
     → option_and_then (λ en. position (λ n. bytes_eq n name) en.literals) (slice_get raw.enums e) ≡ Some i → i < 2 ^ 32
 literal_low raw e name i within is = few (slice_get raw.enums e) refl is

@@ -1,4 +1,4 @@
--- The shapes of references in a metamodel of a document: their opposites, what contains, and what they take.
+-- The shapes of references in a metamodel of a document: their opposites, containments, and the objects that they take.
 use Rattle.std.proofs.Common.{◌≡◌, ◌∙◌, ◌⊎◌, Bool, true, false, cond, Option, Some, None, ⊎_elim, inl, inr, ap, arith, length, refl, sym}
 use Rattle.std.specs.Prelude.{option_and_then}
 use Rattle.std.specs.Option.{option_map_or}
@@ -51,7 +51,7 @@ turned m f g p = record {
 near_shape : (m : Metamodel) (f g : FeatureNo) (p : AreOpposites m f g) → shape m f ≡ shape_of m f p.near (Reference p.far.owner p.near_contains (Some g))
 near_shape m f g p = shape_at m f p.near (Reference p.far.owner p.near_contains (Some g)) p.near_here p.near_kind
 
--- a reference is a container reference if its opposite contains
+-- a reference is a container reference if its opposite is a containment
 container_is : (m : Metamodel) (f g : FeatureNo) (p : AreOpposites m f g) → is_container m f ≡ p.far_contains
 container_is m f g p =
     ap (λ (o : Option FeatureNo). option_map_or (λ x. is_containment_kind x.kind) (option_and_then (feature m) o) false) (opposite_is m f g p)
@@ -86,7 +86,7 @@ pair_by_shape m d f g is = pair_of m d f g (sym (shape_opposite m f) ∙ is)
 pub opposites_are_pairs : (m : Metamodel) → IsOfDocument m → OppositesArePairs m
 opposites_are_pairs m d f g is = pair m f g (pair_by_shape m d f g is)
 
--- the opposite of a container reference contains
+-- the opposite of a container reference is a containment
 container : (m : Metamodel) (f h : FeatureNo) → AreOpposites m f h → is_container m f ≡ true → IsContainerOf m f h
 container m f h p is =
     let far : p.far_contains ≡ true = sym (container_is m f h p) ∙ is in

@@ -13,14 +13,14 @@ zip_push R [] (b ∷ bs) x y h r = absurd h
 zip_push R (a ∷ as') [] x y h r = absurd h
 zip_push R (a ∷ as') (b ∷ bs) x y h r = (h.0, zip_push R as' bs x y h.1 r)
 
--- what is at one index of both lists is related
+-- the items at one index of both lists are related
 pub zip_at : {A B : Type 0} (R : A → B → Type 0) (xs : List A) (ys : List B) (i : ℕ) (x : A) (y : B) → AllZip R xs ys → slice_get xs i ≡ Some x → slice_get ys i ≡ Some y → R x y
 zip_at R [] ys i x y h p q = absurd (cc)
 zip_at R (a ∷ as') [] i x y h p q = absurd h
 zip_at R (a ∷ as') (b ∷ bs) zero x y h p q = let e : a ≡ x = cc in let f : b ≡ y = cc in subst (R x) f (subst (λ v. R v b) e h.0)
 zip_at R (a ∷ as') (b ∷ bs) (suc i) x y h p q = zip_at R as' bs i x y h.1 p q
 
--- one more of the first i + 1
+-- the first i + 1 items are the first i and one more
 pub map-take_more : {A B : Type 0} (f : A → B) (xs : List A) (i : ℕ) (x : A) → i < length xs → x ≡ get_or xs i x → map f (take (i + 1) xs) ≡ map f (take i xs) ++ f x ∷ []
 map-take_more f xs i x low is =
     ap (map f) (take_more xs i x low) ∙ (map-append f (take i xs) (get_or xs i x ∷ []) ∙ ap (λ y. map f (take i xs) ++ f y ∷ []) (sym is))
@@ -32,7 +32,7 @@ zip_more R f xs ys i x y low is h r = rw (map-take_more f ys i y low is) (zip_pu
 pub range_more : (n end : ℕ) → n < end → range_with_len n (end - n) ≡ n ∷ range_with_len (n + 1) (end - (n + 1))
 range_more n end low = let e : end - n ≡ suc (end - (n + 1)) = omega arith in rw e refl
 
--- what the table at an index finds is what is in the list at that index
+-- the table at an index finds the names of the list at that index
 pub found_at : (ts : List NameTable) (lists : List (List (List ℕ))) (i : ℕ) (t : NameTable) (name : List ℕ) (found : Option ℕ) → AllZip IsTableOf ts lists → i < length ts → t ≡ get_or ts i t
     → ((names : List (List ℕ)) → IsTableOf t names → found ≡ position (λ n. bytes_eq n name) names)
     → found ≡ option_and_then (position (λ n. bytes_eq n name)) (slice_get lists i)

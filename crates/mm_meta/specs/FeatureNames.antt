@@ -1,4 +1,4 @@
--- Features by their names: the first of each name, and after each the next of its name.
+-- Features by their names: for each name the first feature, and for each feature the next one of the same name.
 use Rattle.std.specs.Prelude.{◌≡◌, ◌<◌, ◌≤◌, ℕ, suc, false, List, [], length, slice_get, Option, Some}
 use Rattle.std.specs.List.{slice_index_or}
 use Rattle.mm_types.specs.Lookups.{feature_by_name, feature_name, has_feature}
@@ -8,7 +8,7 @@ use Rattle.mm_types.specs.declared.numbers.FeatureNo.{FeatureNo}
 use Rattle.mm_meta.specs.NameTable.{IsTableOf}
 use Rattle.mm_meta.specs.declared.feature_names.FeatureNames.{FeatureNames}
 
--- g is the first position from one on at which a name is, or the end of the list if it is at none
+-- g is the first position of a name from `from` on, or the end of the list if there is none
 pub record IsNext (names : List (List ℕ)) (name : List ℕ) (from g : ℕ) : Type 0 where
   pub behind : from ≤ g
   pub within : g ≤ length names
@@ -20,15 +20,16 @@ pub record AreFeatureNames (n : FeatureNames) (names : List (List ℕ)) : Type 0
   pub long : length n.next.items ≡ length names
   pub next : (f : ℕ) → f < length names → IsNext names (slice_index_or names f []) (suc f) (slice_index_or n.next.items f 0)
 
--- a search for the feature of a name has come to a position: the class has none of the name before it, and one of the name is there
+-- a search for a class's feature by name has come to a position: the class has no feature of the name before it, and the feature at it has
+-- the name
 pub record ComesTo (m : Metamodel) (c : ClassNo) (name : List ℕ) (at : ℕ) : Type 0 where
   pub passed : (h : ℕ) → h < at → feature_name m (feature_no h) ≡ name → has_feature m c (feature_no h) ≡ false
   pub here : at < length m.features → feature_name m (feature_no at) ≡ name
 
--- what some classes, the first ones, have under a name
+-- for each of the first classes, its feature of a name
 abbrev pub IsRow : Metamodel → List ℕ → List (Option FeatureNo) → Type 0
 IsRow m name by_class = (c : ℕ) (found : Option FeatureNo) → slice_get by_class c ≡ Some found → found ≡ feature_by_name m (class_no c) name
 
--- at the number of a feature is what classes have under its name, or nothing
+-- the row at the number of a feature has, for each of the first classes, its feature of the same name; a row may be empty
 abbrev pub AreRows : Metamodel → List (List (Option FeatureNo)) → Type 0
 AreRows m rows = (f : ℕ) → f < length rows → IsRow m (feature_name m (feature_no f)) (slice_index_or rows f [])

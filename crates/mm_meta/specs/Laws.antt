@@ -9,7 +9,7 @@ use Rattle.mm_types.specs.declared.numbers.FeatureNo.{FeatureNo}
 use Rattle.mm_types.specs.declared.numbers.ObjectNo.{ObjectNo}
 use Rattle.mm_types.specs.declared.value.Value.TheVariants.{Object}
 
--- two references are each other's opposite, and one feature contains for both
+-- two references are each other's opposite, and have one containing feature or none
 pub record IsPair (m : Metamodel) (f g : FeatureNo) : Type 0 where
   pub back : (shape m g).opposite ≡ Some f
   pub apart : (g.0 ≡ f.0) → ⊥
@@ -29,12 +29,12 @@ pub record IsContainerOf (m : Metamodel) (f h : FeatureNo) : Type 0 where
   pub apart : (h.0 ≡ f.0) → ⊥
   pub contains : (shape m h).containing ≡ Some h
 
--- the containing feature of a feature's links is the feature itself, or the opposite of a container reference; that of `contents` is
+-- the containing feature of a feature's links is the feature itself or, for a container reference, its opposite; for `contents` it is
 -- `contents`
 abbrev pub ContainingIsKnown : Metamodel → Type 0
 ContainingIsKnown m = (f h : FeatureNo) → f.0 ≤ length m.features → (shape m f).containing ≡ Some h → (h ≡ f) ⊎ IsContainerOf m f h
 
--- the class of an object has a feature
+-- whether the class of an object has a feature
 abbrev pub class_has : Metamodel → (ObjectNo → Option ClassNo) → ObjectNo → FeatureNo → Bool
 class_has m class_of o f = option_map_or (λ c. has_feature m c f) (class_of o) false
 

@@ -5,11 +5,11 @@ use Rattle.std.specs.Str.{bytes_eq}
 use Rattle.indexmap.specs.IndexMap.{get_by_text}
 use Rattle.mm_meta.specs.declared.name_table.NameTable.{NameTable}
 
--- at each name that is in the list the table has the position at which it is first
+-- the table has each name of the list, with the name's first position
 pub record IsTableOf (t : NameTable) (names : List (List ℕ)) : Type 0 where
   pub at : (q : List ℕ) → get_by_text t.positions q ≡ position (λ n. bytes_eq n q) names
 
--- the position at which a name is first in the list at an index
+-- the first position of a name in the list at an index
 abbrev pub position_in : List (List (List ℕ)) → ℕ → List ℕ → Option ℕ
 position_in lists index name = option_and_then (position (λ n. bytes_eq n name)) (slice_get lists index)
 

@@ -34,7 +34,7 @@ fn feature_numbers(alloc: Global, numbers: &[u32]) -> Result<Seq<FeatureNo>, All
 }
 
 impl<'a> Resolver<'a> {
-    /// The numbers of the classes that names name; a name that names no class is passed over.
+    /// The numbers of the classes with these names; a name of no class is skipped.
     fn supers_of(&self, alloc: Global, names: &[Text]) -> Result<Seq<usize>, AllocError>
         ensures { IfOk result (λ s. s ≡ filter_map (class_named self.now.classes) names.now) }
     {
@@ -94,8 +94,8 @@ impl<'a> Resolver<'a> {
         })
     }
 
-    /// The classes with their names resolved, given their supertypes and all features of each. The lists are given back one by one as
-    /// their classes are made, so that they and the classes take no more memory together than one of them.
+    /// The classes with their names resolved, given their supertypes and all features of each. Each list is freed as soon as its class is
+    /// made, so that the lists and the classes are never both whole in memory.
     pub fn resolved_classes(
         &self,
         alloc: Global,

@@ -9,12 +9,12 @@ use crate::name_table::NameTable;
 use mm_types::Feature;
 use std::alloc::{AllocError, Global};
 
-/// One table of the names of all features, whatever class declares them: the first feature of each name, and after each feature the
-/// next one of its name. It grows with the features that are declared, and not with those that are inherited.
+/// One table of the names of all features, whatever class declares them: the first feature of each name, and after each feature the next
+/// one of its name. It grows with the declared features, and not with the inherited ones.
 #[derive(Drop)]
 pub struct FeatureNames {
     first: NameTable,
-    /// At each feature's number that of the next feature of its name, or how many features there are.
+    /// At each feature's number the number of the next feature of the same name; for the last one, the number of features.
     next: Vec<usize>,
 }
 
@@ -35,7 +35,7 @@ impl FeatureNames {
         self.first.position(name)
     }
 
-    /// At each feature's number that of the next feature of its name, or how many features there are.
+    /// At each feature's number the number of the next feature of the same name; for the last one, the number of features.
     pub fn next(&self) -> &[usize]
         ensures { result.now ≡ self.now.next.items }
     {
@@ -43,7 +43,7 @@ impl FeatureNames {
     }
 }
 
-/// For each feature the next one of its name. They are gone through from the last to the first.
+/// For each feature the next feature of the same name. The features are visited from the last to the first.
 fn next_of_name(
     alloc: Global,
     features: &[Feature],
@@ -55,7 +55,7 @@ fn next_of_name(
 {
     let none = features.len();
     let mut next = vec![in alloc; none; none]?;
-    // At the first feature of each name is the last one that was met.
+    // By the first feature of each name: the feature of that name that was met last.
     let mut met = vec![in alloc; none; none]?;
     let mut f = none;
     'back: while f > 0 {

@@ -7,21 +7,21 @@ ghost use Rattle.mm_types.specs.Shapes.{shape};
 ghost use Rattle.mm_types.specs.declared.numbers.FeatureNo.{FeatureNo};
 ghost use Rattle.mm_meta.specs.Laws.{ConformanceIsComputed, ContainingIsKnown, FarTypesFit, OppositesArePairs, TakesWhatHasTheOpposite};
 
-/// A class conforms to another exactly if a search up its supertypes, of no more steps than there are classes, finds the
-/// other: no class inherits from itself.
+/// A class conforms to another exactly if a search through its supertypes finds the other in at most as many steps as there are classes,
+/// since no class inherits from itself.
 pub fn conformance()
     ensures { (m : Metamodel) → IsOfDocument m → ConformanceIsComputed m }
 {}
 
-/// The opposite of a reference is another reference, whose opposite is the first one. The same feature contains
-/// for both of them, if one does (MOF 2.5.1: Property, opposite; EMF: EReference.eOpposite).
+/// The opposite of a reference is another reference, whose opposite is the first one. If one of them is a containment,
+/// it is the containing feature of both (MOF 2.5.1: Property, opposite; EMF: EReference.eOpposite).
 pub fn opposites()
     ensures pairs { (m : Metamodel) → IsOfDocument m → OppositesArePairs m }
     ensures shape { (m : Metamodel) (f : FeatureNo) → (shape m f).opposite ≡ opposite m f }
 {}
 
-/// Of the two ends of a link, the feature itself contains, or its opposite; if the opposite does, the feature is single: an
-/// object has one container (EMF: EReference.isContainment, isContainer). Of `contents` it is `contents`.
+/// The containing feature of a feature's links is the feature itself or its opposite. If it is the opposite, the feature is single, since
+/// an object has one container (EMF: EReference.isContainment, isContainer). The containing feature of `contents` is `contents`.
 pub fn containers()
     ensures { (m : Metamodel) → IsOfDocument m → ContainingIsKnown m }
 {}

@@ -1,4 +1,4 @@
-//! A well-formed metamodel with its names resolved, and what it returns by number and by name.
+//! A well-formed metamodel with its names resolved, and its look-ups by number and by name.
 #![tactic(auto)]
 
 mod classes;

@@ -15,13 +15,14 @@ use mm_types::{Class, ClassNo, Enumeration, Feature, FeatureNo, Kind, RawMeta, S
 use std::alloc::{AllocError, Global};
 use std::marker::Model;
 
-/// How many features of one name a look-up goes through at most. What classes have under the names of more is kept.
+/// The greatest number of features of one name that a look-up goes through. If more features have a name, the feature of that name is kept
+/// for each class.
 const FEW: usize = 8;
 
 /// A metamodel with its names resolved into numbers: always well-formed and within the limits. Classes
 /// are numbered in document order, features in class order.
 ///
-/// No look-up takes memory. One by a number that names nothing returns `None`.
+/// No look-up takes memory. A look-up by a number that names nothing returns `None`.
 #[derive(Drop)]
 pub struct Meta {
     enums: Seq<Enumeration>,
@@ -31,9 +32,10 @@ pub struct Meta {
     conformance: Seq<Seq<bool>>,
     class_table: NameTable,
     literal_tables: Vec<NameTable>,
-    /// The names of all features, and for each the features that have it.
+    /// The names of all features, and for each name the features that have it.
     names: FeatureNames,
-    /// At the first feature of each name that many features have: what each class has under the name. Else no list, or an empty one.
+    /// By the first feature of each name that many features have: the feature of that name, for each class. For any other feature there is
+    /// no list, or an empty one.
     common: Vec<Seq<Option<FeatureNo>>>,
     /// The default of a reference.
     null: Value,
@@ -56,7 +58,7 @@ impl Meta {
     ghost use Rattle.mm_types.specs.OfDocument.{IsOfDocument};
     ghost use Rattle.mm_meta.specs.Resolution.{IsResolutionOf};
 
-    /// The metamodel that a well-formed document gives, and what it resolves to. Errs only if memory is refused.
+    /// The metamodel that a well-formed document gives. Errs only if memory is refused.
     pub fn new(alloc: Global, raw: RawMeta, resolution: Resolution) -> Result<Self, AllocError>
         requires well_formed { WellFormed raw }
         requires resolution { IsResolutionOf raw resolution }
@@ -88,14 +90,14 @@ impl Meta {
         Ok(meta)
     }
 
-    /// What holds of every metamodel, for proofs that know it by its view: it is that of a well-formed document.
+    /// Every metamodel is the metamodel of a well-formed document. Proofs that know a metamodel by its view call this.
     pub fn lemma_is_of_document(&self)
         ensures { IsOfDocument self.now }
     {
         let _ = &self.null;
     }
 
-    /// The class of a name. `Resource` names none.
+    /// The class of a name. No class has the name `Resource`.
     pub fn class_by_name(&self, name: &str) -> Option<ClassNo>
         ensures { result ≡ m.class_by_name self.now name.now }
     {
@@ -125,7 +127,7 @@ impl Meta {
         }
     }
 
-    /// What is kept of a class and the name of a feature, the first of its name.
+    /// The feature of a class that has the name of `first`, if that is kept. `first` is the first feature of its name.
     fn kept(&self, class: ClassNo, first: usize) -> Option<Option<FeatureNo>>
         ensures { IfSome result (λ found. found ≡ m.feature_by_name self.now class (m.feature_name self.now (feature_no first))) }
     {
@@ -133,7 +135,7 @@ impl Meta {
         by_class.as_slice().get(class.0 as usize).copied()
     }
 
-    /// The feature of a name that a class has, from the feature of a number on, by looking at each feature of the name.
+    /// The feature of a class that has a name, found by a look at each feature of the name, from the feature `from` on.
     fn search(&self, class: ClassNo, _name: &str, from: usize) -> Option<FeatureNo>
         requires { ComesTo self.now class _name.now from }
         ensures { result ≡ m.feature_by_name self.now class _name.now }
@@ -172,7 +174,7 @@ impl Meta {
         at < next.len()
     }
 
-    /// What each class has under the name of a feature, if it is the first of many that have the name. Else nothing.
+    /// For each class the feature that has the name of a given feature, if that is the first of many of its name. Else an empty list.
     fn by_class(&self, alloc: Global, feature: usize) -> Result<Seq<Option<FeatureNo>>, AllocError>
         requires { feature < length self.now.features }
         ensures { IfOk result (IsRow self.now (m.feature_name self.now (feature_no feature))) }
@@ -198,7 +200,7 @@ impl Meta {
         Ok(rows)
     }
 
-    /// Keeps what each class has under the names that many features have, so that no look-up goes through them all.
+    /// Keeps, for each name that many features have, the feature of that name for each class, so that no look-up goes through all of them.
     fn keep_common(&mut self, alloc: Global) -> Result<(), AllocError>
         ensures { self.new ≡ self.old }
     {
@@ -207,7 +209,7 @@ impl Meta {
         Ok(())
     }
 
-    /// The feature of a number. `contents()` has none.
+    /// The feature of a number; `None` for `contents()`.
     pub fn feature(&self, feature: FeatureNo) -> Option<&Feature>
         ensures { option_copied result ≡ m.feature self.now feature }
     {
@@ -222,7 +224,7 @@ impl Meta {
         Some(class.all.as_slice())
     }
 
-    /// Whether a class is a given one or inherits from it (EClass.isSuperTypeOf, turned round).
+    /// Whether a class is a given one or inherits from it (EClass.isSuperTypeOf, with the two exchanged).
     pub fn conforms(&self, sub: ClassNo, sup: ClassNo) -> bool
         ensures { result ≡ m.conforms self.now sub sup }
     {
@@ -278,9 +280,9 @@ impl Meta {
         }
     }
 
-    /// The feature that contains what a feature links: the feature itself, if it is a containment reference; its opposite, if it is
-    /// a container reference (EReference.isContainment, isContainer). `contents()` contains too, and is returned for each number
-    /// that no feature has. Takes no memory.
+    /// The feature that contains what a feature links: the feature itself, if it is a containment reference; its opposite, if it is a
+    /// container reference (EReference.isContainment, isContainer). `contents()` is a containment too. It is returned for each number that
+    /// no feature has. Takes no memory.
     pub fn containing(&self, feature: FeatureNo) -> Option<FeatureNo>
         ensures { result ≡ (shapes.shape self.now feature).containing }
     {
@@ -313,7 +315,7 @@ impl Meta {
         }
     }
 
-    /// The name of a literal, by the positions of its enumeration and of itself there.
+    /// The name of a literal, by the position of its enumeration and its index there.
     pub fn literal(&self, enumeration: u32, index: u32) -> Option<&str>
         ensures { option_copied result ≡ m.literal self.now enumeration index }
     {
@@ -335,7 +337,7 @@ impl Meta {
         Some(index as u32)
     }
 
-    /// The one feature of a resource, which holds its roots: the number past the last feature's.
+    /// The only feature of a resource, which holds its roots. Its number is one more than the number of the last feature.
     pub fn contents(&self) -> FeatureNo
         ensures { result ≡ m.contents self.now }
     {

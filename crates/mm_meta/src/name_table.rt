@@ -69,8 +69,8 @@ impl Named for Text {
 #[derive(Drop)]
 pub struct NameTable {
     positions: IndexMap<String, usize>,
-    /// At the slot of a name is the index in `positions` that is compared first, which is faster than to hash the name. A hint may be any
-    /// number: if the name is not there, the hash finds it.
+    /// At the slot of a name: the index in `positions` that is compared first, which is faster than hashing the name. A hint may be any
+    /// number; if the name is not at that index, the hash finds it.
     hints: Vec<u32>,
 }
 

@@ -1,4 +1,4 @@
-//! What a metamodel says of the shape of a feature, also of the one of resources, and the names of its classes, features and literals.
+//! Look-ups of the shapes of features, also of `contents`, and of the names of classes, features and literals.
 ghost use Rattle.std.specs.Prelude.{◌≡◌, option_copied, option_and_then};
 ghost use Rattle.mm_types.specs.Lookups as m;
 ghost use Rattle.mm_types.specs.Shapes.{is_full_list, shape};
@@ -40,8 +40,7 @@ impl Meta {
         }
     }
 
-    /// Whether a list of so many values is full: its feature has an upper bound above 1, and no more values may be in it. Takes no
-    /// memory.
+    /// Whether a list of so many values is full: its feature has an upper bound above 1, and that is reached. Takes no memory.
     pub fn is_full(&self, feature: FeatureNo, len: u32) -> bool
         ensures { result ≡ is_full_list (shape self.now feature) len }
     {
@@ -51,7 +50,7 @@ impl Meta {
         }
     }
 
-    /// Whether a feature holds objects (EMF: EReference); so does the one of resources. Takes no memory.
+    /// Whether a feature holds objects (EMF: EReference); `contents` does. Takes no memory.
     pub fn is_reference(&self, feature: FeatureNo) -> bool
         ensures { result ≡ (shape self.now feature).is_reference }
     {
@@ -64,7 +63,7 @@ impl Meta {
         }
     }
 
-    /// Whether being set is a state of its own of a feature (EMF: EStructuralFeature.isUnsettable). Takes no memory.
+    /// Whether a feature is unsettable: being set is then a state of its own (EMF: EStructuralFeature.isUnsettable). Takes no memory.
     pub fn is_unsettable(&self, feature: FeatureNo) -> bool
         ensures { result ≡ (shape self.now feature).is_unsettable }
     {

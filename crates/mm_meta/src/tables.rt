@@ -31,7 +31,7 @@ pub fn literal_tables(alloc: Global, enums: &[Enumeration]) -> Result<Vec<NameTa
     Ok(tables)
 }
 
-/// The numbers from one on, as many as there are features.
+/// `count` numbers, from `first` on.
 fn numbers_from(alloc: Global, first: u32, count: u32) -> Result<Seq<u32>, AllocError>
     requires { first + count < 2 ^ 32 }
     ensures { IfOk result (λ s. s ≡ range_with_len first count) }

@@ -1,4 +1,4 @@
--- The opposite that is found by name is the one that a reference names.
+-- The feature that is found by the name of an opposite is the opposite that the reference names.
 use Rattle.std.proofs.Common.{◌≡◌, ◌∙◌, ◌+◌, ◌==◌, ◌||◌, ℕ, zero, suc, Bool, true, false, not, cond, List, [], ◌∷◌, Option, Some, None, ap, get_or, refl, sym, subst}
 use Rattle.std.specs.Prelude.{option_and_then, position, slice_get, is_some, IsTrue}
 use Rattle.std.specs.Bool.{Decides}
@@ -31,7 +31,7 @@ none_from p s (y ∷ ys) (suc j) x at is none =
       | false ↦ λ h. none_from p (s + 1) ys j x at is h
     ] none
 
--- the first feature of a name, if no other has it, is the feature
+-- if no other feature has the name, the first feature of the name is the feature itself
 pub own_at_first : (raw : RawMetamodel) → NamesAreUnique raw → (d j : ℕ) (f : RawFeature) → feature_at raw d j ≡ Some f → own_position raw.classes d f.name ≡ Some j
 own_at_first raw u d j f at = in_class (slice_get raw.classes d) refl at
   where
@@ -75,7 +75,7 @@ own_found raw d j name is = in_class (slice_get raw.classes d) refl is
 pub test_here : (t : RawFeature → Bool) (raw : RawMetamodel) (c i : ℕ) (f : RawFeature) → feature_at raw c i ≡ Some f → test_feature_at t raw c i ≡ t f
 test_here t raw c i f at = ap (λ (o : Option RawFeature). option_map_or t o false) at
 
--- what a reference names is found
+-- the opposite that a reference names is found
 opposite_found : (raw : RawMetamodel) → NamesAreUnique raw → (c i d j : ℕ) → NamesOpposite raw c i d j → opposite_at raw c i ≡ Some (d, j)
 opposite_found raw u c i d j h =
     let far_position : own_position raw.classes d h.far.name ≡ Some j = own_at_first raw u d j h.far h.far_here in
@@ -86,7 +86,7 @@ opposite_found raw u c i d j h =
     ∙ (ap (option_and_then (λ j. cond (test_feature_at (λ f. is_reference f.kind) raw d j) (Some (d, j)) None)) far_position
     ∙ ap (λ b. cond b (Some (d, j)) None) refers)))
 
--- what is found, a reference names
+-- the feature that is found is the opposite that a reference names
 pub opposite_is : (raw : RawMetamodel) (c i : ℕ) (p : ℕ × ℕ) → opposite_at raw c i ≡ Some p → NamesOpposite raw c i p.0 p.1
 opposite_is raw c i p is =
     option_and_then_some (opposite_of raw) (feature_at raw c i) p is (λ near near_here h1.
@@ -119,7 +119,7 @@ container_decides raw u c i = (
 pub at_decides : (c i : ℕ) (p : ℕ × ℕ) → Decides (is_at c i p) ((p.0 ≡ c) × (p.1 ≡ i))
 at_decides c i p = Decides-and (p.0 == c) (p.1 == i) (Decides-eqb p.0 c) (Decides-eqb p.1 i)
 
--- each reference that a reference names, and that names it back, is the reference itself
+-- if a reference names another one, and that one names it back, the two are the same reference
 abbrev NoOtherNamesBack : RawMetamodel → ℕ → ℕ → Type 0
 NoOtherNamesBack raw c i = (d j : ℕ) → NamesOpposite raw c i d j → NamesOpposite raw d j c i → (d ≡ c) × (j ≡ i)
 
@@ -177,7 +177,7 @@ lacks_decides raw u c i =
     Decides-and (test_feature_at (λ f. is_some (opposite_name f.kind)) raw c i) (option_map_or (leads_astray raw c i) (opposite_at raw c i) true)
     (itself_decides (test_feature_at (λ f. is_some (opposite_name f.kind)) raw c i)) (back_decides raw u c i)
 
--- a test of the reference that passes, and that its opposite contains
+-- a reference that passes a test and whose opposite is a containment
 pub with_container : (raw : RawMetamodel) → NamesAreUnique raw → (c i : ℕ) (b : Bool) → true ≡ b → Decides (is_container_at raw c i) (IsTrue b × IsContainer raw c i)
 with_container raw u c i b is =
     let contains = container_decides raw u c i in

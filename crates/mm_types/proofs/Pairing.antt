@@ -117,7 +117,7 @@ one_names raw c i d j p = record {
   far_refers = refers p.far.kind p.near.name p.far_names;
 }
 
--- At most one of the two contains.
+-- At most one of the two is a containment.
 pub not_both_contain : (raw : RawMetamodel) → WellFormed raw → (c i d j : ℕ) (p : NameEachOther raw c i d j) → is_containment p.near.kind ≡ true → is_containment p.far.kind ≡ true → ⊥
 not_both_contain raw well c i d j p near far =
     well BothContain (Feature c i) (
@@ -125,7 +125,7 @@ not_both_contain raw well c i d j p near far =
       (d, j, one_names raw c i d j p, test_here (λ f. is_containment f.kind) raw d j p.far p.far_here ∙ far),
     )
 
--- If the far one contains, the near one is single.
+-- If the far one is a containment, the near one is single.
 pub single_container : (raw : RawMetamodel) → WellFormed raw → (c i d j : ℕ) (p : NameEachOther raw c i d j) → is_containment p.far.kind ≡ true → int_eq p.near.upper (pos 1) ≡ true
 single_container raw well c i d j p far =
     true_from_ne_false (int_eq p.near.upper (pos 1)) (λ several.

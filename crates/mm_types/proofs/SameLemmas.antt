@@ -1,4 +1,4 @@
--- What is found the same is equal, and each node and end is found the same as itself.
+-- Nodes and ends that the tests find the same are equal, and each is found the same as itself.
 use Rattle.std.proofs.Common.{◌≡◌, ℕ, true, ◌∙◌, refl, ap, eqb-true, eq-eqb}
 use Rattle.std.proofs.lemmas.Bool.{and_from, and_parts}
 use Rattle.mm_types.specs.Same.{same_end, same_feature, same_node}

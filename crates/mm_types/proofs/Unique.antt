@@ -20,7 +20,7 @@ names_from [] c i = refl
 names_from (k ∷ ks) zero i = slice_get-map (λ f. f.name) k.features i
 names_from (k ∷ ks) (suc c) i = names_from ks c i
 
--- the own names of classes are those of their features
+-- the names that a class declares are those of its features
 pub names_at : (raw : RawMetamodel) (c i : ℕ) → slice_get (slice_index_or (own_names raw) c []) i ≡ option_map (λ f. f.name) (feature_at raw c i)
 names_at raw c i = names_from raw.classes c i
 

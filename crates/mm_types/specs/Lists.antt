@@ -2,11 +2,11 @@
 use Rattle.std.specs.Prelude.{ℕ, List, insert, remove, slice_get, Option, Some, None}
 use Rattle.mm_types.specs.declared.value.Value.{Value}
 
--- a value that was at an index put in at another
+-- the list with v, its value at `from`, moved to `to`; without a value the list stays
 abbrev pub put_back : Option Value → List Value → ℕ → ℕ → List Value
 put_back None vs to from = vs
 put_back (Some v) vs to from = insert (remove vs from) to v
 
--- a list after what is at `from` is taken out and put in at `to`
+-- a list after its value at `from` is taken out and inserted at `to`
 abbrev pub shifted : List Value → ℕ → ℕ → List Value
 shifted vs to from = put_back (slice_get vs from) vs to from

@@ -22,7 +22,7 @@ use Rattle.mm_types.specs.declared.numbers.ObjectNo.{ObjectNo}
 abbrev pub class : Metamodel → ClassNo → Option Class
 class m c = slice_get m.classes c.0
 
--- a class is there, and is concrete
+-- whether a number has a class, and the class is concrete
 abbrev pub is_concrete : Metamodel → ClassNo → Bool
 is_concrete m c = option_map_or (λ k. not k.is_abstract) (class m c) false
 
@@ -40,11 +40,11 @@ features m c = option_map (λ k. k.all) (class m c)
 abbrev pub has_feature : Metamodel → ClassNo → FeatureNo → Bool
 has_feature m c f = option_map_or (λ all. list_any (λ g. nat_eq g.0 f.0) all) (features m c) false
 
--- the name of the feature of a number among some, nothing if there is none
+-- the name of the feature of a number in a list of features; empty if the list has no such feature
 abbrev pub name_in : List Feature → FeatureNo → List ℕ
 name_in fs f = option_map_or (λ g. g.name) (slice_get fs f.0) []
 
--- the name of a class, nothing if there is none of the number
+-- the name of a class; empty if no class has the number
 abbrev pub class_name : Metamodel → ClassNo → List ℕ
 class_name m c = option_map_or (λ k. k.name) (class m c) []
 
@@ -63,12 +63,12 @@ supertypes m = map (λ c. map (λ s. s.0) c.supers) m.classes
 abbrev pub ConformsTo : Metamodel → ClassNo → ClassNo → Type 0
 ConformsTo m sub sup = (sub.0 < length m.classes) × Conforms (supertypes m) sub.0 sup.0
 
--- d is c, or is reached from it by so many steps at most
+-- whether d is c, or is reached from c by at most n steps
 abbrev pub conforms_within : List (List ℕ) → ℕ → ℕ → ℕ → Bool
 conforms_within g zero c d = nat_eq c d
 conforms_within g (suc n) c d = nat_eq c d || list_any (λ e. conforms_within g n e d) (by_class g c)
 
--- the same, computed: no way up is longer than there are classes
+-- `ConformsTo`, computed: no path of supertypes is longer than the number of classes
 abbrev pub conforms : Metamodel → ClassNo → ClassNo → Bool
 conforms m sub sup = nat_lt sub.0 (length m.classes) && conforms_within (supertypes m) (length m.classes) sub.0 sup.0
 
@@ -91,15 +91,15 @@ abbrev pub is_containment_kind : Kind → Bool
 is_containment_kind (Attribute t unique unsettable default) = false
 is_containment_kind (Reference target containment opposite) = containment
 
--- a container reference is one whose opposite is containment
+-- whether a feature is a container reference: its opposite is a containment
 abbrev pub is_container : Metamodel → FeatureNo → Bool
 is_container m f = option_map_or (λ g. is_containment_kind g.kind) (option_and_then (feature m) (opposite m f)) false
 
--- the name of a literal, and the index of a name
+-- the name of the literal at an index of an enumeration
 abbrev pub literal : Metamodel → ℕ → ℕ → Option (List ℕ)
 literal m e i = option_and_then (λ en. slice_get en.literals i) (slice_get m.enums e)
 
--- the name of a literal of an attribute's type, no name if there is none
+-- the name of the literal at an index of an attribute's type; none if the type is no enumeration or has no such literal
 abbrev pub literal_in : Metamodel → Kind → ℕ → Option (List ℕ)
 literal_in m (Attribute (Enum e) unique unsettable default) i = literal m e i
 literal_in m _ i = None
@@ -110,14 +110,14 @@ literal_text m f i = unwrap_or (option_and_then (λ g. literal_in m g.kind i) (f
 abbrev pub literal_by_name : Metamodel → ℕ → List ℕ → Option ℕ
 literal_by_name m e name = literal_named m.enums e name
 
--- the feature that holds a resource's roots: containment, of any number of objects of any class, without opposite
+-- the feature that holds a resource's roots: a containment without opposite, of any number of objects of any class
 abbrev pub contents : Metamodel → FeatureNo
 contents m = feature_no (length m.features)
 
 abbrev pub is_single : Feature → Bool
 is_single f = int_eq f.upper (pos 1)
 
--- a value is one of a data type; null is one of no type here
+-- whether a value is of a data type; null is of no type
 abbrev pub is_of_type : Metamodel → DataType → Value → Bool
 is_of_type m EString (value.Text text) = true
 is_of_type m EInt (value.Int n) = is_of_bits 32 n
@@ -130,12 +130,12 @@ abbrev pub is_text_type : DataType → Bool
 is_text_type EString = true
 is_text_type _ = false
 
--- a value is one of an attribute, single or not, of a data type: null is one of a single text
+-- whether an attribute of a data type, single or not, may hold a value; a single text may be null
 abbrev pub is_attribute_value : Metamodel → Bool → DataType → Value → Bool
 is_attribute_value m single t value.Null = single && is_text_type t
 is_attribute_value m single t v = is_of_type m t v
 
--- a value is one that an attribute keeps; a reference keeps none
+-- whether a feature of a kind is an attribute that may hold a value
 abbrev pub is_of_attribute : Metamodel → Bool → Kind → Value → Bool
 is_of_attribute m single (Attribute t unique unsettable default) v = is_attribute_value m single t v
 is_of_attribute m single (Reference target containment opposite) v = false
@@ -143,14 +143,13 @@ is_of_attribute m single (Reference target containment opposite) v = false
 abbrev pub keeps : Metamodel → FeatureNo → Value → Bool
 keeps m f v = option_map_or (λ g. is_of_attribute m (is_single g) g.kind v) (feature m f) false
 
--- a value is one of a reference to a class, single or not: null is one of a single reference, and an object of one whose target its
--- class conforms to
+-- whether a reference to a class, single or not, may hold a value: null if it is single, or an object whose class conforms to the target
 abbrev pub is_reference_value : Metamodel → (ObjectNo → Option ClassNo) → Bool → ClassNo → Value → Bool
 is_reference_value m class_of single target value.Null = single
 is_reference_value m class_of single target (value.Object o) = option_map_or (λ c. conforms m c target) (class_of o) false
 is_reference_value m class_of single target _ = false
 
--- a value is one of a kind of feature, single or not
+-- whether a feature of a kind, single or not, may hold a value
 abbrev pub is_of_kind : Metamodel → (ObjectNo → Option ClassNo) → Bool → Kind → Value → Bool
 is_of_kind m class_of single (Attribute t unique unsettable default) v = is_attribute_value m single t v
 is_of_kind m class_of single (Reference target containment opposite) v = is_reference_value m class_of single target v
@@ -159,11 +158,11 @@ abbrev pub is_object : Value → Bool
 is_object (value.Object o) = true
 is_object _ = false
 
--- an object that has a class, and so lives
+-- whether a value is a live object: an object that has a class
 abbrev pub is_live_object : (ObjectNo → Option ClassNo) → Value → Bool
 is_live_object class_of (value.Object o) = is_some (class_of o)
 is_live_object class_of _ = false
 
--- a value is one of a feature's type; `contents` takes any object that lives
+-- whether a feature may hold a value; `contents` may hold any live object
 abbrev pub takes : Metamodel → (ObjectNo → Option ClassNo) → FeatureNo → Value → Bool
 takes m class_of f v = option_map_or (λ g. is_of_kind m class_of (is_single g) g.kind v) (feature m f) (is_live_object class_of v)

@@ -6,7 +6,7 @@ use Rattle.mm_types.specs.Resolved.{class_named, own_position}
 use Rattle.mm_types.specs.WellFormed.{feature_at, is_containment, is_reference, opposite_name, test_feature_at}
 use Rattle.mm_types.specs.declared.raw.RawFeature.{RawFeature}
 
--- the reference of a name that a class declares, by class and index
+-- the reference that a class declares under a name, as the class and an index
 abbrev pub reference_named : RawMetamodel → ℕ → List ℕ → Option (ℕ × ℕ)
 reference_named raw d name =
     option_and_then (λ j. if test_feature_at (λ f. is_reference f.kind) raw d j then Some (d, j) else None) (own_position raw.classes d name)
@@ -21,7 +21,7 @@ opposite_at raw c i = option_and_then (opposite_of raw) (feature_at raw c i)
 abbrev pub is_at : ℕ → ℕ → ℕ × ℕ → Bool
 is_at c i p = p.0 == c && p.1 == i
 
--- the opposite of a reference, which is at p, is the reference itself, or does not lead back to it
+-- whether the opposite at p of a reference is the reference itself, or does not lead back to it
 abbrev pub leads_astray : RawMetamodel → ℕ → ℕ → ℕ × ℕ → Bool
 leads_astray raw c i p = is_at c i p || not (option_map_or (is_at c i) (opposite_at raw p.0 p.1) false)
 
@@ -32,6 +32,6 @@ lacks_opposite raw c i =
 abbrev pub is_container_at : RawMetamodel → ℕ → ℕ → Bool
 is_container_at raw c i = option_map_or (λ p. test_feature_at (λ f. is_containment f.kind) raw p.0 p.1) (opposite_at raw c i) false
 
--- within a class no two features have one name
+-- no class declares two features of one name
 abbrev pub NamesAreUnique : RawMetamodel → Type 0
 NamesAreUnique raw = (c i j : ℕ) (f g : RawFeature) → feature_at raw c i ≡ Some f → feature_at raw c j ≡ Some g → f.name ≡ g.name → i ≡ j

@@ -1,4 +1,4 @@
--- Values that are found the same are equal, and each is found the same as itself.
+-- Laws of `same_value`: it is true of equal values, and of no others.
 use Rattle.std.proofs.Common.{◌≡◌, ℕ, Bool, true, false, not, if◌then◌else◌, refl, sym, ap, ◌∙◌, eqb-true, eq-eqb}
 use Rattle.std.specs.Cmp.{IsPartialEquivalence}
 use Rattle.std.proofs.lemmas.Bool.Decides.{Decides-int_eq}
@@ -38,7 +38,7 @@ same_value-self (value.Object a) = eq-eqb a.0 a.0 refl
 same_value-self (value.Proxy a) = (bytes_eq-Decides a a).1 refl
 same_value-self (value.Adapter a) = eq-eqb a.0 a.0 refl
 
--- it does not matter which of two is named first
+-- `same_value` is symmetric
 same_value_both : (x y : Value) (a b : Bool) → same_value x y ≡ a → same_value y x ≡ b → a ≡ b
 same_value_both x y true true h k = refl
 same_value_both x y false false h k = refl

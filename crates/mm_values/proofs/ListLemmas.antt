@@ -1,4 +1,4 @@
--- What an edit makes of a list, within it and past its end.
+-- A list after an edit within it or past its end.
 use Rattle.std.proofs.Common.{◌≡◌, ℕ, ◌-◌, ◌<◌, ◌≤◌, min, List, [], length, refl, sym, ap, arith}
 use Rattle.std.proofs.lemmas.Option.{slice_get_past}
 use Rattle.slot_lists.specs.Moved.{moved}
@@ -11,7 +11,7 @@ use Rattle.mm_values.specs.declared.attribute_lists.Entry.{Entry}
 use Rattle.mm_values.specs.declared.list_edit.ListEdit.{ListEdit}
 use Rattle.mm_values.specs.declared.list_edit.ListEdit.TheVariants.{Insert, Remove, Move}
 
--- a move within the list is what `shifted` says
+-- a move within the list is `shifted`
 pub moved-shifted : (xs : List Value) (to from : ℕ) → from < length xs → moved xs (min to (length xs - 1)) from ≡ shifted xs to from
 moved-shifted xs to from lt = moved-back (λ o. put_back o xs to from) xs to from lt refl (λ x. refl)
 
@@ -19,13 +19,13 @@ moved-shifted xs to from lt = moved-back (λ o. put_back o xs to from) xs to fro
 pub shifted_past : (xs : List Value) (to from : ℕ) → length xs ≤ from → xs ≡ shifted xs to from
 shifted_past xs to from le = sym (ap (λ o. put_back o xs to from) (slice_get_past xs from le))
 
--- of an empty list, only an insert makes something
+-- only an insert changes an empty list
 pub changed_nothing : (l : List Entry) (f : ℕ) (e : ListEdit) → (HasPlace l f 1 → ⊥) → IsReadyFor l f e → changed e [] ≡ []
 changed_nothing l f (Insert i v) none ready = absurd (none ready)
 changed_nothing l f (Remove i) none ready = remove_nothing i
 changed_nothing l f (Move to from) none ready = sym (shifted_past [] to from (omega arith))
 
--- a list that is ready has the capacity that the edit takes
+-- a list that is ready has the capacity that the edit uses
 pub is_ready : (l : List Entry) (f : ℕ) (e : ListEdit) (n : ℕ) → (HasPlace l f 1 → 1 ≤ n) → IsReadyFor l f e → taken e ≤ n
 is_ready l f (Insert i v) n one ready = one ready
 is_ready l f (Remove i) n one ready = omega arith

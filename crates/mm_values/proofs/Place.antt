@@ -1,4 +1,4 @@
--- What a search finds among entries whose attributes rise, and what an edit at that index does.
+-- The index that a search finds among entries in the order of their attributes, and an edit at that index.
 use Rattle.std.proofs.Common.{◌≡◌, ℕ, ◌+◌, ◌-◌, ◌<◌, ◌≤◌, eqb, cond, Bool, List, length, get_or, set, None, Result, Ok, Err, IfOk, IfErr, unwrap_or, refl, inl, inr, sym, ap, subst, ◌∙◌, arith, [], ◌∷◌, ◌++◌, false, eq-eqb, true}
 use Rattle.std.specs.List.{insert}
 use Rattle.std.specs.List.Sorted.{IsSearchInRange, IsBinarySearchResult, IsNonDecreasingBy}
@@ -18,7 +18,7 @@ use Rattle.mm_values.specs.declared.attribute_lists.Entry.{Entry}
 use Rattle.mm_values.proofs.StoredIn.{NoneBefore, kept, found, get-stored_in, get-with_stored, same_stored, found_absent, found_present, found-set, found-insert, unwrap_or-kept, with_stored_same}
 
 module _ (l : List Entry) (rising : IsRising l) (f : ℕ) where
-  -- the comparisons with f rise along the row, as a binary search asks
+  -- the comparisons with f rise along the row, as a binary search requires
   comparisons_rise : IsNonDecreasingBy (λ e. ordering_index (nat_cmp e.feature.0 f)) l
   comparisons_rise = IsNonDecreasingBy-from_default (λ e. ordering_index (nat_cmp e.feature.0 f)) l (place_for 0) (λ i j le in_range.
       let features_rise : feature_at l i ≤ feature_at l j = grind (arith, rising i j, λ (same : i ≡ j). ap (feature_at l) same) in
@@ -41,11 +41,11 @@ module _ (l : List Entry) (rising : IsRising l) (f at : ℕ) (is_at : IsAt l f a
   none_before_at : NoneBefore l f at
   none_before_at j lt same = omega (arith, rising j at lt is_at.in_range, is_at.has_feature)
 
-  -- what is stored is what the entry there holds
+  -- the entry at the index has the stored list and flag
   pub stored_at : unwrap_or (map.get (stored_in l) f) nothing_stored ≡ stored_of (get_or l at (place_for 0))
   stored_at = ap (λ o. unwrap_or o nothing_stored) (get-stored_in l f ∙ found_present l f at is_at none_before_at) ∙ unwrap_or-kept (stored_of (get_or l at (place_for 0)))
 
-  -- an entry of the attribute that is written there is what is stored then
+  -- if an entry of the attribute is written there, its list and flag are stored
   stored_in-set : (e : Entry) → e.feature.0 ≡ f → stored_in (set l at e) ≡ with_stored (stored_in l) f (stored_of e)
   stored_in-set e is = same_stored _ _ (λ q. get-stored_in (set l at e) q ∙ found-set l f at e is is_at none_before_at q
       ∙ ap (λ r. cond (eqb q f) (kept (stored_of e)) r) (sym (get-stored_in l q)) ∙ sym (get-with_stored (stored_in l) f (stored_of e) q))
@@ -64,7 +64,7 @@ module _ (l : List Entry) (rising : IsRising l) (f at : ℕ) (is_at : IsAt l f a
   pub read_feature : (x : Entry) → x ≡ get_or l at x → x.feature.0 ≡ f
   read_feature x read = ap (λ (y : Entry). y.feature.0) (sym (read_is x read)) ∙ is_at.has_feature
 
-  -- what is stored is what that entry holds
+  -- the entry that was read has the stored list and flag
   pub stored_read : (x : Entry) → x ≡ get_or l at x → unwrap_or (map.get (stored_in l) f) nothing_stored ≡ stored_of x
   stored_read x read = stored_at ∙ ap stored_of (read_is x read)
 
@@ -72,7 +72,7 @@ module _ (l : List Entry) (rising : IsRising l) (f at : ℕ) (is_at : IsAt l f a
   pub stored_in-put : (e : Entry) (vs : List Value) (b : Bool) → e.feature.0 ≡ f → e.list.items ≡ vs → e.flag ≡ b → stored_in (set l at e) ≡ with_stored (stored_in l) f (record { list = vs; flag = b })
   stored_in-put e vs b is items flag = stored_in-set e is ∙ ap (with_stored (stored_in l) f) (λ i. record { list = items i; flag = flag i })
 
-  -- the same ones change nothing
+  -- writing the same list and flag changes nothing
   pub stored_in_kept : (x e : Entry) → x ≡ get_or l at x → e.feature.0 ≡ f → e.list.items ≡ x.list.items → e.flag ≡ x.flag → stored_in (set l at e) ≡ stored_in l
   stored_in_kept x e read is items flag = stored_in-put e x.list.items x.flag is items flag ∙ ap (with_stored (stored_in l) f) (sym (stored_read x read)) ∙ with_stored_same l f
 
@@ -80,7 +80,7 @@ module _ (l : List Entry) (rising : IsRising l) (f at : ℕ) (is_at : IsAt l f a
   pub stored_in-changed : (x e : Entry) (g : List Value → List Value) → x ≡ get_or l at x → e.feature.0 ≡ f → e.list.items ≡ g x.list.items → e.flag ≡ x.flag → stored_in (set l at e) ≡ change_stored (stored_in l) f g
   stored_in-changed x e g read is items flag = stored_in-put e (g x.list.items) x.flag is items flag ∙ ap (λ h. with_stored (stored_in l) f (list_changed g h)) (sym (stored_read x read))
 
-  -- its capacity stays but for what is taken, and that of the others all
+  -- its capacity stays, minus the capacity that is used, and the capacity of the others stays whole
   pub index-set : (x e : Entry) (k : ℕ) → x ≡ get_or l at x → e.feature.0 ≡ f → x.list.spare ≤ e.list.spare + k → (q n : ℕ) → HasPlace l q n → HasPlace (set l at e) q (n - taken_of f k q)
   index-set x e k read is spare q n has = record {
     index = has.index;
@@ -98,7 +98,7 @@ module _ (l : List Entry) (rising : IsRising l) (f at : ℕ) (is_at : IsAt l f a
     ];
   }
 
-  -- it has as much capacity as its list
+  -- an entry has as much capacity as its list
   pub place_here : (e : Entry) (n : ℕ) → e.feature.0 ≡ f → n ≤ e.list.spare → HasPlace (set l at e) f n
   place_here e n is many = record {
     index = at;
@@ -119,7 +119,7 @@ module _ (l : List Entry) (rising : IsRising l) (f at : ℕ) (is_at : IsAt l f a
 pub holds_nothing : (e : Entry) → e.list.items ≡ [] → e.flag ≡ false → stored_of e ≡ nothing_stored
 holds_nothing e items flag = λ i. record { list = items i; flag = flag i }
 
--- if none are taken, none of any attribute are
+-- if no capacity is used, none of any attribute is used
 pub none_of : (f q : ℕ) → taken_of f 0 q ≡ 0
 none_of f q = elim (eqb q f) as (λ b. ◌≡◌ {A = ℕ} (cond b 0 0) 0) [
   | true ↦ refl
@@ -138,11 +138,11 @@ module _ (l : List Entry) (f at : ℕ) (gap : IsGapFor l f at) where
   pub stored_in_gap : unwrap_or (map.get (stored_in l) f) nothing_stored ≡ nothing_stored
   stored_in_gap = ap (λ o. unwrap_or o nothing_stored) (get-stored_in l f ∙ found_absent l f none)
 
-  -- it has no capacity
+  -- an attribute with a gap has no capacity
   pub no_place : (n : ℕ) → HasPlace l f n → ⊥
   no_place n has = none has.index has.is_at.in_range has.is_at.has_feature
 
-  -- a change that makes nothing of an empty list changes nothing
+  -- a change that leaves an empty list empty changes nothing
   pub unchanged_gap : (g : List Value → List Value) → g [] ≡ [] → stored_in l ≡ change_stored (stored_in l) f g
   unchanged_gap g nothing = sym (ap (λ h. with_stored (stored_in l) f (list_changed g h)) stored_in_gap ∙ ap (λ vs. with_stored (stored_in l) f (record { list = vs; flag = false })) nothing ∙ ap (with_stored (stored_in l) f) (sym stored_in_gap) ∙ with_stored_same l f)
 
@@ -153,16 +153,16 @@ module _ (l : List Entry) (f at : ℕ) (gap : IsGapFor l f at) (e : Entry) (is :
   none_before_gap : NoneBefore l f at
   none_before_gap j lt same = omega (arith, gap.smaller_before j lt)
 
-  -- what an entry holds that is put in the gap is stored
+  -- the list and the flag of an entry that is put into the gap are stored
   stored_in-insert : stored_in (insert l at e) ≡ with_stored (stored_in l) f (stored_of e)
   stored_in-insert = same_stored _ _ (λ q. get-stored_in _ q ∙ found-insert l f at e is none_before_gap q
       ∙ ap (λ r. cond (eqb q f) (kept (stored_of e)) r) (sym (get-stored_in l q)) ∙ sym (get-with_stored (stored_in l) f (stored_of e) q))
 
-  -- a list and a flag that it holds are stored
+  -- the same for a list and a flag that are given
   pub stored_in-put_new : (vs : List Value) (b : Bool) → e.list.items ≡ vs → e.flag ≡ b → stored_in (insert l at e) ≡ with_stored (stored_in l) f (record { list = vs; flag = b })
   stored_in-put_new vs b items flag = stored_in-insert ∙ ap (with_stored (stored_in l) f) (λ i. record { list = items i; flag = flag i })
 
-  -- so they are if the gap is the end
+  -- the same if the gap is at the end
   pub stored_in-pushed : (vs : List Value) (b : Bool) → at ≡ length l → e.list.items ≡ vs → e.flag ≡ b → stored_in (l ++ e ∷ []) ≡ with_stored (stored_in l) f (record { list = vs; flag = b })
   stored_in-pushed vs b end items flag = ap stored_in (sym (ap (λ i. insert l i e) end ∙ insert_end l e)) ∙ stored_in-put_new vs b items flag
 
@@ -182,13 +182,13 @@ module _ (l : List Entry) (f at : ℕ) (gap : IsGapFor l f at) (e : Entry) (is :
   feature_above : (i : ℕ) → at < i → feature_at (insert l at e) i ≡ feature_at l (i - 1)
   feature_above i above = subst (λ q. feature_at (insert l at e) q ≡ feature_at l (i - 1)) {x = i - 1 + 1} (omega arith) (ap (λ (e : Entry). e.feature.0) (entry_above (i - 1) (omega arith)))
 
-  -- it keeps the order: each number is an old one below the gap, f at it, or an old one moved up by one
+  -- an insert into the gap keeps the order: each number is an old one below the gap, f at the gap, or an old one moved up by one
   pub rising_insert : IsRising l → IsRising (insert l at e)
   rising_insert rising i j lt in_range =
       let length_new = length-insert l at e gap.in_range in
       grind (arith, feature_below i, feature_here i, feature_above i, feature_below j, feature_here j, feature_above j, rising i j, rising i (j - 1), rising (i - 1) (j - 1), gap.smaller_before i, gap.greater_after (j - 1))
 
-  -- it is there
+  -- the new entry is at the gap
   pub is_at_made : IsAt (insert l at e) f at
   is_at_made = record { in_range = omega (arith, length-insert l at e gap.in_range, gap.in_range); has_feature = feature_here at refl }
 

@@ -1,6 +1,6 @@
 -- Capacity for a plan, edit by edit.
 use Rattle.std.proofs.Common.{◌≡◌, ℕ, ◌+◌, ◌-◌, ◌≤◌, Bool, true, false, ◌||◌, List, [], ◌∷◌, cond, inl, inr, refl, arith, eq-eqb, ◌&&◌, Option, Some, None, eqb, eqb-true, subst}
-use Rattle.std.proofs.lemmas.Bool.{and_parts}
+use Rattle.std.proofs.lemmas.Bool.{and_parts, or_parts}
 use Rattle.std.specs.List.{list_any, sum_by}
 use Rattle.std.proofs.lemmas.List.Sums.{sum_by-cons}
 use Rattle.std.proofs.lemmas.List.Elements.{All-cons, All-nil, All-head, All-tail, All-weaker}
@@ -21,7 +21,7 @@ fewer_at r o f n m le has d lt = elim (has d lt) [
   | inr index ↦ inr (fewer _ f n m le index)
 ]
 
--- the capacity that the edits after the first need is what all edits need, less what the first takes
+-- the edits after the first need the capacity that all edits need, minus the capacity that the first uses
 needed_counts : (o f : ℕ) (e : ValueEdit) (es : List ValueEdit) (here behind : Bool) → cond behind (sum_by (λ x. places_taken x o f) es) 0 ≤ cond (here || behind) (sum_by (λ x. places_taken x o f) (e ∷ es)) 0 - places_taken e o f
 needed_counts o f e es true true = let sum = sum_by-cons (λ x. places_taken x o f) e es in omega (arith, sum)
 needed_counts o f e es false true = let sum = sum_by-cons (λ x. places_taken x o f) e es in omega (arith, sum)
@@ -30,7 +30,7 @@ needed_counts o f e es here false = omega arith
 pub needed_behind : (o f : ℕ) (e : ValueEdit) (es : List ValueEdit) → needed es o f ≤ needed (e ∷ es) o f - places_taken e o f
 needed_behind o f e es = needed_counts o f e es (is_insert_at o f e) (list_any (is_insert_at o f) es)
 
--- the first alone needs no more than all
+-- the first edit needs no more than all edits
 first_counts : (o f : ℕ) (e : ValueEdit) (es : List ValueEdit) (here behind : Bool) → cond (here || false) (sum_by (λ x. places_taken x o f) (e ∷ [])) 0 ≤ cond (here || behind) (sum_by (λ x. places_taken x o f) (e ∷ es)) 0
 first_counts o f e es true behind =
     let one = sum_by-cons (λ x. places_taken x o f) e [] in
@@ -51,11 +51,11 @@ place_for_less r r' plan plan' less (RemoveValue o f i) has = tt
 place_for_less r r' plan plan' less (MoveValue o f to from) has = tt
 place_for_less r r' plan plan' less (NewUri u) has = tt
 
--- capacity that is kept with none taken
+-- capacity that is kept, if none is used
 pub kept_for : (r r' : Slots) (plan : List ValueEdit) → KeepsPlaces (λ o f. 0) r r' → (e : ValueEdit) → HasPlaceFor r plan e → HasPlaceFor r' plan e
 kept_for r r' plan kept = place_for_less r r' plan plan (λ o f has. fewer_at r' o f (needed plan o f - 0) (needed plan o f) (omega arith) (kept.places o f (needed plan o f) has))
 
--- a list whose capacity was reserved for one insert has it for the next
+-- if capacity of a list was reserved for one insert, it is there for the next insert
 pub made_for : (r : Slots) (plan : List ValueEdit) (e : ValueEdit) → HasPlaceFor r plan e → HasPlacesIn r plan (inserted_in e)
 made_for r plan (NewObject c) has = tt
 made_for r plan (DropObject o) has = tt
@@ -81,7 +81,7 @@ made_before r plan made (RemoveValue o f i) same has = tt
 made_before r plan made (MoveValue o f to from) same has = tt
 made_before r plan made (NewUri u) same has = tt
 
--- if no value is put into any list, none is into one
+-- if an edit puts a value into no list, it puts none into a given list
 insert_at-insert : (o f : ℕ) (e : ValueEdit) → is_insert e ≡ false → is_insert_at o f e ≡ false
 insert_at-insert o f (NewObject c) none = refl
 insert_at-insert o f (DropObject x) none = refl
@@ -91,24 +91,20 @@ insert_at-insert o f (RemoveValue x g i) none = refl
 insert_at-insert o f (MoveValue x g to from) none = refl
 insert_at-insert o f (NewUri u) none = refl
 
-neither : (a b : Bool) → (a || b) ≡ false → (a ≡ false) × (b ≡ false)
-neither true b h = cc
-neither false b h = (refl, h)
-
 none_inserted : (o f : ℕ) (es : List ValueEdit) → list_any is_insert es ≡ false → list_any (is_insert_at o f) es ≡ false
 none_inserted o f [] none = refl
 none_inserted o f (e ∷ es) none =
-    let both = neither (is_insert e) (list_any is_insert es) none in
+    let both = or_parts (is_insert e) (list_any is_insert es) none in
     rw (insert_at-insert o f e both.0) (none_inserted o f es both.1)
 
 pub none_needed : (es : List ValueEdit) → list_any is_insert es ≡ false → (o f : ℕ) → needed [] o f ≡ needed es o f
 none_needed es none o f = rw (none_inserted o f es none) refl
 
--- capacity for an edit is some if the plan needs as much
+-- there is capacity for an edit of a plan if the plan needs as much
 pub place_for_same : (r : Slots) (plan plan' : List ValueEdit) → ((o f : ℕ) → needed plan o f ≡ needed plan' o f) → (e : ValueEdit) → HasPlaceFor r plan e → HasPlaceFor r plan' e
 place_for_same r plan plan' same = place_for_less r r plan plan' (λ o f has. subst (λ n. HasPlaceAt r o f n) (same o f) has)
 
--- capacity for edits is capacity for the first
+-- with capacity for edits there is capacity for the first of them
 pub room_first : (v : Values) (e : ValueEdit) (es : List ValueEdit) → HasRoom v (e ∷ es) → HasRoom v (e ∷ [])
 room_first v e es room = record {
   slots = omega (arith, room.slots, sum_by-cons (λ x. cond (is_new_object x) 1 0) e es);
@@ -133,7 +129,7 @@ put_has_place v o f list flag room =
     let has = All-head (HasPlaceFor v.objects (PutList o f list flag ∷ [])) (PutList o f list flag) [] room.places in
     fewer_at v.objects o.0 f.0 (needed (PutList o f list flag ∷ []) o.0 f.0) 0 (omega arith) has
 
--- the first edit leaves the capacity for the others
+-- after the first edit there is still capacity for the others
 pub room_rest : (v w : Values) (e : ValueEdit) (es : List ValueEdit) → HasRoom v (e ∷ es) → KeepsPlaces (places_taken e) v.objects w.objects → w.objects.next ≡ v.objects.next + cond (is_new_object e) 1 0 → v.uris.room ≤ w.uris.room + cond (is_new_uri e) 1 0 → HasRoom w es
 room_rest v w e es room kept next uris = record {
   slots = omega (arith, room.slots, sum_by-cons (λ x. cond (is_new_object x) 1 0) e es, kept.slots, next);

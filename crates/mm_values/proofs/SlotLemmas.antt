@@ -1,4 +1,4 @@
--- What a write to one slot does to the objects and their capacity.
+-- The objects and their capacity after a write to one slot.
 use Rattle.std.proofs.Common.{◌≡◌, ℕ, zero, suc, ◌-◌, ◌<◌, ◌≤◌, ◌⊎◌, cond, eqb, eq-eqb, subst, true, false, List, [], ◌∷◌, ◌++◌, ◌+◌, length, get_or, set, take, Option, Some, None, is_some, refl, inl, inr, sym, ap, ◌∙◌, arith}
 use Rattle.std.specs.Option.{option_map}
 use Rattle.std.specs.FinMap as map
@@ -49,15 +49,15 @@ states_of-append (x ∷ cs) [] c l same = absurd (omega arith)
 states_of-append (x ∷ cs) (y ∷ ls) c l same = ap (λ os. state_of x y ∷ os) (states_of-append cs ls c l (omega arith))
 
 module _ (cs : List (Option ClassNo)) (ls : List (List Entry)) (n : ℕ) (same : length cs ≡ length ls) where
-  -- as many objects as were made
+  -- there are as many objects as were made
   pub length-objects : n ≤ length ls → n ≡ length (objects_of (columns cs ls n))
   length-objects in_range = omega (arith, length-take n (states_of cs ls), length-states_of cs ls same)
 
-  -- a slot more is no object more
+  -- one more slot is not one more object
   pub objects-append : (c : Option ClassNo) (l : List Entry) → n ≤ length ls → objects_of (columns (cs ++ c ∷ []) (ls ++ l ∷ []) n) ≡ objects_of (columns cs ls n)
   objects-append c l in_range = ap (take n) (states_of-append cs ls c l same) ∙ take-append-le n (states_of cs ls) (state_of c l ∷ []) (omega (arith, length-states_of cs ls same))
 
-  -- a class in the first slot that is ready makes an object
+  -- writing a class into the first free slot makes an object
   pub objects-made : (c : ClassNo) → n < length ls → stored_in (get_or ls n []) ≡ map.empty → objects_of (columns (set cs n (Some c)) ls (n + 1)) ≡ objects_of (columns cs ls n) ++ Some (record { class = c; stored = map.empty }) ∷ []
   objects-made c within nothing =
       ap (λ ks. take (n + 1) (states_of (set cs n (Some c)) ks)) (sym (set-get_or ls n []))
@@ -73,7 +73,7 @@ dead_none : (y : Option ClassNo) → is_some y ≡ false → y ≡ None
 dead_none None dead = refl
 dead_none (Some c) dead = cc
 
--- a class that was read and is not there
+-- a slot without a class has no object
 pub none_read : (cs : List (Option ClassNo)) (i : ℕ) (y : Option ClassNo) → i < length cs → y ≡ get_or cs i y → is_some y ≡ false → get_or cs i None ≡ None
 none_read cs i y within read dead = sym (get_or_read cs i y within read None) ∙ dead_none y dead
 
@@ -88,11 +88,11 @@ module _ (cs : List (Option ClassNo)) (ls : List (List Entry)) (n i : ℕ) where
   pub object-get_or : (d : List Entry) → length cs ≡ length ls → i < n → i < length ls → get_or (objects_of (columns cs ls n)) i None ≡ state_of (get_or cs i None) (get_or ls i d)
   object-get_or d same made within = get_or-take n (states_of cs ls) i None made ∙ get_or-states_of cs ls i d same within
 
-  -- as it was read
+  -- the same for a class and a list that were read
   pub object_read : (y : Option ClassNo) (x : List Entry) → length cs ≡ length ls → i < n → i < length ls → y ≡ get_or cs i y → x ≡ get_or ls i x → get_or (objects_of (columns cs ls n)) i None ≡ state_of y x
   object_read y x same made within class read = object-get_or x same made within ∙ ap (λ c. state_of c (get_or ls i x)) (sym (get_or_read cs i y (omega arith) class None)) ∙ ap (state_of y) (sym read)
 
-  -- lists that hold the same make the same object
+  -- lists with the same values make the same object
   pub objects_same : (x l : List Entry) → length cs ≡ length ls → i < length ls → x ≡ get_or ls i x → stored_in l ≡ stored_in x → objects_of (columns cs (set ls i l) n) ≡ objects_of (columns cs ls n)
   objects_same x l same within read holds = objects-set_list l ∙ elim (cases_lt i n) [
     | inl made ↦
@@ -101,7 +101,7 @@ module _ (cs : List (Option ClassNo)) (ls : List (List Entry)) (n i : ℕ) where
     | inr ahead ↦ set_past (objects_of (columns cs ls n)) i (state_of (get_or cs i None) l) (omega (arith, length-take n (states_of cs ls)))
   ]
 
-  -- what is changed in the lists is changed in the object
+  -- a change of the lists is a change of the object
   pub objects_changed : (x l : List Entry) (g : ObjectState → ObjectState) → length cs ≡ length ls → i < n → i < length ls → x ≡ get_or ls i x → ((c : ClassNo) → record { class = c; stored = stored_in l } ≡ g (record { class = c; stored = stored_in x })) → objects_of (columns cs (set ls i l) n) ≡ set (objects_of (columns cs ls n)) i (option_map g (get_or (objects_of (columns cs ls n)) i None))
   objects_changed x l g same made within read change =
       let was : state_of (get_or cs i None) x ≡ get_or (objects_of (columns cs ls n)) i None = ap (state_of (get_or cs i None)) read ∙ sym (object-get_or x same made within) in
@@ -120,14 +120,14 @@ module _ (cs : List (Option ClassNo)) (ls : List (List Entry)) (n i : ℕ) where
     | inr ahead ↦ sym (set_past (objects_of (columns cs ls n)) i (option_map g (get_or (objects_of (columns cs ls n)) i None)) (omega (arith, length-take n (states_of cs ls))))
   ]
 
-  -- what a live object has and a dead one need not
+  -- a property that holds for a live object and may fail for a dead one
   pub live_has : (P : List Entry → Type 0) (y : Option ClassNo) (x : List Entry) → length cs ≡ length ls → i < length ls → y ≡ get_or cs i y → is_some y ≡ true → x ≡ get_or ls i x → ((d : List Entry) → i < length ls → IsDead (columns cs ls n) i ⊎ P (get_or ls i d)) → P x
   live_has P y x same within class live read has = elim (has x within) [
     | inl dead ↦ let none : y ≡ None = get_or_read cs i y (omega arith) class None ∙ dead.1 in absurd (some_none y live none)
     | inr here ↦ subst P (sym read) here
   ]
 
-  -- one slot's lists are written, with some capacity less
+  -- the lists of one slot are written, with some capacity less
   pub kept_set : (x l : List Entry) (taken : ℕ → ℕ → ℕ) → i < length ls → x ≡ get_or ls i x → ((f m : ℕ) → HasPlace x f m → HasPlace l f (m - taken i f)) → KeepsPlaces taken (columns cs ls n) (columns cs (set ls i l) n)
   kept_set x l taken within read more = record { slots = length-set ls i l; places = places }
     where
@@ -150,7 +150,7 @@ module _ (cs : List (Option ClassNo)) (ls : List (List Entry)) (n i : ℕ) where
         | inr (inr more) ↦ others o f m (λ e. omega arith) has
       ]
 
-  -- with no less capacity
+  -- the same with no less capacity
   pub kept_all : (x l : List Entry) → i < length ls → x ≡ get_or ls i x → ((f m : ℕ) → HasPlace x f m → HasPlace l f m) → KeepsPlaces none_taken (columns cs ls n) (columns cs (set ls i l) n)
   kept_all x l within read more = kept_set x l none_taken within read (λ f m index. fewer l f m (m - 0) (omega arith) (more f m index))
 
@@ -171,7 +171,7 @@ module _ (cs : List (Option ClassNo)) (ls : List (List Entry)) (n i : ℕ) where
         | inr (inr more) ↦ others o f m (λ e. omega arith) has
       ]
 
--- with some capacity of one attribute less
+-- the same with some capacity less for one attribute
 pub kept_taken : (cs : List (Option ClassNo)) (ls : List (List Entry)) (n : ℕ) (o : ObjectNo) (g : FeatureNo) (k : ℕ) (x l : List Entry) → o.0 < length ls → x ≡ get_or ls o.0 x → ((f m : ℕ) → HasPlace x f m → HasPlace l f (m - taken_of g.0 k f)) → KeepsPlaces (taken_at o g k) (columns cs ls n) (columns cs (set ls o.0 l) n)
 kept_taken cs ls n o g k x l within read more = kept_set cs ls n o.0 x l (taken_at o g k) within read (λ f m index.
     subst (λ t. HasPlace l f (m - t)) (sym (ap (λ b. cond b (taken_of g.0 k f) 0) (eq-eqb o.0 o.0 refl))) (more f m index))
@@ -186,7 +186,7 @@ kept_same r taken = record {
   ];
 }
 
--- if none of one attribute's are taken, none are
+-- if no capacity of one attribute is used, none is used
 none_at : (x : ObjectNo) (g : FeatureNo) (o f : ℕ) → taken_at x g 0 o f ≡ 0
 none_at x g o f = elim (eqb o x.0) as (λ b. cond b (taken_of g.0 0 f) 0 ≡ 0) [
   | true ↦ none_of g.0 f

@@ -1,4 +1,4 @@
--- What is found under an attribute in a row of entries, and what an edit of the row does to it.
+-- The list and the flag that are found under an attribute in a row of entries, before and after an edit of the row.
 use Rattle.std.proofs.Common.{◌≡◌, ℕ, zero, suc, ◌<◌, eqb, ◌≢◌, Bool, true, false, cond, List, [], ◌∷◌, length, get_or, set, if◌then◌else◌, Option, Some, None, unwrap_or, refl, sym, ap, ◌∙◌, arith}
 use Rattle.std.specs.List.{insert}
 use Rattle.std.specs.Ordering.{nat_cmp, eq_by_cmp}
@@ -9,16 +9,16 @@ use Rattle.mm_values.specs.Stored.{Stored, StoredMap, nothing_stored, is_nothing
 use Rattle.mm_values.specs.Attributes.{stored_in, stored_of, place_for, feature_at, IsAt}
 use Rattle.mm_values.specs.declared.attribute_lists.Entry.{Entry}
 
--- what a look-up returns if h is stored
+-- the result of a look-up if h is stored
 abbrev pub kept : Stored → Option Stored
 kept h = if is_nothing h then None else Some h
 
--- what is stored in the first entry of the attribute
+-- the list and the flag in the first entry of the attribute
 abbrev pub found : List Entry → ℕ → Option Stored
 found [] q = None
 found (e ∷ l) q = if eqb q e.feature.0 then kept (stored_of e) else found l q
 
--- only equal numbers tie
+-- only equal numbers compare as equal
 tied : (q k : ℕ) → eq_by_cmp nat_cmp q k ≡ eqb q k
 tied q k = grind (arith, nat_tests)
 
@@ -26,7 +26,7 @@ with_stored_cases : (m : StoredMap) (k : ℕ) (h : Stored) (q : ℕ) (b : Bool) 
 with_stored_cases m k h q true = map.get-remove nat_cmp_total m k q ∙ ap (λ b. cond b None (map.get m q)) (tied q k)
 with_stored_cases m k h q false = map.get-insert nat_cmp_total m k h q ∙ ap (λ b. cond b (Some h) (map.get m q)) (tied q k)
 
--- what `with_stored` answers
+-- a look-up after `with_stored`
 pub get-with_stored : (m : StoredMap) (k : ℕ) (h : Stored) (q : ℕ) → map.get (with_stored m k h) q ≡ (if eqb q k then kept h else map.get m q)
 get-with_stored m k h q = with_stored_cases m k h q (is_nothing h)
 
@@ -57,13 +57,13 @@ found_present [] f i at none = absurd (omega (arith, at.in_range))
 found_present (x ∷ l) f zero at none = grind (arith, nat_tests, at.has_feature)
 found_present (x ∷ l) f (suc i) at none = grind (arith, nat_tests, none 0 (omega arith), found_present l f i (is_at_tail x l f i at) (none_before_tail x l f i none))
 
--- an entry that is written over its attribute's sets what is found there
+-- if an entry is written over the entry of its attribute, a look-up finds the new entry
 pub found-set : (l : List Entry) (f i : ℕ) (e : Entry) → e.feature.0 ≡ f → IsAt l f i → NoneBefore l f i → (q : ℕ) → found (set l i e) q ≡ (if eqb q f then kept (stored_of e) else found l q)
 found-set [] f i e is at none q = absurd (omega (arith, at.in_range))
 found-set (x ∷ l) f zero e is at none q = grind (arith, nat_tests, at.has_feature, is)
 found-set (x ∷ l) f (suc i) e is at none q = grind (arith, nat_tests, none 0 (omega arith), found-set l f i e is (is_at_tail x l f i at) (none_before_tail x l f i none) q)
 
--- an entry before any of its attribute's is what is found there
+-- if an entry is put before all entries of its attribute, a look-up finds it
 pub found-insert : (l : List Entry) (f i : ℕ) (e : Entry) → e.feature.0 ≡ f → NoneBefore l f i → (q : ℕ) → found (insert l i e) q ≡ (if eqb q f then kept (stored_of e) else found l q)
 found-insert l f zero e is none q = ap (λ k. cond (eqb q k) (kept (stored_of e)) (found l q)) is
 found-insert [] f (suc i) e is none q = ap (λ k. cond (eqb q k) (kept (stored_of e)) (found [] q)) is
@@ -75,11 +75,11 @@ nothing_kept [] true = refl
 nothing_kept (v ∷ vs) false = refl
 nothing_kept (v ∷ vs) true = refl
 
--- what is kept is what was stored, and nothing else is nothing
+-- a look-up returns the stored list and flag; if there is no entry, these are empty
 pub unwrap_or-kept : (h : Stored) → unwrap_or (kept h) nothing_stored ≡ h
 unwrap_or-kept h = nothing_kept h.list h.flag
 
--- what is found is kept
+-- the list and the flag that are found are stored
 found-kept : (l : List Entry) (q : ℕ) → kept (unwrap_or (found l q) nothing_stored) ≡ found l q
 found-kept [] q = refl
 found-kept (e ∷ l) q = elim (eqb q e.feature.0) as (λ b. kept (unwrap_or (cond b (kept (stored_of e)) (found l q)) nothing_stored) ≡ cond b (kept (stored_of e)) (found l q)) [
@@ -90,6 +90,6 @@ found-kept (e ∷ l) q = elim (eqb q e.feature.0) as (λ b. kept (unwrap_or (con
 found_again : (l : List Entry) (f q : ℕ) → cond (eqb q f) (kept (unwrap_or (found l f) nothing_stored)) (found l q) ≡ found l q
 found_again l f q = grind (arith, nat_tests, found-kept l f)
 
--- what is stored under an attribute, stored there again
+-- storing the stored list and flag again changes nothing
 pub with_stored_same : (l : List Entry) (f : ℕ) → with_stored (stored_in l) f (unwrap_or (map.get (stored_in l) f) nothing_stored) ≡ stored_in l
 with_stored_same l f = same_stored _ _ (λ q. get-with_stored (stored_in l) f _ q ∙ ap (λ o. cond (eqb q f) (kept (unwrap_or o nothing_stored)) (map.get (stored_in l) q)) (get-stored_in l f) ∙ ap (λ o. cond (eqb q f) (kept (unwrap_or (found l f) nothing_stored)) o) (get-stored_in l q) ∙ found_again l f q ∙ sym (get-stored_in l q))

@@ -1,4 +1,4 @@
--- What a set of texts answers, in the texts' bytes.
+-- Look-ups in a set of texts, by the bytes of the texts.
 use Rattle.std.proofs.Common.{◌≡◌, ◌+◌, Bool, true, false, cond, not, ◌||◌, List, [], ◌∷◌, ◌++◌, map, refl, ap}
 use Rattle.std.specs.List.{list_any, position, position_or_len}
 use Rattle.std.proofs.lemmas.List.{length-map, map_push}

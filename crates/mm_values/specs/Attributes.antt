@@ -21,7 +21,7 @@ stored_under l f = unwrap_or (map.get (stored_in l) f.0) nothing_stored
 abbrev pub change_stored : StoredMap → ℕ → (List Value → List Value) → StoredMap
 change_stored m f g = with_stored m f (list_changed g (unwrap_or (map.get m f) nothing_stored))
 
--- an entry that is only made ahead
+-- an entry that is made before it holds anything
 abbrev pub place_for : ℕ → Entry
 place_for f = record { feature = record { 0 = f }; list = record { items = []; spare = 0 }; flag = false }
 
@@ -37,22 +37,22 @@ pub record IsAt (l : List Entry) (f i : ℕ) : Type 0 where
   pub in_range : i < length l
   pub has_feature : feature_at l i ≡ f
 
--- the attribute's entry would go at index i: smaller numbers before it, and greater from it on
+-- index i is the place for the attribute's entry: the entries before i have smaller numbers, and the entries from i on have greater ones
 pub record IsGapFor (l : List Entry) (f i : ℕ) : Type 0 where
   pub in_range : i ≤ length l
   pub smaller_before : (j : ℕ) → j < i → feature_at l j < f
   pub greater_after : (j : ℕ) → i ≤ j → j < length l → f < feature_at l j
 
--- how many values may come at index i with no memory taken
+-- how many values the list at index i can take without memory
 abbrev pub spare_at : List Entry → ℕ → ℕ
 spare_at l i = let e = slice_index_or l i (place_for 0) in e.list.spare
 
--- there is capacity for what the attribute will hold; n values may be put in without memory
+-- the attribute has an entry, and the entry's list can take n values without memory
 pub record HasPlace (l : List Entry) (f n : ℕ) : Type 0 where
   pub index : ℕ
   pub is_at : IsAt l f index
   pub spare : n ≤ spare_at l index
 
--- of the capacity for the f-th attribute's values, k are taken
+-- how much capacity of the attribute q is taken: k if q is f, else none
 abbrev pub taken_of : ℕ → ℕ → ℕ → ℕ
 taken_of f k q = if nat_eq q f then k else 0

@@ -12,13 +12,13 @@ changed (Insert i v) vs = insert vs i v
 changed (Remove i) vs = remove vs i
 changed (Move to from) vs = shifted vs to from
 
--- how much capacity it takes
+-- how much capacity an edit takes
 abbrev pub taken : ListEdit → ℕ
 taken (Insert i v) = 1
 taken (Remove i) = 0
 taken (Move to from) = 0
 
--- its list has capacity if the edit needs some
+-- the attribute's list has the capacity that the edit needs
 abbrev pub IsReadyFor : List Entry → ℕ → ListEdit → Type 0
 IsReadyFor l f (Insert i v) = HasPlace l f 1
 IsReadyFor l f (Remove i) = Unit {0}

@@ -1,4 +1,4 @@
--- The values that an edit brings.
+-- The values that an edit puts in.
 use Rattle.std.specs.Prelude.{List, [], ◌∷◌}
 use Rattle.mm_types.specs.declared.value.Value.{Value}
 use Rattle.mm_values.specs.declared.new_values.Layout.{Layout}

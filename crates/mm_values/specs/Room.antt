@@ -1,4 +1,4 @@
--- What a repository's values are, and when there is capacity for what a plan makes.
+-- The values of a repository, and when there is capacity for a plan.
 use Rattle.std.specs.Prelude.{ℕ, ◌+◌, ◌≤◌, ◌&&◌, Bool, true, false, List, Option, Some, None, is_some, IfSome, length, count_by, sum_by, nat_eq, All, if◌then◌else◌}
 use Rattle.std.specs.List.{list_any}
 use Rattle.mm_types.specs.declared.numbers.FeatureNo.{FeatureNo}
@@ -20,12 +20,12 @@ abbrev pub is_new_uri : ValueEdit → Bool
 is_new_uri (NewUri u) = true
 is_new_uri _ = false
 
--- a value is put into the list that object o has under attribute f
+-- whether an edit inserts a value into the list of object o under attribute f
 abbrev pub is_insert_at : ℕ → ℕ → ValueEdit → Bool
 is_insert_at o f (InsertValue x g i w u) = nat_eq o x.0 && nat_eq f g.0
 is_insert_at o f _ = false
 
--- the list that a value is put into
+-- the list into which an edit inserts a value, if it inserts one
 abbrev pub inserted_in : ValueEdit → Option (ObjectNo × FeatureNo)
 inserted_in (InsertValue x g i w u) = Some (x, g)
 inserted_in _ = None
@@ -33,7 +33,7 @@ inserted_in _ = None
 abbrev pub is_insert : ValueEdit → Bool
 is_insert e = is_some (inserted_in e)
 
--- a value is put into this list
+-- whether an edit inserts a value into this list
 abbrev pub is_insert_in : Option (ObjectNo × FeatureNo) → ValueEdit → Bool
 is_insert_in None e = false
 is_insert_in (Some p) e = is_insert_at p.0.0 p.1.0 e
@@ -44,17 +44,17 @@ places_taken (PutList x g list flag) = taken_at x g (length list)
 places_taken (InsertValue x g i w u) = taken_at x g 1
 places_taken _ = none_taken
 
--- how much capacity the list that o has under f needs for a plan: none if no value is put into it
+-- how much capacity the list of o under f needs for a plan: none if the plan inserts no value into it
 abbrev pub needed : List ValueEdit → ℕ → ℕ → ℕ
 needed plan o f = if list_any (is_insert_at o f) plan then sum_by (λ e. places_taken e o f) plan else 0
 
--- a list that is put, or that a value is put into, has its entry and the capacity that the plan needs
+-- the list that an edit puts, or inserts a value into, has an entry and the capacity that the plan needs
 abbrev pub HasPlaceFor : Slots → List ValueEdit → ValueEdit → Type 0
 HasPlaceFor r plan (PutList x g list flag) = HasPlaceAt r x.0 g.0 (needed plan x.0 g.0)
 HasPlaceFor r plan (InsertValue x g i w u) = HasPlaceAt r x.0 g.0 (needed plan x.0 g.0)
 HasPlaceFor r plan _ = Unit {0}
 
--- a list that need not be there has the capacity that the plan needs
+-- if a list is given, it has the capacity that the plan needs
 abbrev pub HasPlacesIn : Slots → List ValueEdit → Option (ObjectNo × FeatureNo) → Type 0
 HasPlacesIn r plan list = IfSome list (λ p. HasPlaceAt r p.0.0 p.1.0 (needed plan p.0.0 p.1.0))
 

@@ -1,4 +1,5 @@
--- How objects are in two columns of entries: those that were made, and from `next` on entries that are ready for more.
+-- How objects are kept in two columns: below `next` are the objects that were made, and from `next` on entries that are ready for new
+-- objects.
 use Rattle.std.specs.Prelude.{◌≡◌, ℕ, ◌-◌, ◌<◌, ◌≤◌, ◌⊎◌, List, [], ◌∷◌, Option, None, length, nat_eq, take, slice_index_or, if◌then◌else◌}
 use Rattle.std.specs.Option.{option_map}
 use Rattle.std.specs.FinMap as map
@@ -11,7 +12,7 @@ use Rattle.mm_values.specs.ListEdits.{IsReadyFor}
 use Rattle.mm_values.specs.declared.list_edit.ListEdit.{ListEdit}
 use Rattle.mm_values.specs.Values.{Objects, ObjectState}
 
--- by number, the class of the object that is live there, and the attribute lists
+-- by object number: the class, if the object is live, and the attribute lists
 pub record Slots : Type 0 where
   pub classes : List (Option ClassNo)
   pub lists : List (List Entry)
@@ -20,7 +21,7 @@ pub record Slots : Type 0 where
 abbrev pub state_of : Option ClassNo → List Entry → Option ObjectState
 state_of class lists = option_map (λ c. record { class = c; stored = stored_in lists }) class
 
--- at each number what the two columns say of it
+-- at each number the object that the two columns give
 abbrev pub states_of : List (Option ClassNo) → List (List Entry) → Objects
 states_of [] ls = []
 states_of (c ∷ cs) [] = []
@@ -38,22 +39,22 @@ pub record IsReady (r : Slots) : Type 0 where
 abbrev pub IsDead : Slots → ℕ → Type 0
 IsDead r o = (o < r.next) × (slice_index_or r.classes o None ≡ None)
 
--- the object has capacity for what the attribute will hold, and for n values more, or needs none: it is dead, or never made
+-- the object's list under an attribute can take n values without memory; a dead object, or a number without an object, needs no capacity
 abbrev pub HasPlaceAt : Slots → ℕ → ℕ → ℕ → Type 0
 HasPlaceAt r o f n = (d : List Entry) → o < length r.lists → IsDead r o ⊎ HasPlace (slice_index_or r.lists o d) f n
 
--- and so for what an edit of its list needs
+-- the object's list under an attribute has the capacity that an edit needs; a dead object, or a number without an object, needs no capacity
 abbrev pub IsReadyAt : Slots → ℕ → ℕ → ListEdit → Type 0
 IsReadyAt r o f e = (d : List Entry) → o < length r.lists → IsDead r o ⊎ IsReadyFor (slice_index_or r.lists o d) f e
 
--- of the capacity for values of each object and attribute, how much is taken: none, and k of one object's attribute
+-- how much capacity is taken, by object and attribute: none; and with `taken_at`, k for one object and attribute
 abbrev pub none_taken : ℕ → ℕ → ℕ
 none_taken o f = 0
 
 abbrev pub taken_at : ObjectNo → FeatureNo → ℕ → ℕ → ℕ → ℕ
 taken_at x g k o f = if nat_eq o x.0 then taken_of g.0 k f else 0
 
--- as many entries as before, and their capacity but for what is taken
+-- there are as many entries as before, and each list keeps its capacity, minus the capacity that is used
 pub record KeepsPlaces (taken : ℕ → ℕ → ℕ) (old new : Slots) : Type 0 where
   pub slots : length new.lists ≡ length old.lists
   pub places : (o f n : ℕ) → HasPlaceAt old o f n → HasPlaceAt new o f (n - taken o f)

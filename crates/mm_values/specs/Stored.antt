@@ -6,7 +6,7 @@ use Rattle.slot_lists.specs.Places.{Places}
 use Rattle.mm_types.specs.Same.{is_nil}
 use Rattle.mm_types.specs.declared.value.Value.{Value}
 
--- the values under an attribute, and whether it is set, if that is a state of its own
+-- the values under an attribute, and the set flag of an unsettable attribute
 pub record Stored : Type 0 where
   pub list : List Value
   pub flag : Bool
@@ -21,15 +21,15 @@ is_nothing h = is_nil h.list && not h.flag
 abbrev pub StoredMap : Type 0
 StoredMap = map.FinMap nat_cmp Stored
 
--- what holds nothing is not kept
+-- the map with h under f; if h holds nothing, the map has no entry for f
 abbrev pub with_stored : StoredMap → ℕ → Stored → StoredMap
 with_stored m f h = if is_nothing h then map.remove m f else map.insert m f h
 
--- what is stored with its list changed; the flag stays
+-- the stored values changed by g; the flag stays
 abbrev pub list_changed : (List Value → List Value) → Stored → Stored
 list_changed g h = record { list = g h.list; flag = h.flag }
 
--- the values of a list that need not be there
+-- the values of an optional list; no values without a list
 abbrev pub items_of : Option (Places Value) → List Value
 items_of None = []
 items_of (Some p) = p.items

@@ -11,8 +11,7 @@ use std::alloc::{AllocError, Global};
 use std::marker::Model;
 use value_lists::ValueList;
 
-/// What is stored under one attribute. If the list is empty and the flag off, the entry is only made ahead, for a list to
-/// come.
+/// What is stored under one attribute. An entry with an empty list and the flag off was made ahead, for a list to come.
 #[derive(Drop)]
 pub(crate) struct Entry {
     feature: FeatureNo,
@@ -59,7 +58,7 @@ impl AttributeLists {
         }
     }
 
-    /// Whether an attribute is set, if that is a state of its own.
+    /// The set flag of an attribute, which is off without an entry.
     pub fn flag(&self, feature: FeatureNo) -> bool
         ensures { result ≡ (stored_under self.now feature).flag }
     {
@@ -69,8 +68,8 @@ impl AttributeLists {
         }
     }
 
-    /// Reserves capacity for what an attribute will hold, and for more values of a list. The list may be one that is looked up by
-    /// value, or not. Errs only if memory is refused.
+    /// Makes an entry for an attribute, if it has none, and reserves capacity for more values of its list. `is_asked` says whether the list
+    /// is looked up by value. Errs only if memory is refused.
     pub fn make_place(
         &mut self,
         feature: FeatureNo,
@@ -137,7 +136,8 @@ impl AttributeLists {
         self.entries[at].list.reserve(alloc, additional, is_asked)
     }
 
-    /// Reserves capacity for an entry if there is none: for two at first, then by a quarter at a time, since most objects hold little.
+    /// Reserves capacity for one more entry, if there is none: for two entries at first, and then for a quarter more each time, since most
+    /// objects have few.
     fn grow(&mut self) -> Result<(), AllocError>
         ensures { self.new ≡ self.old }
     {
@@ -149,7 +149,7 @@ impl AttributeLists {
             .reserve_exact(if len == 0 { 2 } else { len / 4 + 1 })
     }
 
-    /// Replaces what is stored under an attribute, where it is. Takes no memory.
+    /// Replaces the list under an attribute, in place. Takes no memory.
     pub fn put(&mut self, feature: FeatureNo, list: NewValues, flag: bool)
         requires { HasPlace self.old feature.0 0 }
         ensures stored { stored_in self.new ≡ with_stored (stored_in self.old) feature.0 (record { list = list; flag = flag }) }
@@ -161,8 +161,8 @@ impl AttributeLists {
         }
     }
 
-    /// Replaces what is stored under an attribute, and takes memory for it if it has none. Errs only if memory is refused, and then nothing
-    /// that is seen has changed.
+    /// Replaces the list under an attribute, and takes memory for it if there is none yet. Errs only if memory is refused, and then nothing
+    /// that contracts see has changed.
     pub fn set(&mut self, feature: FeatureNo, list: NewValues, flag: bool) -> Result<(), AllocError>
         ensures ok { OnOk result (stored_in self.new ≡ with_stored (stored_in self.old) feature.0 (record { list = list; flag = flag })) }
         ensures err { OnErr result (stored_in self.new ≡ stored_in self.old) }
@@ -176,8 +176,8 @@ impl AttributeLists {
         }
     }
 
-    /// Makes the entry of an attribute that has none, with what it is to hold. Errs only if memory is refused, and then nothing that is
-    /// seen has changed.
+    /// Makes the entry of an attribute that has none, with its values and its flag. Errs only if memory is refused, and then nothing that
+    /// contracts see has changed.
     fn put_new(
         &mut self,
         feature: FeatureNo,
@@ -204,7 +204,7 @@ impl AttributeLists {
         Ok(())
     }
 
-    /// Replaces what the entry of an attribute holds. Takes no memory.
+    /// Replaces the list in the entry of an attribute. Takes no memory.
     fn put_at(&mut self, feature: FeatureNo, at: usize, list: NewValues, flag: bool)
         requires { IsAt self.old feature.0 at }
         ensures stored { stored_in self.new ≡ with_stored (stored_in self.old) feature.0 (record { list = list; flag = flag }) }
@@ -228,7 +228,7 @@ impl AttributeLists {
         }
     }
 
-    /// The index of the attribute's entry, or the one at which it would go.
+    /// The index of the attribute's entry, or else the index at which it would be inserted.
     fn find(&self, feature: FeatureNo) -> Result<usize, usize>
         ensures found { IfOk result (IsAt self.now feature.0) }
         ensures absent { IfErr result (IsGapFor self.now feature.0) }

@@ -1,4 +1,4 @@
-//! What a plan needs, counted.
+//! How much capacity a plan needs.
 ghost use Rattle.std.specs.Prelude.{◌≡◌, ℕ, count_by, IfOk};
 ghost use Rattle.std.specs.List.{list_any};
 ghost use Rattle.mm_values.specs.Room.{is_insert, is_insert_at, is_new_object, is_new_uri, needed};
@@ -14,7 +14,7 @@ pub(crate) fn objects_made(plan: &[ValueEdit]) -> usize
     plan.iter().filter(|e| e.is_new_object()).count()
 }
 
-/// How many URIs a plan adds, those that are there already among them.
+/// How many URIs a plan adds; URIs that are there already count too.
 pub(crate) fn uris_added(plan: &[ValueEdit]) -> usize
     ensures { result ≡ count_by is_new_uri plan.now }
 {
@@ -28,7 +28,7 @@ fn has_insert(plan: &[ValueEdit]) -> bool
     plan.iter().any(|e| e.is_insert())
 }
 
-/// The edits for which capacity is counted: none, and so no time, if no value is put into a list.
+/// The edits for which capacity has to be counted. If no edit puts a value into a list there are none, and counting takes no time.
 pub(crate) fn counted(plan: &[ValueEdit]) -> &[ValueEdit]
     ensures { (o f : ℕ) → needed result.now o f ≡ needed plan.now o f }
 {
@@ -42,7 +42,7 @@ fn is_inserted_at(plan: &[ValueEdit], object: ObjectNo, feature: FeatureNo) -> b
     plan.iter().any(|e| e.is_insert_at(object, feature))
 }
 
-/// How much capacity a plan needs in the list that an object has under an attribute. Errs if no memory has so many.
+/// How much capacity a plan needs in the list that an object has under an attribute. Errs if the count overflows.
 pub(crate) fn places_needed(
     plan: &[ValueEdit],
     object: ObjectNo,

@@ -1,4 +1,4 @@
-//! Edits of what a repository holds besides links.
+//! Edits of the objects, values and URIs of a repository.
 ghost use Rattle.std.specs.Prelude.{◌≡◌};
 
 use crate::new_values::NewValues;
@@ -18,8 +18,8 @@ pub enum ValueEdit {
         list: NewValues,
         flag: bool,
     },
-    /// Puts one value into an attribute's list, at an index; past the end it is put last. `is_unique` says that the list is one
-    /// that is looked up by value again and again: if it is long, `Values::has` then finds a missing value at once.
+    /// Puts one value into an attribute's list, at an index; past the end it is put last. `is_unique` says that the list is looked up by
+    /// value again and again. If it is long, `Values::has` then finds at once that a value is missing.
     InsertValue {
         object: ObjectNo,
         feature: FeatureNo,
@@ -40,7 +40,7 @@ pub enum ValueEdit {
         to: u32,
         from: u32,
     },
-    /// Makes a resource of a URI (EMF: ResourceSet.createResource), unless one has it already.
+    /// Makes a resource of a URI (EMF: ResourceSet.createResource), unless a resource has it already.
     NewUri(Text),
 }
 
@@ -60,7 +60,7 @@ impl ValueEdit {
         matches!(self, ValueEdit::NewUri(_))
     }
 
-    /// The list that a value is put into.
+    /// The list into which a value is put.
     pub(crate) fn inserted_in(&self) -> Option<(ObjectNo, FeatureNo)>
         ensures { result ≡ inserted_in self.now }
     {

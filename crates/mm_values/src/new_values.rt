@@ -14,7 +14,7 @@ enum Layout {
     Many(Seq<Value>),
 }
 
-/// Values that an edit puts instead of others. Contracts see them as the list.
+/// Values with which an edit replaces others. Contracts see them as the list.
 #[derive(Debug, Drop)]
 pub struct NewValues {
     layout: Layout,
@@ -81,7 +81,7 @@ impl NewValues {
     }
 }
 
-/// How the values of a `Vec` are kept: its block is given back if it has one value.
+/// How the values of a `Vec` are kept; its block is freed if it has one value.
 fn layout_of(mut values: Vec<Value>) -> Layout
     ensures { values_in result ≡ values.items }
 {

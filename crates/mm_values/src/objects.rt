@@ -15,8 +15,8 @@ use std::alloc::{AllocError, Global};
 use std::marker::Model;
 use value_lists::ValueList;
 
-/// The objects by number: `next` of them were made. The entries after them are ready for objects to come. An entry is a class, if an
-/// object is live, and its attribute lists, in two columns, so that a look at the class reads no lists.
+/// The objects by number: `next` of them were made. The entries after them are ready for objects to come. An entry has the class, if the
+/// object is live, and the attribute lists. They are in two columns, so that a look at the class reads no lists.
 #[derive(Drop)]
 pub(crate) struct Objects {
     classes: Vec<Option<ClassNo>>,
@@ -123,8 +123,8 @@ impl Objects {
         Ok(())
     }
 
-    /// Reserves capacity for what an attribute of an object will hold, even of one that is still to be made, and for more values of a list.
-    /// The list may be one that is looked up by value, or not. Errs only if memory is refused.
+    /// Makes an entry for an attribute of an object, if it has none, and reserves capacity for more values of its list. The object may
+    /// still have to be made. `is_asked` says whether the list is looked up by value. Errs only if memory is refused.
     pub fn make_place(
         &mut self,
         object: ObjectNo,
@@ -171,7 +171,7 @@ impl Objects {
         self.next += 1;
     }
 
-    /// Ends an object, and gives back what it held.
+    /// Ends an object, and frees its values.
     pub fn remove(&mut self, object: ObjectNo)
         ensures objects { objects_of self.new ≡ without_object (objects_of self.old) object }
         ensures next { self.new.next ≡ self.old.next }
@@ -185,7 +185,7 @@ impl Objects {
         }
     }
 
-    /// Replaces what a live object holds under an attribute, where it is. Takes no memory.
+    /// Replaces the list of a live object under an attribute, in place. Takes no memory.
     pub fn put(&mut self, object: ObjectNo, feature: FeatureNo, list: NewValues, flag: bool)
         requires { HasPlaceAt self.old object.0 feature.0 0 }
         ensures objects { objects_of self.new ≡ with_list (objects_of self.old) object feature (record { list = list; flag = flag }) }
@@ -198,7 +198,7 @@ impl Objects {
         }
     }
 
-    /// Makes an object of a class. Errs only if memory is refused, and then nothing that is seen has changed.
+    /// Makes an object of a class. Errs only if memory is refused, and then nothing that contracts see has changed.
     pub fn create(&mut self, class: ClassNo) -> Result<(), AllocError>
         ensures ok { OnOk result (objects_of self.new ≡ with_object (objects_of self.old) class) }
         ensures err { OnErr result (objects_of self.new ≡ objects_of self.old) }
@@ -208,7 +208,8 @@ impl Objects {
         Ok(())
     }
 
-    /// Replaces what a live object holds under an attribute. Errs only if memory is refused, and then nothing that is seen has changed.
+    /// Replaces the list of a live object under an attribute. Errs only if memory is refused, and then nothing that contracts see has
+    /// changed.
     pub fn set(
         &mut self,
         object: ObjectNo,

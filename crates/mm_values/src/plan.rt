@@ -8,14 +8,14 @@ use std::alloc::Global;
 use std::marker::Model;
 use std::slice;
 
-/// How a plan keeps its edits. Most changes are one edit, and it is in the plan itself.
+/// How a plan keeps its edits. Most changes are one edit, which is in the plan itself.
 #[derive(Debug, Drop)]
 pub(crate) enum Edits {
     One(ValueEdit),
     Many(Seq<ValueEdit>),
 }
 
-/// Edits, which are made in their order. Contracts see a plan as the list of them.
+/// Edits, which are made in their order. Contracts see a plan as the list of its edits.
 #[derive(Debug, Drop)]
 pub struct ValuePlan {
     edits: Edits,

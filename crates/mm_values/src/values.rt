@@ -60,7 +60,7 @@ impl Values {
         self.objects.class(object)
     }
 
-    /// How many values an object has under an attribute (EMF: eGet), none if it holds none; `None` if no live object has the number.
+    /// How many values an object has under an attribute (EMF: eGet); `None` if no live object has the number.
     pub fn len(&self, object: ObjectNo, feature: FeatureNo) -> Option<usize>
         ensures { result ≡ option_map length (list_of (values_of self.now) object feature) }
     {
@@ -80,7 +80,8 @@ impl Values {
         }
     }
 
-    /// The index at which an object has a value under an attribute first; `None` if it has not, and if no live object has the number.
+    /// The first index of a value among the values of an object under an attribute; `None` if it is not there, and if no live object has
+    /// the number.
     pub fn position(&self, object: ObjectNo, feature: FeatureNo, value: &Value) -> Option<usize>
         ensures { result ≡ option_and_then (position (same_value value.now)) (list_of (values_of self.now) object feature) }
     {
@@ -90,8 +91,8 @@ impl Values {
         }
     }
 
-    /// Whether an object has a value under an attribute; `None` if no live object has the number. If more than 64 values were put in
-    /// with `is_unique`, a value that is not there is found missing in constant time, whatever the list's length.
+    /// Whether an object has a value under an attribute; `None` if no live object has the number. If more than 64 values were put in with
+    /// `is_unique`, it takes constant time to find that a value is not there, whatever the list's length.
     pub fn has(&self, object: ObjectNo, feature: FeatureNo, value: &Value) -> Option<bool>
         ensures { result ≡ option_map (list_any (same_value value.now)) (list_of (values_of self.now) object feature) }
     {
@@ -122,8 +123,8 @@ impl Values {
         self.uris.find(uri)
     }
 
-    /// Takes all the memory that a plan needs. Errs only if memory is refused, or if there would be more than 2^32 resources; `apply`
-    /// may be called only after `Ok`. Nothing that is seen changes.
+    /// Takes all the memory that a plan needs. Errs only if memory is refused, or if there would be more than 2^32 resources; `apply` may
+    /// be called only after `Ok`. Nothing that contracts see changes.
     pub fn reserve_for(&mut self, plan: &ValuePlan) -> Result<(), AllocError>
         ensures unchanged { values_of self.new ≡ values_of self.old }
         ensures ok { OnOk result (HasRoom self.new plan.now) }
@@ -158,7 +159,7 @@ impl Values {
     }
 
     /// Takes the memory that a plan needs, and makes its edits. Errs only if memory is refused, or if there would be more than 2^32
-    /// resources, and then nothing that is seen has changed. For a plan of one edit this is faster than `reserve_for` and `apply`.
+    /// resources, and then nothing that contracts see has changed. For a plan of one edit this is faster than `reserve_for` and `apply`.
     pub fn try_apply(&mut self, plan: ValuePlan) -> Result<(), AllocError>
         ensures ok { OnOk result (values_of self.new ≡ applied (values_of self.old) plan) }
         ensures err { OnErr result (values_of self.new ≡ values_of self.old) }
@@ -169,7 +170,8 @@ impl Values {
         }
     }
 
-    /// Takes the memory that an edit needs, and makes it. Errs only if memory is refused, and then nothing that is seen has changed.
+    /// Takes the memory that an edit needs, and makes the edit. Errs only if memory is refused, and then nothing that contracts see has
+    /// changed.
     fn try_edit(&mut self, edit: ValueEdit) -> Result<(), AllocError>
         ensures ok { OnOk result (values_of self.new ≡ edited (values_of self.old) edit) }
         ensures err { OnErr result (values_of self.new ≡ values_of self.old) }
@@ -186,7 +188,8 @@ impl Values {
         }
     }
 
-    /// Makes an object of a class, as the edit of that does. Errs only if memory is refused, and then nothing that is seen has changed.
+    /// Makes an object of a class, as `ValueEdit::NewObject` does. Errs only if memory is refused, and then nothing that contracts see has
+    /// changed.
     pub fn try_create(&mut self, class: ClassNo) -> Result<(), AllocError>
         ensures ok { OnOk result (values_of self.new ≡ edited (values_of self.old) (edit.NewObject class)) }
         ensures err { OnErr result (values_of self.new ≡ values_of self.old) }
@@ -194,8 +197,8 @@ impl Values {
         self.objects.create(class)
     }
 
-    /// Replaces what an object has under an attribute, as the edit of that does. Errs only if memory is refused, and then nothing that is
-    /// seen has changed. It is the edit of most changes of values, and to make a plan of it takes longer than to make it.
+    /// Replaces the list of an object under an attribute, as `ValueEdit::PutList` does. Errs only if memory is refused, and then nothing
+    /// that contracts see has changed. Most changes of values are this edit, and a plan of it would take longer to make than the edit.
     pub fn try_put(
         &mut self,
         object: ObjectNo,
@@ -209,7 +212,7 @@ impl Values {
         self.objects.set(object, feature, list, flag)
     }
 
-    /// Makes an edit in the way in which those of a plan are made.
+    /// Makes an edit like a plan with only this edit: first it reserves, and then it applies.
     fn try_any(&mut self, edit: ValueEdit) -> Result<(), AllocError>
         ensures ok { OnOk result (values_of self.new ≡ edited (values_of self.old) edit) }
         ensures err { OnErr result (values_of self.new ≡ values_of self.old) }
@@ -239,7 +242,7 @@ impl Values {
         }
     }
 
-    /// Makes one edit, and keeps the capacity for those that follow.
+    /// Makes one edit, and keeps the capacity for the edits that follow.
     fn apply_edit(&mut self, edit: ValueEdit)
         requires { HasRoom self.old (edit ∷ []) }
         ensures edited { values_of self.new ≡ edited (values_of self.old) edit }

@@ -1,4 +1,4 @@
-//! What the words of the command line ask for.
+//! The options of a command line.
 use crate::misuse::{Misuse, misuse_of};
 use crate::stop::Stop;
 use command_line::{Options, options_of};
@@ -14,28 +14,28 @@ pub(crate) struct ResourceFile {
     pub(crate) file: String,
 }
 
-/// What the program is asked for.
+/// What the program has to do, by its options.
 #[derive(Drop)]
 pub(crate) struct Asked {
     /// The file of the metamodel.
     pub(crate) meta: String,
     /// The file of the script, if it has one.
     pub(crate) script: Option<String>,
-    /// What is loaded before the script.
+    /// The resources that are loaded before the script.
     pub(crate) load: Vec<ResourceFile>,
-    /// What is saved after it.
+    /// The resources that are saved after the script.
     pub(crate) save: Vec<ResourceFile>,
     /// The output options.
     pub(crate) dress: Dress,
-    /// Whether a refused or bad line gives a status of its own.
+    /// Whether a refused or bad line gives an exit status of its own.
     pub(crate) strict: bool,
     /// Whether each line is answered before the next is read.
     pub(crate) live: bool,
     /// The file that keeps the lines that change the model, if there is one.
     pub(crate) journal: Option<String>,
-    /// Whether it says what to fix, after what it reports.
+    /// Whether the program says what to fix, after its messages.
     pub(crate) explain: bool,
-    /// Whether it says which file can't be read or written, and why: also to a person at a terminal.
+    /// Whether the program says which file can't be read or written, and why. It also does so for a person at a terminal.
     pub(crate) names_files: bool,
 }
 
@@ -63,7 +63,7 @@ fn path_of(rt: &HostRuntime, path: Option<&str>) -> Result<Option<String>, Stop>
     }
 }
 
-/// The resource and the file that a value of an option names. The last `=` is between them, since a URI may have others.
+/// The resource and the file that a value of an option names. The last `=` separates them, since a URI may have `=` too.
 fn resource_file(
     rt: &HostRuntime,
     option: &'static str,
@@ -92,7 +92,7 @@ fn resource_files(
     Ok(files)
 }
 
-/// What options ask for, copied out of the words.
+/// The options, copied out of the words.
 fn copied(rt: &HostRuntime, options: &Options<'_>) -> Result<Asked, Stop> {
     let script = path_of(rt, options.script)?;
     let load = resource_files(rt, "--load", options.load.as_slice())?;
@@ -112,7 +112,7 @@ fn copied(rt: &HostRuntime, options: &Options<'_>) -> Result<Asked, Stop> {
     })
 }
 
-/// What the words ask for, copied out of them.
+/// The options of some words, copied out of the words.
 fn asked_of(rt: &HostRuntime, words: &[&str]) -> Result<Asked, Stop> {
     let options = match options_of(rt.alloc(), words) {
         Ok(options) => options,
@@ -124,7 +124,7 @@ fn asked_of(rt: &HostRuntime, words: &[&str]) -> Result<Asked, Stop> {
     }
 }
 
-/// What the arguments ask for.
+/// The options of the arguments.
 pub(crate) fn arguments_of(rt: &HostRuntime, args: &[String]) -> Result<Asked, Stop> {
     let mut words = Vec::new(rt.alloc());
     for word in args {

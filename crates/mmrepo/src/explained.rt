@@ -1,4 +1,4 @@
-//! What the program says beside of why it stops, if that is asked for.
+//! What the program adds to the report of why it stops, with `--explain`.
 use crate::asked::Asked;
 use crate::stop::{JournalRefusal, Stop};
 use durable::JournalFault;
@@ -147,7 +147,7 @@ pub(crate) fn explained_journal(
     }
 }
 
-/// Why a run stops that keeps its changes in a journal.
+/// Why a run that keeps its changes in a journal stops.
 pub(crate) fn explained_disk(rt: &HostRuntime, explain: bool, path: &str, stop: Stop) -> Stop {
     match stop {
         Stop::Run(RunFault::Journal) if explain => {

@@ -40,7 +40,8 @@ fn bytes_of(rt: &HostRuntime, asked: &Asked, path: &str) -> Result<Vec<u8>, Stop
     }
 }
 
-/// Why the resource of a file is not loaded or not saved, with what a watch says of the line that would do it, if that is asked for.
+/// Why the resource of a file is not loaded or not saved. If that is asked for, with the explanation that a watch gives of the line that
+/// would do the same.
 pub(crate) fn refused_form<L: LinkStore, A: Adapter>(
     rt: &HostRuntime,
     asked: &Asked,
@@ -61,7 +62,7 @@ pub(crate) fn refused_form<L: LinkStore, A: Adapter>(
     Ok(Stop::Resource(file, refused, text))
 }
 
-/// Why a document is refused that is not UTF-8.
+/// Why a document that is not UTF-8 is refused.
 fn not_utf8(
     rt: &HostRuntime,
     asked: &Asked,
@@ -154,7 +155,7 @@ fn load_file<L: LinkStore, A: Adapter>(
     }
 }
 
-/// Loads the files that are asked for, in their order, into a repository that has no resource.
+/// Loads the files of the options, in their order, into a repository that has no resource.
 pub(crate) fn load_files<L: LinkStore, A: Adapter>(
     rt: &HostRuntime,
     asked: &Asked,

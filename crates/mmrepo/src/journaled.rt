@@ -27,7 +27,7 @@ fn explained_kept(rt: &HostRuntime, asked: &Asked, path: &str, fault: KeptFault)
     }
 }
 
-/// Runs the lines of a file again, answers those that come on standard input, and keeps those that change the model.
+/// Runs the lines of a file again, answers the lines that come on standard input, and keeps those of them that change the model.
 fn answer<D: Disk + Drop, A: Adapter>(
     rt: &HostRuntime,
     head: &[u8],
@@ -48,7 +48,7 @@ fn answer<D: Disk + Drop, A: Adapter>(
     Ok(run.outcome)
 }
 
-/// Runs the lines of the journal at a path again, and then answers those that come on standard input.
+/// Runs the lines of the journal at a path again, and then answers the lines that come on standard input.
 fn answer_from<A: Adapter>(
     rt: &HostRuntime,
     asked: &Asked,
@@ -68,8 +68,8 @@ fn answer_from<A: Adapter>(
     }
 }
 
-/// Runs the lines of the journal at a path again, answers those that come on standard input, and saves files. Returns whether a line was
-/// refused or bad.
+/// Runs the lines of the journal at a path again, answers the lines that come on standard input, and saves files. Returns whether a line
+/// was refused or bad.
 fn run_session<A: Adapter>(
     rt: &HostRuntime,
     asked: &Asked,

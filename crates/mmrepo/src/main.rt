@@ -1,4 +1,4 @@
-//! `mmrepo --meta FILE` reads a metamodel, and runs the script on its standard input, or of a file.
+//! `mmrepo --meta FILE` reads a metamodel, and runs a script from standard input or from a file.
 #![tactic(auto)]
 
 mod asked;
@@ -26,7 +26,7 @@ fn run(rt: &HostRuntime, asked: &Asked) -> Result<u8, Stop> {
     Ok(status_of(is_faulty, asked.strict))
 }
 
-/// Reads the words, and does what they ask for. Returns the status.
+/// Reads the words, and runs the program with their options. Returns the status.
 fn start(rt: &HostRuntime) -> Result<u8, Stop> {
     let words = words_of(rt)?;
     let asked = arguments_of(rt, words.as_slice())?;

@@ -2,12 +2,12 @@
 use command_line::Options;
 use std::fmt;
 
-/// Why options that are good by themselves are refused.
+/// Why a combination of valid options is refused.
 #[derive(Clone, Copy)]
 pub(crate) enum Misuse {
-    /// The first can't be used with the second.
+    /// The first option can't be used with the second.
     Together(&'static str, &'static str),
-    /// The first can't be used without the second.
+    /// The first option can't be used without the second.
     Without(&'static str, &'static str),
     /// The value of an option is not of the form URI=FILE.
     NoFile(&'static str),
@@ -23,8 +23,8 @@ impl fmt::Display for Misuse {
     }
 }
 
-/// The first of the rules on options that is broken. A live run takes its script from what comes in, and its answers are bare; a journal
-/// keeps lines, and no document that was loaded by an option.
+/// The first rule on options that is broken. A live run takes its lines from standard input, and its answers take no output options; a
+/// journal keeps lines, and no documents that options load.
 pub(crate) fn misuse_of(options: &Options<'_>) -> Option<Misuse> {
     let is_live = options.live;
     let is_kept = options.journal.is_some();

@@ -1,8 +1,8 @@
-//! Standard input, which asks for a line if a person types.
+//! Standard input, with a prompt if a person types.
 use std::io;
 use std::io::{IsTerminal, Read, StdinLock};
 
-/// What is on standard error while a line is waited for.
+/// The prompt on standard error while the program waits for a line.
 const PROMPT: &str = "> ";
 
 /// Standard input. On a terminal a prompt is written to standard error before each read.

@@ -29,7 +29,7 @@ const LIVE_BOXES: u32 = 1000;
 /// How many notifications A8 can still count, its last one included.
 const LEFT: u64 = 2;
 
-/// The status after a script of which a line was refused or bad, if that gives a status of its own.
+/// The status after a script with a refused or bad line, if that gives a status of its own.
 const FAULTY: u8 = 4;
 
 /// Standard output through a buffer. It is watched below the buffer, so that a write into the buffer costs no more than the copy.
@@ -43,7 +43,7 @@ pub(crate) fn writer_of<'w>(
     }
 }
 
-/// Writes what is left in the buffer, whatever the outcome of a run.
+/// Writes the rest of the buffer, whatever the outcome of a run.
 fn ended<W: Write>(
     writer: &mut W,
     outcome: Result<Summary, RunFault>,
@@ -105,7 +105,7 @@ fn is_faulty(summary: Summary) -> bool {
     summary.refused > 0 || summary.bad > 0
 }
 
-/// Runs the script of a file, or that on standard input.
+/// Runs the script of a file, or the script on standard input.
 fn run_script<A: Adapter>(
     rt: &HostRuntime,
     asked: &Asked,
@@ -130,7 +130,7 @@ fn run_script<A: Adapter>(
     }
 }
 
-/// Loads files, runs the script and saves files. Nothing is saved if the script was ended by a line that is refused or bad.
+/// Loads files, runs the script and saves files. Nothing is saved if a refused or bad line ended the script.
 fn run_between<A: Adapter>(
     rt: &HostRuntime,
     asked: &Asked,
@@ -147,7 +147,7 @@ fn run_between<A: Adapter>(
     Ok(faulty)
 }
 
-/// Runs all that is asked for over a new repository, which keeps no journal. Returns whether a line was refused or bad.
+/// Runs everything that the options name over a new repository, which keeps no journal. Returns whether a line was refused or bad.
 fn run_unkept<A: Adapter>(
     rt: &HostRuntime,
     asked: &Asked,
@@ -177,8 +177,8 @@ fn digest_for(asked: &Asked, document: &[u8]) -> [u8; 32] {
     }
 }
 
-/// Reads the metamodel, whose document then goes, and runs the script over an empty repository of it with its adapters. Returns whether a
-/// line was refused or bad.
+/// Reads the metamodel, frees its document, and runs the script over an empty repository of it with its adapters. Returns whether a line
+/// was refused or bad.
 fn run_over_metamodel<A: Adapter>(
     rt: &HostRuntime,
     asked: &Asked,
@@ -195,9 +195,9 @@ fn run_over_metamodel<A: Adapter>(
     }
 }
 
-/// Runs the script with its adapters: A1 to A4, which keep every notification, A5 and A6, which keep the last 2 and the last 100, A7, which
-/// counts, and A8, which can count two more. A live run has more that count, so that a long one keeps no notifications. Returns whether a
-/// line was refused or bad.
+/// Runs the script with its adapters: A1 to A4 keep every notification, A5 keeps the last 2 and A6 the last 100, A7 counts, and A8 can
+/// count two more. A live run has further adapters, which only count, so a long run keeps no notifications. Returns whether a line was
+/// refused or bad.
 fn run_with_boxes(
     rt: &HostRuntime,
     asked: &Asked,
@@ -217,8 +217,8 @@ fn run_with_boxes(
     run_over_metamodel(rt, asked, document, boxes, watch)
 }
 
-/// Runs the script as it is asked for, over the metamodel of a document, and returns whether a line was refused or bad. The lines are
-/// watched if something is said of them, or if the resources that they make are to be saved.
+/// Runs the script by the options, over the metamodel of a document, and returns whether a line was refused or bad. The lines are watched
+/// if they are to be commented on, or if the resources that they make are to be saved.
 pub(crate) fn run_asked(
     rt: &HostRuntime,
     asked: &Asked,

@@ -15,7 +15,7 @@ use std::fs::{File, OpenOptions};
 use std::io::Write;
 use std::{fs, io, process};
 
-/// The resource whose document a file is to have.
+/// The resource whose document is to be saved in a file.
 fn resource_for(watch: Watching<'_>, to: &ResourceFile) -> Result<ResourceNo, Refused> {
     if let Some(watch) = watch
         && let Ok(watch) = watch.try_borrow()
@@ -45,7 +45,7 @@ fn not_found<L: LinkStore, A: Adapter>(
     refused_form(rt, asked, repository, watch, path, &form, refused)
 }
 
-/// The document that a file is to have.
+/// The document that is to be saved in a file.
 fn document_for<L: LinkStore, A: Adapter>(
     rt: &HostRuntime,
     asked: &Asked,
@@ -74,7 +74,7 @@ fn write_document(mut file: File, document: &str) -> io::Result<()> {
     file.sync_all()
 }
 
-/// Gives a file a document in one step: whoever reads the file finds what it had, or all of the document.
+/// Replaces a file by a document in one step: a reader of the file finds its old content, or all of the document.
 fn replace(rt: &HostRuntime, path: &str, document: &str) -> io::Result<()> {
     let id = process::id(rt.process());
     let temporary = format!(in rt.alloc(); "{path}.{id}.tmp")?;
@@ -92,7 +92,7 @@ fn replace(rt: &HostRuntime, path: &str, document: &str) -> io::Result<()> {
     done
 }
 
-/// The documents that the files are to have.
+/// The documents that are to be saved in the files.
 fn documents_for<L: LinkStore, A: Adapter>(
     rt: &HostRuntime,
     asked: &Asked,
@@ -106,7 +106,7 @@ fn documents_for<L: LinkStore, A: Adapter>(
     Ok(documents)
 }
 
-/// Saves the resources that are asked for. No file is written if one of them is refused.
+/// Saves the resources of the options. No file is written if one of them is refused.
 pub(crate) fn save_files<L: LinkStore, A: Adapter>(
     rt: &HostRuntime,
     asked: &Asked,

@@ -1,4 +1,4 @@
-//! Why the program stops, and what it says of that.
+//! Why the program stops, and its message.
 use crate::misuse::Misuse;
 use clap::error::ErrorKind;
 use command_line::usage_of;
@@ -16,7 +16,7 @@ pub(crate) enum JournalRefusal {
     NoJournal,
     /// It was begun with another metamodel.
     OtherMetamodel,
-    /// The line of this number is not done when it is run again.
+    /// The line of this number was not done when it was run again.
     Line(u64),
 }
 
@@ -125,7 +125,7 @@ fn report_resource(rt: &HostRuntime, file: &str, refused: Refused) -> u8 {
     5
 }
 
-/// Says on standard error what a status is explained by, and returns it.
+/// Writes the explanation of a status to standard error, and returns the status.
 fn explain(rt: &HostRuntime, status: u8, text: &str) -> u8 {
     let _ = eprint!(rt; "{text}");
     status

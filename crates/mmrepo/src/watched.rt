@@ -1,4 +1,4 @@
-//! The listener of a run, and when its lines are written.
+//! The listener of a run, and the stream that writes its comments.
 use adapters::Adapter;
 use explain_commands::Watch;
 use links::LinkStore;
@@ -8,7 +8,7 @@ use std::cell::RefCell;
 use std::io;
 use std::io::Write;
 
-/// The watch over a run; there is none if nothing is said of its lines.
+/// The watch over a run; `None` if its lines are not commented on.
 pub(crate) type Watching<'w> = Option<&'w RefCell<Watch>>;
 
 /// Calls a watch with the lines that were run.
@@ -50,7 +50,7 @@ impl Listener for Ear<'_> {
     }
 }
 
-/// A stream for answers. When it is flushed, what the watch has to say follows on standard error.
+/// A stream for answers. When it is flushed, it writes the comments of the watch to standard error.
 #[derive(Drop)]
 pub(crate) struct Watched<'w, S> {
     rt: &'w HostRuntime,
@@ -64,7 +64,7 @@ impl<'w, S> Watched<'w, S> {
     }
 }
 
-/// Says on standard error what a watch has to say.
+/// Writes the comments of a watch to standard error.
 fn say(rt: &HostRuntime, watch: &RefCell<Watch>) {
     if let Ok(mut watch) = watch.try_borrow_mut() {
         let text = watch.take();

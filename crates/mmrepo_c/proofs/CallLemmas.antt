@@ -1,4 +1,4 @@
--- What a document gives, from what is read of it and what its check says; and how a session begins.
+-- The result of a document, from the results of reading and checking it; and the first state of a session.
 use Rattle.std.proofs.Common.{◌≡◌, ◌∙◌, ap, refl, inl, inr, ℕ, List, [], Result, Ok, Err}
 use Rattle.mm_types.specs.Raw.{RawMetamodel}
 use Rattle.mm_types.specs.Resolved.{Metamodel}

@@ -1,4 +1,4 @@
--- A pointer and a loose `Box` own what a `Box` of a session owns.
+-- A pointer and a loose `Box` own the same memory as a `Box` of a session.
 use mir.Syntax.{impl, tnil, dnil}
 use mathlib.Core.List.{[]}
 use mathlib.Core.Path.{◌≡◌, refl, subst}

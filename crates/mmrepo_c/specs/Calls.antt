@@ -1,4 +1,4 @@
--- What the calls of C answer, and what they leave in the handle.
+-- What the calls from C return, and what they leave in the handle.
 use Rattle.std.specs.Prelude.{◌≡◌, ◌<◌, ◌≤◌, ◌⊎◌, ℕ, Bool, true, false, IsUtf8, List, [], length, Option, Some, None, Result, Ok, Err}
 use Rattle.mm_types.specs.Raw.{RawMetamodel}
 use Rattle.mm_types.specs.Resolved.{Metamodel, resolved}
@@ -24,27 +24,27 @@ use Rattle.mmrepo_c.specs.Statuses.{fault_status, line_status}
 use Rattle.mmrepo_c.specs.declared.session.Session.{Session as Held}
 use Rattle.mmrepo_c.specs.declared.status.TheConstants.{OK, BAD, CLOSED, TOO_LONG, MEMORY}
 
--- why a document is refused: its first fault, or memory
+-- why a metamodel document is refused: its first fault, or `Memory`
 abbrev pub IsRefusedFor : List ℕ → MetaFault → Type 0
 IsRefusedFor bytes f = (f ≡ Memory) ⊎ ((loaded bytes ≡ Err f) ⊎ ((raw : RawMetamodel) × (loaded bytes ≡ Ok raw) × Checks raw (Err f)))
 
--- what a document gives: the metamodel that it writes, which is well-formed, or why it is refused
+-- what a metamodel document gives: its well-formed metamodel, or why it is refused
 abbrev pub Gives : List ℕ → Result Metamodel MetaFault → Type 0
 Gives bytes (Ok m) = (raw : RawMetamodel) × (loaded bytes ≡ Ok raw) × WellFormed raw × (m ≡ resolved raw)
 Gives bytes (Err f) = IsRefusedFor bytes f
 
--- a session at its begin, over the metamodel of an accepted document
+-- a new session over the metamodel of an accepted document
 pub record Accepts (bytes : List ℕ) (h : Held) : Type 0 where
   pub metamodel : Metamodel
   pub given : Gives bytes (Ok metamodel)
   pub begun : Begins metamodel h
 
--- a document was opened: a session at its begin, or why it is refused, and a closed handle
+-- a document was opened: the handle has a new session; or the status says why it is refused, and the handle is closed
 abbrev pub OpensDocument : List ℕ → ℕ → Option Held → Type 0
 OpensDocument bytes status None = (f : MetaFault) × IsRefusedFor bytes f × (status ≡ fault_status f)
 OpensDocument bytes status (Some h) = (status ≡ OK) × Accepts bytes h
 
--- what opening answers for a document, and the handle after it
+-- the status of opening a document, and the handle after it
 abbrev pub Opens : List ℕ → ℕ → Option Held → Type 0
 Opens bytes status new =
     ((INPUT_BYTES < length bytes) × (status ≡ TOO_LONG) × (new ≡ None)) ⊎ ((length bytes ≤ INPUT_BYTES) × OpensDocument bytes status new)
@@ -54,7 +54,7 @@ abbrev pub AnswersLine : Held → List ℕ → ℕ → Option Held → Type 0
 AnswersLine h line status None = status ≡ MEMORY
 AnswersLine h line status (Some t) = (turn : Turn) × (status ≡ line_status turn) × RunsLine (running h) (form line) (printed (answer t) turn) (running t)
 
--- what a line answers in a handle, and the handle after it
+-- the status of a line in a handle, and the handle after it
 abbrev pub Answers : Option Held → List ℕ → ℕ → Option Held → Type 0
 Answers None line status new = (status ≡ CLOSED) × (new ≡ None)
 Answers (Some h) line status new =
@@ -65,12 +65,12 @@ abbrev pub ReadsSession : Held → (Session → Printed) → ℕ → Option Held
 ReadsSession h asked status None = status ≡ MEMORY
 ReadsSession h asked status (Some t) = (turn : Turn) × (status ≡ line_status turn) × Reads (running h) asked (printed (answer t) turn) (running t)
 
--- what a read of a list of this name answers in a handle, and the handle after it
+-- the status of a read of a list in a handle, and the handle after it; `name` is the name of the feature
 abbrev pub ReadsList : Option Held → List ℕ → (Session → Printed) → ℕ → Option Held → Type 0
 ReadsList None name asked status new = (status ≡ CLOSED) × (new ≡ None)
 ReadsList (Some h) name asked status new = (¬ IsUtf8 name × (status ≡ BAD) × (new ≡ Some h)) ⊎ (IsUtf8 name × ReadsSession h asked status new)
 
--- the resource of a number, and the node
+-- the resource of a number; and `node_of`, the node
 abbrev pub resource_of : ℕ → ResourceNo
 resource_of number = record { 0 = number }
 
@@ -91,7 +91,7 @@ abbrev pub LoadsDocument : Held → ResourceNo → List ℕ → ℕ → Option H
 LoadsDocument h k text status None = status ≡ MEMORY
 LoadsDocument h k text status (Some t) = (turn : Turn) × (status ≡ line_status turn) × RunsCommand (running h) (Load k text) (printed (answer t) turn) (running t)
 
--- what a load answers in a handle, and the handle after it
+-- the status of a load in a handle, and the handle after it
 abbrev pub Loads : Option Held → ResourceNo → List ℕ → ℕ → Option Held → Type 0
 Loads None k text status new = (status ≡ CLOSED) × (new ≡ None)
 Loads (Some h) k text status new = LoadsDocument h k text status new

@@ -1,6 +1,6 @@
 -- A text that is copied into a buffer.
 use Rattle.std.specs.Prelude.{ℕ, List, ◌++◌, length, min, take, drop}
 
--- a buffer that begins with what a text begins with
+-- a buffer whose first bytes are those of a text, as many as both have
 abbrev pub filled : List ℕ → List ℕ → List ℕ
 filled text room = take (min (length text) (length room)) text ++ drop (min (length text) (length room)) room

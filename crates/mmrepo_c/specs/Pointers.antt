@@ -1,4 +1,4 @@
--- What a pointer owns: nothing if it is empty, else what a `Box` of its session does.
+-- What a pointer owns: nothing if it is empty, else the same as a `Box` of its session.
 use Rattle.std.specs.Prelude.{Option, Some, None}
 use base.Fml.{Fml, ftrue}
 use base.Stored.{Coded}

@@ -1,4 +1,4 @@
--- How a session is seen, and how it begins.
+-- The view of a session, and its first state.
 use Rattle.std.specs.Prelude.{◌≡◌, ℕ, List, [], map, replicate, Some}
 use Rattle.mm_types.specs.Resolved.{Metamodel}
 use Rattle.notice_chain.specs.View.{View}
@@ -8,11 +8,11 @@ use Rattle.script_answers.specs.Turns.{Printed}
 use Rattle.mmrepo_c.specs.declared.session.Session.{Session as Held}
 use Rattle.mmrepo_c.specs.declared.session.TheConstants.{BOXES}
 
--- its repository, and the adapters that can be attached
+-- the repository of a session, and its pool of adapters
 abbrev pub running : Held → Session
 running h = session h.interpreter.repository h.interpreter.pool
 
--- what its last line printed
+-- the text that the last line of a session printed
 abbrev pub answer : Held → List ℕ
 answer h = h.interpreter.output
 
@@ -20,16 +20,16 @@ answer h = h.interpreter.output
 abbrev pub unheard : View
 unheard = record { told = 0; room = Some 0; kept = [] }
 
--- as many adapters as a session has, none of which was notified of anything
+-- the adapters of a new session, none of which was notified of anything
 abbrev pub AreUnheard : {A : Type 0} → (A → View) → List A → Type 0
 AreUnheard heard boxes = map (λ a. Some (heard a)) boxes ≡ replicate BOXES (Some unheard)
 
--- a session at its begin: an empty repository, all adapters to be attached, and no answer
+-- a new session: an empty repository, all adapters in the pool, and no answer
 pub record Begins (m : Metamodel) (h : Held) : Type 0 where
   pub runs : running h ≡ session (empty_state m) (replicate BOXES (Some unheard))
   pub silent : answer h ≡ []
 
--- what is asked of a session was printed, and the session is as it was
+-- the text that was asked of a session was printed, and the session is as it was
 pub record Reads (s : Session) (asked : Session → Printed) (p : Printed) (t : Session) : Type 0 where
   pub printed : p ≡ asked s
   pub kept : t ≡ s

@@ -1,4 +1,4 @@
-//! What the calls share that take a node, or that run no line.
+//! Parts that several calls share.
 ghost use Rattle.std.specs.Prelude.{◌≡◌, MatchResult, Some};
 ghost use Rattle.mmrepo_c.specs.Calls as c;
 ghost use Rattle.mmrepo_c.specs.Statuses as s;
@@ -21,8 +21,8 @@ pub(crate) fn node_of(is_resource: bool, number: u32) -> Node
     }
 }
 
-/// Puts a session that ran a call back into its handle, and returns the status of the call. If memory was refused to the call, the session
-/// is closed.
+/// Puts a session back into its handle after a call, and returns the status of the call. If memory was refused to the call, the session is
+/// closed.
 pub(crate) fn put_back(
     handle: &mut Handle,
     session: Box<Session>,

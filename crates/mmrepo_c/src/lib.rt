@@ -1,8 +1,8 @@
 //! mmrepo for C: a static library, whose functions `include/mmrepo.h` declares. A session over a metamodel answers the lines of a
 //! script, each in a call. docs/C.md begins with a program.
 //!
-//! A call takes a session out of its handle and puts it back. So all of them but `SessionPointer` and `Loose` is safe code, which is proved
-//! from the contracts of those two.
+//! A call takes a session out of its handle and puts it back. So all code except that of `SessionPointer` and `Loose` is safe, and is
+//! proved from the contracts of these two.
 #![tactic(auto)]
 
 ghost use Rattle.std.specs.Prelude.{◌≡◌, None};
@@ -29,8 +29,8 @@ pub use session::Session;
 use std::alloc::Global;
 use std::str;
 
-/// Opens a session: an empty repository over the metamodel of a document. What the handle had before is closed. Its adapters, A1 to A1000,
-/// count their notifications and keep none of them.
+/// Opens a session: an empty repository over the metamodel of a document. A session that the handle had before is closed. Its adapters, A1
+/// to A1000, count their notifications and keep none of them.
 ///
 /// Returns `OK`; from 1 to 12 the first fault of the document; `TOO_LONG` if it has more than `INPUT_BYTES` bytes; `MEMORY` if memory
 /// is refused. The handle is closed if the status is not `OK`.
@@ -51,7 +51,7 @@ pub extern "C" fn mmrepo_open(alloc: Global, handle: &mut Handle, document: &[u8
     }
 }
 
-/// Runs a line of a script, which has no newline at its end. What it prints is the text of the session from then on.
+/// Runs a line of a script, which has no newline at its end. From then on its output is the text of the session.
 ///
 /// Returns how the line is counted: `OK` for a command that was done, `BLANK`, `BAD`, `REFUSED`, or `LOST` if the repository was
 /// refused memory, and nothing has changed. `CLOSED` if the handle is closed. `TOO_LONG` if the line has more than `INPUT_BYTES`
@@ -126,8 +126,8 @@ pub extern "C" fn mmrepo_list_value(
     put_back(handle, session, outcome)
 }
 
-/// Loads a document into a resource, as the line `load` does, but from bytes of any length, newlines among them. What it prints is the text
-/// of the session from then on.
+/// Loads a document into a resource, as the line `load` does, but from bytes of any length, newlines among them. From then on its output is
+/// the text of the session.
 ///
 /// Returns `OK`, `REFUSED` or `LOST` as `mmrepo_line` does. `CLOSED` if the handle is closed. `MEMORY` if memory is refused to the call
 /// itself: the session is closed.

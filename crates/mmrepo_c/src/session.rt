@@ -1,4 +1,4 @@
-//! A session: the lines of a script are run over a metamodel.
+//! A session, which runs the lines of a script over a metamodel.
 ghost use Rattle.std.specs.Prelude.{◌≡◌, IfOk};
 ghost use Rattle.repository.specs.declared.command.Command.TheVariants.{Load};
 ghost use Rattle.script_lines.specs.Forms as forms;
@@ -18,7 +18,7 @@ use std::alloc::{AllocError, Global};
 /// How many adapters a script has: A1 and so on.
 const BOXES: usize = 1000;
 
-/// A repository over a metamodel, the adapters of its script, and what the last line printed.
+/// A repository over a metamodel, the adapters of its script, and the output of the last line.
 #[derive(Drop)]
 pub struct Session {
     interpreter: Interpreter<SlotStore, Counter>,
@@ -47,21 +47,21 @@ impl Session {
         })
     }
 
-    /// Runs a line, and says how it is counted. Errs only if memory is refused to the run itself.
+    /// Runs a line, and returns how it is counted. Errs only if memory is refused to the run itself.
     pub(crate) fn answer(&mut self, line: &[u8]) -> Result<Turn, AllocError>
         ensures { IfOk result (λ t. RunsLine (running self.old) (forms.form line.now) (printed (answer self.new) t) (running self.new)) }
     {
         self.interpreter.answer(line)
     }
 
-    /// Reads how many values a list has, and says how the read is counted. Errs only if memory is refused for the text.
+    /// Reads how many values a list has, and returns how the read is counted. Errs only if memory is refused for the text.
     pub(crate) fn list_len(&mut self, node: Node, feature: &str) -> Result<Turn, AllocError>
         ensures { IfOk result (λ t. Reads (running self.old) (λ s. list_len_printed s.state node feature.now) (printed (answer self.new) t) (running self.new)) }
     {
         self.interpreter.list_len(node, feature)
     }
 
-    /// Reads the value at an index of a list, and says how the read is counted. Errs only if memory is refused for the text.
+    /// Reads the value at an index of a list, and returns how the read is counted. Errs only if memory is refused for the text.
     pub(crate) fn list_value(
         &mut self,
         node: Node,
@@ -73,7 +73,7 @@ impl Session {
         self.interpreter.list_value(node, feature, index)
     }
 
-    /// Loads a document, and says how that is counted. Errs only if memory is refused to the call itself.
+    /// Loads a document, and returns how that is counted. Errs only if memory is refused to the call itself.
     pub(crate) fn load(&mut self, resource: ResourceNo, document: &[u8]) -> Result<Turn, AllocError>
         ensures { IfOk result (λ t. RunsCommand (running self.old) (Load resource document.now) (printed (answer self.new) t) (running self.new)) }
     {

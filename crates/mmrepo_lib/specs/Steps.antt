@@ -1,5 +1,5 @@
--- What the contracts and the laws of a repository cite: its state, the step of a command and a run of several, what a reply is seen as,
--- what an adapter was notified of, what notifications replay, and what reloading brings back.
+-- What the contracts and the laws of a repository cite: its state, the step of a command and a run of several, replies with views, what an
+-- adapter was notified of, replays of notifications, and what reloading brings back.
 pub use Rattle.doc_writer.specs.Saved.{IsReadAs}
 pub use Rattle.models.specs.Legal as models
 pub use Rattle.models.specs.Model.{Model, model_of, reading}
@@ -12,11 +12,11 @@ pub use Rattle.reloading.specs.Alike.{Alike}
 pub use Rattle.reloading.specs.Between.{Between}
 pub use Rattle.reloading.specs.Orders.{Fill, IsOrder, IsSaved, Make, Task}
 pub use Rattle.reloading.specs.Proxies.{HasNoProxy}
-pub use Rattle.repository.specs.Enough.{AllAlong, AreEnough, ChainReplays, ClosedKeepsEnough, DetachedKeepsEnough, HasDeepTarget, HasEachNode, IsAtOrBelow, KeepsEnough, NoticesAreEnough, OfWatched, ToldIsEnough}
-pub use Rattle.repository.specs.Heard.{HearsItsReply, handed_out, handed_out_by, told_by, told_by_all, told_to, view_after}
+pub use Rattle.mmrepo_lib.specs.Enough.{AllAlong, AreEnough, ChainReplays, ClosedKeepsEnough, DetachedKeepsEnough, HasDeepTarget, HasEachNode, IsAtOrBelow, KeepsEnough, NoticesAreEnough, OfWatched, ToldIsEnough}
+pub use Rattle.mmrepo_lib.specs.Heard.{HearsItsReply, handed_out, handed_out_by, told_by, told_by_all, told_to, view_after}
 pub use Rattle.repository.specs.Laws.{KeepsLegal}
 pub use Rattle.repository.specs.Refusals.{chain, refusal}
-pub use Rattle.repository.specs.Reload.{AllDone, AreLoads, AreResolves, AreTexts, IsAllResolved, IsHadAgain, IsReloaded, LoadsGiveBetween, OfSaved, ReloadsInAnyOrder, ResolvesAll, ResolvesBetween, commands, reloaded}
+pub use Rattle.mmrepo_lib.specs.Reload.{AllDone, AreLoads, AreResolves, AreTexts, IsAllResolved, IsHadAgain, IsReloaded, LoadsGiveBetween, OfSaved, ReloadsInAnyOrder, ResolvesAll, ResolvesBetween, commands, reloaded}
 pub use Rattle.repository.specs.Run.{AllExecuted, Executed, IsRun, Ran, change_outcome, read_outcome, run}
 pub use Rattle.repository.specs.State.{IsLegal, State, empty_state, reads}
 pub use Rattle.repository.specs.Step.{Stepped, closed, refusal_of, step}

@@ -1,9 +1,11 @@
 //! All that a program needs to keep models, under one name.
 //!
-//! A crate of yours names `mmrepo_lib` alone in its line of `crates.txt`. `load_meta` reads a metamodel, `check` tests it, and a
+//! A crate of yours names only `mmrepo_lib` in its line of `crates.txt`. `load_meta` reads a metamodel, `check` tests it, and a
 //! `Repository` of it makes objects, links them, notifies adapters, saves and loads. `specs/Steps.antt` has the definitions that the
 //! contracts of a repository cite, for proofs about your own code. docs/LIBRARY.md begins with a program.
 #![tactic(auto)]
+
+pub mod laws;
 
 pub use adapters::{Adapter, Counter, NoRoom, Recorder, Window};
 pub use link_store::{LinkStore, RowStore, SlotStore};
@@ -18,6 +20,6 @@ pub use models::Found;
 pub use notice_chain::{NO_INDEX, Notice, NoticeKind, Target};
 pub use repository::{
     Act, Answer, Command, EndRead, Failure, FeatureValue, NodeRead, ObjectRead, Read, Reply,
-    Repository, Tally, laws,
+    Repository, Tally,
 };
 pub use snapshots::{FeatureState, NodeState, Snapshot, replay};

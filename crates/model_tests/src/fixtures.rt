@@ -1,4 +1,4 @@
-//! Metamodels, repositories, adapters and streams that the tests are made of, and checks that several of them make.
+//! Metamodels, repositories, adapters and streams that the tests use, and checks that several tests make.
 pub(crate) mod books;
 pub(crate) mod boxes;
 pub(crate) mod counted;

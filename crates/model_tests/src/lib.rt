@@ -1,8 +1,8 @@
-//! Tests of the crates of models and scripts, by calls that a script can't make: values that no script names, adapters of
-//! other kinds, what is dropped, streams that fail, and what a command line gives. The tests are in the folders whose names end with
-//! `_tests`; what they are made of is in `fixtures`.
+//! Tests of the crates of models and scripts, by calls that a script can't make: values that no script names, adapters of other kinds,
+//! dropped values, streams that fail, and command lines. The tests are in the folders whose names end with `_tests`, and their parts in
+//! `fixtures`.
 //!
-//! What a script prints is among the cases.
+//! The cases test what a script prints.
 #![tactic(auto)]
 
 #[cfg(test)]

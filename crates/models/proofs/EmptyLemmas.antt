@@ -19,7 +19,7 @@ use Rattle.models.specs.Legal.{IsLegal, IsLegalObject, OfProxies, is_short_text,
 use Rattle.models.specs.Model.{empty_model}
 use Rattle.models.specs.Steady.{HasSteadyTexts}
 
--- no links leave no end anything
+-- without links every end is empty
 empty-end : (e : End) → end no_links e ≡ []
 empty-end e = elim (end no_links e) as (λ vs. end no_links e ≡ vs → vs ≡ []) [
   | [] ↦ λ h. refl

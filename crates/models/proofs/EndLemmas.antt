@@ -1,4 +1,4 @@
--- What is at the ends of references.
+-- The values at the ends of references.
 use Rattle.std.proofs.Common.{◌≡◌, ◌≤◌, nat_le, arith, pos, option_to_list, ℕ, Bool, true, false, IsTrue, List, [], ◌∷◌, length, slice_get, Option, Some, None, unwrap_or, option_map, option_and_then, if◌then◌else◌, refl, sym, ◌∙◌, subst}
 use Rattle.std.specs.Prelude.{int_le}
 use Rattle.std.proofs.lemmas.Bool.{and_parts}
@@ -20,19 +20,16 @@ use Rattle.links.specs.Links.{end}
 use Rattle.models.specs.Legal.{IsLegal, is_legal_end}
 use Rattle.models.specs.Model.{Model, reading}
 use Rattle.models.specs.Reading.{Reading, shape_at, value_at}
+use Rattle.models.proofs.ReadLemmas.{value_in_shown}
 
 shown-none : (b : Bool) → value_in (shown b []) 0 ≡ value.Null
 shown-none true = refl
 shown-none false = refl
 
-shown-some : (b : Bool) (v : Value) (vs : List Value) → value_in (shown b (v ∷ vs)) 0 ≡ v
-shown-some true v vs = refl
-shown-some false v vs = refl
-
 -- what a single end has is its first value, and else null
 first-shown : (b : Bool) (vs : List Value) → unwrap_or (slice_get vs 0) value.Null ≡ value_in (shown b vs) 0
 first-shown b [] = sym (shown-none b)
-first-shown b (v ∷ vs) = sym (shown-some b v vs)
+first-shown b (v ∷ vs) = sym (value_in_shown b v vs)
 
 pub value_at-first : (s : Model) (e : End) → unwrap_or (slice_get ((reading s).values e) 0) value.Null ≡ value_at (reading s) e
 value_at-first s e = first-shown (shape s.metamodel e.feature).is_single ((reading s).values e)
@@ -47,7 +44,7 @@ upper-from : (m : Metamodel) (f : FeatureNo) (o : Option Feature) → (option_ma
 upper-from m f None h = cc
 upper-from m f (Some g) h = upper-of m f g g.kind h
 
--- a single feature has one value at most
+-- a single feature has at most one value
 pub upper-single : (m : Metamodel) (f : FeatureNo) → (shape m f).is_single ≡ true → (shape m f).upper ≡ pos 1
 upper-single m f h = upper-from m f (lookups.feature m f) h
 
@@ -56,7 +53,7 @@ bounded-one a n one h =
     let below : IsTrue (if int_le (pos 1) (pos 1) then int_le (pos n) (pos 1) else true) = subst (λ u. IsTrue (if int_le (pos 1) u then int_le (pos n) u else true)) one (and_parts (nat_le n LIST_VALUES) _ h).1 in
     grind (arith, nat_tests, below)
 
--- so has each legal end of one
+-- each legal end of a single feature has at most one value
 one-at-most : (r : Reading) (e : End) (vs : List Value) → (shape_at r e).is_single ≡ true → IsTrue (is_legal_end r e vs) → vs ≡ option_to_list (slice_get vs 0)
 one-at-most r e [] single h = refl
 one-at-most r e (v ∷ []) single h = refl

@@ -1,4 +1,4 @@
--- What is at the positions of ends, and where values are.
+-- The values at positions of ends, and the positions of values.
 use Rattle.std.proofs.Common.{◌≡◌, ◌≤◌, ◌<◌, ◌+◌, ◌||◌, nat_le, nat_lt, pos, not, arith, ℕ, zero, suc, Bool, true, false, cond, IsTrue, List, [], ◌∷◌, length, slice_get, slice_index_or, Option, Some, None, unwrap_or, option_map, option_and_then, if◌then◌else◌, refl, sym, ap, ◌∙◌, subst}
 use Rattle.std.specs.Prelude.{int_le, MatchOption, position}
 use Rattle.std.specs.List.{All, list_all, position_or_len}
@@ -6,7 +6,7 @@ use Rattle.std.specs.Option.{option_map_or}
 use Rattle.std.proofs.lemmas.Bool.{and_parts, false≢true}
 use Rattle.std.proofs.lemmas.Bool.Decides.{nat_tests}
 use Rattle.std.proofs.lemmas.List.Elements.{All-head, All-tail}
-use Rattle.std.proofs.lemmas.Option.{none-some, same_Some}
+use Rattle.std.proofs.lemmas.Option.{none-some, same_Some, slice_get_within}
 use Rattle.mm_types.specs.Ends.{first_in, has_value, index_in}
 use Rattle.mm_types.specs.Same.{same_value}
 use Rattle.mm_types.specs.Shapes.{Shape, is_bounded, shape}
@@ -37,7 +37,7 @@ index_in-position v [] = refl
 index_in-position v (w ∷ ws) =
     elim (same_value v w) as (λ b. cond (not b) (1 + position_or_len (same_value v) ws) 0 ≡ (if b then 0 else suc (index_in ws v))) [ true ↦ refl | false ↦ one-more _ _ (index_in-position v ws) ]
 
-zero-below : (n : ℕ) → nat_lt 0 (suc n) ≡ true
+pub zero-below : (n : ℕ) → nat_lt 0 (suc n) ≡ true
 zero-below n = grind (arith, nat_tests)
 
 suc-below : (k n : ℕ) → nat_lt (suc k) (suc n) ≡ nat_lt k n
@@ -69,7 +69,7 @@ has-at (w ∷ ws) v zero h = subst (λ (x : Value). (same_value v x || has_value
 has-at (w ∷ ws) v (suc k) h =
     elim (same_value v w) as (λ b. (b || has_value ws v) ≡ true) [ true ↦ refl | false ↦ has-at ws v k h ]
 
--- a position that has a value is the first, in a list that repeats none
+-- in a list without repetitions a position that has a value is the first one
 pub first_in-place : (vs : List Value) (v : Value) (q : Option ℕ) → ((j k : ℕ) (w : Value) → slice_get vs j ≡ Some w → slice_get vs k ≡ Some w → j ≡ k)
     → MatchOption q ((k : ℕ) → slice_get vs k ≡ Some v → ⊥) (λ k. slice_get vs k ≡ Some v) → q ≡ first_in vs v
 first_in-place vs v None distinct h =
@@ -114,7 +114,7 @@ all-legal : (r : Reading) (e : End) (vs : List Value) → IsTrue (is_legal_end r
 all-legal r e [] h = refl
 all-legal r e (v ∷ vs) h = (and_parts _ _ (and_parts _ _ h).1).0
 
--- what is at a reference of a legal model and is no object is a proxy
+-- a value at a reference of a legal model that is no object is a proxy
 pub value_in-proxy : (s : Model) (e : End) (k : ℕ) → IsLegal s → (shape s.metamodel e.feature).is_reference ≡ true → links.object_at s.links e k ≡ None
     → option_map value.Proxy (links.proxy_at s.links e k) ≡ slice_get ((reading s).values e) k
 value_in-proxy s e k legal reference none = rw reference (get-proxy (reading s) e (end s.links e) k (all-legal (reading s) e (end s.links e) (legal.links.ends e)) none)
@@ -130,7 +130,7 @@ get-object r e (v ∷ vs) zero never h = by v (and_parts (is_legal_target r e.fe
     by _ is = absurd (false≢true is)
 get-object r e (v ∷ vs) (suc k) never h = get-object r e vs k never (and_parts (is_legal_target r e.feature v) _ h).1
 
--- a reference that takes no proxies has objects alone
+-- a reference that takes no proxies has only objects
 pub value_in-objects : (s : Model) (e : End) (k : ℕ) → IsLegal s → (shape s.metamodel e.feature).is_reference ≡ true → takes_proxies (shape s.metamodel e.feature) ≡ false
     → option_map value.Object (links.object_at s.links e k) ≡ slice_get ((reading s).values e) k
 value_in-objects s e k legal reference never = rw reference (get-object (reading s) e (end s.links e) k never (all-legal (reading s) e (end s.links e) (legal.links.ends e)))
@@ -141,7 +141,7 @@ is_target (value.Object o) = true
 is_target (value.Proxy t) = true
 is_target _ = false
 
-target-legal : (r : Reading) (f : FeatureNo) (v : Value) → is_legal_target r f v ≡ true → is_target v ≡ true
+pub target-legal : (r : Reading) (f : FeatureNo) (v : Value) → is_legal_target r f v ≡ true → is_target v ≡ true
 target-legal r f (value.Object o) h = refl
 target-legal r f (value.Proxy t) h = refl
 target-legal r f _ h = absurd (false≢true h)
@@ -170,11 +170,6 @@ pub position-same : (s : Model) (e : End) (v : Value) (k : ℕ) → IsLegal s �
 position-same s e v k legal reference same =
     position-target s e v (Some k) legal reference (subst (λ (vs : List Value). slice_get vs k ≡ Some v) (rw reference refl) (same-there (slice_get ((reading s).values e) k) v same))
 
-get-below : (vs : List Value) (k : ℕ) (v : Value) → slice_get vs k ≡ Some v → k < length vs
-get-below [] k v h = absurd (none-some v h)
-get-below (w ∷ ws) zero v h = omega arith
-get-below (w ∷ ws) (suc k) v h = let low = get-below ws k v h in omega (arith, low)
-
 -- no position of all that there are has it
 pub position-nowhere : (s : Model) (e : End) (v : Value) (n : ℕ) → IsLegal s → (shape s.metamodel e.feature).is_reference ≡ true
     → length ((reading s).values e) ≤ n → ((k : ℕ) → k < n → slice_get ((reading s).values e) k ≡ Some v → ⊥) → None ≡ first_in ((reading s).values e) v
@@ -182,7 +177,7 @@ position-nowhere s e v n legal reference all none =
     let q : Option ℕ = None in
     position-target s e v q legal reference
     (subst (λ (vs : List Value). (k : ℕ) → slice_get vs k ≡ Some v → ⊥) (rw reference refl)
-    (λ k at. none k (let low = get-below ((reading s).values e) k v at in omega (arith, low, all)) at))
+    (λ k at. none k (let low = slice_get_within ((reading s).values e) k v at in omega (arith, low, all)) at))
 
 pub position-other : (s : Model) (e : End) (v : Value) → IsLegal s → (shape s.metamodel e.feature).is_reference ≡ true → is_target v ≡ false → None ≡ first_in ((reading s).values e) v
 position-other s e v legal reference other =
@@ -201,7 +196,7 @@ list-few s e (Some x) h = by (stored_under x e.feature).list (h.1 e.feature).val
     by [] h = omega arith
     by (v ∷ vs) h = bounded-few (shape s.metamodel e.feature) (length (v ∷ vs)) (and_parts _ _ (and_parts _ _ h).1).1
 
-legal-at : {X : Type 0} (P : Option X → Type 0) (os : List (Option X)) (i : ℕ) → P None → All P os → P (slice_index_or os i None)
+pub legal-at : {X : Type 0} (P : Option X → Type 0) (os : List (Option X)) (i : ℕ) → P None → All P os → P (slice_index_or os i None)
 legal-at P [] i none all = none
 legal-at P (o ∷ os) zero none all = All-head P o os all
 legal-at P (o ∷ os) (suc i) none all = legal-at P os i none (All-tail P o os all)

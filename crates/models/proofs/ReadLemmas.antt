@@ -1,4 +1,4 @@
--- What is at an end, by what is kept for it.
+-- The values of an end, by the values that are kept for it.
 use Rattle.std.proofs.Common.{◌≡◌, ◌&&◌, Bool, true, false, List, [], ◌∷◌, if◌then◌else◌, refl, ℕ, suc, ◌+◌, ◌||◌, not, cond, length, nat_lt, Some, None, option_map, is_some, ◌∙◌, arith}
 use Rattle.mm_types.specs.Shapes.{Shape}
 use Rattle.models.specs.Model.{attribute_values}
@@ -8,6 +8,7 @@ use Rattle.mm_types.specs.declared.value.Value.{Value}
 use Rattle.std.specs.List.{list_any, position_or_len}
 use Rattle.std.specs.Str.{bytes_eq}
 use Rattle.models.specs.Reading.{Reading, has_uri, resource_named}
+use Rattle.models.proofs.PlaceLemmas.{zero-below}
 use Rattle.std.proofs.lemmas.Bool.Decides.{nat_tests}
 
 pub value_in_shown : (single : Bool) (v : Value) (vs : List Value) → value_in (shown single (v ∷ vs)) 0 ≡ v
@@ -17,7 +18,7 @@ value_in_shown false v vs = refl
 pub is_nil_shown : (vs : List Value) → is_nil (shown false vs) ≡ is_nil vs
 is_nil_shown vs = refl
 
--- what an attribute has, by whether it has its default
+-- the values of an attribute, by whether it has its default
 pub attribute_values_by : (a : Shape) (vs : List Value) → attribute_values a vs ≡ (if is_nil vs && a.is_single then a.default ∷ [] else vs)
 attribute_values_by a [] = refl
 attribute_values_by a (v ∷ vs) = refl
@@ -27,13 +28,10 @@ attribute_values_by a (v ∷ vs) = refl
 one-behind : (k n : ℕ) → nat_lt (1 + k) (suc n) ≡ nat_lt k n
 one-behind k n = grind (arith, nat_tests)
 
-zero-first : (n : ℕ) → nat_lt 0 (suc n) ≡ true
-zero-first n = grind (arith, nat_tests)
-
 first-below : {X : Type 0} (p : X → Bool) (xs : List X) → nat_lt (position_or_len p xs) (length xs) ≡ list_any p xs
 first-below p [] = refl
 first-below p (x ∷ xs) =
-    elim (p x) as (λ b. nat_lt (cond (not b) (1 + position_or_len p xs) 0) (suc (length xs)) ≡ (b || list_any p xs)) [ true ↦ zero-first (length xs) | false ↦ one-behind (position_or_len p xs) (length xs) ∙ first-below p xs ]
+    elim (p x) as (λ b. nat_lt (cond (not b) (1 + position_or_len p xs) 0) (suc (length xs)) ≡ (b || list_any p xs)) [ true ↦ zero-below (length xs) | false ↦ one-behind (position_or_len p xs) (length xs) ∙ first-below p xs ]
 
 some-test : {X : Type 0} (f : ℕ → X) (b : Bool) (k : ℕ) → is_some (option_map f (cond b (Some k) None)) ≡ b
 some-test f true k = refl

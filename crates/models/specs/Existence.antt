@@ -1,4 +1,4 @@
--- Why what a call names is not there: an object, a resource, a class, or a feature. None of these is looked for with memory.
+-- Why an object, a resource, a class or a feature that a call names is not there. No look-up takes memory.
 use Rattle.std.specs.Prelude.{◌&&◌, Option, is_some}
 use Rattle.mm_types.specs.Conditions.{◌unless◌, ◌else_by◌}
 use Rattle.mm_types.specs.Lookups as lookups
@@ -31,7 +31,7 @@ end_refusal r e =
     node_refusal r e.node else_by
     NoFeature unless has_feature r e.node e.feature
 
--- an end, and an object as a value for it: the value lives, before the resource is looked for
+-- the refusal of an end with a value for it: a dead object, as node or value, comes before an unknown resource
 abbrev pub value_refusal : Reading → End → Value → Option Refused
 value_refusal r e v =
     NoObject unless (is_node_live r e.node && is_value_live r v) else_by

@@ -25,7 +25,7 @@ use Rattle.links.specs.declared.link.Link.{Link}
 use Rattle.models.specs.Reading.{Reading, has_feature, shape_at, takes}
 use Rattle.models.specs.Model.{Model, reading}
 
--- a text is as short as texts must be
+-- whether a text has at most TEXT_BYTES
 abbrev pub is_short_text : List ℕ → Bool
 is_short_text text = nat_le (length text) TEXT_BYTES
 
@@ -36,7 +36,8 @@ is_short _ = true
 abbrev pub is_legal_value : Metamodel → FeatureNo → Value → Bool
 is_legal_value m f v = lookups.keeps m f v && is_short v
 
--- an object of a class keeps values under its attributes alone, of the attribute's type, and no more of them than it may
+-- whether an object of a class may store a list under a feature: the class has the feature, each value is legal for it, and there are not
+-- too many
 abbrev pub is_legal_list : Metamodel → ClassNo → FeatureNo → List Value → Bool
 is_legal_list m c f [] = true
 is_legal_list m c f (v ∷ vs) = lookups.has_feature m c f && (list_all (is_legal_value m f) (v ∷ vs) && is_bounded (shape m f) (length (v ∷ vs)))
@@ -45,7 +46,8 @@ abbrev pub IsUniqueList : Bool → List Value → Type 0
 IsUniqueList true vs = IsDistinct same_value vs
 IsUniqueList false vs = Unit {0}
 
--- what an object keeps under a feature: no value twice if it is unique, and a flag if it is unsettable, single and has a value
+-- what an object stores under a feature is legal: the list is, repeats no value if the feature is unique, and has the flag exactly if the
+-- feature is unsettable and single, and has a value
 pub record IsLegalStored (m : Metamodel) (c : ClassNo) (f : FeatureNo) (h : Stored) : Type 0 where
   pub values : IsTrue (is_legal_list m c f h.list)
   pub unique : IsUniqueList (shape m f).is_unique h.list
@@ -57,11 +59,11 @@ IsLegalObject m (Some o) = IsTrue (lookups.is_concrete m o.class) × ((f : Featu
 
 ---------------------------------------------------------------- links
 
--- of each feature its opposite, and the feature of the pair that contains
+-- for each feature its opposite, and the containment of the pair
 abbrev pub kinds_of : Metamodel → Kinds
 kinds_of m = record { opposite = λ f. (shape m f).opposite; container = λ f. (shape m f).containing }
 
--- proxies may be in a reference that contains nothing, and neither does its opposite (EMF: EReference.isResolveProxies)
+-- a reference may hold proxies if neither it nor its opposite is a containment (EMF: EReference.isResolveProxies)
 abbrev pub takes_proxies : Shape → Bool
 takes_proxies a = a.is_reference && not (is_some a.containing)
 
@@ -71,17 +73,18 @@ is_legal_target r f (value.Object o) = takes r f (value.Object o)
 is_legal_target r f (value.Proxy t) = takes_proxies (shape r.metamodel f)
 is_legal_target r f _ = false
 
--- an end of a reference that holds something is one of its node's, holds what its feature may, and no more of it than it may
+-- whether a list is legal at an end: it is empty, or the node has the feature, each value is legal for it, and there are not too many
 abbrev pub is_legal_end : Reading → End → List Value → Bool
 is_legal_end r e [] = true
 is_legal_end r e (v ∷ vs) =
     has_feature r e.node e.feature && (list_all (is_legal_target r e.feature) (v ∷ vs) && is_bounded (shape_at r e) (length (v ∷ vs)))
 
--- something holds of the text of each proxy
+-- `Holds` is true of the text of each proxy
 abbrev pub OfProxies : (List ℕ → Type 0) → Links → Type 0
 OfProxies Holds s = (l : Link) (t : List ℕ) → In l s → l.far ≡ Proxy t → Holds t
 
--- links of the metamodel's pairs, at ends that may hold them; no object contains itself, and each proxy has the text of one
+-- the links agree with the metamodel's features and are legal at their ends; no object contains itself, directly or not, and each proxy has
+-- the text of a proxy
 pub record AreLegalLinks (r : Reading) (s : Links) : Type 0 where
   pub set : IsLegalSet s
   pub kinds : AreOfKind (kinds_of r.metamodel) s
@@ -91,7 +94,7 @@ pub record AreLegalLinks (r : Reading) (s : Links) : Type 0 where
 
 ---------------------------------------------------------------- resources
 
--- the URIs of resources are as joining gives them, short, all different, and no more of them than there may be
+-- the URIs of resources are results of joining, short and all different, and there are at most RESOURCES
 pub record AreLegalUris (us : List (List ℕ)) : Type 0 where
   pub count : length us ≤ RESOURCES
   pub joined : All IsJoined us
@@ -100,7 +103,7 @@ pub record AreLegalUris (us : List (List ℕ)) : Type 0 where
 
 ---------------------------------------------------------------- models
 
--- the metamodel is an accepted one, there are no more objects than there may be, and each is legal, as are the links and the URIs
+-- the metamodel was accepted, at most OBJECTS objects were made, and the objects, the links and the URIs are legal
 pub record IsLegal (s : Model) : Type 0 where
   pub metamodel : IsOfDocument s.metamodel
   pub count : length s.values.objects ≤ OBJECTS

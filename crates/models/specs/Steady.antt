@@ -1,11 +1,11 @@
--- Models whose texts joining leaves as they are. Of a text that joining gives, that holds as far as `url` reads what it writes as it was.
+-- Models whose URIs are normalised. Each result of joining is normalised, as far as `url` reads a URL back that it wrote.
 use Rattle.std.specs.List.{All}
 use Rattle.web_uris.specs.Addresses.{IsSteadyProxy}
 use Rattle.web_uris.specs.Joined.{IsWebUri}
 use Rattle.models.specs.Legal.{OfProxies}
 use Rattle.models.specs.Model.{Model}
 
--- joining leaves the URIs of the resources as they are, and those of the proxies
+-- the URIs of resources and of proxies are normalised
 pub record HasSteadyTexts (s : Model) : Type 0 where
   pub uris : All IsWebUri s.values.uris
   pub proxies : OfProxies IsSteadyProxy s.links

@@ -1,4 +1,4 @@
-//! Whether what a call names is there. None of this takes memory.
+//! Whether the objects, resources, classes and features that a call names are there. No function here takes memory.
 ghost use Rattle.std.specs.Prelude.{◌≡◌};
 ghost use Rattle.models.specs.Existence as existence;
 ghost use Rattle.models.specs.Model.{reading};
@@ -22,7 +22,7 @@ pub fn class_refusal(meta: &Meta, class: ClassNo) -> Option<Refused>
     None
 }
 
-/// Why an object can't be named: `NoObject` if none of the number lives.
+/// Why an object can't be named: `NoObject` if no live object has the number.
 pub fn object_refusal<L: LinkStore>(model: &ModelRef<L>, object: ObjectNo) -> Option<Refused>
     ensures { result ≡ existence.object_refusal (reading model.now) object }
 {

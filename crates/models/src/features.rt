@@ -1,4 +1,4 @@
-//! What a metamodel says of a feature.
+//! The values that a feature may hold.
 ghost use Rattle.std.specs.Prelude.{◌≡◌};
 ghost use Rattle.mm_types.specs.Lookups as m;
 ghost use Rattle.mm_types.specs.Shapes.{is_full_list, shape};
@@ -29,7 +29,7 @@ fn is_of_type(meta: &Meta, value_type: DataType, value: &Value) -> bool
         (DataType::EString, Value::Text(_)) => true,
         (DataType::EInt, Value::Int(n)) => i32::try_from(*n).is_ok(),
         (DataType::ELong, Value::Int(n)) => {
-            // That the number has 64 bits is known once it is read.
+            // The number is an `i64`, so it fits 64 bits.
             let _number = *n;
             true
         }
@@ -39,14 +39,14 @@ fn is_of_type(meta: &Meta, value_type: DataType, value: &Value) -> bool
     }
 }
 
-/// Whether a text is as short as texts and URIs must be: 65,535 bytes at most. Takes no memory.
+/// Whether a text or a URI has at most 65,535 bytes. Takes no memory.
 pub fn is_short_text(text: &str) -> bool
     ensures { result ≡ l.is_short_text text.now }
 {
     text.len() <= limits::TEXT_BYTES
 }
 
-/// Whether a text value is as short as texts must be; any other value is. Takes no memory.
+/// Whether a value is no text, or a text of at most 65,535 bytes. Takes no memory.
 pub fn is_short(value: &Value) -> bool
     ensures { result ≡ l.is_short value.now }
 {

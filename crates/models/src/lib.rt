@@ -1,7 +1,7 @@
-//! A model as data: its metamodel, its values and its links together, what its ends hold, and which models are legal.
+//! A model as data: its metamodel, its values and its links together; what its ends hold; and which models are legal.
 //!
-//! `specs/Reading.antt` is what can be read of a model, `specs/Legal.antt` which models are legal, `specs/Existence.antt` why
-//! what a call names is not there. `ModelRef` reads a model in its parts.
+//! `specs/Reading.antt` says what can be read of a model, `specs/Legal.antt` which models are legal, and `specs/Existence.antt` why
+//! something that a call names is not there. `ModelRef` reads a model in its parts.
 #![tactic(auto)]
 
 mod ends;

@@ -1,4 +1,4 @@
-//! What is at the positions of ends.
+//! The values at the positions of ends.
 ghost use Rattle.std.specs.Prelude.{◌≡◌, ◌&&◌, false, true, Some, length, option_and_then, option_map, option_copied, slice_get, unwrap_or, IfOk};
 ghost use Rattle.mm_types.specs.Ends.{first_in, has_value};
 ghost use Rattle.std.specs.Option.{option_map_or};
@@ -20,7 +20,7 @@ use mm_values::Values;
 use std::alloc::{AllocError, Global};
 
 impl<'a, L: LinkStore> ModelRef<'a, L> {
-    /// How many values are at an end.
+    /// How many values an end has.
     pub fn len(&self, end: End) -> u32
         ensures { result ≡ length ((reading self.now).values end) }
     {
@@ -31,7 +31,7 @@ impl<'a, L: LinkStore> ModelRef<'a, L> {
         attribute_len(self.meta(), self.values(), end) as u32
     }
 
-    /// What is at a position of an end; `None` past the last.
+    /// The value at a position of an end; `None` past the last.
     pub fn value_in(&self, end: End, index: u32) -> Option<Found<'a>>
         ensures { option_map found_value result ≡ slice_get ((reading self.now).values end) index }
     {
@@ -42,7 +42,7 @@ impl<'a, L: LinkStore> ModelRef<'a, L> {
         found_kept(attribute_value_in(meta, values, end, index as usize))
     }
 
-    /// What is at a position of a reference: an object, or a proxy by its text.
+    /// The value at a position of a reference: an object, or the text of a proxy.
     pub(crate) fn target_in(&self, end: End, index: u32) -> Option<Found<'a>>
         requires reference { (shape self.now.metamodel end.feature).is_reference ≡ true }
         ensures { option_map found_value result ≡ slice_get ((reading self.now).values end) index }
@@ -75,8 +75,7 @@ impl<'a, L: LinkStore> ModelRef<'a, L> {
         }
     }
 
-    /// The position of a value in a reference, looked for at one position after another; `None` if it is not
-    /// there.
+    /// The position of a value in a reference, which is searched from the first position on; `None` if it is not there.
     fn target_position(&self, end: End, value: &Value) -> Option<u32>
         requires reference { (shape self.now.metamodel end.feature).is_reference ≡ true }
         ensures { result ≡ first_in ((reading self.now).values end) value.now }
@@ -116,14 +115,14 @@ impl<'a, L: LinkStore> ModelRef<'a, L> {
         attribute_has(self.meta(), self.values(), end, value)
     }
 
-    /// Whether a value is one that a unique list has already.
+    /// Whether an end is a unique list that has a value already.
     pub fn is_repeat(&self, end: End, value: &Value) -> bool
         ensures { result ≡ r.is_repeat (reading self.now) end value.now }
     {
         self.meta().is_unique(end.feature) && self.has(end, value)
     }
 
-    /// The position that is named at an end, and else the one after the last value.
+    /// The position that is named, or else the position after the last value of the end.
     pub fn position_for(&self, end: End, index: Option<u32>) -> u32
         ensures { result ≡ r.position_for (reading self.now) end index }
     {
@@ -150,7 +149,7 @@ pub fn copied_list<L: LinkStore>(
     Ok(Seq::from_vec(values))
 }
 
-/// Whether an attribute has its default: a single one that keeps nothing.
+/// Whether an attribute has its default: it is single, and no value is stored.
 fn has_default(meta: &Meta, values: &Values, end: End) -> bool
     ensures { result ≡ (is_nil (kept_values (values_of values.now) end.node end.feature) && (shape meta.now end.feature).is_single) }
 {
@@ -176,7 +175,7 @@ fn attribute_len(meta: &Meta, values: &Values, end: End) -> usize
     kept_len(values, end)
 }
 
-/// What an attribute has at a position.
+/// The value of an attribute at a position.
 #[tactic(auto, using(crate::proofs::ReadLemmas::attribute_values_by))]
 fn attribute_value_in<'a>(
     meta: &'a Meta,
@@ -196,7 +195,7 @@ fn attribute_value_in<'a>(
     kept_at(values, end, index)
 }
 
-/// The first position at which an attribute has a value.
+/// The first position of a value in an attribute.
 #[tactic(auto, using(crate::proofs::ReadLemmas::attribute_values_by))]
 fn attribute_position(meta: &Meta, values: &Values, end: End, value: &Value) -> Option<usize>
     requires attribute { (shape meta.now end.feature).is_reference ≡ false }
@@ -226,7 +225,7 @@ fn attribute_has(meta: &Meta, values: &Values, end: End, value: &Value) -> bool
     kept_has(values, end, value)
 }
 
-/// The first position at which a node keeps a value under an attribute.
+/// The first position of a value among the values that are stored under an attribute.
 #[tactic(auto, using(crate::proofs::PlaceLemmas::first_in_position))]
 fn kept_position(values: &Values, end: End, value: &Value) -> Option<usize>
     ensures { result ≡ first_in (kept_values (values_of values.now) end.node end.feature) value.now }
@@ -237,7 +236,7 @@ fn kept_position(values: &Values, end: End, value: &Value) -> Option<usize>
     }
 }
 
-/// Whether a node keeps a value under an attribute.
+/// Whether a value is stored under an attribute.
 fn kept_has(values: &Values, end: End, value: &Value) -> bool
     ensures { result ≡ has_value (kept_values (values_of values.now) end.node end.feature) value.now }
 {

@@ -13,9 +13,9 @@ use mm_types::{ClassNo, End, FeatureNo, Node, ObjectNo, ResourceNo};
 use mm_values::Values;
 use std::marker::Model;
 
-/// A legal model as its parts are kept: a metamodel, values, and a store of links. It is seen as the model that they make.
+/// A legal model in the parts in which it is kept: a metamodel, values, and a store of links. Contracts see it as the model of these parts.
 ///
-/// Nothing that is read of it takes memory.
+/// No read of it takes memory.
 #[derive(Drop)]
 pub struct ModelRef<'a, L: LinkStore> {
     meta: &'a Meta,
@@ -52,7 +52,7 @@ impl<'a, L: LinkStore> ModelRef<'a, L> {
         }
     }
 
-    /// What holds of every model, for proofs that know it by its view: it is legal.
+    /// Every model is legal. Proofs that know a model by its view call this.
     pub fn lemma_is_legal(&self)
         ensures { IsLegal self.now }
     {
@@ -89,7 +89,7 @@ impl<'a, L: LinkStore> ModelRef<'a, L> {
         self.values.resources()
     }
 
-    /// The class of an object (EMF: EObject.eClass); `None` if none lives.
+    /// The class of an object (EMF: EObject.eClass); `None` if no live object has the number.
     pub fn class(&self, object: ObjectNo) -> Option<ClassNo>
         ensures { result ≡ (reading self.now).class object }
     {
@@ -155,7 +155,7 @@ impl<'a, L: LinkStore> ModelRef<'a, L> {
         }
     }
 
-    /// The end that contains a node (EMF: EObject.eContainer, eContainmentFeature); `None` if none does, as of a resource.
+    /// The end that contains a node (EMF: EObject.eContainer, eContainmentFeature); `None` if no end does, as for a resource.
     pub fn holder(&self, node: Node) -> Option<End>
         ensures { result ≡ (reading self.now).holder node }
     {

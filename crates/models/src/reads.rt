@@ -1,4 +1,4 @@
-//! What ends hold.
+//! The values of ends.
 ghost use Rattle.std.specs.Prelude.{◌≡◌, [], true, false, Bool, Option, unwrap_or, option_map, option_copied, length, slice_get, IfOk};
 ghost use Rattle.mm_types.specs.Ends as ends;
 ghost use Rattle.mm_types.specs.Ends.{value_in};
@@ -21,7 +21,7 @@ use mm_types::{ClassNo, End, FeatureNo, Kind, Node, ObjectNo, Text, Value};
 use mm_values::Values;
 use std::alloc::{AllocError, Global};
 
-/// What is at a single end, borrowed from where it is kept.
+/// A value at an end, borrowed from the place in which it is kept.
 #[derive(Clone, Copy, Debug)]
 pub enum Found<'a> {
     /// The value of an attribute.
@@ -44,7 +44,7 @@ impl Found<'_> {
         }
     }
 
-    /// The object that it is; `None` if it is any other value.
+    /// The object; `None` if it is any other value.
     pub fn object(&self) -> Option<ObjectNo>
         ensures { result ≡ r.object_of (found_value self.now) }
     {
@@ -54,7 +54,7 @@ impl Found<'_> {
         }
     }
 
-    /// Whether it is a value.
+    /// Whether it is the given value.
     pub fn is(&self, value: &Value) -> bool
         ensures { result ≡ same_value value.now (found_value self.now) }
     {
@@ -68,7 +68,7 @@ impl Found<'_> {
 }
 
 impl<'a> Found<'a> {
-    /// The text of the proxy that it is; `None` if it is any other value.
+    /// The text of the proxy; `None` if it is any other value.
     pub fn proxy(self) -> Option<&'a str>
         ensures { option_copied result ≡ text_of (found_value self.entry) }
     {
@@ -89,8 +89,8 @@ fn proxy_of(alloc: Global, text: &str) -> Result<Value, AllocError>
 }
 
 impl<'a, L: LinkStore> ModelRef<'a, L> {
-    /// What a single end has: the value that was set, else its default, or what a reference has (EMF: EObject.eGet). `None` is
-    /// null; a proxy is returned as it is.
+    /// The value of a single end (EMF: EObject.eGet): of an attribute the value that was set, else its default; of a reference its object
+    /// or proxy. `None` is null; a proxy is returned as it is.
     pub fn value_at(&self, end: End) -> Option<Found<'a>>
         ensures { unwrap_or (option_map found_value result) Null ≡ r.value_at (reading self.now) end }
     {
@@ -110,7 +110,7 @@ impl<'a, L: LinkStore> ModelRef<'a, L> {
         is_attribute_set(self.meta(), self.values(), end)
     }
 
-    /// Whether a value is one of a feature's type.
+    /// Whether a feature may hold a value.
     pub fn takes(&self, feature: FeatureNo, value: &Value) -> bool
         ensures { result ≡ r.takes (reading self.now) feature value.now }
     {
@@ -130,7 +130,7 @@ impl<'a, L: LinkStore> ModelRef<'a, L> {
         }
     }
 
-    /// Whether a value is one of a reference, single or not, to a class.
+    /// Whether a reference to a class, single or not, may hold a value.
     fn is_reference_value(&self, single: bool, target: ClassNo, value: &Value) -> bool
         ensures { result ≡ m.is_reference_value self.now.metamodel (reading self.now).class single target value.now }
     {
@@ -163,7 +163,7 @@ pub(crate) fn found_kept(value: Option<&Value>) -> Option<Found<'_>>
     }
 }
 
-/// How many values a node keeps under an attribute.
+/// How many values are stored under an attribute of a node.
 pub(crate) fn kept_len(values: &Values, end: End) -> usize
     ensures { result ≡ length (kept_values (values_of values.now) end.node end.feature) }
 {
@@ -173,7 +173,7 @@ pub(crate) fn kept_len(values: &Values, end: End) -> usize
     }
 }
 
-/// The value that a node keeps under an attribute at an index; `None` past the end.
+/// The value at an index among the values that are stored under an attribute of a node; `None` past the end.
 pub(crate) fn kept_at(values: &Values, end: End, index: usize) -> Option<&Value>
     ensures { option_copied result ≡ slice_get (kept_values (values_of values.now) end.node end.feature) index }
 {
@@ -192,7 +192,7 @@ fn flag_at(values: &Values, end: End) -> bool
     }
 }
 
-/// What an attribute has: what was set, else its default if it is single.
+/// The first value of an attribute: the value that was set, else its default if it is single.
 #[tactic(auto, using(crate::proofs::ReadLemmas::value_in_shown))]
 fn attribute_at<'a>(meta: &'a Meta, values: &'a Values, end: End) -> Option<&'a Value>
     ensures { unwrap_or (option_copied result) Null ≡ value_in (attribute_held meta.now (values_of values.now) end).values 0 }

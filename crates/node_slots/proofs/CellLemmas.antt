@@ -1,4 +1,4 @@
--- What a change of one row, or rows that have grown, make of the cells and of the capacity.
+-- The cells and the capacity after a change of one row, and after more rows were added.
 use Rattle.std.proofs.Common.{◌≡◌, ◌≢◌, ℕ, zero, ◌+◌, ◌≤◌, Bool, true, false, List, Option, Some, None, if◌then◌else◌, refl, sym, ap, ◌∙◌, subst, arith}
 use Rattle.std.proofs.lemmas.Bool.{false≢true}
 use Rattle.mm_types.specs.Same.{same_end, same_feature, same_node}
@@ -193,7 +193,7 @@ pub same_twice : {X : Type 0} (b : Bool) (z : X) → (if b then z else z) ≡ z
 same_twice true z = refl
 same_twice false z = refl
 
--- what is reserved is no part of the cells
+-- the reserved capacity is no part of the cells
 pub forget_cells : (n : Node) (f : FeatureNo) (k : ℕ) (c : Cells) → cell_edit n (Change f (Forget k)) c ≡ c
 forget_cells n f k c = λ i.
     record {

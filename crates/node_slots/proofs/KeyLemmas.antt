@@ -85,7 +85,7 @@ pub known_places : (t : NodeSlots) (e : End) → 1 ≤ (room t).places e → (ro
 unfolding room
 known_places t e h = elim (row_at t e.node) as (λ o. 1 ≤ row_indexes o e.feature → is_row o ≡ true) [ None ↦ λ h. absurd (omega (arith, h)) | Some r ↦ λ h. refl ] h
 
--- and so has one with capacity for an end that holds it
+-- a node with capacity for an end that has it has a row too
 pub known_entries : (t : NodeSlots) (n : Node) → 1 ≤ (room t).entries n → (room t).rows n ≡ true
 unfolding room
 known_entries t n h = elim (row_at t n) as (λ o. 1 ≤ row_entries o → is_row o ≡ true) [ None ↦ λ h. absurd (omega (arith, h)) | Some r ↦ λ h. refl ] h

@@ -1,4 +1,4 @@
--- What a move makes of a list, within it and past its end.
+-- A list after a move within it or past its end.
 use Rattle.std.proofs.Common.{◌≡◌, ℕ, ◌-◌, ◌<◌, ◌≤◌, min, List, ◌∷◌, length, Option, Some, None, unwrap_or, refl, sym, ap}
 use Rattle.std.specs.Prelude.{IsPermutation}
 use Rattle.std.specs.List.{insert, remove, slice_get}
@@ -10,7 +10,7 @@ use Rattle.slot_lists.proofs.MoveLemmas.{moved-back}
 use Rattle.mm_types.specs.Lists.{put_back, shifted}
 use Rattle.mm_types.specs.declared.value.Value.{Value}
 
--- a move within the list is what `shifted` says
+-- a move within the list is `shifted`
 pub moved-shifted : (xs : List Value) (to from : ℕ) → from < length xs → moved xs (min to (length xs - 1)) from ≡ shifted xs to from
 moved-shifted xs to from lt = moved-back (λ o. put_back o xs to from) xs to from lt refl (λ x. refl)
 

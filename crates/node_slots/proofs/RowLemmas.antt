@@ -1,4 +1,4 @@
--- What a change of a feature makes of a row, and what a change makes if there is no row.
+-- A row after a change of a feature, and a change of a node without a row.
 use Rattle.std.proofs.Common.{◌≡◌, zero, ◌+◌, ◌≤◌, true, false, eqb, List, [], Option, Some, None, if◌then◌else◌, refl, sym, ap, ◌∙◌, subst, arith}
 use Rattle.std.proofs.lemmas.Bool.{eqb-true, eq-eqb, false≢true}
 use Rattle.std.specs.Prelude.{IsPermutation}
@@ -18,7 +18,7 @@ use Rattle.node_slots.specs.Rows.{IsRowEdited, IsRowGrown, IsRowReordered, RowFi
 use Rattle.node_slots.proofs.SlotLemmas.{nothing_after, nothing_told, same_slot}
 
 module _ (f : FeatureNo) (x : SlotEdit) (old new : List Slot) (h : AreSlotsEdited f x old new) where
-  -- what is read of a feature changes at f alone
+  -- reads of features change only at f
   read_if : {X : Type 0} (P : Option Slot → X) (Q : X → X) → P (slot_in new f) ≡ Q (P (slot_in old f)) → (g : FeatureNo) → P (slot_in new g) ≡ (if same_feature f g then Q (P (slot_in old g)) else P (slot_in old g))
   read_if P Q law g = elim (eqb f.0 g.0) as (λ b. eqb f.0 g.0 ≡ b → P (slot_in new g) ≡ (if b then Q (P (slot_in old g)) else P (slot_in old g))) [
     | true ↦ λ q. rw (same_slot new f g (eqb-true f.0 g.0 q), same_slot old f g (eqb-true f.0 g.0 q)) law
@@ -51,7 +51,7 @@ changed f x r s e h is holder entered promised =
       kept = refl;
     })
 
--- a change that makes nothing of nothing leaves no row if there is none
+-- if there is no row, a change that adds nothing makes no row
 unmade : (x : RowEdit) → ((g : FeatureNo) → [] ≡ vals_after x g []) → ((g : FeatureNo) → unpaired ≡ told_after x g unpaired) → None ≡ hold_after x None → [] ≡ entered_after x [] → IsRowEdited x None None
 unmade x vals pairing hold entered = record {
   vals = vals;
@@ -123,7 +123,7 @@ row_unmoved o = record {
   kept = refl;
 }
 
--- a new row grows out of none
+-- an empty row may be added for a node without a row
 pub row_made : (r : Row) → r.slots.items ≡ [] → r.holder ≡ None → r.entered.items ≡ [] → IsRowGrown None (Some r)
 row_made r slots holder entered = record {
   vals = λ g. ap (λ (ss : List Slot). values_of (slot_in ss g)) slots;

@@ -1,4 +1,4 @@
--- Which slot a search finds, and what a write to it makes of the features.
+-- The slot that a search finds, and the features after a write to it.
 use Rattle.std.proofs.Common.{◌≡◌, ℕ, zero, suc, ◌<◌, ◌≤◌, Bool, true, false, eqb, List, [], ◌∷◌, ◌++◌, length, get_or, set, Option, Some, None, is_some, if◌then◌else◌, refl, sym, ap, ◌∙◌, subst, arith}
 use Rattle.std.specs.List.{position, position_or_len}
 use Rattle.std.proofs.lemmas.Bool.{eqb-true, eq-eqb, false≢true}
@@ -44,7 +44,7 @@ none_in : (ss : List Slot) (f : FeatureNo) → ((k : ℕ) (d : Slot) → k < len
 none_in [] f none = refl
 none_in (s ∷ ss) f none = ap (λ (b : Bool). if b then Some s else slot_in ss f) (none zero s (omega arith)) ∙ none_in ss f (λ k d h. none (suc k) d (omega (arith, h)))
 
-past_all : {X : Type 0} (p : X → Bool) (xs : List X) → position p xs ≡ None → length xs ≤ position_or_len p xs
+pub past_all : {X : Type 0} (p : X → Bool) (xs : List X) → position p xs ≡ None → length xs ≤ position_or_len p xs
 past_all p xs e = grind (arith, common_steps, nat_tests)
 
 pub missing : (ss ts : List Slot) (f : FeatureNo) (o : Option ℕ) → ts ≡ ss → o ≡ position (is_of f) ts → o ≡ None → slot_in ss f ≡ None
@@ -140,7 +140,7 @@ module _ (ss : List Slot) (f : FeatureNo) (i : ℕ) (s t : Slot) (at : IsFirst s
   pub mixed_now : t.feature ≡ s.feature → mixed_of (slot_in (set ss i t) f) ≡ t.values.mixed
   mixed_now same = ap mixed_of (is_now same)
 
--- without a slot only what puts a value in makes something
+-- without a slot only a put has an effect
 pub nothing_after : (x : SlotEdit) → taken x ≤ 0 → [] ≡ values_after x []
 nothing_after (Insert i v p) le = absurd (omega (arith, le))
 nothing_after (Push v p) le = absurd (omega (arith, le))

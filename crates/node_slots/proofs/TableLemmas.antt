@@ -1,4 +1,4 @@
--- What a write to one row, or one row more, makes of the rows by number.
+-- The rows by number after a write to one row, or with one more row.
 use Rattle.std.proofs.Common.{◌≡◌, ◌≢◌, ℕ, zero, suc, ◌+◌, ◌<◌, ◌≤◌, ◌⊎◌, List, [], ◌∷◌, ◌++◌, length, get_or, set, Option, Some, None, refl, sym, ap, ◌∙◌, subst, inl, inr, arith}
 use Rattle.std.specs.List.{slice_get}
 use Rattle.std.proofs.lemmas.Bool.{cases_eq}
@@ -116,7 +116,7 @@ module _ (ps : List ℕ) (rs : List Row) (n k : ℕ) (r : Row) (t : Table) (view
   place_else : (m : ℕ) → m ≢ n → row_index_at qs m ≡ row_index_at ps m
   place_else m ne = ap place_at (slice_get-set_other ps n m (k + 1) ne)
 
-  -- the index of a number is new, or was one
+  -- the index of a number is the new one, or an old one
   from_place : (m j : ℕ) → row_index_at qs m ≡ Some j → ((m ≡ n) × (j ≡ length rs)) ⊎ ((row_index_at ps m ≡ Some j) × (j < length rs))
   from_place m j h = elim (cases_eq m n) [
     | inl is ↦ inl (is, same_Some j k (sym h ∙ ap (row_index_at qs) is ∙ place_made) ∙ last)

@@ -1,4 +1,4 @@
--- Ends that proxies are put into, as capacity grows.
+-- Ends that get proxies, while capacity grows.
 use Rattle.std.proofs.Common.{◌≡◌, ℕ, zero, suc, ◌+◌, ◌<◌, true, List, [], ◌∷◌, length, get_or, take, add-one, subst, arith}
 use Rattle.mm_types.specs.declared.end.End.{End}
 use Rattle.links.specs.declared.plan.Edit.{Edit}
@@ -13,7 +13,7 @@ still_takes r s keeps (edit.Shift e to from) h = tt
 still_takes r s keeps (edit.PutProxy e i t) h = keeps e h
 still_takes r s keeps (edit.CutProxy e t) h = tt
 
--- one edit more of a plan
+-- one more edit of a plan
 pub takes_more : (r s : Room) (xs : List Edit) (i : ℕ) (x : Edit) → ((e : End) → r.mixed e ≡ true → s.mixed e ≡ true) → i < length xs → x ≡ get_or xs i x → TakesAll r (take i xs) → Takes s x → TakesAll s (take (i + 1) xs)
 takes_more r s xs i x keeps lt is before now = rw add-one (by xs i lt is before)
   where

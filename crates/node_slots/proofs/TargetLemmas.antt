@@ -1,4 +1,4 @@
--- Objects as values: what reads, edits and searches of a list of objects are of the list of values.
+-- Objects as values: reads, edits and searches of a list of objects are those of the list of values.
 use Rattle.std.proofs.Common.{◌≡◌, ℕ, zero, suc, ◌+◌, ◌<◌, Bool, true, false, List, [], ◌∷◌, ◌++◌, length, take, drop, map, position, Option, Some, None, option_map, unwrap_or, refl, sym, ap, ◌∙◌, add-one, arith}
 use Rattle.std.specs.Prelude.{option_and_then}
 use Rattle.std.specs.Option.{option_to_list}
@@ -37,7 +37,7 @@ text_of_objects xs i = ap (option_and_then text_of) (slice_get-map object_value 
 pub is_value_objects : (v : Value) (xs : List ObjectNo) (i : ℕ) → is_value v (slice_get (objects xs) i) ≡ is_value v (option_map object_value (slice_get xs i))
 is_value_objects v xs i = ap (is_value v) (slice_get-map object_value xs i)
 
--- a value that is no object is not one of them
+-- a value that is no object is not in a list of objects
 not_same : (v : Value) → ((o : ObjectNo) → v ≡ value.Object o → ⊥) → (o : ObjectNo) → same_value v (object_value o) ≡ false
 not_same value.Null none o = refl
 not_same (value.Bool b) none o = refl
@@ -90,7 +90,7 @@ moved_objects xs to from =
     at None = refl
     at (Some o) = insert_objects (remove xs from) to o ∙ ap (λ ys. insert ys to (value.Object o)) (remove_objects xs from)
 
--- a list of objects alone can have no other value
+-- a list of only objects can have no other value
 pub only_objects : (v : Value) → CanHave false v → ((o : ObjectNo) → v ≡ value.Object o → ⊥) → ⊥
 only_objects value.Null can none = false≢true can
 only_objects (value.Bool b) can none = false≢true can

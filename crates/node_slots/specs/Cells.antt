@@ -1,4 +1,4 @@
--- The rows of all nodes as functions, and what one change of a node makes of them.
+-- The rows of all nodes as functions, and these functions after one change of a node.
 use Rattle.std.specs.Prelude.{◌≡◌, ℕ, zero, suc, ◌+◌, ◌≤◌, Bool, true, List, [], ◌∷◌, ◌++◌, map, slice_get, IsPermutation, Option, Some, None, if◌then◌else◌}
 use Rattle.std.specs.List.{list_any}
 use Rattle.mm_types.specs.Same.{same_end, same_node}
@@ -16,19 +16,20 @@ use Rattle.node_slots.specs.Slots.{CanEdit, taken, unpaired}
 use Rattle.node_slots.specs.Rows.{entered_after, entries_taken, hold_after, is_row, places_taken, row_entered, row_entries, row_hold, row_mixed, row_pairing, row_indexes, row_slots, row_vals, told_after, vals_after}
 use Rattle.node_slots.specs.Tables.{Table, place_at, row_index_at, row_from, row_in}
 
--- the values of each end, what puts said of its feature, the end that contains each node, and the ends with no opposite that hold it
+-- for each end its values, and the pairing that puts gave for its feature; for each node the end that contains it, and the ends without
+-- opposite that hold it
 pub record Cells : Type 0 where
   pub vals : End → List Value
   pub pairing : End → Pairing
   pub hold : Node → Option End
   pub entered : Node → List End
 
--- no values, and nothing that is anywhere
+-- no values anywhere, and no node is held
 abbrev pub no_cells : Cells
 no_cells = record { vals = λ e. []; pairing = λ e. unpaired; hold = λ n. None; entered = λ n. [] }
 
--- for how many more values of each end capacity is reserved, and whether those may be values other than objects; for how many more ends of
--- each node; and which nodes have a row
+-- the capacity that is reserved: for each end, how many more values it can take, and whether they may be other values than objects; for
+-- each node, how many more ends that hold it can be kept; and which nodes have a row
 pub record Room : Type 0 where
   pub places : End → ℕ
   pub mixed : End → Bool
@@ -67,7 +68,7 @@ room t =
 abbrev pub slot_ends : Node → List Slot → List End
 slot_ends n ss = map (λ s. record { node = n; feature = s.feature }) ss
 
--- the ends that have a slot in the rows at the indexes, which are those of the nodes from number k on
+-- the ends that have a slot, for the nodes from number k on; the list gives the index of each node's row
 abbrev pub row_ends : (ℕ → Node) → ℕ → List Row → List ℕ → List End
 row_ends at k rs [] = []
 row_ends at k rs (p ∷ ps) = slot_ends (at k) (row_slots (row_from rs (place_at (Some p)))) ++ row_ends at (suc k) rs ps
@@ -89,7 +90,7 @@ ends_of t = table_ends object_of t.objects ++ table_ends resource_of t.resources
 abbrev pub HasKeys : Cells → List End → Type 0
 HasKeys c es = (e : End) (k : ℕ) (v : Value) → slice_get (c.vals e) k ≡ Some v → list_any (same_end e) es ≡ true
 
--- the same, with the ends with no opposite that hold a node in another order
+-- the same cells, but the ends without opposite that hold a node may be in another order
 pub record AreReordered (old new : Cells) : Type 0 where
   pub vals : (e : End) → new.vals e ≡ old.vals e
   pub pairing : (e : End) → new.pairing e ≡ old.pairing e
@@ -108,7 +109,7 @@ cell_edit n x c =
       entered = λ m. if same_node n m then entered_after x (c.entered m) else c.entered m;
     }
 
--- there is capacity for what a change of the node n brings; the holder is set only of a node with a row
+-- there is capacity for a change of the node n; a holder is given only to a node with a row
 abbrev pub Fits : Node → RowEdit → Room → Type 0
 Fits n (Change f x) r = (taken x ≤ r.places (record { node = n; feature = f })) × CanEdit (r.mixed (record { node = n; feature = f })) x
 Fits n (Hold None) r = Unit {0}
@@ -117,7 +118,7 @@ Fits n (Enter d) r = 1 ≤ r.entries n
 Fits n (Leave i) r = Unit {0}
 Fits n (ForgetEntries k) r = k ≤ r.entries n
 
--- the capacity is what it was, but for what a change of the node n takes
+-- the capacity stays, minus the capacity that a change of the node n uses
 pub record KeepsRoom (n : Node) (x : RowEdit) (old new : Room) : Type 0 where
   pub places : (e : End) → old.places e ≤ new.places e + (if same_node n e.node then places_taken x e.feature else zero)
   pub mixed : (e : End) → new.mixed e ≡ old.mixed e

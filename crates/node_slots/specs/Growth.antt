@@ -31,7 +31,7 @@ abbrev pub lone_entry : ObjectNo → Option FeatureNo → Node → ℕ
 lone_entry o None n = one_if (same_node (node.Object o) n)
 lone_entry o (Some g) n = 0
 
--- how many ends with no opposite an edit adds to those that hold n
+-- how many ends without opposite an edit adds to the ends that hold n
 abbrev pub entry : Node → Edit → ℕ
 entry n (edit.Cut e o) = 0
 entry n (edit.Put e i o g c) = lone_entry o g n
@@ -45,7 +45,7 @@ gains plan x = sum_by (gain x) plan
 abbrev pub entries : List Edit → Node → ℕ
 entries plan n = sum_by (entry n) plan
 
--- an end that a proxy is put into may have other values than objects
+-- if an edit puts a proxy into an end, the end may have other values than objects
 abbrev pub Takes : Room → Edit → Type 0
 Takes r (edit.Cut e o) = Unit {0}
 Takes r (edit.Put e i o g c) = Unit {0}
@@ -63,7 +63,7 @@ pub record HasRoom (r : Room) (plan : List Edit) : Type 0 where
   pub takes : TakesAll r plan
   pub entries : (n : Node) → entries plan n ≤ r.entries n
 
--- there is capacity for so many more values and ends
+-- the capacity has grown by so many values of each end, and so many ends that hold each node
 pub record HasGained (values : End → ℕ) (ends : Node → ℕ) (old new : Room) : Type 0 where
   pub places : (e : End) → old.places e + values e ≤ new.places e
   pub mixed : (e : End) → old.mixed e ≡ true → new.mixed e ≡ true

@@ -1,4 +1,4 @@
--- What is kept of one node, and what one change makes of it.
+-- The row of one node, and the row after one change.
 use Rattle.std.specs.Prelude.{◌≡◌, ℕ, zero, ◌+◌, ◌≤◌, Bool, true, false, List, [], ◌∷◌, ◌++◌, min, remove, IsPermutation, Option, Some, None, if◌then◌else◌}
 use Rattle.mm_types.specs.Same.{same_feature}
 use Rattle.mm_types.specs.declared.numbers.FeatureNo.{FeatureNo}
@@ -34,15 +34,15 @@ abbrev pub row_entered : Option Row → List End
 row_entered None = []
 row_entered (Some r) = r.entered.items
 
--- how many values more may come at a feature with no memory taken
+-- how many more values a feature can take without memory
 abbrev pub row_indexes : Option Row → FeatureNo → ℕ
 row_indexes o f = places_of (row_slot o f)
 
--- whether those may be other values than objects
+-- whether a feature can take other values than objects
 abbrev pub row_mixed : Option Row → FeatureNo → Bool
 row_mixed o f = mixed_of (row_slot o f)
 
--- and how many ends more that hold the node
+-- how many more ends that hold the node can be kept without memory
 abbrev pub row_entries : Option Row → ℕ
 row_entries None = zero
 row_entries (Some r) = min r.promised r.entered.spare
@@ -53,7 +53,7 @@ is_row (Some r) = true
 
 ---------------------------------------------------------------- one change
 
--- what a change makes of the values at feature g
+-- the values at feature g after a change
 abbrev pub vals_after : RowEdit → FeatureNo → List Value → List Value
 vals_after (Change f x) g vs = if same_feature f g then values_after x vs else vs
 vals_after (Hold h) g vs = vs
@@ -61,7 +61,7 @@ vals_after (Enter d) g vs = vs
 vals_after (Leave i) g vs = vs
 vals_after (ForgetEntries n) g vs = vs
 
--- and of what is known of the feature g
+-- the pairing of feature g after a change
 abbrev pub told_after : RowEdit → FeatureNo → Pairing → Pairing
 told_after (Change f x) g p = if same_feature f g then pairing_after x p else p
 told_after (Hold h) g p = p
@@ -91,7 +91,7 @@ places_taken (Enter d) g = zero
 places_taken (Leave i) g = zero
 places_taken (ForgetEntries n) g = zero
 
--- and how many for ends that hold the node
+-- how much capacity for ends that hold the node a change takes
 abbrev pub entries_taken : RowEdit → ℕ
 entries_taken (Change f x) = zero
 entries_taken (Hold h) = zero
@@ -99,7 +99,7 @@ entries_taken (Enter d) = 1
 entries_taken (Leave i) = zero
 entries_taken (ForgetEntries n) = n
 
--- there is capacity for what the change brings; the holder is set only of a node with a row
+-- there is capacity for the change; a holder is given only to a node with a row
 abbrev pub RowFits : RowEdit → Option Row → Type 0
 RowFits (Change f x) o = (taken x ≤ row_indexes o f) × CanEdit (row_mixed o f) x
 RowFits (Hold None) o = Unit {0}
@@ -123,7 +123,7 @@ pub record AreRowsEdited (i : ℕ) (x : RowEdit) (old new : ℕ → Option Row) 
   pub here : IsRowEdited x (old i) (new i)
   pub others : (j : ℕ) → ((j ≡ i) → ⊥) → new j ≡ old j
 
--- the same, with no less capacity
+-- the same row, with no less capacity
 pub record IsRowGrown (old new : Option Row) : Type 0 where
   pub vals : (g : FeatureNo) → row_vals new g ≡ row_vals old g
   pub pairing : (g : FeatureNo) → row_pairing new g ≡ row_pairing old g
@@ -136,7 +136,7 @@ pub record IsRowGrown (old new : Option Row) : Type 0 where
 abbrev pub AreRowsGrown : (ℕ → Option Row) → (ℕ → Option Row) → Type 0
 AreRowsGrown old new = (j : ℕ) → IsRowGrown (old j) (new j)
 
--- the same, with the ends that hold the node in another order
+-- the same row, but the ends that hold the node may be in another order
 pub record IsRowReordered (old new : Option Row) : Type 0 where
   pub vals : (g : FeatureNo) → row_vals new g ≡ row_vals old g
   pub pairing : (g : FeatureNo) → row_pairing new g ≡ row_pairing old g

@@ -1,4 +1,4 @@
--- The values of a node's features, and what one change makes of them.
+-- The values of a node's features, and these values after one change.
 use Rattle.std.specs.Prelude.{◌≡◌, ℕ, ◌+◌, ◌≤◌, Bool, true, false, List, [], ◌∷◌, ◌++◌, insert, min, remove, Option, Some, None, unwrap_or, if◌then◌else◌}
 use Rattle.mm_types.specs.Lists.{shifted}
 use Rattle.mm_types.specs.Same.{same_feature}
@@ -38,7 +38,7 @@ taken (Remove i) = 0
 taken (Move to from) = 0
 taken (Forget n) = n
 
--- whether a list may be changed so, if it may have values other than objects, and if it may not
+-- whether a change may be made of a list; `mixed` says whether the list may have other values than objects
 abbrev pub CanEdit : Bool → SlotEdit → Type 0
 CanEdit mixed (Insert i v p) = CanHave mixed v
 CanEdit mixed (Push v p) = CanHave mixed v
@@ -50,7 +50,7 @@ CanEdit mixed (Forget n) = Unit {0}
 abbrev pub slot_places : Slot → ℕ
 slot_places s = min s.promised s.values.spare
 
--- the change is made, and takes no more capacity than it may
+-- the change is made, and takes no more capacity than `taken` says
 pub record IsSlotEdited (x : SlotEdit) (old new : Slot) : Type 0 where
   pub feature : new.feature ≡ old.feature
   pub values : new.values.items ≡ values_after x old.values.items
@@ -73,12 +73,12 @@ abbrev pub pairing_of : Option Slot → Pairing
 pairing_of None = unpaired
 pairing_of (Some s) = s.pairing
 
--- how many values more may come with no memory taken
+-- how many more values a feature can take without memory
 abbrev pub places_of : Option Slot → ℕ
 places_of None = 0
 places_of (Some s) = slot_places s
 
--- whether a feature may have other values than objects
+-- whether a feature can take other values than objects
 abbrev pub mixed_of : Option Slot → Bool
 mixed_of None = false
 mixed_of (Some s) = s.values.mixed

@@ -1,8 +1,8 @@
--- The rows of some numbers, and where the row of each is.
+-- Rows of nodes, and the index of each node's row by the node's number.
 use Rattle.std.specs.Prelude.{◌≡◌, ℕ, zero, suc, ◌<◌, List, slice_get, Option, Some, None}
 use Rattle.node_slots.specs.declared.row.Row.{Row}
 
--- by number, zero if it has no row, and else one more than the index of its row
+-- `places` has at each number 0 if there is no row, else one more than the row's index
 pub record Table : Type 0 where
   pub places : List ℕ
   pub rows : List Row
@@ -24,7 +24,7 @@ row_from rs (Some k) = slice_get rs k
 abbrev pub row_in : Table → ℕ → Option Row
 row_in t n = row_from t.rows (row_index_at t.places n)
 
--- each index is below the number of rows, and no two numbers have the same
+-- each index is below the number of rows, and no two numbers have the same index
 pub record ArePlaces (ps : List ℕ) (count : ℕ) : Type 0 where
   pub within : (n k : ℕ) → row_index_at ps n ≡ Some k → k < count
   pub apart : (m n k : ℕ) → row_index_at ps m ≡ Some k → row_index_at ps n ≡ Some k → m ≡ n

@@ -5,7 +5,7 @@ use Rattle.mm_types.specs.declared.numbers.ObjectNo.{ObjectNo}
 use Rattle.mm_types.specs.declared.value.Value.{Value}
 use Rattle.mm_types.specs.declared.value.Value.TheVariants as value
 
--- the values in order, how many more may come with no memory taken, and whether those may be other values than objects
+-- the values in order, how many more the list can take without memory, and whether it can take other values than objects
 pub record Targets : Type 0 where
   pub items : List Value
   pub spare : ℕ
@@ -18,12 +18,12 @@ object_value o = value.Object o
 abbrev pub objects : List ObjectNo → List Value
 objects os = map object_value os
 
--- whether a list may have the value, if it may have values other than objects, and if it may not
+-- whether a list may have a value; `mixed` says whether the list may have other values than objects
 abbrev pub CanHave : Bool → Value → Type 0
 CanHave mixed (value.Object o) = Unit {0}
 CanHave mixed v = mixed ≡ true
 
--- whether a value is the one that was found
+-- whether there is a value w, and v is w
 abbrev pub is_value : Value → Option Value → Bool
 is_value v None = false
 is_value v (Some w) = same_value v w

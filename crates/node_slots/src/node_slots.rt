@@ -109,7 +109,7 @@ impl NodeSlots {
         self.slot(end)?.values.position(value)
     }
 
-    /// What the last put of an object into an end said of its feature.
+    /// The pairing of an end's feature, as the last put of an object into the end said it.
     #[tactic(auto, unfolding(crate::specs::Cells::cells))]
     pub fn pairing(&self, end: End) -> Pairing
         ensures { result ≡ (cells self.now).pairing end }
@@ -142,7 +142,7 @@ impl NodeSlots {
         }
     }
 
-    /// The end at an index of those with no opposite that hold a node; `None` past the last.
+    /// The end at an index among the ends with no opposite that hold a node; `None` past the last.
     #[tactic(auto, unfolding(crate::specs::Cells::cells))]
     pub fn entered_at(&self, node: Node, index: usize) -> Option<&End>
         ensures { option_copied result ≡ slice_get ((cells self.now).entered node) index }
@@ -150,7 +150,7 @@ impl NodeSlots {
         self.row(node)?.entered.get(index)
     }
 
-    /// The index of an end among those with no opposite that hold a node; `None` if it is not there.
+    /// The index of an end among the ends with no opposite that hold a node; `None` if it is not there.
     #[tactic(auto, unfolding(crate::specs::Cells::cells))]
     pub fn entered_position(&self, node: Node, end: End) -> Option<usize>
         ensures { result ≡ position (same_end end) ((cells self.now).entered node) }
@@ -179,8 +179,8 @@ impl NodeSlots {
         }
     }
 
-    /// Makes one change of a node, for which there is capacity. Takes no memory. An end takes an object always, and a proxy only if it may
-    /// have other values than objects. `reserve_for` made that so for each proxy of its plan, and the change is of that plan.
+    /// Makes one change of a node, for which there is capacity. Takes no memory. An end can take an object always, and a proxy only if it
+    /// may have other values than objects. `reserve_for` allows that at each end into which its plan puts a proxy.
     pub fn edit(&mut self, node: Node, edit: RowEdit)
         requires { Fits node edit (room self.old) }
         ensures cells { cells self.new ≡ cell_edit node edit (cells self.old) }

@@ -11,7 +11,7 @@ use mm_types::{End, FeatureNo};
 use slot_lists::ShortList;
 use std::alloc::{AllocError, Global};
 
-/// One change of what is kept of a node.
+/// One change of the row of a node.
 #[derive(Drop)]
 pub enum RowEdit {
     /// Changes the values of a feature.
@@ -20,7 +20,7 @@ pub enum RowEdit {
     Hold(Option<End>),
     /// Adds an end with no opposite that holds the node.
     Enter(End),
-    /// Takes an end with no opposite that holds the node away, at its index; past the last nothing changes.
+    /// Takes away the end at an index among the ends with no opposite that hold the node; past the last nothing changes.
     Leave(usize),
     /// Takes back capacity that was reserved for ends with no opposite that hold the node. No end changes.
     ForgetEntries(usize),
@@ -29,7 +29,7 @@ pub enum RowEdit {
 /// The values of one node, and the ends that hold it.
 #[derive(Drop)]
 pub struct Row {
-    /// In the order of first use; the first of a feature counts.
+    /// The slots in the order of first use; the first slot of a feature counts.
     pub slots: Vec<Slot>,
     /// The end that contains the node.
     pub holder: Option<End>,

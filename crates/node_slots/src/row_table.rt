@@ -8,8 +8,8 @@ use mm_types::FeatureNo;
 use std::alloc::{AllocError, Global};
 use std::marker::Model;
 
-/// Rows by number. A number with no row takes four bytes if a higher one has a row, and else none: most objects of a model may
-/// have no links. Contracts see both lists, and read them by `row_in`.
+/// Rows by number. A number with no row takes four bytes if a higher number has a row, else none, since most objects of a model may have no
+/// links. Contracts see both lists, and read them by `row_in`.
 #[derive(Drop)]
 pub(crate) struct RowTable {
     /// By number: zero if it has no row, and else one more than the index of the row.
@@ -114,8 +114,8 @@ impl RowTable {
         }
     }
 
-    /// Makes a row for a number that has none, and returns its index. The row comes first, so that no index is without its row
-    /// if memory is refused.
+    /// Makes a row for a number that has none, and returns its index. The row is made before its index is stored, so that no index is
+    /// without its row if memory is refused.
     fn push_row(&mut self, number: usize) -> Result<usize, AllocError>
         requires in_range { number < length self.old.places }
         requires none { row_index_at self.old.places number ≡ None }
@@ -144,7 +144,7 @@ fn row_index_in(places: &[u32], number: usize) -> Option<usize>
     }
 }
 
-/// Makes an entry for each number up to one. No number has a row more.
+/// Makes an entry for each number up to this one. No number gets a row.
 fn extend(places: &mut Vec<u32>, number: usize) -> Result<(), AllocError>
     ensures same { (n : ℕ) → row_index_at places.new.items n ≡ row_index_at places.old.items n }
     ensures ok { OnOk result (number < vec_len places.new) }

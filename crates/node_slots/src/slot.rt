@@ -9,20 +9,20 @@ use crate::targets::TargetList;
 use mm_types::{FeatureNo, Value};
 use std::alloc::{AllocError, Global};
 
-/// What a put says of a feature.
+/// The properties of a feature that a put gives: its opposite and its containing feature.
 #[derive(Clone, Copy)]
 pub struct Pairing {
     /// Its opposite, if it has one.
     pub opposite: Option<FeatureNo>,
-    /// The feature of the pair that contains, if one does.
+    /// The containing feature of the pair, if one of the two is a containment.
     pub container: Option<FeatureNo>,
 }
 
 /// One change of the values of an end.
 #[derive(Drop)]
 pub enum SlotEdit {
-    /// Puts a value in at an index; past the end it is put last. A put of an object says of the feature what its opposite is, and whether
-    /// it contains.
+    /// Puts a value in at an index; past the end it is put last. With an object, `pairing` has the opposite and the containing feature of
+    /// the end's feature.
     Insert {
         index: usize,
         value: Value,

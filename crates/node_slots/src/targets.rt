@@ -12,14 +12,14 @@ use slot_lists::{ShortList, SlotList};
 use std::alloc::{AllocError, Global};
 use std::marker::Model;
 
-/// The layout of the values of an end in memory. Most ends have objects alone: four bytes each.
+/// The layout of the values of an end in memory. Most ends have only objects: four bytes each.
 #[derive(Drop)]
 enum Layout {
     Objects(ShortList<ObjectNo>),
     Mixed(Box<SlotList<Value>>),
 }
 
-/// The values of an end, and capacity for more. A list has objects alone until `mix` says that it may have other values.
+/// The values of an end, and capacity for more. A list has only objects until `mix` says that it may have other values.
 #[derive(Drop)]
 pub struct TargetList {
     layout: Layout,
@@ -109,7 +109,7 @@ impl TargetList {
         }
     }
 
-    /// Makes it a list that may have other values than objects. Errs only if memory is refused, and then it is as it was.
+    /// Makes it a list that may have other values than objects. Errs only if memory is refused, and then nothing has changed.
     pub fn mix(&mut self, alloc: Global) -> Result<(), AllocError>
         ensures items { self.new.items ≡ self.old.items }
         ensures spare { self.old.spare ≤ self.new.spare }
@@ -126,7 +126,7 @@ impl TargetList {
         }
     }
 
-    /// Reserves capacity for more values. Errs only if memory is refused, and then the values stay and no position is lost.
+    /// Reserves capacity for more values. Errs only if memory is refused, and then the values stay and no capacity is lost.
     pub fn reserve(&mut self, alloc: Global, additional: usize) -> Result<(), AllocError>
         ensures items { self.new.items ≡ self.old.items }
         ensures spare { self.old.spare ≤ self.new.spare }
@@ -139,7 +139,7 @@ impl TargetList {
         }
     }
 
-    /// Inserts a value before the one at an index, or at the end, for which there is capacity. Takes no memory. A value that is no object
+    /// Inserts a value before the value at an index, or at the end, for which there is capacity. Takes no memory. A value that is no object
     /// is inserted only after `mix`.
     #[tactic(auto, using(crate::proofs::TargetLemmas::length_objects))]
     pub fn insert(&mut self, index: usize, value: Value)
@@ -209,7 +209,7 @@ fn text_in(value: Option<&Value>) -> Option<&str>
     }
 }
 
-/// Whether a value is the one that is there.
+/// Whether there is a value, and it is the given one.
 fn is_there(there: Option<&Value>, value: &Value) -> bool
     ensures { result ≡ is_value value.now (option_copied there.entry) }
 {
@@ -219,7 +219,7 @@ fn is_there(there: Option<&Value>, value: &Value) -> bool
     }
 }
 
-/// Whether a value is the object that is there.
+/// Whether there is an object, and the given value is that object.
 fn is_object(there: Option<&ObjectNo>, value: &Value) -> bool
     ensures { result ≡ is_value value.now (option_map object_value (option_copied there.entry)) }
 {
@@ -238,7 +238,7 @@ fn is_number(there: Option<&ObjectNo>, object: ObjectNo) -> bool
     }
 }
 
-/// Inserts an object before the one at an index, or at the end, for which there is capacity.
+/// Inserts an object before the value at an index, or at the end, for which there is capacity.
 #[tactic(auto, using(crate::proofs::TargetLemmas::insert_objects))]
 fn insert_object(list: &mut ShortList<ObjectNo>, index: usize, value: Value)
     requires room { 0 < list.old.spare }
@@ -275,7 +275,7 @@ fn values_of(alloc: Global, list: &ShortList<ObjectNo>) -> Result<Box<SlotList<V
     Ok(values)
 }
 
-/// Puts objects in last, in capacity that there is.
+/// Puts objects in last, for which there is capacity.
 fn push_objects(values: &mut SlotList<Value>, list: &ShortList<ObjectNo>)
     requires room { length list.now.items ≤ values.old.spare }
     requires none { values.old.items ≡ [] }

@@ -1,4 +1,4 @@
--- What releasing some targets, and then others, gives; and what releasing all of them gives.
+-- Releasing some targets and then others, and releasing all targets.
 use Rattle.std.proofs.Common.{◌≡◌, ◌+◌, ◌<◌, ℕ, Bool, true, false, cond, not, ◌&&◌, ◌||◌, List, [], ◌∷◌, ◌++◌, map, filter, length, if◌then◌else◌, refl, sym, ap, ◌∙◌, append_assoc, eq-eqb, le-leb}
 use Rattle.std.specs.List.{AllByRecursion, IsDistinct, list_any, prefix_len}
 use Rattle.std.proofs.lemmas.Bool.{eqb-false, ne_eqb}
@@ -33,7 +33,7 @@ all-have (r ∷ rs) h =
       ap (λ b. map (λ (q : Listed). (q.no, q.view)) (cond (not b) (r ∷ filter (λ q. not (has_targets q)) rs) (filter (λ q. not (has_targets q)) rs))) has ∙ rest.1,
     )
 
--- if each has a target all stay, and nobody leaves
+-- if each adapter has a target, all stay and none is released
 pub all-stay : (rs : List Listed) → HaveTargets rs → (staying rs ≡ rs) × (leaving rs ≡ [])
 all-stay rs h = all-have rs (recursion_from_All (λ (r : Listed). 0 < length r.targets) rs h)
 
@@ -44,7 +44,7 @@ released-parts (s ∷ ss) rs some = refl
 
 ---------------------------------------------------------------- all targets of one adapter
 
--- the adapter once all its targets have gone, if nobody before it has any of them
+-- the adapter after all its targets were taken away, if no adapter before it has any of them
 abbrev finished : Listed → Listed
 finished r = record { no = r.no; targets = []; view = hear_all r.view (map (λ t. removing r.no t.node 0) r.targets) }
 
@@ -71,7 +71,7 @@ module _ (number : AdapterNo) where
       or-true true = refl
       or-true false = refl
 
-  -- those without targets are not counted
+  -- adapters without targets are not counted
   index-behind : (x : Node) (ds rs : List Listed) (r : Listed) → AreBare ds → has_no number r ≡ true → has_target x r ≡ true → index_at (number, x) (ds ++ r ∷ rs) ≡ 0
   index-behind x [] rs r bare has target =
       ap (λ b. prefix_len (λ q. not (has_no number q)) (cond b (r ∷ having x rs) (having x rs))) target ∙ ap (λ b. cond (not b) (1 + prefix_len (λ q. not (has_no number q)) (having x rs)) 0) has
@@ -80,8 +80,8 @@ module _ (number : AdapterNo) where
       ap (λ b. prefix_len (λ q. not (has_no number q)) (cond b (d ∷ having x (ds ++ r ∷ rs)) (having x (ds ++ r ∷ rs)))) other ∙ index-behind x ds rs r bare.1 has target
 
 -- two nodes are the same in either order
-turned : (x y : Node) → same_node x y ≡ false → same_node y x ≡ false
-turned x y other =
+pub same_node-turned : (x y : Node) → same_node x y ≡ false → same_node y x ≡ false
+same_node-turned x y other =
     elim (same_node y x) as (λ b. same_node y x ≡ b → b ≡ false) [
       | true ↦ λ same. sym (same_node-self y) ∙ ap (λ (z : Node). same_node z y) (same_node-true y x same) ∙ other
       | false ↦ λ _. refl
@@ -89,7 +89,7 @@ turned x y other =
 
 none-there : (x : Node) (ts : List Target) → AllByRecursion (λ y. same_node x y ≡ false) (map (λ t. t.node) ts) → filter (λ t. not (is_at x t)) ts ≡ ts
 none-there x [] h = refl
-none-there x (t ∷ ts) h = ap (λ b. cond (not b) (t ∷ filter (λ q. not (is_at x q)) ts) (filter (λ q. not (is_at x q)) ts)) (turned x t.node h.0) ∙ ap (λ (qs : List Target). t ∷ qs) (none-there x ts h.1)
+none-there x (t ∷ ts) h = ap (λ b. cond (not b) (t ∷ filter (λ q. not (is_at x q)) ts) (filter (λ q. not (is_at x q)) ts)) (same_node-turned x t.node h.0) ∙ ap (λ (qs : List Target). t ∷ qs) (none-there x ts h.1)
 
 all-gone : (number : AdapterNo) (ds rs : List Listed) (ts : List Target) (v : View) → AreBare ds → list_any (has_no number) ds ≡ false → IsDistinct same_node (map (λ t. t.node) ts)
     → without_all (map (λ t. (number, t.node)) ts) (ds ++ record { no = number; targets = ts; view = v } ∷ rs) ≡ ds ++ record { no = number; targets = []; view = hear_all v (map (λ t. removing number t.node 0) ts) } ∷ rs

@@ -1,4 +1,4 @@
--- The attached adapters in attach order, each with its targets: which of them get a notification, and what notifying them does.
+-- The attached adapters in attach order, each with its targets: which adapters get a notification, and what notifying them does.
 use Rattle.std.specs.Prelude.{ℕ, ◌+◌, ◌<◌, Bool, ◌&&◌, ◌||◌, nat_eq, nat_lt, nat_le, List, [], ◌∷◌, ◌++◌, map, filter, length, ◌^◌, Option, if◌then◌else◌, All, sum_by}
 use Rattle.std.specs.List.{IsDistinct, list_any, find}
 use Rattle.mm_types.specs.declared.numbers.AdapterNo.{AdapterNo}
@@ -14,7 +14,7 @@ pub record Listed : Type 0 where
   pub targets : List Target
   pub view : View
 
--- two numbers are the same
+-- whether two numbers are the same
 abbrev pub same_no : AdapterNo → AdapterNo → Bool
 same_no x y = nat_eq x.0 y.0
 
@@ -27,7 +27,7 @@ is_at x t = same_node t.node x
 abbrev pub has_target : Node → Listed → Bool
 has_target x r = list_any (is_at x) r.targets
 
--- no two have the same number
+-- no two adapters have the same number
 abbrev pub HasDistinctNumbers : List Listed → Type 0
 HasDistinctNumbers rs = IsDistinct same_no (map (λ r. r.no) rs)
 
@@ -39,7 +39,7 @@ HasDistinctTargets rs = All (λ r. IsDistinct same_node (map (λ t. t.node) r.ta
 abbrev pub HaveTargets : List Listed → Type 0
 HaveTargets rs = All (λ r. 0 < length r.targets) rs
 
--- how many targets they have together
+-- how many targets all adapters have together
 abbrev pub targets_len : List Listed → ℕ
 targets_len rs = sum_by (λ r. length r.targets) rs
 
@@ -47,20 +47,20 @@ targets_len rs = sum_by (λ r. length r.targets) rs
 abbrev pub adapter : AdapterNo → List Listed → Option Listed
 adapter number rs = find (has_no number) rs
 
--- the adapter of a number has a node as a target
+-- whether the adapter of a number has a node as a target
 abbrev pub is_target : AdapterNo → Node → List Listed → Bool
 is_target number x rs = list_any (λ r. has_no number r && has_target x r) rs
 
--- the adapters after one change of the first of a number, if there is one
+-- the adapters after a change of the first adapter of a number, if there is one
 abbrev pub with_changed : AdapterNo → (Listed → Listed) → List Listed → List Listed
 with_changed number change [] = []
 with_changed number change (r ∷ rs) = if has_no number r then (change r ∷ rs) else r ∷ with_changed number change rs
 
--- an adapter with one target more, the last that it got
+-- an adapter with one more target, the last in order
 abbrev pub with_target : Target → Listed → Listed
 with_target t r = record { no = r.no; targets = r.targets ++ t ∷ []; view = r.view }
 
--- the adapters once the one of a number has one target more
+-- the adapters after the adapter of a number got one more target
 abbrev pub watched : AdapterNo → Target → List Listed → List Listed
 watched number t rs = with_changed number (with_target t) rs
 
@@ -70,23 +70,23 @@ watched number t rs = with_changed number (with_target t) rs
 abbrev pub Above : Type 0
 Above = Node → List Node
 
--- a target brings in its own notifications, and a deep one those of all nodes below it too
+-- whether a target brings in the notifications of a node: it is that node, or it is deep and the node is below it
 abbrev pub brings_in : Above → Node → Target → Bool
 brings_in up x t = same_node t.node x || (t.deep && list_any (same_node t.node) (up x))
 
--- an adapter gets a notification, once, if any of its targets brings it in
+-- whether an adapter gets a notification: it gets the notification once if any of its targets brings it in
 abbrev pub hears : Above → Listed → Notice → Bool
 hears up r n = list_any (brings_in up n.notifier) r.targets
 
--- the notifications of a chain that it gets, in order
+-- the notifications of a chain that an adapter gets, in order
 abbrev pub heard_of : Above → List Notice → Listed → List Notice
 heard_of up ns r = filter (λ n. hears up r n) ns
 
--- those that get a notification
+-- the adapters that get a notification
 abbrev pub audience : Above → Notice → List Listed → List Listed
 audience up n rs = filter (λ r. hears up r n) rs
 
--- the numbers of those that get a notification
+-- the numbers of the adapters that get a notification
 abbrev pub audience_numbers : Above → Notice → List Listed → List AdapterNo
 audience_numbers up n rs = map (λ r. r.no) (audience up n rs)
 
@@ -94,11 +94,11 @@ audience_numbers up n rs = map (λ r. r.no) (audience up n rs)
 abbrev pub told_all : Listed → List Notice → Listed
 told_all r ns = record { no = r.no; targets = r.targets; view = hear_all r.view ns }
 
--- the adapters after a chain: each got its own notifications of it in turn, whatever the others get
+-- the adapters after a chain: each got the notifications of the chain that are for it, whatever the others get
 abbrev pub tell_chain : Above → List Notice → List Listed → List Listed
 tell_chain up ns rs = map (λ r. told_all r (heard_of up ns r)) rs
 
--- the numbers of those that get a notification, each with the notification
+-- the number of each adapter that gets a notification, with the notification
 abbrev pub told_of : Above → Notice → List Listed → List (AdapterNo × Notice)
 told_of up n rs = map (λ r. (r.no, n)) (audience up n rs)
 
@@ -109,11 +109,10 @@ told_list up (n ∷ ns) rs = told_of up n rs ++ told_list up ns rs
 
 ----------------------------------------------------------------- counting on
 
--- an adapter of t targets that is to get k notifications, k above 0, and then one for each of its targets, would count past the greatest
--- u64
+-- whether an adapter of t targets is full: k notifications, k above 0, and then one for each target would count past the greatest u64
 abbrev pub is_full : ℕ → ℕ → View → Bool
 is_full k t v = nat_lt 0 k && nat_le (2 ^ 64) (v.told + (k + t))
 
--- one of the adapters can't count the notifications of a chain that it gets
+-- whether some adapter can't count the notifications of a chain that it gets
 abbrev pub is_chain_full : Above → List Notice → List Listed → Bool
 is_chain_full up ns rs = list_any (λ r. is_full (length (heard_of up ns r)) (length r.targets) r.view) rs

@@ -37,7 +37,7 @@ first-append : (xs ys : List Lead) (k : Key) → first_index (xs ++ ys) k ≡ op
 first-append [] ys k = refl
 first-append (x ∷ xs) ys k = elim (is_by k x) as (λ b. (if b then Some x.site.index else first_index (xs ++ ys) k) ≡ option_or (if b then Some x.site.index else first_index xs k) (first_index ys k)) [ true ↦ refl | false ↦ first-append xs ys k ]
 
--- the leads of each of some things, where those of the ones that pass a test give one index, and those of the others none
+-- the leads of several elements, if those of the elements that pass a test give one index, and those of the others none
 first-each : {X : Type 0} (g : X → List ProxySite) (r : Reading) (test : X → Bool) (k : Key) (q : Option ℕ)
     → ((x : X) → test x ≡ true → first_index (map (lead r) (g x)) k ≡ q) → ((x : X) → test x ≡ false → first_index (map (lead r) (g x)) k ≡ None)
     → (xs : List X) → first_index (map (lead r) (flat_map g xs)) k ≡ (if list_any test xs then q else None)
@@ -73,7 +73,7 @@ module _ (r : Reading) (b : ObjectNo) (f : FeatureNo) (a : ObjectNo) where
 
   ---------------------------------------------------------------- at the end
 
-  -- what is at an index leads to the object where its lead does
+  -- the value at an index leads to the object to which its lead leads
   by-value : (n : ℕ) (v : Value) → slice_get (r.values e) n ≡ Some v → is_by k (lead r (site b f n)) ≡ leads_back v
   by-value n v at_n = ap (λ (q : Option Value). option_map_or (λ (o : ObjectNo). same_key (key b f o.0) k) (option_and_then (at r) (option_and_then text_of q)) false) at_n ∙ by (option_and_then (at r) (text_of v))
     where
@@ -147,7 +147,7 @@ module _ (r : Reading) (b : ObjectNo) (f : FeatureNo) (a : ObjectNo) where
   other-under : (o : ObjectNo) (g : FeatureNo) → (nat_eq o.0 b.0 && nat_eq g.0 f.0) ≡ false → first_index (map (lead r) (sites_under r o g)) k ≡ None
   other-under o g other = other-sites o g other (range_with_len 0 (length (r.values (at_end (node.Object o) g))))
 
-  -- under the features of the object
+  -- the leads under the features of the object
   first-of : first_index (map (lead r) (sites_of r b)) k ≡ (if list_any (λ (g : FeatureNo). nat_eq g.0 f.0) (all_features_of r (node.Object b)) then index else None)
   first-of =
       first-each (sites_under r b) r (λ (g : FeatureNo). nat_eq g.0 f.0) k index
@@ -170,7 +170,7 @@ module _ (r : Reading) (b : ObjectNo) (f : FeatureNo) (a : ObjectNo) where
       none-either true = refl
       none-either false = refl
 
-  -- among all proxies
+  -- the leads of all proxies
   first-lead : first_index (leads r) k ≡ (if list_any (λ n. nat_eq n b.0) (range_with_len 0 r.next) then first_index (map (lead r) (sites_of r b)) k else None)
   first-lead =
       first-each (λ n. sites_of r (record { 0 = n })) r (λ n. nat_eq n b.0) k (first_index (map (lead r) (sites_of r b)) k)
@@ -194,7 +194,7 @@ within-range x a (suc n) low high =
     past : (a x : ℕ) → a ≤ x → nat_eq a x ≡ false → a + 1 ≤ x
     past a x low other = grind (arith, nat_tests)
 
--- a class that has a feature has it among all
+-- a feature of a class is among all its features
 known-of : (m : Metamodel) (f : FeatureNo) (q : Option ClassNo) → option_map_or (λ c. lookups.has_feature m c f) q false ≡ true
     → (is_some q ≡ true) × (list_any (λ (g : FeatureNo). nat_eq g.0 f.0) (unwrap_or (option_and_then (lookups.features m) q) []) ≡ true)
 known-of m f None h = absurd (false≢true h)
@@ -204,7 +204,7 @@ known-of m f (Some c) h = (refl, by (lookups.features m c) h)
     by None h = absurd (false≢true h)
     by (Some all) h = h
 
--- the table of the leads has for each reference and object what a search there finds
+-- for each reference and object the table of leads has the result of a search there
 module _ (s : Model) (legal : IsLegal s) (b : ObjectNo) (f : FeatureNo) (reference : (shape s.metamodel f).is_reference ≡ true) (a : ObjectNo) where
   abbrev r : Reading
   r = reading s
@@ -252,7 +252,7 @@ map-self (x ∷ xs) = ap (λ (ys : List ℕ). x ∷ ys) (map-self xs)
 range-more : (n : ℕ) → range_with_len 0 (n + 1) ≡ range_with_len 0 n ++ n ∷ []
 range-more n = sym (map-self (range_with_len 0 (n + 1))) ∙ map-range_with_len_more (λ (x : ℕ). x) 0 n n (omega arith) ∙ ap (λ (xs : List ℕ). xs ++ n ∷ []) (map-self (range_with_len 0 n))
 
--- the leads of one object more
+-- the leads of one more object
 pub objects-step : (r : Reading) (n : ℕ) (old new : List Lead) → new ≡ old ++ map (lead r) (sites_of r (record { 0 = n })) → old ≡ map (lead r) (flat_map (λ k. sites_of r (record { 0 = k })) (range_with_len 0 n))
     → new ≡ map (lead r) (flat_map (λ k. sites_of r (record { 0 = k })) (range_with_len 0 (n + 1)))
 objects-step r n old new more so_far =
@@ -261,7 +261,7 @@ objects-step r n old new more so_far =
     ∙ sym (map-append (lead r) (flat_map f (range_with_len 0 n)) (f n))
     ∙ ap (map (lead r)) (ap (λ (ps : List ProxySite). flat_map f (range_with_len 0 n) ++ ps) (sym (append-nil (f n))) ∙ sym (flat_map-append f (range_with_len 0 n) (n ∷ [])) ∙ ap (flat_map f) (sym (range-more n)))
 
--- and of one index more
+-- the leads of one more index
 pub indices-step : (r : Reading) (o : ObjectNo) (f : FeatureNo) (n : ℕ) (was old new : List Lead) → new ≡ old ++ (if is_proxy_site r (site o f n) then lead r (site o f n) ∷ [] else [])
     → old ≡ was ++ map (lead r) (filter (is_proxy_site r) (map (site o f) (range_with_len 0 n))) → new ≡ was ++ map (lead r) (filter (is_proxy_site r) (map (site o f) (range_with_len 0 (n + 1))))
 indices-step r o f n was old new more so_far =
@@ -277,7 +277,7 @@ indices-step r o f n was old new more so_far =
     one true = refl
     one false = refl
 
--- the first index among one lead more
+-- the first index with one more lead
 pub first-step : (xs : List Lead) (i : ℕ) (d : Lead) (k : Key) (old new : Option ℕ) → i < length xs → new ≡ option_or old (first_index (get_or xs i d ∷ []) k) → old ≡ first_index (take i xs) k → new ≡ first_index (take (i + 1) xs) k
 first-step xs i d k old new low more so_far =
     more ∙ ap (λ (q : Option ℕ). option_or q (first_index (get_or xs i d ∷ []) k)) so_far ∙ sym (first-append (take i xs) (get_or xs i d ∷ []) k) ∙ ap (λ (ls : List Lead). first_index ls k) (sym (take_more xs i d low))

@@ -1,4 +1,4 @@
--- What ends hold if a value replaces another.
+-- The values of ends after a value replaces another one.
 use Rattle.std.proofs.Common.{◌≡◌, inl, inr, ℕ, zero, suc, true, false, List, [], ◌∷◌, Some, length, slice_get, if◌then◌else◌, refl, ap}
 use Rattle.std.specs.Prelude.{◌⊎◌, slice_set}
 use Rattle.std.proofs.lemmas.List.{length-set}
@@ -16,6 +16,6 @@ get-set (x ∷ xs) zero w v at (suc j) = inr refl
 get-set (x ∷ xs) (suc i) w v at zero = inr refl
 get-set (x ∷ xs) (suc i) w v at (suc j) = elim (get-set xs i w v at j) [ inl h ↦ inl (ap suc h.0, h.1) | inr h ↦ inr h ]
 
--- no end has more values, or fewer
+-- each end has as many values as before
 pub replaced-length : (ends : End → List Value) (e : End) (i : ℕ) (v : Value) (d : End) → length (replaced ends e i v d) ≡ length (ends d)
 replaced-length ends e i v d = elim (same_end e d) as (λ b. length (if b then slice_set (ends d) i v else ends d) ≡ length (ends d)) [ true ↦ length-set (ends d) i v | false ↦ refl ]

@@ -1,4 +1,4 @@
--- What resolving finds: a proxy at both ends of a link.
+-- The targets of proxies: a proxy at both ends of a link.
 use Rattle.std.proofs.Common.{◌≡◌, ℕ, ◌≤◌, ◌&&◌, not, true, false, List, length, slice_get, arith, Option, Some, None, is_some, option_and_then, option_map, refl, sym, ap, ◌∙◌, subst}
 use Rattle.std.specs.Prelude.{position}
 use Rattle.std.specs.Option.{option_map_or}
@@ -33,7 +33,7 @@ leads-proxy r n _ h = absurd (false≢true h)
 abbrev counted : End → ℕ → Counterpart
 counted d j = record { end = d; index = j }
 
--- the first that leads to a node is found, and none if none does
+-- the first proxy that leads to a node is found, and none if no proxy does
 pub first-found : (r : Reading) (n : Node) (d : End) (j : ℕ) → option_map_or (λ o. same_node (node.Object o) n) (option_and_then (at r) (proxy_at r d j)) false ≡ true → NonePass (leads_to r n) (r.values d) j
     → Some (record { end = d; index = j }) ≡ first_to r n d
 first-found r n d j h none = by (slice_get (r.values d) j) refl h

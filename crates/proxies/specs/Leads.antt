@@ -1,4 +1,4 @@
--- The proxies of a model, and what is at their addresses.
+-- The proxies of a model, and the objects at their addresses.
 use Rattle.std.specs.Prelude.{ℕ, Bool, false, List, [], ◌∷◌, map, Option, Some, None, option_and_then, if◌then◌else◌}
 use Rattle.std.specs.Option.{option_map_or}
 use Rattle.indexmap.specs.IndexMap.{get}
@@ -19,11 +19,11 @@ lead r p = record { site = p; object = option_and_then (at r) (proxy_at r (end_o
 abbrev pub leads : Reading → List Lead
 leads r = map (lead r) (sites r)
 
--- a proxy at the reference of the key leads to the object of its number
+-- whether a proxy is at the reference of a key, and leads to the object of the key
 abbrev pub is_by : Key → Lead → Bool
 is_by k x = option_map_or (λ o. same_key (key x.site.object x.site.feature o.0) k) x.object false
 
--- the index of the first of them
+-- the index of the first proxy that is at the reference of a key and leads to its object
 abbrev pub first_index : List Lead → Key → Option ℕ
 first_index [] k = None
 first_index (x ∷ xs) k = if is_by k x then Some x.site.index else first_index xs k

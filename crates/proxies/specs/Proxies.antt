@@ -12,11 +12,11 @@ use Rattle.proxies.specs.declared.site.ProxySite.{ProxySite}
 abbrev pub site : ObjectNo → FeatureNo → ℕ → ProxySite
 site o f i = record { object = o; feature = f; index = i }
 
--- the end of which it is an index
+-- the end of a location
 abbrev pub end_of : ProxySite → End
 end_of p = at_end (node.Object p.object) p.feature
 
--- a proxy is there
+-- whether a proxy is at a location
 abbrev pub is_proxy_site : Reading → ProxySite → Bool
 is_proxy_site r p = is_some (proxy_at r (end_of p) p.index)
 
@@ -24,10 +24,10 @@ is_proxy_site r p = is_some (proxy_at r (end_of p) p.index)
 abbrev pub sites_under : Reading → ObjectNo → FeatureNo → List ProxySite
 sites_under r o f = filter (is_proxy_site r) (map (site o f) (range_with_len 0 (length (r.values (at_end (node.Object o) f)))))
 
--- those of an object, in the order of all its features
+-- the locations of proxies of an object, in the order of all its features
 abbrev pub sites_of : Reading → ObjectNo → List ProxySite
 sites_of r o = flat_map (sites_under r o) (all_features_of r (node.Object o))
 
--- those of all objects, by number
+-- the locations of proxies of all objects, by number
 abbrev pub sites : Reading → List ProxySite
 sites r = flat_map (λ n. sites_of r (record { 0 = n })) (range_with_len 0 r.next)

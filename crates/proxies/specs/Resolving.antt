@@ -21,7 +21,7 @@ opposite_end r e o = option_map (far_end o) (shape_at r e).opposite
 abbrev pub proxy_at : Reading → End → ℕ → Option (List ℕ)
 proxy_at r e i = option_and_then text_of (slice_get (r.values e) i)
 
--- a value is a proxy with the address of a node
+-- whether a value is a proxy with the address of a node
 abbrev pub leads_to : Reading → Node → Value → Bool
 leads_to r n v = option_map_or (λ o. same_node (node.Object o) n) (option_and_then (at r) (text_of v)) false
 
@@ -36,10 +36,10 @@ counterpart r e o = option_and_then (first_to r e.node) (opposite_end r e o)
 abbrev pub target : Reading → End → ObjectNo → Target
 target r e o = record { object = o; counterpart = counterpart r e o }
 
--- the object at the address of the proxy at an index, if there are both
+-- the target of the proxy at an index; none without a proxy, or without an object at its address
 abbrev pub target_at : Reading → End → ℕ → Option Target
 target_at r e i = option_map (target r e) (option_and_then (at r) (proxy_at r e i))
 
--- the reference has an opposite, and no proxy there has the address of the object that refers
+-- whether the reference has an opposite, and the opposite end has no proxy with the address of the referring object
 abbrev pub is_unmatched : Reading → End → Target → Bool
 is_unmatched r e x = is_some (shape_at r e).opposite && not (is_some x.counterpart)

@@ -7,7 +7,7 @@ use indexmap::IndexSet;
 use mm_types::{FeatureNo, ObjectNo};
 use std::alloc::{AllocError, Global};
 
-/// A reference of an object, and a number: of an index, or of an object that is there.
+/// A reference of an object, and a number: an index there, or the number of an object there.
 #[derive(Clone, Copy, PartialEq, Eq, Hash)]
 pub struct Key {
     pub object: u32,
@@ -46,7 +46,7 @@ impl Keys {
     ghost use Rattle.proxies.specs.Keys.{has, same_key};
     ghost use Rattle.proxies.specs.declared.keys.Key.{Key};
 
-    /// None. Takes no memory.
+    /// No keys. Takes no memory.
     pub fn new(alloc: Global) -> Self
         ensures { (k : Key) → has result k ≡ false }
     {

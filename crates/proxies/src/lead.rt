@@ -1,4 +1,4 @@
-//! The proxies of a model, and what is at their addresses.
+//! The proxies of a model, and the objects at their addresses.
 ghost use Rattle.std.specs.Prelude.{◌≡◌, ◌∷◌, ◌++◌, [], map, IfOk, OnOk, if◌then◌else◌};
 ghost use Rattle.models.specs.Model.{reading};
 ghost use Rattle.proxies.specs.Leads as spec;

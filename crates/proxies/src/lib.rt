@@ -1,5 +1,5 @@
-//! The proxies of a model: which object is at the address of each, which proxy of the same link is at the opposite end, and why one can't
-//! be resolved.
+//! The proxies of a model: the object at the address of a proxy, the proxy of the same link at the opposite end, and why a proxy can't be
+//! resolved.
 //!
 //! `specs/Resolving.antt` says what a proxy finds, `specs/Refusals.antt` why it can't be resolved, and `specs/ResolvingAll.antt` which
 //! proxies are resolved if all are, one after another.

@@ -1,4 +1,4 @@
-//! What is counted of proxies.
+//! Counts of proxies.
 
 /// How many proxies were resolved, counting two at the ends of one link as one, and how many proxies are left.
 #[derive(Clone, Copy)]

@@ -21,7 +21,7 @@ use models::ModelRef;
 use std::alloc::{AllocError, Global};
 use web_uris::split_address;
 
-/// The object at the address of the proxy at an index, if there are both. Errs only if memory is refused.
+/// The target of the proxy at an index; `None` without a proxy, or without an object at its address. Errs only if memory is refused.
 pub fn target_at<L: LinkStore>(
     alloc: Global,
     model: &ModelRef<L>,
@@ -95,7 +95,7 @@ fn leads_to<L: LinkStore>(
     }
 }
 
-/// Why what is at an index can't be resolved to what it finds: `WrongType`, `Index`, `Duplicate`, `NotProxy`, `Unloaded`,
+/// Why the proxy at an index can't be resolved to the target that it finds: `WrongType`, `Index`, `Duplicate`, `NotProxy`, `Unloaded`,
 /// `Unresolved` or `Unmatched`. Takes no memory.
 pub fn resolve_refusal<L: LinkStore>(
     model: &ModelRef<L>,
@@ -120,7 +120,7 @@ pub fn resolve_refusal<L: LinkStore>(
     }
 }
 
-/// Whether the object at a proxy's address is not one of the feature's type, or the feature is an attribute.
+/// Whether the feature is an attribute, or the object at a proxy's address is not of the feature's type.
 pub fn is_mistyped<L: LinkStore>(model: &ModelRef<L>, end: End, target: Option<Target>) -> bool
     ensures { result ≡ refusals.is_mistyped (reading model.now) end target }
 {
@@ -153,7 +153,7 @@ pub fn proxy_at<'a, L: LinkStore>(model: &ModelRef<'a, L>, end: End, index: u32)
     }
 }
 
-/// The URI in a proxy's text: what comes before the first `#`.
+/// The URI in a proxy's text: the text before the first `#`.
 fn uri_of(text: &str) -> &str
     ensures { result.now ≡ uri_part text.now }
 {
@@ -163,7 +163,7 @@ fn uri_of(text: &str) -> &str
     }
 }
 
-/// Why nothing is at the address of a proxy, or nothing there leads back: `Unloaded`, `Unresolved` or `Unmatched`.
+/// Why no object is at the address of a proxy, or no proxy there leads back: `Unloaded`, `Unresolved` or `Unmatched`.
 fn lost_refusal<L: LinkStore>(
     model: &ModelRef<L>,
     end: End,

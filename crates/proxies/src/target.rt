@@ -1,7 +1,7 @@
 //! What a proxy finds.
 use mm_types::{End, ObjectNo};
 
-/// The object at the address of a proxy, and the proxy of the same link at the opposite end, if there are both.
+/// The object at the address of a proxy, and the proxy of the same link at the opposite end, if there is one.
 #[derive(Clone, Copy)]
 pub struct Target {
     pub object: ObjectNo,

@@ -1,6 +1,5 @@
--- Addresses: an object is found by its own, and a load leaves those that there were.
+-- Addresses: an object is found by its address, and a load leaves all existing addresses.
 use Rattle.std.proofs.Common.{◌≡◌, ◌∙◌, ℕ, ◌+◌, ◌<◌, false, List, [], Option, Some, None, length, nat_le, slice_get, arith, refl, sym, ap}
-use Rattle.std.specs.Prelude.{option_and_then, option_map}
 use Rattle.std.proofs.lemmas.Bool.Decides.{nat_tests}
 use Rattle.std.proofs.lemmas.Option.{none-some, same_Some}
 use Rattle.mm_types.specs.Conditions.{◌unless◌}
@@ -13,7 +12,6 @@ use Rattle.mm_types.specs.declared.numbers.ResourceNo.{ResourceNo}
 use Rattle.mm_types.specs.declared.refused.Refused.TheVariants.{Limit, NotEmpty}
 use Rattle.mm_types.specs.declared.value.Value.{Value}
 use Rattle.mm_types.specs.declared.value.Value.TheVariants as value
-use Rattle.web_uris.specs.Addresses.{address_text}
 use Rattle.links.specs.Holders.{above, holder}
 use Rattle.models.specs.Legal.{IsLegal}
 use Rattle.models.specs.Model.{Model, reading, values_at}
@@ -23,8 +21,8 @@ use Rattle.containment.specs.Above.{resource_node, resource_of}
 use Rattle.fragment_paths.proofs.HeldLemmas.{held, held-root}
 use Rattle.fragment_paths.proofs.ImageLemmas.{address-image}
 use Rattle.fragment_paths.proofs.InsideLemmas.{each-inside}
-use Rattle.fragment_paths.proofs.StayLemmas.{address-finds, one-address}
-use Rattle.fragment_paths.specs.Fragments.{address, fragment, position_in}
+use Rattle.fragment_paths.proofs.StayLemmas.{address-finds, one-address, no-address}
+use Rattle.fragment_paths.specs.Fragments.{address, position_in}
 use Rattle.resource_docs.specs.declared.doc.Doc.{Doc}
 use Rattle.round_trip.proofs.ShapeLemmas.{live-inside}
 use Rattle.doc_loader.specs.Loading.{is_empty_resource}
@@ -41,9 +39,6 @@ use Rattle.reloading.specs.Laws.{HasOwnAddresses}
 
 pub own-addresses : (s : Model) → IsLegal s → HasOwnAddresses (reading s)
 own-addresses s legal = record { finds = address-finds s legal; one = one-address s legal }
-
-no-address : (s : Model) (o : ObjectNo) → resource_of (above s.links) o ≡ None → address (reading s) o ≡ None
-no-address s o none = ap (option_and_then (λ (k : ResourceNo). option_and_then (λ u. option_map (address_text u) (fragment (reading s) o)) (slice_get s.values.uris k.0))) none
 
 -- what has an address is in a resource
 pub address-inside : (s : Model) (o : ObjectNo) (a : List ℕ) → address (reading s) o ≡ Some a → (k : ResourceNo) × (resource_of (above s.links) o ≡ Some k)
@@ -67,7 +62,7 @@ module _ (s : Model) (k : ResourceNo) (doc : Doc) (legal : IsLegal s) (early : e
       nil-is (values_at s (contents_end s.metamodel k))
       (none-unless NotEmpty (is_empty_resource (reading s) k) (none-else_by (Limit unless nat_le (length s.values.objects + length doc.objects) OBJECTS) (NotEmpty unless is_empty_resource (reading s) k) late).1)
 
-  -- so nothing was in it
+  -- so no object was in the resource
   none-inside : (o : ObjectNo) → resource_of (above s.links) o ≡ Some k → ⊥
   none-inside o inside = each-inside s legal (λ x. ⊥) k top (λ x e p h is up within. within) o inside
     where
@@ -77,7 +72,7 @@ module _ (s : Model) (k : ResourceNo) (doc : Doc) (legal : IsLegal s) (early : e
           let root = (held-root s legal x e k there is).0 in
           none-some (value.Object x) (ap (λ (vs : List Value). slice_get vs (position_in (reading s) e x)) (sym (ap (values_at s) root ∙ was-empty)) ∙ there.here)
 
-  -- an object that was there is not one of the new ones
+  -- an object that existed before is not one of the new objects
   pub old-object : (o : ObjectNo) → o.0 < length s.values.objects → comes_with (reading s) (Load k doc) (node.Object o) ≡ false
   old-object o low = let high : nat_le (length s.values.objects) o.0 ≡ false = grind (arith, nat_tests) in high
 
@@ -87,7 +82,7 @@ module _ (s : Model) (k : ResourceNo) (doc : Doc) (legal : IsLegal s) (early : e
   object-end : (p : ObjectNo) (f : FeatureNo) → contents_end s.metamodel k ≡ at_end (node.Object p) f → ⊥
   object-end p f same = none-some k (sym (ap (λ (d : End). resource_node d.node) same))
 
-  -- what is in a resource keeps its address
+  -- an object in a resource keeps its address
   pub inside-keeps : (o : ObjectNo) (j : ResourceNo) → resource_of (above s.links) o ≡ Some j → address (reading t) o ≡ address (reading s) o
   inside-keeps o j inside =
       let other : j ≡ k → ⊥ = λ same. none-inside o (inside ∙ ap Some same) in

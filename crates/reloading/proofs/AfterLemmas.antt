@@ -1,5 +1,5 @@
--- What a proxy that is resolved leaves: the model is partly resolved as before. All means what it meant, and a link with an opposite that
--- has lost the proxy at one end has lost the one at the other.
+-- After a proxy is resolved, the model is partly resolved as before. All values mean the same, and a link with an opposite that has lost
+-- the proxy at one end has lost the proxy at the other end too.
 use Rattle.std.proofs.Common.{◌≡◌, ◌∙◌, ℕ, suc, ◌+◌, Bool, true, false, List, Option, Some, None, is_some, map, slice_get, slice_set, if◌then◌else◌, arith, refl, sym, ap, subst}
 use Rattle.std.specs.Prelude.{option_and_then, option_map}
 use Rattle.std.specs.Option.{option_map_or}
@@ -97,7 +97,7 @@ module _ (left : LeftProxy) where
   far-none : (shape s.metamodel f).opposite ≡ None → (d : End) → is_far d ≡ false
   far-none alone d = ap (λ (q : Option FeatureNo). option_map_or (λ (x : Counterpart). same_end x.end d) (option_and_then (first_to (reading t) (node.Object p)) (option_map (far_end aim) q)) false) alone
 
-  -- the two ends of a link are two
+  -- the two ends of a link are different
   ends-apart : (g : FeatureNo) → (shape s.metamodel f).opposite ≡ Some g → same_end (far_end aim g) e ≡ false
   ends-apart g pair =
       elim (same_end (far_end aim g) e) as (λ b. same_end (far_end aim g) e ≡ b → b ≡ false) [
@@ -132,7 +132,7 @@ module _ (left : LeftProxy) where
   not-two : (g : FeatureNo) (d : End) → (shape s.metamodel f).opposite ≡ Some g → d ≡ e → d ≡ far_end aim g → ⊥
   not-two g d pair own far = false≢true (sym (ends-apart g pair) ∙ ap (λ (x : End). same_end x e) (sym far ∙ own) ∙ same_end-self e)
 
-  -- an end is the proxy's own, that of its match, or as it was
+  -- an end is the end of the proxy, the end of its match, or as it was
   data IsEnd (d : End) : Type 0 where
     Own : d ≡ e → values_at u d ≡ slice_set (values_at t d) i (value.Object aim) → slice_get (values_at t d) i ≡ Some (value.Proxy text) → IsEnd d
     Far : (g : FeatureNo) (j : ℕ) → (shape s.metamodel f).opposite ≡ Some g → d ≡ far_end aim g → values_at u d ≡ slice_set (values_at t d) j (value.Object p) → slice_get (values_at t d) j ≡ Some (value.Proxy own_text) → IsEnd d
@@ -165,7 +165,7 @@ module _ (left : LeftProxy) where
                 (end-else d own (far-is g pair d ∙ far))
           ] refl
 
-  -- a proxy that is there after it was there before, and is other than the one that was resolved
+  -- a proxy after the resolve existed before, and is not the one that was resolved
   pub proxy-was : (d : End) (k : ℕ) (z : List ℕ) → slice_get (values_at u d) k ≡ Some (value.Proxy z) → (slice_get (values_at t d) k ≡ Some (value.Proxy z)) × (d ≡ e → k ≡ i → ⊥)
   proxy-was d k z at = by (end-after d)
     where
@@ -211,7 +211,7 @@ module _ (left : LeftProxy) where
 
   ---------------------------------------------------------------- pairs
 
-  -- the proxy of a text has gone from an end
+  -- the proxy with a text is no longer at an end
   data IsGone (d : End) (z : List ℕ) : Type 0 where
     FromOwn : d ≡ e → z ≡ text → IsGone d z
     FromFar : (g : FeatureNo) → (shape s.metamodel f).opposite ≡ Some g → d ≡ far_end aim g → z ≡ own_text → IsGone d z
@@ -269,7 +269,7 @@ module _ (left : LeftProxy) where
           neither (FromOwn at same) = own at
           neither (FromFar g pair at same) = far g pair at
 
-  -- what has gone from one end of a link has gone from the other
+  -- if the proxy of a link is gone from one end, it is gone from the other
   gone-over : (h k : FeatureNo) (x y : ObjectNo) (a b : List ℕ) → (shape s.metamodel h).opposite ≡ Some k → address (reading t) x ≡ Some a → address (reading t) y ≡ Some b
       → IsGone (at_end (node.Object x) h) b → IsGone (at_end (node.Object y) k) a
   gone-over h k x y a b pair at_x at_y (FromOwn is same) =

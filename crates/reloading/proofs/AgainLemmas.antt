@@ -1,4 +1,4 @@
--- What was saved comes back: the loads, and then the resolves.
+-- A saved model comes back: the loads, and then the resolves.
 use Rattle.std.proofs.Common.{◌≡◌, suc, List, [], ◌∷◌, arith, refl, sym, subst}
 use Rattle.models.specs.Legal.{IsLegal}
 use Rattle.models.specs.Model.{Model, empty_model, model_of, reading}
@@ -13,7 +13,7 @@ use Rattle.reloading.specs.Laws.{IsAllResolved}
 use Rattle.reloading.proofs.ReloadLemmas.{AreDone, all-resolved, some-resolves}
 use Rattle.reloading.proofs.ResolveAllLemmas.{resolves-all}
 
--- no change changes the metamodel
+-- no change edits the metamodel
 pub same-metamodel : (t : Model) (cs : List Change) → (after_all t cs).metamodel ≡ t.metamodel
 same-metamodel t [] = refl
 same-metamodel t (c ∷ cs) = same-metamodel (after t c) cs

@@ -1,4 +1,4 @@
--- A model without proxies that is a saved one without proxies, partly resolved, is isomorphic to that one.
+-- If a partly resolved model has no proxies, it is isomorphic to the saved model.
 use Rattle.std.proofs.Common.{◌≡◌, ◌∙◌, ℕ, List, map, refl, sym, subst}
 use Rattle.std.specs.Prelude.{Contains}
 use Rattle.mm_types.specs.declared.end.End.{End}
@@ -13,7 +13,7 @@ use Rattle.reloading.specs.Alike.{Alike, IsThere}
 use Rattle.reloading.specs.Between.{Between}
 use Rattle.reloading.specs.Proxies.{HasNoProxy}
 
--- the two names differ at proxies alone
+-- the two names differ only for proxies
 name-same : (r : Reading) (v : Value) → ((t : List ℕ) → v ≡ value.Proxy t → ⊥) → named r v ≡ meant r v
 name-same r (value.Proxy t) other = absurd (other t refl)
 name-same r (value.Object o) other = refl

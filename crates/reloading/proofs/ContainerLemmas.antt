@@ -1,4 +1,4 @@
--- What a container reference has: the object whose end, under the opposite, holds the object that has the reference.
+-- The value of a container reference: the object whose end, under the opposite feature, contains the object with the reference.
 use Rattle.std.proofs.Common.{◌≡◌, ◌∙◌, ℕ, zero, suc, Bool, true, false, not, ◌&&◌, List, [], ◌∷◌, Option, Some, None, is_some, slice_get, if◌then◌else◌, eq-eqb, refl, sym, ap}
 use Rattle.std.specs.Prelude.{option_and_then, option_to_list}
 use Rattle.std.specs.Option.{option_map_or}
@@ -30,7 +30,7 @@ use Rattle.fragment_paths.proofs.HeldLemmas.{held}
 use Rattle.fragment_paths.specs.Fragments.{position_in}
 use Rattle.doc_loader.proofs.SideLemmas.{opposite-reference}
 
--- a single reference whose opposite contains
+-- a single reference whose opposite is a containment
 pub record IsContainerReference (m : Metamodel) (g : FeatureNo) : Type 0 where
   pub opposite : FeatureNo
   pub pair : (shape m g).opposite ≡ Some opposite
@@ -80,7 +80,7 @@ module _ (s : Model) (legal : IsLegal s) (g : FeatureNo) (is : IsContainerRefere
       let there = both_ends_agree (kinds_of s.metamodel) s.links legal.links.set legal.links.kinds x y is.pair (i, ap (λ (vs : List Value). slice_get vs i) (sym (values-linked s x near-reference)) ∙ at) in
       holder-at s legal (node.Object h) f is.contains there.0 o (ap (λ (vs : List Value). slice_get vs there.0) (values-linked s y far-reference) ∙ there.1)
 
-  -- an object that is held by that end has its holder alone
+  -- if that end is the holder of an object, the container reference of the object has only the holder's node
   pub held-by : (o h : ObjectNo) → holder s.links (node.Object o) ≡ Some (at_end (node.Object h) f) → values_at s (at_end (node.Object o) g) ≡ value.Object h ∷ []
   held-by o h up =
       let x = at_end (node.Object o) g in
@@ -92,7 +92,7 @@ module _ (s : Model) (legal : IsLegal s) (g : FeatureNo) (is : IsContainerRefere
       let here = ap (λ (vs : List Value). slice_get vs there.0) (sym shown ∙ values-linked s x near-reference) ∙ there.1 in
       shown ∙ first-only (slice_get (values_at s x) 0) there.0 (value.Object h) here
 
-  -- it takes no proxies
+  -- a container reference takes no proxies
   not-proxy : (t : List ℕ) → is_legal_target (reading s) g (value.Proxy t) ≡ true → ⊥
   not-proxy t may =
       let own : (shape s.metamodel g).containing ≡ Some f = (kinds-are s.metamodel legal.metamodel).one_container g f is.pair ∙ contains-itself f (shape s.metamodel f).containing is.contains in
@@ -103,7 +103,7 @@ module _ (s : Model) (legal : IsLegal s) (g : FeatureNo) (is : IsContainerRefere
   target-object (value.Proxy t) may = absurd (not-proxy t may)
   target-object _ may = absurd (false≢true may)
 
-  -- it has nothing, or an object that holds it
+  -- a container reference is empty, or has the object that contains its object
   pub data IsHeldBy (o : ObjectNo) : Type 0 where
     Nobody : values_at s (at_end (node.Object o) g) ≡ [] → IsHeldBy o
     Held : (h : ObjectNo) → holder s.links (node.Object o) ≡ Some (at_end (node.Object h) f) → IsHeldBy o

@@ -1,4 +1,4 @@
--- What the document of a resource has under each feature of each object: what is there, named as the document names it.
+-- The document of a resource has, under each feature of each object, the values of this feature, named as in a document.
 use Rattle.std.proofs.Common.{◌≡◌, ◌∙◌, ℕ, Bool, true, false, ◌&&◌, ◌||◌, not, List, [], ◌∷◌, ◌++◌, Option, Some, None, append-nil, flat_map, map, slice_get, if◌then◌else◌, eq-eqb, eqb-true, refl, sym, ap, subst}
 use Rattle.std.specs.Prelude.{Contains, option_and_then}
 use Rattle.std.specs.List.{AllByRecursion, IsDistinct, list_all, list_any}
@@ -22,6 +22,7 @@ use Rattle.links.specs.Links.{end}
 use Rattle.models.specs.Legal.{IsLegal}
 use Rattle.models.specs.Model.{Model, attribute_values, kept_flag, kept_values, reading, values_at}
 use Rattle.models.specs.Reading.{Reading, all_features_of, at_end, has_feature, is_set}
+use Rattle.models.proofs.PlaceLemmas.{target-legal}
 use Rattle.containment.proofs.DistinctLemmas.{distinct-filter, features-distinct}
 use Rattle.containment.proofs.PartLemmas.{legal-at, values-linked}
 use Rattle.doc_writer.specs.Written.{is_written, objects_in, written_features}
@@ -34,14 +35,14 @@ use Rattle.round_trip.specs.Copied.{copied, object_copied, renamed}
 use Rattle.round_trip.proofs.ContainLemmas.{reference-plain}
 use Rattle.round_trip.proofs.EndLemmas.{written-of}
 use Rattle.round_trip.proofs.ListLemmas.{any-in, any-none}
-use Rattle.round_trip.proofs.SideLemmas.{among-class, first-set, target-of}
+use Rattle.round_trip.proofs.SideLemmas.{among-class, first-set}
 use Rattle.round_trip.proofs.ValuesListLemmas.{behind, in-front, is-kept}
 use Rattle.doc_writer.proofs.PlainLemmas.{attribute-plain, is_plain}
 use Rattle.reloading.proofs.StoredLemmas.{not-set, set-some, stored-of}
 
 ---------------------------------------------------------------- contents of different features
 
--- what is under a feature, where each content is of another one
+-- the values under a feature, if each content is of a different feature
 under : (vals : FeatureNo → List Value) (gs : List FeatureNo) (f : FeatureNo) → IsDistinct same_feature gs
     → flat_map (λ (c : Content). if same_feature f c.feature then c.values else []) (map (λ g. record { feature = g; values = vals g }) gs) ≡ (if list_any (same_feature f) gs then vals f else [])
 unfolding IsDistinct
@@ -83,7 +84,7 @@ reference-written s legal o f i x reference plain at = by (values_at s e) refl a
         let like = reference-plain s.metamodel f reference in
         let set : is_set r d ≡ true =
         ap (λ (zs : List Value). ends.is_set (shape s.metamodel f) (record { values = shown (shape s.metamodel f).is_single zs; flag = r.flag d })) is
-        ∙ first-set (shape s.metamodel f) y ys (r.flag d) like.0 like.1 (target-of r f y two.1) in
+        ∙ first-set (shape s.metamodel f) y ys (r.flag d) like.0 like.1 (target-legal r f y two.1) in
         is-kept (is_written r o) (all_features_of r (node.Object o)) f (among-class r o f two.0) (λ j. set j && not (plain j))
 
 ---------------------------------------------------------------- what is no proxy
@@ -121,11 +122,11 @@ module _ (s : Model) (legal : IsLegal s) (k : ResourceNo) where
     abbrev e : End
     e = at_end (node.Object o) f
 
-    -- what the document has there
+    -- the values that the document has there
     abbrev copy : List Value
     copy = values_in (copied (reading s) k) (record { 0 = i }) f
 
-    -- a feature that is written has what is there
+    -- a feature that is written has its values in the document
     values-written : copy ≡ (if list_any (same_feature f) (written_features r o) then map (renamed r os) (values_at s e) else [])
     values-written =
         ap (λ (x : Option DocObject). option_map_or (λ y. values_under y f) x []) (object-in r k o i at)
@@ -135,7 +136,7 @@ module _ (s : Model) (legal : IsLegal s) (k : ResourceNo) where
     is-written has set plain =
         any-in (same_feature f) (written_features r o) f (is-kept (is_written r o) (all_features_of r (node.Object o)) f (among-class r o f has) (λ j. set j && not (plain j))) (eq-eqb f.0 f.0 refl)
 
-    -- a reference that is no container reference has, in the document, what is there
+    -- a reference that is no container reference has its values in the document
     pub reference-values : (shape s.metamodel f).is_reference ≡ true → lookups.is_container s.metamodel f ≡ false → copy ≡ map (renamed r os) (values_at s e)
     reference-values reference plain =
         values-written
@@ -150,7 +151,7 @@ module _ (s : Model) (legal : IsLegal s) (k : ResourceNo) where
             let written = reference-written s legal o f 0 x reference plain (ap (λ (vs : List Value). slice_get vs 0) is) in
             absurd (true≢false (sym (any-in (same_feature f) (written_features r o) f written (eq-eqb f.0 f.0 refl)) ∙ none))
 
-    -- an attribute shows and flags what it did
+    -- an attribute has the same values and the same flag as before
     pub record IsAttribute : Type 0 where
       pub values : attribute_values (shape s.metamodel f) copy ≡ values_at s e
       pub flag : ((shape s.metamodel f).is_unsettable && ((shape s.metamodel f).is_single && not (is_nil copy))) ≡ r.flag e

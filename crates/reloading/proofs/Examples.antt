@@ -1,5 +1,5 @@
--- Folders in two resources: a folder has another in it, which likes it, and likes the folder of the other resource. Once it is loaded
--- alone, a proxy stands for that.
+-- Folders in two resources: a folder contains another one, which likes the first and the folder of the other resource. If the first
+-- resource is loaded alone, a proxy stands for the other folder.
 use Rattle.std.specs.Prelude.{ℕ, [], ◌∷◌, codes, map, Some}
 use Rattle.std.proofs.Common.{◌≡◌, refl}
 use Rattle.std.specs.Fmt.{digits}
@@ -33,7 +33,7 @@ meaning-of-objects : map (meant whole) (whole.values (end_of (o 2) 2)) ≡ map (
 unfolding digits
 meaning-of-objects = refl
 
--- but it is no object
+-- the name of a proxy is not that of its object
 other-name : map (named halfway) (halfway.values (end_of (o 2) 2)) ≡ By (Some (codes "http://m.example/a#/")) ∷ Plain (value.Proxy (codes "http://m.example/b#/")) ∷ []
 unfolding digits
 other-name = refl

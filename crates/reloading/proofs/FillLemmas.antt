@@ -1,4 +1,4 @@
--- The document of a resource that is loaded, while loads go on: nothing refuses it, its objects have their images, and all else stays.
+-- Loading the document of one more resource: nothing refuses it, its objects have their images, and everything else stays.
 use Rattle.std.proofs.Common.{◌≡◌, ◌∙◌, ℕ, zero, suc, ◌+◌, ◌<◌, ◌≤◌, Bool, true, false, List, [], ◌∷◌, ◌++◌, Some, append-nil, flat_map, length, length-append, map, nat_le, nat_lt, slice_get, if◌then◌else◌, arith, eq-eqb, eqb-true, refl, sym, ap, subst}
 use Rattle.std.specs.Prelude.{is_some}
 use Rattle.std.specs.List.{IsDistinct}
@@ -82,7 +82,7 @@ module _ (s : Model) (legal : IsLegal s) (steady : HasSteadyTexts s) (saved : Is
   unfolding copied
   doc-length = length-map (objects_in r k) (object_copied r (objects_in r k))
 
-  -- all objects so far, and those of the document
+  -- the number of all objects so far and of the objects of the document
   more-count : length w.objects + length (objects_in r k) ≡ length (flat_map (objects_in r) more)
   more-count =
       (λ i. so_far.count i + length (objects_in r k))
@@ -129,7 +129,7 @@ module _ (s : Model) (legal : IsLegal s) (steady : HasSteadyTexts s) (saved : Is
       at-number : slice_get (map (uri_of r) made) j.0 ≡ Some (uri_of r k)
       at-number = mapped (uri_of r) made j.0 k (numbered made k filling.there).there
 
-  -- another resource has another number
+  -- a different resource has a different number
   other-number : (i : ResourceNo) → has made i ≡ true → is_same i k ≡ false → roots_end r j ≡ roots_end r (number_of made i) → ⊥
   other-number i h other same =
       let number : j ≡ number_of made i = same_Some j (number_of made i) (ap (λ d. resource_node d.node) same) in

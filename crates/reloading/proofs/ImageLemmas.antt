@@ -7,7 +7,6 @@ use Rattle.std.proofs.lemmas.Bool.{and_parts, false≢true}
 use Rattle.std.proofs.lemmas.List.{length-map}
 use Rattle.std.proofs.lemmas.Option.{none-some, same_Some}
 use Rattle.mm_types.specs.Lookups as lookups
-use Rattle.mm_types.specs.OfDocument.{IsOfDocument}
 use Rattle.mm_types.specs.Resolved.{Metamodel}
 use Rattle.mm_types.specs.Same.{is_nil, same_object}
 use Rattle.mm_types.specs.Shapes.{is_containment, shape}
@@ -24,7 +23,7 @@ use Rattle.links.specs.Links.{Links}
 use Rattle.models.specs.Legal.{IsLegal}
 use Rattle.models.specs.Model.{Model, kept_flag, kept_values, model_of, reading, values_at}
 use Rattle.models.specs.Reading.{Reading, at_end, contents_end, object_of, objects_of}
-use Rattle.containment.proofs.PartLemmas.{contains-itself, contains-reference, holder-at, kinds-are}
+use Rattle.containment.proofs.PartLemmas.{contains-itself, contains-reference, holder-at}
 use Rattle.containment.specs.Above.{resource_of}
 use Rattle.fragment_paths.proofs.HeldLemmas.{held}
 use Rattle.fragment_paths.proofs.ImageLemmas.{address-image, path-image}
@@ -40,7 +39,7 @@ use Rattle.resource_docs.specs.declared.doc.DocObject.{DocObject}
 use Rattle.doc_loader.specs.Loading.{loaded, loaded_value}
 use Rattle.doc_loader.proofs.SoundLemmas.{at-map}
 use Rattle.round_trip.specs.Copied.{copied, object_copied, renamed, root_copied}
-use Rattle.round_trip.proofs.ContainLemmas.{reference-plain}
+use Rattle.round_trip.proofs.ContainLemmas.{reference-plain, plain-containment}
 use Rattle.round_trip.proofs.InsideLemmas.{written-inside}
 use Rattle.round_trip.proofs.ListLemmas.{map-twice, mapped-at}
 use Rattle.round_trip.proofs.OrderLemmas.{objects-apart, position-there, there-position}
@@ -59,18 +58,6 @@ use Rattle.reloading.proofs.MeaningLemmas.{map-get}
 use Rattle.reloading.proofs.NumberLemmas.{image-is, place-in, renamed-inside, value-inside}
 use Rattle.doc_writer.proofs.PlainLemmas.{attribute-plain, is_plain}
 use Rattle.reloading.proofs.StoredLemmas.{stored-of}
-
--- a reference that contains is no container reference
-part-out : (m : Metamodel) → IsOfDocument m → (f : FeatureNo) → is_containment m f ≡ true → lookups.is_container m f ≡ false
-part-out m d f contains =
-    elim (lookups.is_container m f) as (λ b. lookups.is_container m f ≡ b → b ≡ false) [
-      | true ↦ λ container.
-          let far = container-reference m d f container in
-          let ok = kinds-are m d in
-          let same = same_Some f far.opposite (sym (contains-itself f (shape m f).containing contains) ∙ ok.one_container f far.opposite far.pair ∙ contains-itself far.opposite (shape m far.opposite).containing far.contains) in
-          absurd (ok.two f far.opposite far.pair (ap (λ (x : FeatureNo). x.0) (sym same)))
-      | false ↦ λ _. refl
-    ] refl
 
 not-nil : (v : Value) (vs : List Value) → v ∷ vs ≡ [] → ⊥
 not-nil v vs same = false≢true (ap is_nil same)
@@ -192,7 +179,7 @@ module _ (s : Model) (w : ValuesState) (c : Links) (legal : IsLegal s) (other : 
       ∙ ap (map (loaded_value n)) (reference-values s legal k o at.number f at.there reference plain)
       ∙ map-twice (renamed r os) (loaded_value n) (values_at s (at_end (node.Object o) f))
 
-  -- the holder of an object of the resource is in it
+  -- the container of an object of the resource is in the resource
   up-inside : (o b : ObjectNo) (f : FeatureNo) → IsInside o → holder s.links (node.Object o) ≡ Some (at_end (node.Object b) f) → IsInside b
   up-inside o b f inside up = sym (resource-part s legal o (at_end (node.Object b) f) b up refl) ∙ inside
 
@@ -219,12 +206,12 @@ module _ (s : Model) (w : ValuesState) (c : Links) (legal : IsLegal s) (other : 
         let q = position_in (reading s) e o in
         let above = place h (up-inside o h f inside up) in
         let written : IsWrittenWith doc (record { 0 = above.number }) f number =
-        (q, ap (λ (vs : List Value). slice_get vs q) (reference-values s legal k h above.number f above.there refers (part-out m legal.metamodel f is.contains)) ∙ at-map (renamed r os) (values_at s e) q (value.Object o) there.here ∙ ap (λ (x : Value). Some x) (renamed-is o at)) in
+        (q, ap (λ (vs : List Value). slice_get vs q) (reference-values s legal k h above.number f above.there refers (plain-containment m legal.metamodel f is.contains)) ∙ at-map (renamed r os) (values_at s e) q (value.Object o) there.here ∙ ap (λ (x : Value). Some x) (renamed-is o at)) in
         ap (λ (x : ObjectNo). values_at u (at_end (node.Object x) g)) (new-is o at)
         ∙ now.objects.containers number (record { 0 = above.number }) g f own written
         ∙ ap (λ (x : ObjectNo). value.Object x ∷ []) (sym (new-is h above))
 
-    -- what is named as the object is the object
+    -- a value with the name of an object is this object
     named-only : (x : Value) → renamed r os x ≡ value.Object number → x ≡ value.Object o
     named-only (value.Object y) same = by (position (same_object y) os) refl same
       where
@@ -251,7 +238,7 @@ module _ (s : Model) (w : ValuesState) (c : Links) (legal : IsLegal s) (other : 
             none-some (value.Object number) (sym (ap (λ (x : Option DocObject). slice_get (option_map_or (λ y. values_under y f) x []) i) none_in) ∙ there)
         by (Some h) is_some =
             let e = at_end (node.Object h) f in
-            let x = mapped-at (renamed r os) (values_at s e) i (value.Object number) (ap (λ (vs : List Value). slice_get vs i) (sym (reference-values s legal k h b.0 f is_some refers (part-out m legal.metamodel f is.contains))) ∙ there) in
+            let x = mapped-at (renamed r os) (values_at s e) i (value.Object number) (ap (λ (vs : List Value). slice_get vs i) (sym (reference-values s legal k h b.0 f is_some refers (plain-containment m legal.metamodel f is.contains))) ∙ there) in
             let here = x.1 ∙ ap (λ (y : Value). Some y) (named-only x.0 x.2) in
             let up = holder-at s legal (node.Object h) f is.contains i o here in
             not-nil (value.Object h) [] (sym (held-by s legal g is o h up) ∙ nothing)
@@ -268,7 +255,7 @@ module _ (s : Model) (w : ValuesState) (c : Links) (legal : IsLegal s) (other : 
             by-holder h up
             ∙ sym (ap (map as_new) (held-by s legal g is o h up) ∙ ap (λ (x : Value). x ∷ []) (seen-object h (up-inside o h f inside up)))
 
-  -- each end has what stood there
+  -- each end of an image has the values of the saved end, renamed as in the image
   pub image-values : (o : ObjectNo) (f : FeatureNo) → IsInside o → values_at u (at_end (node.Object (new o)) f) ≡ map as_new (values_at s (at_end (node.Object o) f))
   image-values o f inside =
       elim (shape m f).is_reference as (λ b. (shape m f).is_reference ≡ b → values_at u (at_end (node.Object (new o)) f) ≡ map as_new (values_at s (at_end (node.Object o) f))) [

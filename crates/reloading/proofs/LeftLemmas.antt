@@ -1,4 +1,4 @@
--- How many proxies are left: one fewer if a value that is no proxy takes the place of one; and if none are, no proxy is anywhere.
+-- The number of proxies that are left: one fewer if a value that is no proxy replaces one; and if the number is 0, no end has a proxy.
 use Rattle.std.proofs.Common.{◌≡◌, ◌∙◌, ℕ, zero, suc, ◌+◌, ◌<◌, Bool, true, false, ◌&&◌, List, [], ◌∷◌, Option, Some, None, filter, flat_map, inl, inr, is_some, length, length-append, map, nat_eq, slice_get, slice_set, if◌then◌else◌, arith, refl, sym, ap, subst}
 use Rattle.std.specs.Prelude.{option_and_then}
 use Rattle.std.specs.List.{IsDistinct, range_with_len}
@@ -7,6 +7,7 @@ use Rattle.std.proofs.lemmas.Bool.Decides.{nat_tests}
 use Rattle.std.proofs.lemmas.List.{length-set}
 use Rattle.std.proofs.lemmas.List.FromFn.{get_or-range_with_len, length-range_with_len}
 use Rattle.std.proofs.lemmas.Option.{get_or_from_slice_get, none-some, same_Some, slice_get-get_or, slice_get_within}
+use Rattle.std.proofs.Math.Bool.{and-false}
 use Rattle.mm_types.specs.Lookups as lookups
 use Rattle.mm_types.specs.Same.{same_end, same_feature, same_node}
 use Rattle.mm_types.specs.Shapes.{is_containment, shape}
@@ -36,6 +37,7 @@ use Rattle.proxies.specs.declared.site.ProxySite.{ProxySite}
 use Rattle.proxies.proofs.ReplacedLemmas.{get-set}
 use Rattle.reloading.specs.Proxies.{HasNoProxy, proxies_len}
 use Rattle.doc_writer.proofs.PlainLemmas.{reference-of}
+use Rattle.mm_meta.proofs.OwnerLemmas.{nat_eq-turned}
 
 ---------------------------------------------------------------- what passes a test
 
@@ -53,7 +55,7 @@ module _ {X : Type 0} (p q : X → Bool) where
       let rest = pass-alike xs (λ j y at. same (suc j) y at) in
       count (p x) x (filter p xs) ∙ (λ i. as_one (same 0 x refl i) + rest i) ∙ sym (count (q x) x (filter q xs))
 
-  -- if one element passes no more, and each other as before
+  -- if one element no longer passes a test, and each other passes as before
   one-passes-less : (xs : List X) (i : ℕ) (a : X) → slice_get xs i ≡ Some a → p a ≡ true → q a ≡ false → ((j : ℕ) (x : X) → slice_get xs j ≡ Some x → (j ≡ i → ⊥) → p x ≡ q x)
       → length (filter p xs) ≡ suc (length (filter q xs))
   one-passes-less [] i a at before now same = absurd (none-some a at)
@@ -80,7 +82,7 @@ module _ {X Y : Type 0} (g h : X → List Y) where
       let rest = as-many xs (λ j y at. same (suc j) y at) in
       length-append (g x) (flat_map g xs) ∙ (λ i. here i + rest i) ∙ sym (length-append (h x) (flat_map h xs))
 
-  -- if one element gives one fewer, and each other as many
+  -- if one element gives one result fewer, and each other as many as before
   one-fewer-in : (xs : List X) (i : ℕ) (a : X) → slice_get xs i ≡ Some a → ((j : ℕ) (x : X) → slice_get xs j ≡ Some x → (j ≡ i → ⊥) → length (g x) ≡ length (h x)) → length (g a) ≡ suc (length (h a))
       → length (flat_map g xs) ≡ suc (length (flat_map h xs))
   one-fewer-in [] i a at same fewer = absurd (none-some a at)
@@ -97,16 +99,13 @@ module _ {X Y : Type 0} (g h : X → List Y) where
       let two = length-append (h x) (flat_map h xs) in
       omega (arith, here, rest, one, two)
 
-turned : (a b : ℕ) → nat_eq a b ≡ nat_eq b a
-turned a b = grind (arith, nat_tests)
-
 -- features at two indexes of a list without repeats are two
 distinct-at : (fs : List FeatureNo) (j k : ℕ) (f g : FeatureNo) → IsDistinct same_feature fs → slice_get fs j ≡ Some g → slice_get fs k ≡ Some f → (j ≡ k → ⊥) → same_feature f g ≡ false
 unfolding IsDistinct
 distinct-at [] j k f g d first second other = absurd (none-some g first)
 distinct-at (x ∷ xs) zero zero f g d first second other = absurd (other refl)
 distinct-at (x ∷ xs) zero (suc k) f g d first second other =
-    turned f.0 g.0 ∙ ap (λ (y : FeatureNo). same_feature y f) (sym (same_Some x g first)) ∙ of-each (λ y. same_feature x y ≡ false) xs f d.0 (stands xs k f second)
+    nat_eq-turned f.0 g.0 ∙ ap (λ (y : FeatureNo). same_feature y f) (sym (same_Some x g first)) ∙ of-each (λ y. same_feature x y ≡ false) xs f d.0 (stands xs k f second)
 distinct-at (x ∷ xs) (suc j) zero f g d first second other =
     ap (λ (y : FeatureNo). same_feature y g) (sym (same_Some x f second)) ∙ of-each (λ y. same_feature x y ≡ false) xs g d.0 (stands xs j g first)
 distinct-at (x ∷ xs) (suc j) (suc k) f g d first second other = distinct-at xs j k f g d.1 first second (λ q. other (ap suc q))
@@ -133,13 +132,9 @@ set-own (x ∷ xs) (suc i) w v at = set-own xs i w v at
 set-other : (vs : List Value) (i : ℕ) (w v : Value) → slice_get vs i ≡ Some v → (j : ℕ) → (j ≡ i → ⊥) → slice_get (slice_set vs i w) j ≡ slice_get vs j
 set-other vs i w v at j other = elim (get-set vs i w v at j) [ inl h ↦ absurd (other h.0) | inr h ↦ h ]
 
-and-false : (b : Bool) → (b && false) ≡ false
-and-false true = refl
-and-false false = refl
-
 ---------------------------------------------------------------- one end
 
--- the reading, where other values are at the ends
+-- the reading with other values at the ends
 abbrev pub with_values : Reading → (End → List Value) → Reading
 with_values r values = record r { values = values }
 
@@ -164,7 +159,7 @@ module _ (r : Reading) (values : End → List Value) (o : ObjectNo) (f : Feature
       → is_proxy_site r p ≡ is_proxy_site (with_values r values) p
   alike-at j p at same = subst (λ (x : ProxySite). is_proxy_site r x ≡ is_proxy_site (with_values r values) x) (at-slot o f (length (r.values d)) j p at) same
 
-  -- of as many values
+  -- the positions depend only on the number of values
   of-length : length (values d) ≡ length (r.values d) → length (sites_under (with_values r values) o f) ≡ length (filter (is_proxy_site (with_values r values)) (slots o f (length (r.values d))))
   of-length long = ap (λ (n : ℕ). length (filter (is_proxy_site (with_values r values)) (slots o f n))) long
 
@@ -174,7 +169,7 @@ module _ (r : Reading) (values : End → List Value) (o : ObjectNo) (f : Feature
       (λ j p at. alike-at j p at (ap (λ (vs : List Value). is_proxy (slice_get vs j)) (sym same)))
       ∙ sym (of-length (ap (λ (vs : List Value). length vs) same))
 
-  -- a value that is no proxy takes the place of a proxy
+  -- a value that is no proxy replaces a proxy
   one-at : (i : ℕ) (t : List ℕ) (v : Value) → slice_get (r.values d) i ≡ Some (value.Proxy t) → text_of v ≡ None → values d ≡ slice_set (r.values d) i v
       → length (sites_under r o f) ≡ suc (length (sites_under (with_values r values) o f))
   one-at i t v here plain now =
@@ -261,7 +256,7 @@ module _ (s : Model) (legal : IsLegal s) where
       let contains : is_containment s.metamodel f ≡ true = ap (is_containment s.metamodel) same ∙ contents-contains s.metamodel in
       false≢true (all-passing lookups.is_object (values_at s e) i (value.Proxy t) (all-objects s e legal contains) here)
 
-  -- if no proxy is left, none is anywhere
+  -- if no proxy is left, no end has a proxy
   pub none-left : proxies_len (reading s) ≡ 0 → HasNoProxy (reading s)
   none-left zero_left e t there = let at = place-of (values_at s e) (value.Proxy t) there in by e.node refl at.0 at.1
     where

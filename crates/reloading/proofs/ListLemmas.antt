@@ -10,20 +10,20 @@ use Rattle.mm_types.specs.declared.value.Value.{Value}
 use Rattle.mm_types.specs.declared.value.Value.TheVariants as value
 use Rattle.models.proofs.PlaceLemmas.{index-at}
 
--- to write another value of the same name over one changes no name
+-- writing a value of the same name over another one changes no name
 pub set-name : {X Y : Type 0} (g : X → Y) (xs : List X) (i : ℕ) (x y : X) → slice_get xs i ≡ Some x → g y ≡ g x → map g (slice_set xs i y) ≡ map g xs
 set-name g [] i x y here same = absurd (none-some x here)
 set-name g (z ∷ zs) zero x y here same = let one = same ∙ ap g (sym (same_Some z x here)) in λ j. one j ∷ map g zs
 set-name g (z ∷ zs) (suc i) x y here same = ap (λ ys. g z ∷ ys) (set-name g zs i x y here same)
 
--- nor does it put another value in or out
+-- it does not change whether a third value is in the list
 pub set-other : (vs : List Value) (i : ℕ) (old v z : Value) → slice_get vs i ≡ Some old → same_value z old ≡ false → same_value z v ≡ false → has_value (slice_set vs i v) z ≡ has_value vs z
 set-other [] i old v z here first second = absurd (none-some old here)
 set-other (w ∷ ws) zero old v z here first second =
     ap (λ (b : Bool). b || has_value ws z) (second ∙ sym (ap (same_value z) (same_Some w old here) ∙ first))
 set-other (w ∷ ws) (suc i) old v z here first second = ap (λ (b : Bool). same_value z w || b) (set-other ws i old v z here first second)
 
--- what a value was written over is no longer there, if it was there once
+-- a value that was overwritten is no longer in the list, if it was there once
 pub data IsSet (vs : List Value) (i : ℕ) (v x : Value) (k : ℕ) : Type 0 where
   New : x ≡ v → IsSet vs i v x k
   Old : (k ≡ i → ⊥) → slice_get vs k ≡ Some x → IsSet vs i v x k

@@ -1,4 +1,4 @@
--- Once all resources of a model without proxies were loaded, they leave that model, partly resolved.
+-- After all resources of a model without proxies were loaded, the result is that model, partly resolved.
 use Rattle.std.proofs.Common.{◌≡◌, ◌∙◌, ℕ, zero, suc, Bool, true, false, not, List, [], ◌∷◌, Option, Some, None, is_some, length, map, nat_eq, nat_lt, slice_get, unwrap_or, eq-eqb, eqb-true, arith, refl, sym, ap}
 use Rattle.std.specs.Prelude.{Contains, option_and_then, position}
 use Rattle.std.specs.Option.{option_map_or}
@@ -94,7 +94,7 @@ module _ (s : Model) (legal : IsLegal s) (steady : HasSteadyTexts s) (saved : Is
       by None is h = absurd (none-some o h)
       by (Some a) is h = (a, is)
 
-  -- what is under a feature of an object of a resource has an address
+  -- an object under a feature of an object of a resource has an address
   value-address : (k : ResourceNo) (o : ObjectNo) (f : FeatureNo) (i : ℕ) (c : ObjectNo) → resource_of (above s.links) o ≡ Some k → slice_get (values_at s (at_end (node.Object o) f)) i ≡ Some (value.Object c) → (a : List ℕ) × (address r c ≡ Some a)
   value-address k o f i c inside here =
       let reference = reference-of s legal (at_end (node.Object o) f) i (value.Object c) here refl in
@@ -189,7 +189,7 @@ module _ (s : Model) (legal : IsLegal s) (steady : HasSteadyTexts s) (saved : Is
             ap (λ (x : Option ℕ). meant (reading t) (loaded_value (base k) (option_map_or (λ i. value.Object (record { 0 = i })) x (value.Proxy (unwrap_or (address r c) []))))) nowhere
             ∙ ap (λ (x : Option (List ℕ)). By (Some (unwrap_or x []))) is ∙ ap By (sym is)
 
-    -- a value of an object means what it meant
+    -- a value of an object means the same as before
     value-means : (k : ResourceNo) (v : Value) → has filled k ≡ true → ((c : ObjectNo) → v ≡ value.Object c → (a : List ℕ) × (address r c ≡ Some a)) → meant (reading t) (as_new k v) ≡ meant r v
     value-means k (value.Object c) loaded known = let a = known c refl in object-means k c a.0 loaded a.1
     value-means k (value.Proxy u) loaded known = refl
@@ -235,7 +235,7 @@ module _ (s : Model) (legal : IsLegal s) (steady : HasSteadyTexts s) (saved : Is
         let loaded = filled-of in_it.0 o in_it.1 in
         record { object = new in_it.0 o; at = (so_far.copies in_it.0 loaded).addresses o in_it.1 ∙ is; same = same-at in_it.0 o loaded in_it.1 }
 
-    -- each object is the image of one, and has its address
+    -- each object is the image of an object, and has its address
     from-live : (p : ObjectNo) → is_live (reading t) p ≡ true → (o : ObjectNo) × (address (reading t) p ≡ address r o) × (a : List ℕ) × (address r o ≡ Some a)
     from-live p live =
         let x = so_far.only p (live-made t p live) in
@@ -285,7 +285,7 @@ module _ (s : Model) (legal : IsLegal s) (steady : HasSteadyTexts s) (saved : Is
     some-position : (k : ResourceNo) (c : ObjectNo) → resource_of (above s.links) c ≡ Some k → position (same_object c) (objects_in r k) ≡ None → ⊥
     some-position k c inside nowhere = let place = place-in s legal k c inside in none-some place.number (sym nowhere ∙ place.found)
 
-    -- an object that refers to another has a proxy of it if that is in another resource
+    -- an object that refers to an object of another resource has a proxy of it
     across : (f : FeatureNo) (o c : ObjectNo) (k j : ResourceNo) (y : List ℕ) → Contains (values_at s (at_end (node.Object o) f)) (value.Object c) → resource_of (above s.links) o ≡ Some k → resource_of (above s.links) c ≡ Some j → address r c ≡ Some y
         → has_proxy (reading t) (new k o) f y ≡ not (is_same k j)
     across f o c k j y contains inside far is =

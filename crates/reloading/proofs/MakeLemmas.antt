@@ -1,4 +1,4 @@
--- A resource that is made anew, while loads go on: nothing refuses it, and all else stays.
+-- Making one more resource between loads: nothing refuses it, and everything else stays.
 use Rattle.std.proofs.Common.{◌≡◌, ◌∙◌, ℕ, ◌<◌, Bool, true, false, List, [], ◌∷◌, ◌++◌, Option, Some, length, length-append, nat_lt, slice_get, unwrap_or, if◌then◌else◌, arith, refl, sym, ap}
 use Rattle.std.specs.Prelude.{IsTrue}
 use Rattle.std.specs.List.{IsDistinct}
@@ -120,7 +120,7 @@ module _ (s : Model) (legal : IsLegal s) (steady : HasSteadyTexts s) (saved : Is
   number-same : (j : ResourceNo) → has made j ≡ true → number_of more j ≡ number_of made j
   number-same j before = ap (λ (x : Option ℕ). record { 0 = unwrap_or x 0 }) (position-append (is_same j) made (k ∷ []) (number_of made j).0 (numbered made j before).found ∙ sym (numbered made j before).found)
 
-  -- what has an address keeps it
+  -- an object that has an address keeps it
   address-same : (p : ObjectNo) (a : List ℕ) → address (reading t) p ≡ Some a → address (reading u) p ≡ address (reading t) p
   address-same p a is =
       let at = address-inside t p a is in
@@ -140,7 +140,7 @@ module _ (s : Model) (legal : IsLegal s) (steady : HasSteadyTexts s) (saved : Is
         below = old.below;
       }
 
-  -- a resource that was not there has no roots
+  -- a resource that did not exist has no roots
   none-there : (j : ResourceNo) → has_resource (reading t) j ≡ false → values_at t (roots_end r j) ≡ []
   none-there j away = values-linked t e (contains-reference s.metamodel f f (contains-itself f _ (contents-contains s.metamodel))) ∙ by (end b e) (so_far.legal.links.ends e)
     where

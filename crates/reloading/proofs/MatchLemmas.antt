@@ -1,7 +1,7 @@
 -- What a proxy finds in a model that is one without proxies, partly resolved: its object and, if the reference has an opposite, the proxy
 -- of the same link. So nothing refuses to resolve it.
-use Rattle.std.proofs.Common.{◌≡◌, ◌∙◌, ℕ, zero, suc, Bool, true, false, ◌&&◌, ◌||◌, not, cond, List, [], ◌∷◌, Option, Some, None, is_some, length, nat_lt, slice_get, if◌then◌else◌, arith, refl, sym, ap}
-use Rattle.std.specs.Prelude.{option_and_then, option_map, position}
+use Rattle.std.proofs.Common.{◌≡◌, ◌∙◌, ℕ, Bool, true, false, ◌&&◌, ◌||◌, not, List, Option, Some, None, is_some, length, nat_lt, slice_get, if◌then◌else◌, arith, refl, sym, ap}
+use Rattle.std.specs.Prelude.{option_and_then, option_map}
 use Rattle.std.specs.Option.{option_map_or}
 use Rattle.std.proofs.lemmas.Bool.{false≢true, true≢false}
 use Rattle.std.proofs.lemmas.Bool.Decides.{nat_tests}
@@ -33,7 +33,6 @@ use Rattle.containment.proofs.PartLemmas.{legal-at, takes-same, values-linked}
 use Rattle.fragment_paths.proofs.StayLemmas.{address-finds}
 use Rattle.fragment_paths.specs.Finding.{at, found_by}
 use Rattle.fragment_paths.specs.Fragments.{address}
-use Rattle.doc_parts.proofs.WayLemmas.{position_cons}
 use Rattle.round_trip.proofs.ValuesListLemmas.{stands}
 use Rattle.handshake.specs.Refusals.{early_refusal, late_refusal}
 use Rattle.proxies.specs.Refusals.{is_mistyped, target_refusal}
@@ -48,27 +47,13 @@ use Rattle.reloading.specs.Between.{Between}
 use Rattle.reloading.specs.Proxies.{HasNoProxy}
 use Rattle.reloading.proofs.MeaningLemmas.{IsFrom, back-at, found-of, from-of, one-place, owner-live}
 use Rattle.doc_writer.proofs.PlainLemmas.{reference-of}
+use Rattle.doc_loader.proofs.MadeLemmas.{first-at}
 
 ---------------------------------------------------------------- the first that passes a test
 
--- a test that something passes is passed first by something
-position-of : {X : Type 0} (p : X → Bool) (xs : List X) (k : ℕ) (x : X) → slice_get xs k ≡ Some x → p x ≡ true → (j : ℕ) × (y : X) × (position p xs ≡ Some j) × (slice_get xs j ≡ Some y) × (p y ≡ true)
-position-of p [] k x at passes = absurd (none-some x at)
-position-of {X} p (z ∷ zs) k x at passes =
-    elim (p z) as (λ b. p z ≡ b → (j : ℕ) × (y : X) × (position p (z ∷ zs) ≡ Some j) × (slice_get (z ∷ zs) j ≡ Some y) × (p y ≡ true)) [
-      | true ↦ λ here. (0, z, position_cons p z zs ∙ ap (λ (b : Bool). cond b (Some 0) (option_map suc (position p zs))) here, refl, here)
-      | false ↦ λ not_here.
-          let rest = position-of p zs (later k at not_here).0 x (later k at not_here).1 passes in
-          (suc rest.0, rest.1, position_cons p z zs ∙ (λ i. cond (not_here i) (Some 0) (option_map suc (rest.2 i))), rest.3, rest.4)
-    ] refl
-  where
-    later : (k : ℕ) → slice_get (z ∷ zs) k ≡ Some x → p z ≡ false → (j : ℕ) × (slice_get zs j ≡ Some x)
-    later zero at no_pass = absurd (true≢false (sym passes ∙ ap p (sym (same_Some z x at)) ∙ no_pass))
-    later (suc j) at no_pass = (j, at)
-
 ---------------------------------------------------------------- a proxy
 
--- a proxy that is left: s has none, t is s partly resolved, and the proxy is in t
+-- a proxy that is left: s has no proxies, t is s partly resolved, and the proxy is in t
 pub record LeftProxy : Type 0 where
   pub s : Model
   pub w : ValuesState
@@ -83,7 +68,7 @@ pub record LeftProxy : Type 0 where
   pub text : List ℕ
   pub here : slice_get (values_at (model_of s.metamodel w c) (at_end (node.Object p) f)) i ≡ Some (value.Proxy text)
 
--- the model that it is in, and its end
+-- the model of the proxy, and its end
 abbrev pub place : LeftProxy → record { t : Model; e : End }
 place left = record { t = model_of left.s.metamodel left.w left.c; e = at_end (node.Object left.p) left.f }
 
@@ -103,7 +88,7 @@ module _ (left : LeftProxy) where
   pub has : has_feature (reading t) (node.Object p) f ≡ true
   has = owned.1
 
-  -- the object that its owner was saved from, and what the owner had there
+  -- the object as which the owner was saved, and the value that it had there
   pub from : IsFrom s w c legal other none between p
   from = from-of s w c legal other none between p live
 
@@ -145,7 +130,7 @@ module _ (left : LeftProxy) where
 
   ---------------------------------------------------------------- its match
 
-  -- the proxy of the same link at the opposite end is that of the owner
+  -- the proxy of the same link at the opposite end is the proxy of the owner
   pub record IsMatched (g : FeatureNo) : Type 0 where
     pub index : ℕ
     pub found : counterpart (reading t) e goal ≡ Some (record { end = far_end goal g; index = index })
@@ -160,7 +145,7 @@ module _ (left : LeftProxy) where
       let k = index_in (values_at t d) (value.Proxy from.text) in
       let leads : leads_to q (node.Object p) (value.Proxy from.text) ≡ true =
       ap (λ (x : Option ObjectNo). option_map_or (λ o. same_node (node.Object o) (node.Object p)) x false) (address-finds t other p from.text from.now) ∙ same_node-self (node.Object p) in
-      let first = position-of (leads_to q (node.Object p)) (values_at t d) k (value.Proxy from.text) (index-at (values_at t d) (value.Proxy from.text) has_far) leads in
+      let first = first-at (leads_to q (node.Object p)) (values_at t d) k (value.Proxy from.text) (index-at (values_at t d) (value.Proxy from.text) has_far) leads in
       let u = leads-proxy q (node.Object p) first.1 first.4 in
       record {
         index = first.0;
@@ -200,7 +185,7 @@ module _ (left : LeftProxy) where
       takes-same s.metamodel (class_of w) (class_of s.values) f goal aim goal-same.class
       ∙ (legal-at (reading s) (at_end (node.Object from.object) f) (end s.links (at_end (node.Object from.object) f)) i (value.Object aim) (legal.links.ends (at_end (node.Object from.object) f)) aim-linked).1
 
-  -- the object is not there yet
+  -- the end does not have the object yet
   pub absent : has_value (values_at t e) (value.Object goal) ≡ false
   absent =
       elim (has_value (values_at t e) (value.Object goal)) as (λ b. has_value (values_at t e) (value.Object goal) ≡ b → b ≡ false) [

@@ -1,5 +1,5 @@
--- If a model is one without proxies, partly resolved, a text that a value means leads from one to the other: to an object there, and from
--- an object there to a value here, at the same position.
+-- In a partly resolved model, the text that a value means leads to an object of the saved model, and a value of that object leads back to a
+-- value here, at the same position.
 use Rattle.std.proofs.Common.{◌≡◌, ◌∙◌, ℕ, zero, suc, Bool, true, false, List, [], ◌∷◌, Option, Some, None, is_some, map, slice_get, refl, sym, ap, subst}
 use Rattle.std.specs.Prelude.{option_map}
 use Rattle.std.specs.Option.{option_map_or}
@@ -45,7 +45,7 @@ by_of : Named → Option (List ℕ)
 by_of (By t) = t
 by_of (Plain v) = None
 
--- if no proxy is, a text means an object
+-- without proxies a text means an object
 means-object : (r : Reading) (v : Value) (t : List ℕ) → meant r v ≡ By (Some t) → ((u : List ℕ) → v ≡ value.Proxy u → ⊥) → (b : ObjectNo) × (v ≡ value.Object b) × (address r b ≡ Some t)
 unfolding by_of
 means-object r (value.Object b) t h other = (b, refl, ap by_of h)
@@ -57,7 +57,7 @@ means-object r (value.Text x) t h other = absurd (none-some t (ap by_of h))
 means-object r (value.Literal x) t h other = absurd (none-some t (ap by_of h))
 means-object r (value.Adapter x) t h other = absurd (none-some t (ap by_of h))
 
--- an object has a value of a reference, which means a text, at most at one position
+-- an object has a value of a reference that means a text at most at one position
 module _ (s : Model) (w : ValuesState) (c : Links) (legal : IsLegal s) (other : IsLegal (model_of s.metamodel w c)) (none : HasNoProxy (reading s)) where
   abbrev t : Model
   t = model_of s.metamodel w c
@@ -93,7 +93,7 @@ module _ (s : Model) (w : ValuesState) (c : Links) (legal : IsLegal s) (other : 
         (ap (λ (vs : List Value). slice_get vs k) (sym linked) ∙ b.1 ∙ ap (λ (q : ObjectNo). Some (value.Object q)) one)
 
   module _ (between : Between (reading s) (reading (model_of s.metamodel w c))) where
-    -- what an object at an address was saved from
+    -- the saved object for an object at an address
     pub record IsFrom (p : ObjectNo) : Type 0 where
       pub object : ObjectNo
       pub text : List ℕ
@@ -109,7 +109,7 @@ module _ (s : Model) (w : ValuesState) (c : Links) (legal : IsLegal s) (other : 
         let own : met.object ≡ p = one-address t other met.object p x.0 met.at x.1 in
         record { object = o.0; text = x.0; was = o.1; now = x.1; same = subst (λ (y : ObjectNo). HasSame meant (reading s) (reading t) o.0 y) own met.same }
 
-    -- what a text that an object of s has as its address finds
+    -- the object at a text that is the address of an object of s
     pub found-of : (b : ObjectNo) (y : List ℕ) → address (reading s) b ≡ Some y → (q : ObjectNo) × (address (reading t) q ≡ Some y) × (at (reading t) y ≡ Some q) × HasSame meant (reading s) (reading t) b q
     found-of b y at =
         let met = between.same.there b y at in

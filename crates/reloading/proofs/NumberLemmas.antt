@@ -31,6 +31,6 @@ module _ (s : Model) (legal : IsLegal s) (k : ResourceNo) where
     pub image-is : (o : ObjectNo) (at : IsAt os o) → image (reading s) k n o ≡ loaded n (record { 0 = at.number })
     image-is o at = ap (λ (x : Option ℕ). loaded n (record { 0 = unwrap_or x 0 })) at.found
 
-    -- as a value it becomes what it is named
+    -- as a value the object becomes its name
     pub value-inside : (o : ObjectNo) → resource_of (above s.links) o ≡ Some k → value_image (reading s) k n (value.Object o) ≡ value.Object (image (reading s) k n o)
     value-inside o inside = let at = place-in o inside in ap (loaded_value n) (renamed-inside o at) ∙ ap value.Object (sym (image-is o at))

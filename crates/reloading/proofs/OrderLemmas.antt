@@ -35,7 +35,7 @@ turned k j = by k.0 j.0
 pub self : (k : ResourceNo) → is_same k k ≡ true
 self k = eq-eqb k.0 k.0 refl
 
--- what is found among some is found at its index among more
+-- an element that is found in a list is found at the same index in a longer list
 pub position-append : {X : Type 0} (p : X → Bool) (xs ys : List X) (i : ℕ) → position p xs ≡ Some i → position p (xs ++ ys) ≡ Some i
 position-append p [] ys i h = absurd (none-some i h)
 position-append {X} p (x ∷ xs) ys i h =
@@ -49,7 +49,7 @@ position-append {X} p (x ∷ xs) ys i h =
     by None is none rest = absurd (none-some i none)
     by (Some j) is some rest = ap (option_map suc) (rest j is) ∙ some
 
--- and what is found nowhere among them is found last
+-- an element that is not found in a list is found last after it is appended
 position-last : {X : Type 0} (p : X → Bool) (xs : List X) (y : X) → list_any p xs ≡ false → p y ≡ true → position p (xs ++ y ∷ []) ≡ Some (length xs)
 position-last p [] y none passes = position_cons p y [] ∙ ap (λ (b : Bool). cond b (Some 0) (option_map suc (position p []))) passes
 position-last p (x ∷ xs) y none passes =
@@ -70,7 +70,7 @@ has-before ks k j h = has-last ks k j ∙ or_left (has ks j) (is_same j k || fal
 pub has-own : (ks : List ResourceNo) (k : ResourceNo) → has (ks ++ k ∷ []) k ≡ true
 has-own ks k = has-last ks k k ∙ or_right (has ks k) (is_same k k || false) (or_left (is_same k k) false (self k))
 
--- each is one of those before, or the new one
+-- each resource is one of the earlier ones, or the new one
 pub data IsOneOf (ks : List ResourceNo) (k j : ResourceNo) : Type 0 where
   Before : has ks j ≡ true → IsOneOf ks k j
   Last : j ≡ k → IsOneOf ks k j
@@ -112,7 +112,7 @@ any-number : (ks : List ResourceNo) (q : ℕ) → list_any (nat_eq q) (map (λ (
 any-number [] q = refl
 any-number (k ∷ ks) q = ap (λ (b : Bool). nat_eq q k.0 || b) (any-number ks q)
 
--- different resources of a model are no more than it has
+-- different resources of a model are at most as many as the model has
 pub few-resources : (s : Model) (ks : List ResourceNo) → IsDistinct is_same ks → ((k : ResourceNo) → has ks k ≡ true → has_resource (reading s) k ≡ true) → length ks ≤ length s.values.uris
 few-resources s ks d there =
     let n = length s.values.uris in
@@ -140,7 +140,7 @@ module _ (s : Model) (legal : IsLegal s) where
   inside-of : (k : ResourceNo) (o : ObjectNo) → list_any (same_object o) (objects_in (reading s) k) ≡ true → Contains (objects_in (reading s) k) o
   inside-of k o h = among-found (objects_in (reading s) k) o h
 
-  -- an object of several resources is in one
+  -- an object of several resources is in one of them
   among-all : (ks : List ResourceNo) (o : ObjectNo) → list_any (same_object o) (flat_map (objects_in (reading s)) ks) ≡ true → (k : ResourceNo) × (has ks k ≡ true) × (list_any (same_object o) (objects_in (reading s) k) ≡ true)
   among-all [] o h = absurd (false≢true h)
   among-all (k ∷ ks) o h =
@@ -168,7 +168,7 @@ module _ (s : Model) (legal : IsLegal s) where
             | inr later ↦ none-of is j all.1 later
           ]
 
-  -- the objects of different resources are no more than were made
+  -- the objects of different resources are at most as many as were made
   pub few-objects : (ks : List ResourceNo) → IsDistinct is_same ks → length (flat_map (objects_in (reading s)) ks) ≤ length s.values.objects
   few-objects ks d =
       let os = flat_map (objects_in (reading s)) ks in

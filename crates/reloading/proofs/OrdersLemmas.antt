@@ -1,4 +1,4 @@
--- The loads of all that was saved, one after another, in any order.
+-- The loads of all saved resources, one after another, in any order.
 use Rattle.std.proofs.Common.{List, [], ◌∷◌, ◌++◌, arith, refl}
 use Rattle.std.specs.List.{IsDistinct}
 use Rattle.std.proofs.lemmas.Bool.{false≢true}

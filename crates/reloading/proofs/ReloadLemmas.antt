@@ -1,4 +1,5 @@
--- Resolves, one after another, until no proxy is left: none is refused, there are resolves to the end, and what they lead to is isomorphic.
+-- Resolves, one after another, until no proxy is left: none is refused, there are resolves that lead to the end, and the resulting model is
+-- isomorphic.
 use Rattle.std.proofs.Common.{◌≡◌, ℕ, zero, suc, ◌+◌, ◌<◌, Bool, true, false, List, [], ◌∷◌, Option, Some, None, is_some, length, map, slice_get, if◌then◌else◌, arith, refl, sym}
 use Rattle.std.specs.List.{range_with_len}
 use Rattle.std.proofs.lemmas.Option.{none-some}
@@ -51,12 +52,12 @@ some-proxy r more = by (slice_get (sites r) 0) refl
 ---------------------------------------------------------------- resolves
 
 module _ (s : Model) (legal : IsLegal s) (none : HasNoProxy (reading s)) where
-  -- what resolves do to a partly resolved model
+  -- a partly resolved model after some resolves
   pub record AreDone (t : Model) (cs : List Change) : Type 0 where
     pub allowed : AreAllowed t cs
     pub alike : Alike (reading s) (reading (after_all t cs))
 
-  -- a proxy is resolved, which is one of an object, and then the rest
+  -- a proxy of an object is resolved, and then the rest
   first-resolved : (n : Node) (f : FeatureNo) (i : ℕ) (cs : List Change) → ((w : ValuesState) (b : Links) → IsLegal (model_of s.metamodel w b) → Between (reading s) (reading (model_of s.metamodel w b)) → AreResolves (model_of s.metamodel w b) cs → AreDone (model_of s.metamodel w b) cs)
       → (w : ValuesState) (b : Links) → IsLegal (model_of s.metamodel w b) → Between (reading s) (reading (model_of s.metamodel w b)) → AreResolves (model_of s.metamodel w b) (At (at_end n f) (Resolve i) ∷ cs) → AreDone (model_of s.metamodel w b) (At (at_end n f) (Resolve i) ∷ cs)
   first-resolved (node.Object o) f i cs rest_of w b other between resolves =

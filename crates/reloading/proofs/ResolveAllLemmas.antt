@@ -50,7 +50,7 @@ all-places t legal o f i z at =
     let own = in-all (sites_under r o) (all_features_of r (node.Object o)) of.index f (site o f i) of.own here in
     in-all (λ k. sites_of r (record { 0 = k })) (range_with_len 0 r.next) o.0 o.0 (site o f i) (at-range r.next o.0 of.low) own
 
--- each is the first, or one of the rest
+-- a location is the first, or one of the rest
 data IsFirstOr (p : ProxySite) (ps : List ProxySite) (q : ProxySite) : Type 0 where
   First : q ≡ p → IsFirstOr p ps q
   Rest : Contains ps q → IsFirstOr p ps q
@@ -66,7 +66,7 @@ abbrev AreAt : Model → List ProxySite → Type 0
 AreAt t ps = (o : ObjectNo) (f : FeatureNo) (i : ℕ) (z : List ℕ) → slice_get (values_at t (at_end (node.Object o) f)) i ≡ Some (value.Proxy z) → Contains ps (site o f i)
 
 module _ (s : Model) (legal : IsLegal s) (none : HasNoProxy (reading s)) where
-  -- what is left once these locations are gone through
+  -- the model after these locations were gone through
   record IsSolved (t : Model) (ps : List ProxySite) : Type 0 where
     no_proxy : HasNoProxy (reading (after_each t ps))
     between : Between (reading s) (reading (after_each t ps))
@@ -100,7 +100,7 @@ module _ (s : Model) (legal : IsLegal s) (none : HasNoProxy (reading s)) where
       between = subst (λ (c : Bool). Between (reading s) (reading (if c then after_each t ps else after_each u ps))) (sym is) so.between;
     }
 
-    -- a proxy is resolved, and those that are left are at the other locations
+    -- a proxy is resolved, and the remaining proxies are at the other locations
     solved : is_proxy_site (reading t) p ≡ true → IsSolved t (p ∷ ps)
     solved there =
         let one = resolves-between s w b legal other none between p.object p.feature p.index there in
@@ -113,7 +113,7 @@ module _ (s : Model) (legal : IsLegal s) (none : HasNoProxy (reading s)) where
         by q g k apart (First same) = absurd (apart (ap end_of same) (ap (λ (y : ProxySite). y.index) same))
         by q g k apart (Rest later) = later
 
-    -- if none is any more, nothing happens
+    -- if there is no proxy at a location any more, nothing happens
     passed : is_proxy_site (reading t) p ≡ false → IsSolved t (p ∷ ps)
     passed away = moved-on true (none-at t p away) (rest w b other between (λ q g k z here. by q g k z here (first-or p ps (site q g k) (at q g k z here))))
       where
@@ -142,7 +142,7 @@ module _ (s : Model) (legal : IsLegal s) (none : HasNoProxy (reading s)) where
   all-solved [] w b other between at = record { no_proxy = none-there (model_of s.metamodel w b) other at; between = between }
   all-solved (p ∷ ps) w b other between at = at-place p ps w b other between (λ v a o m h. all-solved ps v a o m h) at
 
--- no proxy, none to count
+-- without proxies the count is 0
 none-counted : (r : Reading) → HasNoProxy r → proxies_len r ≡ 0
 none-counted r none = by (proxies_len r) refl
   where

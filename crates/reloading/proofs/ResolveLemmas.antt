@@ -33,7 +33,7 @@ pub text-at : (q : Option Value) → is_some (option_and_then text_of q) ≡ tru
 text-at None h = absurd (false≢true h)
 text-at (Some v) h = let is = text-is v h in (is.0, ap (λ (w : Value). Some w) is.1)
 
--- no proxy is at a resource, which contains what it has
+-- no proxy is at a resource, since `contents` is a containment
 pub none-at-root : (t : Model) → IsLegal t → (k : ResourceNo) (f : FeatureNo) (i : ℕ) → is_some (proxy_at (reading t) (at_end (node.Resource k) f) i) ≡ true → ⊥
 none-at-root t legal k f i there =
     let e = at_end (node.Resource k) f in

@@ -1,5 +1,5 @@
--- What resolving a proxy makes of each end: an object is where the proxy was, at the opposite end too; all else is as it was. It is read
--- off the notifications of the change, which replay it.
+-- Each end after a proxy is resolved: an object is at the position of the proxy, at the opposite end too; everything else is as it was.
+-- This is computed from the notifications of the change, which replay it.
 use Rattle.std.proofs.Common.{◌≡◌, ◌∙◌, ℕ, zero, suc, not, Bool, true, false, IsTrue, List, [], ◌∷◌, ◌++◌, Option, Some, None, is_some, length, nat_lt, slice_get, slice_set, if◌then◌else◌, option_to_list, arith, refl, sym, ap, subst}
 use Rattle.std.specs.Prelude.{option_and_then, option_map, position}
 use Rattle.std.specs.List.{AllByRecursion, list_all}
@@ -51,7 +51,7 @@ abbrev is_null : Value → Bool
 is_null value.Null = true
 is_null _ = false
 
--- values without the nulls: what an end of a reference has, of what it shows
+-- values without nulls: the values that an end of a reference has, from those that it shows
 abbrev unshown : List Value → List Value
 unshown [] = []
 unshown (v ∷ vs) = if is_null v then unshown vs else v ∷ unshown vs
@@ -96,11 +96,11 @@ unshown-shown false (v ∷ vs) all = unshown-some (v ∷ vs) all
 values-some : (s : Model) → IsLegal s → (e : End) → (shape s.metamodel e.feature).is_reference ≡ true → AreSome (values_at s e)
 values-some s legal e reference = subst AreSome (sym (values-linked s e reference)) (end-some (reading s) e (end s.links e) (legal.links.ends e))
 
--- what a reference has is what it shows, without null
+-- the values of a reference are those that it shows, without null
 from-shown : (s : Model) → IsLegal s → (e : End) → (shape s.metamodel e.feature).is_reference ≡ true → (vs : List Value) → (held_at (reading s) e).values ≡ vs → values_at s e ≡ unshown vs
 from-shown s legal e reference vs is = sym (unshown-shown (shape s.metamodel e.feature).is_single (values_at s e) (values-some s legal e reference)) ∙ ap unshown is
 
--- what resolving makes of what is shown
+-- the shown values after resolving
 resolved-shown : (a : Shape) (vs : List Value) (i : ℕ) (p v : Value) → slice_get vs i ≡ Some p → (a.is_single ≡ true → vs ≡ option_to_list (slice_get vs 0)) → changed a (Resolves i v) (shown a.is_single vs) ≡ slice_set vs i v
 resolved-shown a [] i p v here one = absurd (none-some p here)
 resolved-shown a (w ∷ ws) i p v here one =
@@ -206,14 +206,14 @@ module _ (s : Model) (legal : IsLegal s) (o : ObjectNo) (f : FeatureNo) (i : ℕ
         (ap (λ (h : Held). h.values) now ∙ resolved-shown (shape s.metamodel d.feature) (values_at s d) k p (value.Object b) here (λ single. values-single s d legal reference single))
         ∙ unshown-some (slice_set (values_at s d) k (value.Object b)) (set-some (values_at s d) k (value.Object b) (values-some s legal d reference) refl)
 
-    -- the object is where the proxy was
+    -- the object is at the position of the proxy
     pub own-values : is_far e ≡ false → values_at t e ≡ slice_set (values_at s e) i (value.Object x.object)
     own-values far =
         let found = target-is (reading s) e i x is in
         written e i x.object (value.Proxy found.text) (reference-of s legal e i (value.Proxy found.text) found.proxy refl) found.proxy
         (now-held e ∙ far-silent x.counterpart e (held_at (reading s) e) far ∙ done-here s.metamodel e own_feature_change (held_at (reading s) e) (same_end-self e))
 
-    -- and the owner where its counterpart was
+    -- the owner is at the position of its counterpart
     pub far-values : (c : Counterpart) (p : List ℕ) → x.counterpart ≡ Some c → slice_get (values_at s c.end) c.index ≡ Some (value.Proxy p) → same_end e c.end ≡ false
         → values_at t c.end ≡ slice_set (values_at s c.end) c.index (value.Object o)
     far-values c p there here apart =
@@ -228,7 +228,7 @@ module _ (s : Model) (legal : IsLegal s) (o : ObjectNo) (f : FeatureNo) (i : ℕ
 
     ---------------------------------------------------------------- what contains
 
-    -- neither end contains
+    -- neither end is a containment
     own-alone : (shape s.metamodel f).containing ≡ None
     own-alone =
         let found = target-is (reading s) e i x is in
@@ -254,7 +254,7 @@ module _ (s : Model) (legal : IsLegal s) (o : ObjectNo) (f : FeatureNo) (i : ℕ
           | false ↦ λ _. refl
         ] refl
 
-    -- so all ends that contain are as they were
+    -- so all containments are as they were
     pub parts-kept : (n : Node) (h : FeatureNo) → is_containment s.metamodel h ≡ true → values_at t (at_end n h) ≡ values_at s (at_end n h)
     parts-kept n h contains = other-values (at_end n h) (contains-apart e (at_end n h) contains own-alone) (by x.counterpart refl)
       where
@@ -262,7 +262,7 @@ module _ (s : Model) (legal : IsLegal s) (o : ObjectNo) (f : FeatureNo) (i : ℕ
         by None is = refl
         by (Some c) is = contains-apart c.end (at_end n h) contains (far-alone c is)
 
-    -- and all addresses
+    -- all addresses are as they were
     pub address-kept : (y : ObjectNo) → address (reading t) y ≡ address (reading s) y
     address-kept y = address-stays s.metamodel s.values t.values s.links t.links legal resolved-legal parts-kept refl y
 

@@ -1,4 +1,4 @@
--- What was saved is a document that reading gives, so its load makes images of what was saved.
+-- A saved text is read as a document, so its load makes images of the saved objects.
 use Rattle.std.proofs.Common.{ℕ, List}
 use Rattle.mm_types.specs.declared.numbers.ResourceNo.{ResourceNo}
 use Rattle.mm_values.specs.Values.{ValuesState}
@@ -18,7 +18,7 @@ use Rattle.reloading.proofs.ImageLemmas.{load-images}
 pub saved-document : (s : Model) → IsLegal s → HasSteadyTexts s → (k : ResourceNo) (uri : List ℕ) → IsReadable (reading s) k uri → IsDocument s.metamodel (copied (reading s) k)
 saved-document s legal steady k uri fine = record { uri = uri; read = record { source = document (reading s) k; gives = value-back s legal steady k uri fine } }
 
--- what a load leaves of a document is what it leaves of this one
+-- a load of the text is the load of this document
 pub loads-saved : (s : Model) (w : ValuesState) (b : Links) → LoadsSaved s w b
 loads-saved s w b legal steady k j uri fine other early late =
     let read = saved-document s legal steady k uri fine in

@@ -1,4 +1,4 @@
--- What is there while loads go on: the resources that were made, the images of what was loaded, and nothing else.
+-- The model between loads: it has the resources that were made, the images of the objects that were loaded, and nothing else.
 use Rattle.std.proofs.Common.{◌≡◌, ◌∙◌, ℕ, zero, suc, ◌<◌, Bool, true, false, ◌||◌, cond, List, [], ◌∷◌, Option, Some, flat_map, length, map, option_map, slice_get, unwrap_or, eq-eqb, eqb-true, refl, sym, ap}
 use Rattle.std.specs.Prelude.{position}
 use Rattle.std.specs.List.{IsDistinct}
@@ -22,7 +22,7 @@ use Rattle.reloading.specs.Orders.{has, is_same, number_of, uri_of}
 
 ---------------------------------------------------------------- numbers of resources
 
--- a resource among some is at the number that it got
+-- a resource of the list is at the number that it got
 pub record IsNumbered (made : List ResourceNo) (k : ResourceNo) : Type 0 where
   pub found : position (is_same k) made ≡ Some (number_of made k).0
   pub there : slice_get made (number_of made k).0 ≡ Some k
@@ -46,7 +46,7 @@ numbered made k h =
     let own : at.0 ≡ (number_of made k).0 = sym (ap (λ (x : Option ℕ). unwrap_or x 0) at.1) in
     record { found = at.1 ∙ ap (λ (i : ℕ). Some i) own; there = ap (slice_get made) (sym own) ∙ at.2 }
 
--- what is at an index is among them
+-- the resource at an index is in the list
 pub among : (made : List ResourceNo) (i : ℕ) (k : ResourceNo) → slice_get made i ≡ Some k → has made k ≡ true
 among [] i k at = absurd (none-some k at)
 among (j ∷ js) zero k at = ap (λ (b : Bool). b || has js k) (eq-eqb k.0 j.0 (ap (λ (x : ResourceNo). x.0) (sym (same_Some j k at))))
@@ -58,7 +58,7 @@ among (j ∷ js) (suc i) k at = ap (λ (b : Bool). is_same k j || b) (among js i
 
 ---------------------------------------------------------------- copies
 
--- the objects of resource k of r have in t, from the number n on, what they had, and are in resource j
+-- the objects of resource k of r have images in t, from the number n on, with the same values, in resource j
 pub record IsCopied (r : Reading) (k j : ResourceNo) (n : ℕ) (t : Reading) : Type 0 where
   pub classes : (o : ObjectNo) → resource_of r.above o ≡ Some k → t.class (image r k n o) ≡ r.class o
   pub values : (o : ObjectNo) (f : FeatureNo) → resource_of r.above o ≡ Some k → t.values (at_end (node.Object (image r k n o)) f) ≡ map (value_image r k n) (r.values (at_end (node.Object o) f))
@@ -67,7 +67,7 @@ pub record IsCopied (r : Reading) (k j : ResourceNo) (n : ℕ) (t : Reading) : T
   pub addresses : (o : ObjectNo) → resource_of r.above o ≡ Some k → address t (image r k n o) ≡ address r o
   pub below : (o : ObjectNo) → resource_of r.above o ≡ Some k → (image r k n o).0 < t.next
 
--- an object of t is the image of one of a resource that was loaded
+-- an object of t is the image of an object of a resource that was loaded
 pub record IsImageOf (r : Reading) (filled : List ResourceNo) (base : ResourceNo → ℕ) (p : ObjectNo) : Type 0 where
   pub resource : ResourceNo
   pub loaded : has filled resource ≡ true
@@ -75,7 +75,7 @@ pub record IsImageOf (r : Reading) (filled : List ResourceNo) (base : ResourceNo
   pub inside : resource_of r.above object ≡ Some resource
   pub is : p ≡ image r resource (base resource) object
 
--- after these resources of s were made, in this order, and of them these were loaded, from these numbers on
+-- the model after some resources of s were made, in this order, and some of these were loaded, from these numbers on
 pub record HasSoFar (s : Model) (w : ValuesState) (b : Links) (made filled : List ResourceNo) : Type 0 where
   pub legal : IsLegal (model_of s.metamodel w b)
   pub uris : w.uris ≡ map (uri_of (reading s)) made

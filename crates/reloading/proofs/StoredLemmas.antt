@@ -1,4 +1,5 @@
--- What the attributes of a legal model keep: one that is set keeps some value, and one that is not shows what it shows without any.
+-- The stored values of attributes of a legal model: an attribute that is set stores a value, and one that is not set shows the same as
+-- without stored values.
 use Rattle.std.proofs.Common.{◌≡◌, ◌∙◌, ℕ, ◌≤◌, pos, int_le, Bool, true, false, ◌&&◌, not, IsTrue, List, [], ◌∷◌, Option, Some, None, length, nat_le, option_map, unwrap_or, if◌then◌else◌, arith, refl, sym, ap, subst}
 use Rattle.std.specs.Option.{option_map_or}
 use Rattle.std.proofs.lemmas.Bool.{and_parts, false≢true, true≢false}
@@ -28,7 +29,8 @@ never true true = refl
 never true false = refl
 never false s = refl
 
--- a value at most if it is single, a flag if it is unsettable, single and has one, and nothing under another class's feature
+-- at most one value if the attribute is single, a flag exactly if it is unsettable, single and has a value, and nothing for a feature that
+-- the class lacks
 pub record IsStored (m : Metamodel) (f : FeatureNo) (has : Bool) (vs : List Value) (flag : Bool) : Type 0 where
   pub flagged : flag ≡ ((shape m f).is_unsettable && ((shape m f).is_single && not (is_nil vs)))
   pub one : (shape m f).is_single ≡ true → length vs ≤ 1
@@ -60,7 +62,7 @@ pub stored-of : (s : Model) → IsLegal s → (o : ObjectNo) (f : FeatureNo)
     → IsStored s.metamodel f (has_feature (reading s) (node.Object o) f) (kept_values s.values (node.Object o) f) (kept_flag s.values (node.Object o) f)
 stored-of s legal o f = object-stored s.metamodel f (object_at s.values.objects o) (object-legal s.metamodel s.values.objects o.0 legal.objects)
 
--- an attribute that is not set shows what one shows that keeps nothing, and its flag is off
+-- an attribute that is not set shows the same as one without stored values, and its flag is off
 pub not-set : (a : Shape) (vs : List Value) (b : Bool) → ends.is_set a (record { values = shown a.is_single (attribute_values a vs); flag = b }) ≡ false → b ≡ (a.is_unsettable && (a.is_single && not (is_nil vs))) → (a.is_single ≡ true → length vs ≤ 1)
     → (attribute_values a vs ≡ attribute_values a []) × (b ≡ false)
 not-set a [] b set flagged one = (refl, flagged ∙ sym (never a.is_unsettable a.is_single))
@@ -81,7 +83,7 @@ not-set a (x ∷ y ∷ ys) b set flagged one =
       | false ↦ λ _ h. absurd (true≢false h)
     ] refl set
 
--- one that is set keeps some value, shows what it keeps, and its flag is on if it has one
+-- an attribute that is set stores some value, shows its stored values, and its flag is on if it has one
 pub record IsSome (a : Shape) (vs : List Value) (b : Bool) : Type 0 where
   pub some : is_nil vs ≡ false
   pub shows : attribute_values a vs ≡ vs

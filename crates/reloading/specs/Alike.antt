@@ -1,4 +1,4 @@
--- When two models are isomorphic: they have the same addresses, and the same at each of them.
+-- When two models are isomorphic: they have the same addresses, and at each address an object with the same contents.
 use Rattle.std.specs.Prelude.{◌≡◌, ℕ, List, map, slice_get, Some}
 use Rattle.mm_types.specs.declared.numbers.FeatureNo.{FeatureNo}
 use Rattle.mm_types.specs.declared.numbers.ObjectNo.{ObjectNo}
@@ -9,25 +9,25 @@ use Rattle.models.specs.Reading.{Reading, at_end, has_uri, roots_end}
 use Rattle.fragment_paths.specs.Fragments.{address}
 use Rattle.reloading.specs.Addressed.{Named, named}
 
--- the object p of t has the class, the values and the set flags of the object o of s, values being compared by name
+-- the object p of t has the class, the values and the set flags of the object o of s; values are compared by name
 pub record HasSame (name : Reading → Value → Named) (s t : Reading) (o p : ObjectNo) : Type 0 where
   pub class : t.class p ≡ s.class o
   pub values : (f : FeatureNo) → map (name t) (t.values (at_end (node.Object p) f)) ≡ map (name s) (s.values (at_end (node.Object o) f))
   pub flags : (f : FeatureNo) → t.flag (at_end (node.Object p) f) ≡ s.flag (at_end (node.Object o) f)
 
--- an object of t is at an address, and has the same as o
+-- an object of t is at an address, and has the class, the values and the flags of o
 pub record IsThere (name : Reading → Value → Named) (s t : Reading) (o : ObjectNo) (a : List ℕ) : Type 0 where
   pub object : ObjectNo
   pub at : address t object ≡ Some a
   pub same : HasSame name s t o object
 
--- the same URIs; the same roots in the resources of one URI; each object of s by its address in t, and no others
+-- two models have the same URIs, the same roots in the resources of one URI, and the same objects at the same addresses, and no others
 pub record HaveSame (name : Reading → Value → Named) (s t : Reading) : Type 0 where
   pub uris : (u : List ℕ) → has_uri t u ≡ has_uri s u
   pub roots : (u : List ℕ) (k j : ResourceNo) → slice_get s.uris k.0 ≡ Some u → slice_get t.uris j.0 ≡ Some u → map (name t) (t.values (roots_end t j)) ≡ map (name s) (s.values (roots_end s k))
   pub there : (o : ObjectNo) (a : List ℕ) → address s o ≡ Some a → IsThere name s t o a
   pub back : (p : ObjectNo) (a : List ℕ) → address t p ≡ Some a → (o : ObjectNo) × (address s o ≡ Some a)
 
--- two models are isomorphic: numbers may differ, and what is in no resource is not looked at
+-- two models are isomorphic: numbers may differ, and objects in no resource are not compared
 abbrev pub Alike : Reading → Reading → Type 0
 Alike = HaveSame named

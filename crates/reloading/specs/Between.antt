@@ -1,4 +1,4 @@
--- What it means that a model is a saved one, partly resolved: it has the same objects at the same addresses, and some values are still
+-- When a model is a partly resolved copy of a saved model: it has the same objects at the same addresses, and some values may still be
 -- proxies.
 use Rattle.std.specs.Prelude.{◌≡◌, ℕ, Bool, true, List, Contains, Some, is_some}
 use Rattle.mm_types.specs.Ends.{has_value}
@@ -12,17 +12,17 @@ use Rattle.fragment_paths.specs.Fragments.{address}
 use Rattle.reloading.specs.Addressed.{meant}
 use Rattle.reloading.specs.Alike.{HaveSame}
 
--- a proxy of an address is under a feature of an object
+-- whether a proxy of an address is under a feature of an object
 abbrev pub has_proxy : Reading → ObjectNo → FeatureNo → List ℕ → Bool
 has_proxy r o f a = has_value (r.values (at_end (node.Object o) f)) (value.Proxy a)
 
--- a link of s between two ends: in t, both ends have a proxy there, or neither has one. So no proxy is without its match
+-- for each link of s between two ends, t has proxies at both ends, or at neither. So each proxy has its counterpart
 abbrev pub AreBothOrNone : Reading → Reading → Type 0
 AreBothOrNone s t =
     (f g : FeatureNo) (o b p q : ObjectNo) (x y : List ℕ) → (shape s.metamodel f).opposite ≡ Some g → Contains (s.values (at_end (node.Object o) f)) (value.Object b)
     → address s o ≡ Some x → address s b ≡ Some y → address t p ≡ Some x → address t q ≡ Some y → has_proxy t p f y ≡ has_proxy t q g x
 
--- t has what s has, if a proxy counts as the object at its address; and each object of t is in a resource
+-- t has the same contents as s, if a proxy counts as the object at its address; and each object of t is in a resource
 pub record Between (s t : Reading) : Type 0 where
   pub same : HaveSame meant s t
   pub pairs : AreBothOrNone s t

@@ -1,4 +1,4 @@
--- The laws that reloading in any order is made of.
+-- The laws from which reloading in any order follows.
 use Rattle.std.specs.Prelude.{◌≡◌, ℕ, ◌+◌, true, List, Some, None, is_some, if◌then◌else◌}
 use Rattle.mm_types.specs.Shapes.{shape}
 use Rattle.mm_types.specs.declared.numbers.FeatureNo.{FeatureNo}
@@ -31,23 +31,23 @@ use Rattle.reloading.specs.Proxies.{HasNoProxy, proxies_len}
 
 ---------------------------------------------------------------- addresses
 
--- an object is found by its address, and has it alone
+-- an object is found at its address, and no other object has that address
 pub record HasOwnAddresses (r : Reading) : Type 0 where
   pub finds : (o : ObjectNo) (a : List ℕ) → address r o ≡ Some a → at r a ≡ Some o
   pub one : (o b : ObjectNo) (a : List ℕ) → address r o ≡ Some a → address r b ≡ Some a → o ≡ b
 
--- resolving a proxy leaves each object its address
+-- resolving a proxy changes no object's address
 abbrev pub ResolvesKeepAddresses : Model → ObjectNo → FeatureNo → ℕ → Type 0
 ResolvesKeepAddresses s o f i = OfAllowed (λ s c. (x : ObjectNo) → address (reading (after s c)) x ≡ address (reading s) x) s (At (at_end (node.Object o) f) (Resolve i))
 
--- a load leaves each object that has an address that address
+-- a load changes the address of no object that has one
 abbrev pub LoadsKeepAddresses : Model → ResourceNo → Doc → Type 0
 LoadsKeepAddresses s k doc =
     OfAllowed (λ s c. HasReadDocument s.metamodel c → (o : ObjectNo) (a : List ℕ) → address (reading s) o ≡ Some a → address (reading (after s c)) o ≡ Some a) s (Load k doc)
 
 ---------------------------------------------------------------- loads
 
--- a resource of s that was saved has its images once its document is loaded into a resource of another model
+-- if the document of a resource of s is loaded into a resource of another model, that resource has the images of its objects
 abbrev pub LoadsSaved : Model → ValuesState → Links → Type 0
 LoadsSaved s w b =
     IsLegal s → HasSteadyTexts s → (k j : ResourceNo) (uri : List ℕ) → IsReadable (reading s) k uri
@@ -55,7 +55,7 @@ LoadsSaved s w b =
 
 ---------------------------------------------------------------- resolves
 
--- nothing refuses to resolve a proxy; the model is partly resolved as before, and one proxy fewer is left, or two of a link with an
+-- a resolve of a proxy is not refused; the model is still a partly resolved copy, and has one proxy fewer, or two if the reference has an
 -- opposite
 pub record IsResolvedBetween (r : Reading) (t : Model) (o : ObjectNo) (f : FeatureNo) (i : ℕ) : Type 0 where
   pub early : early_refusal (reading t) (At (at_end (node.Object o) f) (Resolve i)) ≡ None
@@ -63,14 +63,14 @@ pub record IsResolvedBetween (r : Reading) (t : Model) (o : ObjectNo) (f : Featu
   pub between : Between r (reading (after t (At (at_end (node.Object o) f) (Resolve i))))
   pub fewer : proxies_len (reading t) ≡ (if is_some (shape t.metamodel f).opposite then 2 else 1) + proxies_len (reading (after t (At (at_end (node.Object o) f) (Resolve i))))
 
--- so it is of each proxy of a model that is one without proxies, partly resolved
+-- the same for each proxy of a partly resolved copy of a model that has no proxies
 abbrev pub ResolvesBetween : Model → ValuesState → Links → Type 0
 ResolvesBetween s w b =
     let t = model_of s.metamodel w b in
     IsLegal s → IsLegal t → HasNoProxy (reading s) → Between (reading s) (reading t) → (o : ObjectNo) (f : FeatureNo) (i : ℕ)
     → is_some (proxy_at (reading t) (at_end (node.Object o) f) i) ≡ true → IsResolvedBetween (reading s) t o f i
 
--- once all proxies of such a model are resolved, none is left, and it is isomorphic to the saved one
+-- after all proxies of a partly resolved copy are resolved, no proxy is left, and the model is isomorphic to the saved one
 pub record IsAllResolved (r : Reading) (t : Model) : Type 0 where
   pub none : HasNoProxy (reading (after t ResolveAll))
   pub left : all.left (reading t) ≡ 0

@@ -1,4 +1,4 @@
--- The loads of all that was saved, in any order: each resource is made anew once, and its document loaded into it once.
+-- The loads of all saved resources, in any order: each resource is made anew once, and its document is loaded into it once.
 use Rattle.std.specs.Prelude.{◌≡◌, ◌≤◌, ℕ, Bool, true, false, List, [], ◌∷◌, ◌++◌, length, nat_eq, position, slice_get, unwrap_or, None}
 use Rattle.std.specs.List.{list_any}
 use Rattle.mm_types.specs.declared.limits.TheConstants.{TEXT_BYTES}
@@ -30,7 +30,7 @@ is_same k j = nat_eq k.0 j.0
 abbrev pub has : List ResourceNo → ResourceNo → Bool
 has ks k = list_any (is_same k) ks
 
--- a resource that is there and is not made yet; one that is made and not filled yet
+-- a resource of r that is not made yet; and `IsFilling`, one that is made and not filled yet
 pub record IsMaking (r : Reading) (made : List ResourceNo) (k : ResourceNo) : Type 0 where
   pub there : has_resource r k ≡ true
   pub new : has made k ≡ false
@@ -39,20 +39,20 @@ pub record IsFilling (made filled : List ResourceNo) (k : ResourceNo) : Type 0 w
   pub there : has made k ≡ true
   pub new : has filled k ≡ false
 
--- tasks that make each resource once and fill each once, none before it is made; where these were made already, and these filled
+-- tasks that make and then fill each resource that is not made or filled yet, each once
 abbrev pub IsOrder : Reading → List ResourceNo → List ResourceNo → List Task → Type 0
 IsOrder r made filled [] = (k : ResourceNo) → has_resource r k ≡ true → has filled k ≡ true
 IsOrder r made filled (Make k ∷ ts) = IsMaking r made k × IsOrder r (made ++ k ∷ []) filled ts
 IsOrder r made filled (Fill k ∷ ts) = IsFilling made filled k × IsOrder r made (filled ++ k ∷ []) ts
 
--- the number that a resource got, where these were made in this order
+-- the number that a resource got, if resources were made in the order of the list
 abbrev pub number_of : List ResourceNo → ResourceNo → ResourceNo
 number_of made k = record { 0 = unwrap_or (position (is_same k) made) 0 }
 
 abbrev pub uri_of : Reading → ResourceNo → List ℕ
 uri_of r k = unwrap_or (slice_get r.uris k.0) []
 
--- the changes of tasks: a resource of the same URI is made, and the document of a resource, read again, is loaded
+-- the changes of tasks: `Make` makes a resource of the same URI, `Fill` loads the document of the resource
 abbrev pub changes : Reading → List ResourceNo → List Task → List Change
 changes r made [] = []
 changes r made (Make k ∷ ts) = NewResource (uri_of r k) ∷ changes r (made ++ k ∷ []) ts
@@ -63,7 +63,7 @@ abbrev pub after_all : Model → List Change → Model
 after_all t [] = t
 after_all t (c ∷ cs) = after_all (after t c) cs
 
--- nothing refuses a change, and each of a list in its turn
+-- a change is not refused; and `AreAllowed`, no change of a list is, in its turn
 pub record IsAllowed (t : Model) (c : Change) : Type 0 where
   pub early : early_refusal (reading t) c ≡ None
   pub late : late_refusal (reading t) c ≡ None
@@ -78,12 +78,13 @@ pub record IsSaved (r : Reading) : Type 0 where
   pub short : (k : ResourceNo) (o : ObjectNo) → has_resource r k ≡ true → Refers r k o → length (reference_text r k o) ≤ TEXT_BYTES
   pub resolved : HasNoProxy r
 
--- in an empty model of the metamodel nothing refuses the changes, and what they leave is legal, and what was saved, partly resolved
+-- in an empty model of the metamodel the changes are not refused; the model that they leave is legal, and a partly resolved copy of the
+-- saved one
 pub record AreLoads (s : Model) (ts : List Task) : Type 0 where
   pub allowed : AreAllowed (empty_model s.metamodel) (changes (reading s) [] ts)
   pub legal : IsLegal (after_all (empty_model s.metamodel) (changes (reading s) [] ts))
   pub between : Between (reading s) (reading (after_all (empty_model s.metamodel) (changes (reading s) [] ts)))
 
--- whatever the order
+-- the same in any order of the tasks
 abbrev pub LoadsGiveBetween : Model → Type 0
 LoadsGiveBetween s = IsLegal s → HasSteadyTexts s → IsSaved (reading s) → (ts : List Task) → IsOrder (reading s) [] [] ts → AreLoads s ts

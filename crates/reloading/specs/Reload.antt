@@ -1,4 +1,4 @@
--- What was saved comes back: by the loads of all that was saved, in any order, and then resolves until no proxy is left.
+-- What was saved comes back: load all that was saved, in any order, and then resolve proxies until none is left.
 use Rattle.std.specs.Prelude.{◌≡◌, true, List, [], ◌∷◌, is_some}
 use Rattle.mm_types.specs.declared.numbers.Node.TheVariants as node
 use Rattle.models.specs.Legal.{IsLegal}
@@ -15,7 +15,7 @@ use Rattle.reloading.specs.Laws.{IsAllResolved}
 use Rattle.reloading.specs.Orders.{AreAllowed, IsOrder, IsSaved, Task, after_all, changes}
 use Rattle.reloading.specs.Proxies.{HasNoProxy}
 
--- each change resolves a proxy that is there in its turn, and none is anywhere after the last
+-- each change resolves a proxy that is there in its turn, and no proxy is left after the last change
 abbrev pub AreResolves : Model → List Change → Type 0
 AreResolves t [] = HasNoProxy (reading t)
 AreResolves t (At e (Resolve i) ∷ cs) = (is_some (proxy_at (reading t) e i) ≡ true) × AreResolves (after t (At e (Resolve i))) cs
@@ -25,14 +25,14 @@ AreResolves t (c ∷ cs) = ⊥
 abbrev pub reloaded : Model → List Task → Model
 reloaded s ts = after_all (empty_model s.metamodel) (changes (reading s) [] ts)
 
--- nothing refuses the loads nor the resolves, and what they lead to is isomorphic to what was saved
+-- neither the loads nor the resolves are refused, and the model that they leave is isomorphic to the saved one
 pub record IsHadAgain (s : Model) (ts : List Task) (cs : List Change) : Type 0 where
   pub loads : AreAllowed (empty_model s.metamodel) (changes (reading s) [] ts)
   pub resolves : AreAllowed (reloaded s ts) cs
   pub alike : Alike (reading s) (reading (after_all (reloaded s ts) cs))
 
--- in any order of the loads, and of resolves until no proxy is left; such resolves exist, and to resolve all proxies in their order is one
--- way
+-- after loads in an order: there are resolves that leave no proxy; all resolves that leave no proxy bring the saved model back; and so does
+-- a resolve of all proxies at once
 pub record IsReloaded (s : Model) (ts : List Task) : Type 0 where
   pub some : (cs : List Change) × AreResolves (reloaded s ts) cs
   pub had : (cs : List Change) → AreResolves (reloaded s ts) cs → IsHadAgain s ts cs

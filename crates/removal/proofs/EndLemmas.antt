@@ -1,4 +1,4 @@
--- What is in the end of a reference of a legal model.
+-- The values of the end of a reference of a legal model.
 use Rattle.std.proofs.Common.{◌≡◌, suc, true, false, ◌&&◌, List, [], ◌∷◌, Some, if◌then◌else◌, ap, ◌∙◌, arith}
 use Rattle.std.specs.List.{IsDistinct, list_any}
 use Rattle.std.proofs.lemmas.Bool.{false_from_ne_true, false≢true}
@@ -21,7 +21,7 @@ use Rattle.containment.proofs.MemberLemmas.{own-feature}
 use Rattle.containment.proofs.PartLemmas.{legal-at, legal-reference}
 use Rattle.removal.proofs.ListLemmas.{all-at}
 
--- an end that has something is one of a reference of its node
+-- an end that has a value is the end of a reference of its node
 pub record IsOpen (s : Model) (e : End) : Type 0 where
   pub own : list_any (same_feature e.feature) (all_features_of (reading s) e.node) ≡ true
   pub reference : (shape s.metamodel e.feature).is_reference ≡ true

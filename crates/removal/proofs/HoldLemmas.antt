@@ -1,5 +1,5 @@
 -- The ends that are found are those that hold something that goes.
-use Rattle.std.proofs.Common.{◌≡◌, ℕ, ◌+◌, ◌<◌, length, slice_index_or, take, nat_eq, eqb-true, eq-eqb, Bool, true, false, not, ◌&&◌, ◌||◌, List, [], ◌∷◌, ◌++◌, Some, refl, sym, ap, ◌∙◌}
+use Rattle.std.proofs.Common.{◌≡◌, ℕ, ◌+◌, ◌<◌, length, slice_index_or, take, eq-eqb, Bool, true, false, not, ◌&&◌, ◌||◌, List, [], ◌∷◌, ◌++◌, Some, refl, sym, ap, ◌∙◌}
 use Rattle.std.specs.BTreeSet.{BTreeSet}
 use Rattle.std.specs.List.{list_any}
 use Rattle.std.specs.List.Sorted.{IsStrictlySortedBy}
@@ -35,13 +35,14 @@ use Rattle.removal.proofs.OuterLemmas.{has_end-append, has_end-filter, touched-a
 use Rattle.removal.specs.Outer.{gone, holds_some, touched_ends}
 use Rattle.removal.specs.Ranks.{HasGone, holds, is_in, staying}
 use Rattle.removal.specs.declared.numbers.Numbers.{Numbers}
+use Rattle.mm_meta.proofs.OwnerLemmas.{nat_eq-turned}
 
 ---------------------------------------------------------------- one object
 
 same-self : (x : ObjectNo) → same_value (value.Object x) (value.Object x) ≡ true
 same-self x = eq-eqb x.0 x.0 refl
 
--- the ends that an object is in are those that hold it
+-- the ends that `incoming` gives for an object are those that have it
 incoming-hold : (s : Links) (x : ObjectNo) (ds : List End) → AreIncoming s x ds → (e : End) → has_end ds e ≡ holds s e x
 incoming-hold s x ds are e =
     same-tests (has_end ds e) (holds s e x)
@@ -50,7 +51,7 @@ incoming-hold s x ds are e =
     let at = passes-at (same_value (value.Object x)) (end s e) h in
     (are e).1 (at.0, at.2 ∙ ap Some (sym (same_value-true (value.Object x) at.1 at.3))))
 
--- what one object adds
+-- the ends that one object adds
 pub holding-step : (s : Links) (x : ObjectNo) (ds : List End) (numbers : Numbers) (old new : List End) → AreIncoming s x ds → new ≡ old ++ staying numbers ds
     → (e : End) → has_end new e ≡ (has_end old e || (not (is_in numbers e.node) && holds s e x))
 holding-step s x ds numbers old new are made e =
@@ -84,19 +85,16 @@ any-none : (os : List ObjectNo) → list_any (λ (x : ObjectNo). false) os ≡ f
 any-none [] = refl
 any-none (o ∷ os) = any-none os
 
-pub nat_eq-turn : (a b : ℕ) → nat_eq a b ≡ nat_eq b a
-nat_eq-turn a b = same-tests (nat_eq a b) (nat_eq b a) (λ h. eq-eqb b a (sym (eqb-true a b h))) (λ h. eq-eqb a b (sym (eqb-true b a h)))
-
 among-turn : (y : ObjectNo) (os : List ObjectNo) → list_any (same_object y) os ≡ list_any (λ x. same_object x y) os
 among-turn y [] = refl
-among-turn y (o ∷ os) = λ i. nat_eq-turn y.0 o.0 i || among-turn y os i
+among-turn y (o ∷ os) = λ i. nat_eq-turned y.0 o.0 i || among-turn y os i
 
--- a value goes if it is one of the objects
+-- a value is destroyed if it is one of the objects
 goes-among : (os : List ObjectNo) (v : Value) → goes (is_node_among os) v ≡ list_any (λ x. same_value (value.Object x) v) os
 goes-among os (value.Object y) = among-turn y os
 goes-among os _ = sym (any-none os)
 
--- some value goes if some of the objects is among the values
+-- some value is destroyed if one of the objects is among the values
 any-turn : (os : List ObjectNo) (vs : List Value) → list_any (goes (is_node_among os)) vs ≡ list_any (λ x. has_value vs (value.Object x)) os
 any-turn os [] = sym (any-none os)
 any-turn os (v ∷ vs) =
@@ -104,7 +102,7 @@ any-turn os (v ∷ vs) =
     ∙ sym (any-or (λ x. same_value (value.Object x) v) (λ x. has_value vs (value.Object x)) os)
 
 module _ (s : Model) (legal : IsLegal s) (g : Node → Bool) (e : End) where
-  -- only a reference holds an object
+  -- only a reference has an object
   linked-goes : (shape s.metamodel e.feature).is_reference ≡ false → list_any (goes g) (end s.links e) ≡ false
   linked-goes other =
       elim (list_any (goes g) (end s.links e)) as (λ b. list_any (goes g) (end s.links e) ≡ b → b ≡ false) [
@@ -131,7 +129,7 @@ any-end (e ∷ es) q = λ i. ((eq_by_cmp_equiv rank_cmp-total).symm q e ∙ ties
 link_end-same : (d e : End) → rank_cmp d e ≡ Equal → d ≡ e
 link_end-same d e h = same_end-true d e (sym (ties-same d e) ∙ ap is_eq h)
 
--- ends in order are determined by what is among them
+-- a list of ends in order is determined by its members
 same-ends : (xs ys : List End) → IsStrictlySortedBy rank_cmp xs → IsStrictlySortedBy rank_cmp ys → ((e : End) → has_end xs e ≡ has_end ys e) → xs ≡ ys
 same-ends xs ys a b same =
     let s : BTreeSet End = record { keys = xs } in

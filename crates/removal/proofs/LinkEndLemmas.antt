@@ -1,4 +1,4 @@
--- What is known of each link that goes with an object, and that none is named twice.
+-- Facts about each link that is cut with an object, and that no link is named twice.
 use Rattle.std.proofs.Common.{◌≡◌, ℕ, Bool, true, false, not, ◌||◌, List, [], ◌∷◌, filter, flat_map, map, nat_lt, Option, Some, None, if◌then◌else◌, refl, sym, ap, ◌∙◌, subst, inl, inr, arith, eq-eqb}
 use Rattle.std.specs.Prelude.{◌⊎◌, ◌&&◌, is_some}
 use Rattle.std.specs.List.{AllByRecursion, IsDistinct, list_any}
@@ -35,7 +35,7 @@ use Rattle.removal.specs.Laws.{names_of}
 use Rattle.removal.specs.TreeLinkEnds.{end_link_ends, is_named_here, node_link_ends, outer_link_ends, references_of, link_end, tree_link_ends}
 use Rattle.removal.specs.declared.link_end.LinkEnd.{LinkEnd}
 
--- the ends of other nodes that hold something that goes, in the order of their notifications
+-- the ends of other nodes that have an object that is destroyed, in the order of their notifications
 pub record AreTouched (s : Model) (o : ObjectNo) : Type 0 where
   pub order : AreInOrder (touched_ends (reading s) o)
   pub all : (e : End) → has_end (touched_ends (reading s) o) e ≡ (not (gone (reading s) o e.node) && holds_some (reading s) (gone (reading s) o) e)
@@ -44,12 +44,12 @@ pub record AreTouched (s : Model) (o : ObjectNo) : Type 0 where
 abbrev pub names_link_end : Model → LinkEnd → LinkEnd → Bool
 names_link_end s t u = names (kinds_of s.metamodel) t.end t.value u.end u.value
 
--- the link of a node that goes, named by its end
+-- the link of a destroyed object, named by its end
 pub record IsInner (s : Model) (o : ObjectNo) (t : LinkEnd) : Type 0 where
   pub node : gone (reading s) o t.end.node ≡ true
   pub here : is_named_here (reading s) (gone (reading s) o) t.end.feature t.value ≡ true
 
--- the link of a node that stays, to an object that goes, that no other end can name
+-- a link from a remaining node to a destroyed object, which no other end can name
 pub record IsOuter (s : Model) (o : ObjectNo) (t : LinkEnd) : Type 0 where
   pub node : gone (reading s) o t.end.node ≡ false
   pub value : goes (gone (reading s) o) t.value ≡ true
@@ -58,12 +58,12 @@ pub record IsOuter (s : Model) (o : ObjectNo) (t : LinkEnd) : Type 0 where
 abbrev pub IsLinkEnd : Model → ObjectNo → LinkEnd → Type 0
 IsLinkEnd s o t = Has s.links t.end t.value × (IsInner s o t ⊎ IsOuter s o t)
 
--- a node that goes is an object that goes
+-- a node that is destroyed is an object of the subtree
 pub goes-node : (s : Model) (o : ObjectNo) (n : Node) → gone (reading s) o n ≡ true → goes (gone (reading s) o) (node_value n) ≡ true
 goes-node s o (node.Object x) h = h
 goes-node s o (node.Resource k) h = absurd (false≢true h)
 
--- if both nodes go, the lower feature names
+-- if both objects are destroyed, the end of the lower feature names the link
 pub lower-named : (s : Model) (o : ObjectNo) (f g : FeatureNo) (v : Value) → (shape s.metamodel f).opposite ≡ Some g → goes (gone (reading s) o) v ≡ true
     → is_named_here (reading s) (gone (reading s) o) f v ≡ nat_lt f.0 g.0
 lower-named s o f g v opposite far =
@@ -76,7 +76,7 @@ module _ (s : Model) (legal : IsLegal s) (o : ObjectNo) where
 
   ---------------------------------------------------------------- no link has two names
 
-  -- two nodes that go do not both name their link
+  -- two destroyed objects do not both name their link
   not-both : (t u : LinkEnd) (x : ObjectNo) (g : FeatureNo) → IsInner s o t → IsInner s o u → t.value ≡ value.Object x → (shape s.metamodel t.end.feature).opposite ≡ Some g
       → far_end x g ≡ u.end → node_value t.end.node ≡ u.value → ⊥
   not-both t u x g a b is_v opposite is_d is_w =
@@ -95,7 +95,7 @@ module _ (s : Model) (legal : IsLegal s) (o : ObjectNo) where
       none-some t.end.feature (sym b.alone ∙ ap (λ (d : End). (shape s.metamodel d.feature).opposite) (sym is_d) ∙ m-kinds.inverse t.end.feature g opposite)
   no-far t u (at_t, inl a) (at_u, inl b) (x, g, is_v, opposite, is_d, is_w) = not-both t u x g a b is_v opposite is_d is_w
 
-  -- a name that names the link of another is that one
+  -- a name that names the same link as another name is that name
   one-name : (t u : LinkEnd) → IsLinkEnd s o t → IsLinkEnd s o u → names_link_end s t u ≡ true → (t.end ≡ u.end) × (t.value ≡ u.value)
   one-name t u a b h = elim (names-true (kinds_of s.metamodel) t.end t.value u.end u.value h) [ inl near ↦ near | inr far ↦ absurd (no-far t u a b far) ]
 
@@ -107,7 +107,7 @@ module _ (s : Model) (legal : IsLegal s) (o : ObjectNo) where
   abbrev IsOfEnd : End → LinkEnd → Type 0
   IsOfEnd e t = IsLinkEnd s o t × (t.end ≡ e)
 
-  -- what passes a test at the end of a reference
+  -- the links at the end of a reference whose values pass a test
   abbrev passing : End → (Value → Bool) → List LinkEnd
   passing e p = map (link_end e) (filter p ((reading s).values e))
 
@@ -200,7 +200,7 @@ module _ (s : Model) (legal : IsLegal s) (o : ObjectNo) where
   ---------------------------------------------------------------- the links of nodes that stay
 
   module _ (touched : AreTouched s o) where
-    -- what is known of a touched end
+    -- facts about an end that loses something
     record IsTouched (e : End) : Type 0 where
       stays : gone (reading s) o e.node ≡ false
       reference : (shape s.metamodel e.feature).is_reference ≡ true

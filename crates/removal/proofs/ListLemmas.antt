@@ -1,4 +1,4 @@
--- Lists that repeat nothing, and what is among the elements of lists made of others.
+-- Lists without repetitions, and members of lists that are made of other lists.
 use Rattle.std.proofs.Common.{◌≡◌, ℕ, zero, suc, Bool, true, false, cond, ◌||◌, List, [], ◌∷◌, ◌++◌, filter, flat_map, map, slice_get, Some, refl, sym, ap, ◌∙◌, inl, inr}
 use Rattle.std.specs.List.{AllByRecursion, IsDistinct, list_any}
 use Rattle.std.proofs.lemmas.Bool.{false≢true, or_cases, or_left, or_right}
@@ -16,7 +16,7 @@ pub all-map : {X Y : Type 0} (P : Y → Type 0) (f : X → Y) (xs : List X) → 
 all-map P f [] all = tt
 all-map P f (x ∷ xs) all = (all.0, all-map P f xs all.1)
 
--- what passes a filter does so
+-- each element that a filter keeps passes the test
 pub all-filter : {X : Type 0} (P : X → Type 0) (p : X → Bool) (xs : List X) → AllByRecursion P xs → AllByRecursion (λ x. P x × (p x ≡ true)) (filter p xs)
 all-filter P p [] all = tt
 all-filter P p (x ∷ xs) all = elim (p x) as (λ b. p x ≡ b → AllByRecursion (λ y. P y × (p y ≡ true)) (cond b (x ∷ filter p xs) (filter p xs))) [
@@ -28,12 +28,12 @@ pub all-flat_map : {X Y : Type 0} (P : X → Type 0) (Q : Y → Type 0) (f : X �
 all-flat_map P Q f each [] all = tt
 all-flat_map P Q f each (x ∷ xs) all = all-append Q (f x) (flat_map f xs) (each x all.0) (all-flat_map P Q f each xs all.1)
 
--- what is true of what is at each position
+-- a property that the element at each position has
 pub all-at : {X : Type 0} (P : X → Type 0) (xs : List X) → ((k : ℕ) (x : X) → slice_get xs k ≡ Some x → P x) → AllByRecursion P xs
 all-at P [] at = tt
 all-at P (x ∷ xs) at = (at 0 x refl, all-at P xs (λ k y h. at (suc k) y h))
 
--- what is true of all that are among them, where each is the same as itself
+-- a property of all members, if each is the same as itself
 pub all-among : {X : Type 0} (P : X → Type 0) (same : X → X → Bool) → ((x : X) → same x x ≡ true) → (xs : List X) → ((x : X) → list_any (same x) xs ≡ true → P x) → AllByRecursion P xs
 all-among P same self [] h = tt
 all-among P same self (x ∷ xs) h = (h x (or_left _ _ (self x)), all-among P same self xs (λ y q. h y (or_right _ _ q)))
@@ -67,7 +67,7 @@ distinct-append R P Q apart (x ∷ xs) ys a b d e = (
   distinct-append R P Q apart xs ys a.1 b d.1 e,
 )
 
--- lists of different elements have nothing in common, by what is known of what each gives
+-- lists of different elements have no element in common, by a property of each
 module _ {X Y : Type 0} (same : X → X → Bool) (R : Y → Y → Bool) (P : X → Type 0) (K : X → Y → Type 0) (f : X → List Y)
     (each : (x : X) → P x → IsDistinct R (f x)) (known : (x : X) → P x → AllByRecursion (K x) (f x))
     (apart : (x y : X) (u v : Y) → same x y ≡ false → K x u → K y v → R u v ≡ false) where
@@ -91,7 +91,7 @@ any-at p [] k x at h = absurd (none-some x at)
 any-at p (y ∷ ys) zero x at h = or_left _ _ (ap p (same_Some y x at) ∙ h)
 any-at p (y ∷ ys) (suc k) x at h = or_right (p y) _ (any-at p ys k x at h)
 
--- the first that passes, and its position
+-- the first element that passes, and its position
 pub passes-at : {X : Type 0} (p : X → Bool) (xs : List X) → list_any p xs ≡ true → (k : ℕ) × (x : X) × (slice_get xs k ≡ Some x) × (p x ≡ true)
 passes-at p [] h = absurd (false≢true h)
 passes-at p (x ∷ xs) h = elim (or_cases (p x) (list_any p xs) h) [
@@ -118,7 +118,7 @@ any-filter is p x sound passes (y ∷ ys) h =
       ]
     ] refl
 
--- what one element gives is among what all give
+-- the results of one element are among the results of all
 pub any-flat_map : {X Y : Type 0} (is : X → Bool) (p : Y → Bool) (f : X → List Y) (x : X) → ((y : X) → is y ≡ true → x ≡ y) → list_any p (f x) ≡ true
     → (xs : List X) → list_any is xs ≡ true → list_any p (flat_map f xs) ≡ true
 any-flat_map is p f x sound given [] h = absurd (false≢true h)
@@ -134,7 +134,7 @@ any-left p xs ys h = list_any-append p xs ys ∙ or_left _ _ h
 pub any-right : {X : Type 0} (p : X → Bool) (xs ys : List X) → list_any p ys ≡ true → list_any p (xs ++ ys) ≡ true
 any-right p xs ys h = list_any-append p xs ys ∙ or_right (list_any p xs) _ h
 
--- one of those that pass is known by what is known of all
+-- a property of all elements holds for one that passes
 pub any-all : {X C : Type 0} (P : X → Type 0) (p : X → Bool) → ((x : X) → P x → p x ≡ true → C) → (xs : List X) → AllByRecursion P xs → list_any p xs ≡ true → C
 any-all P p gives [] all h = absurd (false≢true h)
 any-all P p gives (x ∷ xs) all h = elim (or_cases (p x) (list_any p xs) h) [

@@ -1,9 +1,10 @@
--- What an end loses, position by position, and where the object itself is then.
+-- The losses of an end, position by position, and the position of the object itself then.
 use Rattle.std.proofs.Common.{◌≡◌, ℕ, zero, suc, ◌+◌, ◌<◌, ◌≤◌, length, drop, slice_get, slice_index_or, eq-eqb, Bool, true, false, not, ◌&&◌, cond, List, [], ◌∷◌, ◌++◌, filter, Option, Some, option_and_then, option_map, option_to_list, append_assoc, add-one, refl, sym, ap, ◌∙◌, arith, subst}
 use Rattle.std.specs.Option.{option_map_or}
 use Rattle.std.proofs.lemmas.Bool.{false≢true}
 use Rattle.std.proofs.lemmas.List.{append-nil, drop_all, drop_more}
-use Rattle.std.proofs.lemmas.Option.{none-some, same_Some}
+use Rattle.std.proofs.lemmas.Option.{none-some, same_Some, slice_get-get_or}
+use Rattle.std.proofs.Math.Bool.{and-false}
 use Rattle.mm_types.proofs.SameLemmas.{same_end-self}
 use Rattle.mm_types.specs.Ends.{index_in}
 use Rattle.mm_types.specs.Same.{node_value, same_end, same_object, same_value}
@@ -19,9 +20,7 @@ use Rattle.links.specs.Links.{end}
 use Rattle.models.specs.Legal.{IsLegal}
 use Rattle.models.specs.Model.{Model, reading}
 use Rattle.models.specs.Reading.{Reading, object_of}
-use Rattle.containment.proofs.ForestLemmas.{get-within}
 use Rattle.containment.proofs.PartLemmas.{legal-at, legal-reference}
-use Rattle.removal.proofs.OuterLemmas.{and-false}
 use Rattle.removal.specs.Losses.{is_held_by, is_lost, loss, lost_from}
 use Rattle.removal.specs.Outer.{gone}
 use Rattle.removal.specs.Ranks.{HasGone, is_in}
@@ -41,15 +40,15 @@ drop-at vs i v at = let r = get-at vs i v at in drop_more vs i v r.0 ∙ ap (λ 
 
 -- a position of the list has a value
 pub some-below : (vs : List Value) (i : ℕ) → i < length vs → (v : Value) × (slice_get vs i ≡ Some v)
-some-below vs i low = (slice_index_or vs i value.Null, get-within vs i value.Null low)
+some-below vs i low = (slice_index_or vs i value.Null, slice_get-get_or vs i value.Null low)
 
--- what is read of it
+-- a read of that value
 pub read-of : (vs : List Value) (i : ℕ) (v : Value) (q : Option ObjectNo) → slice_get vs i ≡ Some v → q ≡ option_and_then object_of (slice_get vs i) → q ≡ object_of v
 read-of vs i v q at read = read ∙ ap (λ (x : Option Value). option_and_then object_of x) at
 
 ---------------------------------------------------------------- one end
 
--- a value is lost if the numbers and the holder say so of the object that it is
+-- a value is lost if it is an object whose number is in the set, and is not the deleted object itself at its holder
 lost-is : (r : Reading) (o : ObjectNo) (e : End) (v : Value) (q : Option ObjectNo) (numbers : Numbers) (held answer : Bool) → HasGone r o numbers → held ≡ is_held_by r o e → q ≡ object_of v
     → answer ≡ option_map_or (λ x. is_in numbers (node.Object x) && not (held && same_value (value.Object x) (value.Object o))) q false → answer ≡ is_lost r o e v
 lost-is r o e v q numbers held answer has holds read told =
@@ -59,7 +58,7 @@ lost-is r o e v q numbers held answer has holds read told =
     by (value.Object x) = λ i. has (node.Object x) i && not (holds i && same_value (value.Object x) (value.Object o))
     by _ = refl
 
--- what is at a position of an end, and whether it is lost
+-- the value at a position of an end, and whether it is lost
 pub record IsAt (r : Reading) (o : ObjectNo) (e : End) (i : ℕ) (q : Option ObjectNo) (answer : Bool) : Type 0 where
   pub value : Value
   pub at : slice_get (r.values e) i ≡ Some value
@@ -74,7 +73,7 @@ place-told r o e i q numbers held answer n long low found has holds told =
     let read = read-of (r.values e) i here.0 q here.1 found in
     record { value = here.0; at = here.1; read = read; told = lost-is r o e here.0 q numbers held answer has holds read told }
 
--- what is added of a value that is lost
+-- the loss that is added for a lost value
 pub added-is : (r : Reading) (o : ObjectNo) (e : End) (v : Value) (k : ℕ) (q : Option ObjectNo) → q ≡ object_of v → is_lost r o e v ≡ true
     → option_to_list (option_map (λ x. loss e (value.Object x) k) q) ≡ loss e v k ∷ []
 added-is r o e v k q read lost = ap (λ (x : Option ObjectNo). option_to_list (option_map (λ y. loss e (value.Object y) k) x)) read ∙ by v lost
@@ -100,7 +99,7 @@ module _ (e : End) (p : Value → Bool) where
       ∙ ap (λ (ls : List Loss). out ++ ls) (sym (lost-yes v rest k h) ∙ ap (λ (ws : List Value). lost_from p e ws k) (sym (drop-at vs i v at)))
       ∙ whole
 
-  -- one position further, if it stays
+  -- one position further, if the value stays
   pub kept-step : (vs : List Value) (i k : ℕ) (v : Value) (out all : List Loss) → slice_get vs i ≡ Some v → p v ≡ false
       → out ++ lost_from p e (drop i vs) k ≡ all → out ++ lost_from p e (drop (i + 1) vs) (k + 1) ≡ all
   kept-step vs i k v out all at h whole =
@@ -119,7 +118,7 @@ module _ (e : End) (p : Value → Bool) where
 ---------------------------------------------------------------- the object itself
 
 module _ (p : Value → Bool) (o : ObjectNo) where
-  -- where the object is among the values that are not lost
+  -- the position of the object among the values that are not lost
   abbrev pub place_left : List Value → ℕ
   place_left vs = index_in (filter (λ v. not (p v)) vs) (value.Object o)
 
@@ -156,7 +155,7 @@ module _ (p : Value → Bool) (o : ObjectNo) where
   pub left-end : (vs : List Value) (i k all : ℕ) → length vs ≤ i → k + place_left (drop i vs) ≡ all → k ≡ all
   left-end vs i k all past whole = let none : place_left (drop i vs) ≡ 0 = left-none (drop i vs) (drop_all i vs past) in omega (arith, none, whole)
 
--- an object is a value if it is what is read of it
+-- an object is a value if it was read from it
 pub same-read : (o : ObjectNo) (v : Value) (q : Option ObjectNo) → q ≡ object_of v → same_value (value.Object o) v ≡ option_map_or (same_object o) q false
 same-read o v q read = by v ∙ sym (ap (λ (x : Option ObjectNo). option_map_or (same_object o) x false) read)
   where

@@ -1,4 +1,4 @@
--- The ends of nodes that stay are in order, and those that hold an object that goes are among them.
+-- The ends of remaining nodes are in order, and the ends that have a destroyed object are among them.
 use Rattle.std.proofs.Common.{◌≡◌, ℕ, ◌+◌, zero, suc, ◌<◌, ◌≤◌, nat_eq, nat_lt, length, slice_get, slice_index_or, Bool, true, false, ◌&&◌, ◌||◌, not, List, [], ◌∷◌, ◌++◌, filter, flat_map, map, Option, Some, None, is_some, if◌then◌else◌, refl, sym, ap, ◌∙◌, subst, arith}
 use Rattle.std.specs.List.{AllByRecursion, list_any, range_with_len}
 use Rattle.std.specs.Option.{option_map_or}
@@ -6,6 +6,7 @@ use Rattle.std.proofs.lemmas.Bool.{and_parts, eqb-true, false≢true}
 use Rattle.std.proofs.lemmas.Bool.Decides.{nat_tests}
 use Rattle.std.proofs.lemmas.List.Elements.{All-get_or, filter_passes}
 use Rattle.std.proofs.lemmas.Option.{none-some}
+use Rattle.std.proofs.Math.Bool.{and-false, or-false}
 use Rattle.mm_types.proofs.SameLemmas.{same_end-true}
 use Rattle.mm_types.specs.Lookups as lookups
 use Rattle.mm_types.specs.Same.{same_end, same_feature, same_node}
@@ -35,7 +36,7 @@ abbrev pub IsSorted : {X : Type 0} → (X → X → Bool) → List X → Type 0
 IsSorted R [] = Unit {0}
 IsSorted R (x ∷ xs) = AllByRecursion (λ y. R x y ≡ true) xs × IsSorted R xs
 
-all_of : {X : Type 0} (P : X → Type 0) (xs : List X) → ((x : X) → P x) → AllByRecursion P xs
+pub all_of : {X : Type 0} (P : X → Type 0) (xs : List X) → ((x : X) → P x) → AllByRecursion P xs
 all_of P [] of = tt
 all_of P (x ∷ xs) of = (of x, all_of P xs of)
 
@@ -119,14 +120,6 @@ touched-in_order s o = in_order (touched_ends (reading s) o) (touched-sorted s o
 
 ---------------------------------------------------------------- which ends
 
-pub and-false : (b : Bool) → (b && false) ≡ false
-and-false true = refl
-and-false false = refl
-
-or-false : (b : Bool) → (b || false) ≡ b
-or-false true = refl
-or-false false = refl
-
 pub has_end-append : (xs ys : List End) (e : End) → has_end (xs ++ ys) e ≡ (has_end xs e || has_end ys e)
 has_end-append [] ys e = refl
 has_end-append (x ∷ xs) ys e = elim (same_end x e) as (λ b. (b || has_end (xs ++ ys) e) ≡ ((b || has_end xs e) || has_end ys e)) [ true ↦ refl | false ↦ has_end-append xs ys e ]
@@ -148,7 +141,7 @@ has_end-filter p (d ∷ ds) e =
           ]
     ] refl
 
--- a node is among some
+-- a node is among some nodes
 abbrev has_node : List Node → Node → Bool
 has_node ns n = list_any (λ m. same_node m n) ns
 
@@ -295,7 +288,7 @@ touched-all s legal o live e =
     and-true true = refl
     and-true false = refl
 
--- a touched end is of a reference
+-- an end that loses something is the end of a reference
 pub touched-reference : (r : Reading) (o : ObjectNo) (es : List End) (k : ℕ) (d : End) → es ≡ touched_ends r o → k < length es → (shape r.metamodel (slice_index_or es k d).feature).is_reference ≡ true
 touched-reference r o es k d is low =
     let some : End → Bool = holds_some r (gone r o) in

@@ -1,4 +1,4 @@
--- What holds of the links that go with an object.
+-- Laws on the links that are cut with an object.
 use Rattle.std.specs.Prelude.{List, map}
 use Rattle.mm_types.specs.declared.end.End.{End}
 use Rattle.mm_types.specs.declared.value.Value.{Value}
@@ -14,7 +14,7 @@ use Rattle.removal.specs.declared.link_end.LinkEnd.{LinkEnd}
 abbrev pub names_of : List LinkEnd → List (End × Value)
 names_of ts = map (λ t. (t.end, t.value)) ts
 
--- each is the name of a link, no link is named twice, and the links named are those that name something that goes
+-- each name is of a link, no link is named twice, and exactly the links of the nodes that are destroyed are named
 pub record NameTreeLinks (s : Model) (o : ObjectNo) : Type 0 where
   pub there : AreThere s.links (names_of (tree_link_ends (reading s) o))
   pub once : AreOnce (kinds_of s.metamodel) (names_of (tree_link_ends (reading s) o))

@@ -1,4 +1,4 @@
--- What the ends of other nodes lose with an object and all that is below it.
+-- What the ends of other nodes lose when an object and all objects below it are destroyed.
 use Rattle.std.specs.Prelude.{ℕ, suc, ◌&&◌, Bool, false, not, List, [], ◌∷◌, ◌++◌, filter, flat_map, if◌then◌else◌}
 use Rattle.std.specs.Option.{option_map_or}
 use Rattle.mm_types.specs.Ends.{index_in}
@@ -13,18 +13,19 @@ use Rattle.models.specs.Reading.{Reading}
 use Rattle.removal.specs.Outer.{gone, touched_ends}
 use Rattle.removal.specs.declared.loss.Loss.{Loss}
 
--- an end contains an object
+-- whether an end contains an object
 abbrev pub is_held_by : Reading → ObjectNo → End → Bool
 is_held_by r o e = option_map_or (same_end e) (r.holder (node.Object o)) false
 
--- a value that an end loses before the object itself is taken out of the end that contains it
+-- whether an end loses a value before the last step, which takes the object itself out of the end that contains it
 abbrev pub is_lost : Reading → ObjectNo → End → Value → Bool
 is_lost r o e v = goes (gone r o) v && not (is_held_by r o e && same_value v (value.Object o))
 
 abbrev pub loss : End → Value → ℕ → Loss
 loss e v k = record { end = e; value = v; position = k }
 
--- each of some values that is lost, at the position that it has once those before it are gone; k values that stay come before
+-- the losses among some values, each at the position that the value has after the lost values before it were taken out; k is the number of
+-- values before that stay
 abbrev pub lost_from : (Value → Bool) → End → List Value → ℕ → List Loss
 lost_from lost e [] k = []
 lost_from lost e (v ∷ vs) k = if lost v then loss e v k ∷ lost_from lost e vs k else lost_from lost e vs (suc k)
@@ -32,7 +33,7 @@ lost_from lost e (v ∷ vs) k = if lost v then loss e v k ∷ lost_from lost e v
 abbrev pub lost_at : Reading → ObjectNo → End → List Loss
 lost_at r o e = lost_from (is_lost r o e) e (r.values e) 0
 
--- what is left of an end before the object itself is taken out
+-- the values that an end keeps until the object itself is taken out
 abbrev pub kept_at : Reading → ObjectNo → End → List Value
 kept_at r o e = filter (λ v. not (is_lost r o e v)) (r.values e)
 

@@ -1,4 +1,4 @@
--- What goes with an object, all that is below it, and the ends of other nodes that hold some of it.
+-- What is destroyed with an object: the object and all objects below it. And the ends of other nodes that hold some of them.
 use Rattle.std.specs.Prelude.{ℕ, suc, ◌&&◌, Bool, not, List, filter, flat_map, length, map, if◌then◌else◌}
 use Rattle.std.specs.List.{list_any, range_with_len}
 use Rattle.mm_types.specs.Lookups as lookups
@@ -12,7 +12,7 @@ use Rattle.links.specs.Laws.{goes}
 use Rattle.models.specs.Reading.{Reading, at_end, shape_at}
 use Rattle.containment.specs.Forest.{is_node_among, subtree}
 
--- a node goes with an object: it is that object, or is below it
+-- whether a node is destroyed with an object: it is that object, or is below it
 abbrev pub gone : Reading → ObjectNo → Node → Bool
 gone r o = is_node_among (subtree r o)
 
@@ -22,24 +22,25 @@ object_node k = node.Object (record { 0 = k })
 abbrev pub resource_node : ℕ → Node
 resource_node k = node.Resource (record { 0 = k })
 
--- the nodes that may have a feature, by number, but for those that go: resources have `contents`, and objects all others
+-- the nodes that may have a feature, by number, without the nodes that are destroyed: the resources for `contents`, and the objects for
+-- each other feature
 abbrev pub others_with : Reading → (Node → Bool) → FeatureNo → List Node
 others_with r is_gone f =
     if same_feature f (lookups.contents r.metamodel) then map resource_node (range_with_len 0 (length r.uris))
     else filter (λ n. not (is_gone n)) (map object_node (range_with_len 0 r.next))
 
--- their ends of one feature
+-- the ends of one feature at nodes that stay
 abbrev pub ends_of : Reading → (Node → Bool) → ℕ → List End
 ends_of r is_gone k = let f : FeatureNo = record { 0 = k } in map (λ n. at_end n f) (others_with r is_gone f)
 
--- all their ends, by feature number, then by node
+-- all ends of nodes that stay, by feature number, then by node
 abbrev pub outer_ends : Reading → (Node → Bool) → List End
 outer_ends r is_gone = flat_map (ends_of r is_gone) (range_with_len 0 (suc (length r.metamodel.features)))
 
--- a reference holds an object of those that go
+-- whether an end of a reference has an object that is destroyed
 abbrev pub holds_some : Reading → (Node → Bool) → End → Bool
 holds_some r is_gone e = (shape_at r e).is_reference && list_any (goes is_gone) (r.values e)
 
--- the ends of other nodes that hold an object that goes with o
+-- the ends of other nodes that have an object that is destroyed with o
 abbrev pub touched_ends : Reading → ObjectNo → List End
 touched_ends r o = filter (holds_some r (gone r o)) (outer_ends r (gone r o))

@@ -1,4 +1,4 @@
--- What the ends of other nodes are found by: which numbers go, and what holds an object.
+-- How the ends of other nodes are found: the numbers of the objects that are destroyed, and which ends have an object.
 use Rattle.std.specs.Prelude.{ℕ, ◌≡◌, Bool, false, not, List, filter}
 use Rattle.std.specs.BTreeSet as set
 use Rattle.std.specs.Ordering.{nat_cmp}
@@ -13,19 +13,19 @@ use Rattle.models.specs.Reading.{Reading}
 use Rattle.removal.specs.Outer.{gone}
 use Rattle.removal.specs.declared.numbers.Numbers.{Numbers}
 
--- a node is an object whose number is among some
+-- whether a node is an object whose number is in a set
 abbrev pub is_in : Numbers → Node → Bool
 is_in s (node.Object o) = set.contains nat_cmp s.0 o.0
 is_in s (node.Resource k) = false
 
--- the numbers are those of what goes with an object
+-- the numbers are those of the objects that are destroyed with an object
 abbrev pub HasGone : Reading → ObjectNo → Numbers → Type 0
 HasGone r o s = (n : Node) → is_in s n ≡ gone r o n
 
--- an end holds an object
+-- whether an end holds an object
 abbrev pub holds : Links → End → ObjectNo → Bool
 holds s e x = has_value (end s e) (value.Object x)
 
--- those of some ends whose nodes are not among those of some numbers
+-- the ends whose nodes are not in a set of numbers
 abbrev pub staying : Numbers → List End → List End
 staying s es = filter (λ e. not (is_in s e.node)) es

@@ -1,4 +1,4 @@
--- What goes with an object, as it was found in a model.
+-- What is destroyed with an object, as it was found in a model.
 use Rattle.std.specs.Prelude.{◌≡◌}
 use Rattle.containment.specs.Forest.{subtree}
 use Rattle.models.specs.Reading.{Reading}
@@ -6,7 +6,7 @@ use Rattle.removal.specs.Outer.{touched_ends}
 use Rattle.removal.specs.Ranks.{HasGone}
 use Rattle.removal.specs.declared.gone.Removal.{Removal}
 
--- the objects are the subtree, the numbers are theirs, and the ends are those of other nodes that hold some of them
+-- the objects are the subtree, the numbers are those of the objects, and the ends are the ends of other nodes that hold some of the objects
 pub record IsRemoval (r : Reading) (x : Removal) : Type 0 where
   pub objects : x.objects.items ≡ subtree r x.object
   pub numbers : HasGone r x.object x.numbers

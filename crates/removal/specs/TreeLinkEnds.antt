@@ -1,4 +1,4 @@
--- The links that go with an object and all that is below it, each named once.
+-- The links that are cut with an object and all objects below it, each named once.
 use Rattle.std.specs.Prelude.{◌||◌, Bool, true, not, List, [], ◌++◌, filter, flat_map, map, is_some, nat_lt, if◌then◌else◌}
 use Rattle.std.specs.Option.{option_map_or}
 use Rattle.mm_types.specs.Shapes.{shape}
@@ -17,7 +17,8 @@ use Rattle.removal.specs.declared.link_end.LinkEnd.{LinkEnd}
 abbrev pub link_end : End → Value → LinkEnd
 link_end e v = record { end = e; value = v }
 
--- a link of a node that goes is named by that node's end; if both nodes go, by the end of the lower feature
+-- whether a link is named by an end of a node that is destroyed: it is, unless the value is destroyed too and the opposite has the lower
+-- number
 abbrev pub is_named_here : Reading → (Node → Bool) → FeatureNo → Value → Bool
 is_named_here r is_gone f v = not (goes is_gone v) || option_map_or (λ g. nat_lt f.0 g.0) (shape r.metamodel f).opposite true
 
@@ -27,14 +28,14 @@ end_link_ends r is_gone e = map (link_end e) (filter (is_named_here r is_gone e.
 abbrev pub references_of : Reading → Node → List FeatureNo
 references_of r n = filter (λ f. (shape r.metamodel f).is_reference) (all_features_of r n)
 
--- the links of a node that goes
+-- the links of a node that is destroyed
 abbrev pub node_link_ends : Reading → (Node → Bool) → ObjectNo → List LinkEnd
 node_link_ends r is_gone o = flat_map (λ f. end_link_ends r is_gone (at_end (node.Object o) f)) (references_of r (node.Object o))
 
--- the links of the end of a node that stays, if only that end can name them: its feature has no opposite
+-- the links that are cut at an end of a node that remains; they are named there only if the end's feature has no opposite
 abbrev pub outer_link_ends : Reading → (Node → Bool) → End → List LinkEnd
 outer_link_ends r is_gone e = if is_some (shape_at r e).opposite then [] else map (link_end e) (filter (goes is_gone) (r.values e))
 
--- all links that name an object or something below it
+-- all links that name an object or an object below it
 abbrev pub tree_link_ends : Reading → ObjectNo → List LinkEnd
 tree_link_ends r o = flat_map (node_link_ends r (gone r o)) (subtree r o) ++ flat_map (outer_link_ends r (gone r o)) (touched_ends r o)

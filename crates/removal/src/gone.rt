@@ -1,4 +1,4 @@
-//! What goes with an object.
+//! What is destroyed with an object.
 ghost use Rattle.std.specs.Prelude.{◌≡◌, true, IfOk};
 ghost use Rattle.models.specs.Model.{reading};
 ghost use Rattle.models.specs.Reading.{is_live};
@@ -13,20 +13,20 @@ use mm_types::{End, Node, ObjectNo};
 use models::ModelRef;
 use std::alloc::{AllocError, Global};
 
-/// What goes when an object is destroyed, found once and lent to all that asks for it: the object and all that is below it, and the
-/// ends of other nodes that hold some of it.
+/// A deletion of an object: the objects that it destroys (the object and all objects below it), and the ends of other nodes that have some
+/// of them. It is found once, and then borrowed.
 #[derive(Drop)]
 pub struct Removal {
     /// The object that is destroyed.
     pub object: ObjectNo,
-    /// That object and all that is below it, each before what it contains.
+    /// That object and all objects below it, each before its contents.
     pub objects: Vec<ObjectNo>,
     pub(crate) numbers: Numbers,
     pub(crate) ends: Vec<End>,
 }
 
 impl Removal {
-    /// What goes with a live object. Errs only if memory is refused.
+    /// What is destroyed with a live object. Errs only if memory is refused.
     pub fn of<L: LinkStore>(
         alloc: Global,
         model: &ModelRef<L>,
@@ -47,7 +47,7 @@ impl Removal {
         })
     }
 
-    /// Whether a node goes. Takes no memory.
+    /// Whether a node is destroyed. Takes no memory.
     pub fn has(&self, node: Node) -> bool
         ensures { result ≡ ranks.is_in self.now.numbers node }
     {

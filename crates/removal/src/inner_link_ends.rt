@@ -1,4 +1,4 @@
-//! The links of nodes that go with an object, recognised by the numbers of what goes.
+//! The links of nodes that are destroyed with an object; the nodes are recognised by their numbers.
 ghost use Rattle.std.specs.Prelude.{◌≡◌, ◌++◌, [], true, filter, flat_map, map, OnOk, option_map, option_to_list, if◌then◌else◌};
 ghost use Rattle.mm_types.specs.Shapes.{shape};
 ghost use Rattle.mm_types.specs.declared.numbers.Node.TheVariants as node;
@@ -16,7 +16,7 @@ use mm_types::{End, FeatureNo, Node, ObjectNo};
 use models::{Found, ModelRef};
 use std::alloc::AllocError;
 
-/// Adds the links of some objects, if the objects go whose numbers are in `numbers`.
+/// Adds the links of some objects; `numbers` has the numbers of the objects that are destroyed.
 pub(crate) fn push_inner<L: LinkStore>(
     model: &ModelRef<L>,
     objects: &[ObjectNo],
@@ -98,8 +98,8 @@ fn push_named<L: LinkStore>(
     Ok(())
 }
 
-/// Whether the end of a node that goes names what was found there: a proxy, an object that stays, or one whose end is of a higher
-/// feature.
+/// Whether the end of a node that is destroyed names the value that was found there: a proxy, an object that stays, or an object whose own
+/// end has a higher feature number.
 fn is_named_here<L: LinkStore>(
     model: &ModelRef<L>,
     feature: FeatureNo,
@@ -117,7 +117,7 @@ fn is_named_here<L: LinkStore>(
     }
 }
 
-/// Whether what was found is an object that goes.
+/// Whether the value that was found is an object that is destroyed.
 fn goes(found: &Found, numbers: &Numbers) -> bool
     ensures { result ≡ goes_with (ranks.is_in numbers.now) (found_value found.now) }
 {

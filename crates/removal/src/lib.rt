@@ -1,8 +1,8 @@
-//! What goes with an object when it is destroyed: the object and all that is below it; what each end of another node loses with it; and
-//! the links that go, each named by one of its ends.
+//! The effect of a deletion: it destroys an object and all objects below it; ends of other nodes lose values; and links are cut, each named
+//! by one of its ends.
 //!
 //! `specs/Outer.antt` says which ends lose something, `specs/Losses.antt` what they lose, in order, and `specs/TreeLinkEnds.antt` which
-//! links go, and by which of its ends each is named.
+//! links are cut, and by which end each is named.
 #![tactic(auto)]
 
 mod ends;

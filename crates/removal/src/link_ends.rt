@@ -1,4 +1,4 @@
-//! The links that go with an object.
+//! The links that are cut with an object.
 ghost use Rattle.std.specs.Prelude.{◌≡◌, IfOk};
 ghost use Rattle.models.specs.Model.{reading};
 ghost use Rattle.removal.specs.Removals.{IsRemoval};
@@ -12,8 +12,7 @@ use links::LinkStore;
 use models::ModelRef;
 use std::alloc::{AllocError, Global};
 
-/// The links that name an object or something below it, each named once. Errs only if memory is
-/// refused.
+/// The links of an object and of all objects below it, each named once. Errs only if memory is refused.
 pub fn tree_link_ends<L: LinkStore>(
     alloc: Global,
     model: &ModelRef<L>,

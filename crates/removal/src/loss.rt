@@ -1,4 +1,4 @@
-//! What ends lose.
+//! The values that ends lose.
 ghost use Rattle.std.specs.Prelude.{◌≡◌, ◌&&◌, ◌++◌, false, not, true, IfOk, OnOk, Some, option_map, option_to_list};
 ghost use Rattle.std.specs.Option.{option_map_or};
 ghost use Rattle.mm_types.specs.Ends.{index_in};
@@ -22,12 +22,12 @@ use std::alloc::{AllocError, Global};
 pub struct Loss {
     pub end: End,
     pub value: Value,
-    /// The position that it has once the losses before this one are made, from 0.
+    /// The position of the value after the losses before this one are made, from 0.
     pub position: u32,
 }
 
-/// What ends of other nodes lose when an object and all that is below it are destroyed, by feature number, then by node, then by
-/// position; the loss of the object itself, at the end that contains it, comes last. Errs only if memory is refused.
+/// What ends of other nodes lose when an object and all objects below it are destroyed, by feature number, then by node, then by position;
+/// the loss of the object itself, at the end that contains it, comes last. Errs only if memory is refused.
 pub fn losses<L: LinkStore>(
     alloc: Global,
     model: &ModelRef<L>,
@@ -44,7 +44,7 @@ pub fn losses<L: LinkStore>(
     Ok(out)
 }
 
-/// Adds what one end loses before the object itself is taken out of the end that contains it.
+/// Adds the losses of one end; the object itself is then still in the end that contains it.
 fn push_lost<L: LinkStore>(
     model: &ModelRef<L>,
     removal: &Removal,
@@ -104,7 +104,7 @@ fn push_last<L: LinkStore>(
     push_loss(end, Some(removal.object), position, out)
 }
 
-/// The position of the object itself in the end that contains it, once that end has lost all else that goes.
+/// The position of the object itself in the end that contains it, after that end has lost all other objects that are destroyed.
 fn last_position<L: LinkStore>(model: &ModelRef<L>, removal: &Removal, end: End) -> u32
     requires held { (reading model.now).holder (node.Object removal.now.object) ≡ Some end }
     requires removal { IsRemoval (reading model.now) removal.now }
@@ -135,7 +135,7 @@ fn is_lost(removal: &Removal, is_holder: bool, found: Option<ObjectNo>) -> bool
     }
 }
 
-/// Whether what was found is an object.
+/// Whether the object that was found is the given one.
 fn is_found(found: Option<ObjectNo>, object: ObjectNo) -> bool
     ensures { result ≡ option_map_or (same_object object) found false }
 {

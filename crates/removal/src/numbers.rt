@@ -1,4 +1,4 @@
-//! The numbers of the objects that go, to find fast whether a node is one of them.
+//! The numbers of the objects that are destroyed, to find fast whether a node is one of them.
 ghost use Rattle.std.specs.Prelude.{◌≡◌, IfOk};
 ghost use Rattle.mm_types.specs.declared.numbers.Node.{Node};
 ghost use Rattle.containment.specs.Forest as forest;
@@ -24,8 +24,8 @@ impl Numbers {
         Ok(Numbers(numbers))
     }
 
-    /// Whether a node is an object whose number is among them. Walks up no chain of containers, so a deep tree costs no more. Takes no
-    /// memory.
+    /// Whether a node is an object whose number is among them. It walks up no chain of containers, so a deep tree costs no more time. Takes
+    /// no memory.
     pub(crate) fn has(&self, node: Node) -> bool
         ensures { result ≡ ranks.is_in self.now node }
     {

@@ -1,4 +1,4 @@
-//! The links of nodes that stay, to nodes that go, that no end of the latter can name.
+//! The links from nodes that remain to nodes that are destroyed, if only the ends of the nodes that remain can name them.
 ghost use Rattle.std.specs.Prelude.{◌≡◌, ◌++◌, true, All, filter, flat_map, map, OnOk, option_map, option_to_list};
 ghost use Rattle.mm_types.specs.Shapes.{shape};
 ghost use Rattle.mm_types.specs.declared.value.Value.TheVariants as value;
@@ -30,7 +30,7 @@ pub(crate) fn push_outer<L: LinkStore>(
     Ok(())
 }
 
-/// Adds the links of an end to objects that go, if its feature has no opposite.
+/// Adds the links of an end to objects that are destroyed, if its feature has no opposite.
 fn push_alone<L: LinkStore>(
     model: &ModelRef<L>,
     end: End,
@@ -49,7 +49,7 @@ fn push_alone<L: LinkStore>(
     Ok(())
 }
 
-/// Adds the link of one value, if that goes.
+/// Adds the link of one value, if that is destroyed.
 fn push_if_gone(
     end: End,
     other: Option<ObjectNo>,

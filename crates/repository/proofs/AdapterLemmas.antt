@@ -1,6 +1,6 @@
--- What chains make of the adapters.
+-- The adapters after a chain.
 use Rattle.std.proofs.Common.{◌≡◌, ◌∙◌, ◌||◌, ◌++◌, Bool, true, false, List, [], ◌∷◌, length, map, nat_lt, if◌then◌else◌, refl, sym, ap, subst, arith, le-leb}
-use Rattle.std.proofs.lemmas.Bool.{false≢true}
+use Rattle.std.proofs.lemmas.Bool.{or_parts}
 use Rattle.notice_chain.specs.Listed.{Above, Listed, audience, heard_of, hears, is_chain_full, is_full, tell_chain, told_all, told_list}
 use Rattle.notice_chain.specs.declared.notice.Notice.{Notice}
 use Rattle.adapter_list.specs.Hearing.{IsUnheard, is_heard}
@@ -39,26 +39,22 @@ heard_where_attached up made chain (r ∷ rs) e =
 
 ---------------------------------------------------------------- no adapter is notified
 
-pub neither : (a b : Bool) → (a || b) ≡ false → (a ≡ false) × (b ≡ false)
-neither true b h = absurd (false≢true (sym h))
-neither false b h = (refl, h)
-
 -- an adapter that doesn't get a notification is not among those that do
 no-audience : (up : Above) (n : Notice) (rs : List Listed) → is_heard up n.notifier rs ≡ false → audience up n rs ≡ []
 no-audience up n [] h = refl
 no-audience up n (r ∷ rs) h =
-    let both = neither (hears up r n) (is_heard up n.notifier rs) h in
+    let both = or_parts (hears up r n) (is_heard up n.notifier rs) h in
     ap (λ b. if b then (r ∷ audience up n rs) else audience up n rs) both.0 ∙ no-audience up n rs both.1
 
 told_list-unheard : (up : Above) (ns : List Notice) (rs : List Listed) → IsUnheard up ns rs → told_list up ns rs ≡ []
 told_list-unheard up [] rs h = refl
 told_list-unheard up (n ∷ ns) rs h = ap (λ qs. map (λ (r : Listed). (r.no, n)) qs ++ told_list up ns rs) (no-audience up n rs h.0) ∙ told_list-unheard up ns rs h.1
 
--- one of the adapters gets nothing of it, and the others get nothing of it
+-- one of the adapters gets no notification of the chain, and the others get none
 heard_of-unheard : (up : Above) (ns : List Notice) (r : Listed) (rs : List Listed) → IsUnheard up ns (r ∷ rs) → (heard_of up ns r ≡ []) × IsUnheard up ns rs
 heard_of-unheard up [] r rs h = (refl, tt)
 heard_of-unheard up (n ∷ ns) r rs h =
-    let both = neither (hears up r n) (is_heard up n.notifier rs) h.0 in
+    let both = or_parts (hears up r n) (is_heard up n.notifier rs) h.0 in
     let later = heard_of-unheard up ns r rs h.1 in
     (ap (λ b. if b then (n ∷ heard_of up ns r) else heard_of up ns r) both.0 ∙ later.0, (both.1, later.1))
 
@@ -74,7 +70,7 @@ is_chain_full-unheard up ns (r ∷ rs) h =
     let here = heard_of-unheard up ns r rs h in
     ap (λ (qs : List Notice). is_full (length qs) (length r.targets) r.view || is_chain_full up ns rs) here.0 ∙ is_chain_full-unheard up ns rs here.1
 
--- a chain that notifies no adapter is as good as none
+-- a chain that notifies no adapter has the same effect as an empty chain
 pub unheard-tells : (up : Above) (chain : List Notice) (rs : List Listed) → IsUnheard up chain rs → TellsAll up [] chain rs
 unheard-tells up chain rs h = record {
   told = sym (told_list-unheard up chain rs h);
@@ -82,7 +78,7 @@ unheard-tells up chain rs h = record {
   full = is_chain_full-nil up rs ∙ sym (is_chain_full-unheard up chain rs h);
 }
 
--- the chain itself, if an adapter may have to get it, and else none
+-- the chain itself, if an adapter may have to get it, and otherwise an empty chain
 pub heard-tells : (b : Bool) (up : Above) (made chain : List Notice) (rs : List Listed) → made ≡ (if b then chain else []) → (b ≡ false → IsUnheard up chain rs) → TellsAll up made chain rs
 heard-tells true up made chain rs is unheard = record { told = ap (λ ns. told_list up ns rs) is; adapters = ap (λ ns. tell_chain up ns rs) is; full = ap (λ ns. is_chain_full up ns rs) is }
 heard-tells false up made chain rs is unheard = subst (λ ns. TellsAll up ns chain rs) (sym is) (unheard-tells up chain rs (unheard refl))

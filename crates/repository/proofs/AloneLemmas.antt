@@ -1,4 +1,4 @@
--- What adapters have no part in.
+-- Results on which adapters have no influence.
 use Rattle.std.proofs.Common.{◌≡◌, Bool, true, false, List, [], Option, Some, None, Ok, Err, refl, ap, sym, ◌∙◌}
 use Rattle.mm_types.specs.Conditions.{◌where_so◌, ◌else_by◌}
 use Rattle.mm_types.specs.declared.refused.Refused.{Refused}
@@ -6,14 +6,13 @@ use Rattle.notice_chain.specs.Listed.{Listed}
 use Rattle.notice_chain.specs.View.{View}
 use Rattle.repository.specs.Alone.{ComesBack, IsAloneToo, KeepsModel, is_change}
 use Rattle.repository.specs.Refusals.{early_refusal, late_refusal}
-use Rattle.repository.specs.Reload.{bare}
-use Rattle.repository.specs.State.{State, reads}
+use Rattle.repository.specs.State.{bare, State, reads}
 use Rattle.repository.specs.Step.{Stepped, adapters_after, done, refusal_of, refused, reply, step, step_unless}
 use Rattle.repository.specs.declared.command.Command.{Command}
 use Rattle.repository.specs.declared.command.Command.TheVariants as command
 use Rattle.repository.specs.declared.reply.Reply.{Reply}
 
--- if nothing refuses, nothing does if the last condition is not looked at
+-- if there is no refusal, there is none if the last condition is left out
 none_of : (a b : Option Refused) (r : Refused) (t : Bool) → (a else_by b else_by (r where_so t)) ≡ None → (a else_by b else_by (r where_so false)) ≡ None
 none_of (Some x) b r t h = absurd (cc h)
 none_of None (Some y) r t h = absurd (cc h)

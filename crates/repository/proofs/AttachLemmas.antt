@@ -1,4 +1,4 @@
--- What attaching, watching, unwatching and detaching do.
+-- The effects of attaching, watching, unwatching and detaching.
 use Rattle.std.proofs.Common.{◌≡◌, ◌∙◌, ◌++◌, ℕ, Bool, true, false, not, List, [], ◌∷◌, filter, map, Option, Some, None, option_map, Ok, Err, cond, if◌then◌else◌, is_some, refl, sym, ap, subst, eqb-true}
 use Rattle.std.specs.Prelude.{Result, IsTrue}
 use Rattle.std.specs.List.{AllByRecursion}
@@ -42,14 +42,14 @@ node-refused s n r e = subst (λ (o : Option Refused). option_map_or is_memory_r
   | false ↦ refl
 ])
 
--- what is found of a node in the model that is read is so in the state that is seen
+-- a refusal of a node that is found in the model is one of the abstract state
 pub found-refusal : (s v : State) (m : Model) (n : Node) (found q : Option Refused) → s ≡ v → m ≡ v.model → found ≡ node_refusal (reading m) n → found ≡ q → node_refusal (reads s) n ≡ q
 found-refusal s v m n found q seen read is same = ap (λ (t : State). node_refusal (reads t) n) seen ∙ ap (λ (x : Model). node_refusal (reading x) n) (sym read) ∙ sym is ∙ same
 
 ---------------------------------------------------------------- attaching
 
 module _ (s : State) (number : AdapterNo) (target : Node) (deep : Bool) (view : View) where
-  -- why it is not attached
+  -- the refusal of an attach
   attach-refusal : node_refusal (reads s) target ≡ None → refusal_of s (Attach number target deep view) ≡ attach_refusal s.adapters number view
   attach-refusal there = ap (λ (o : Option Refused). o else_by (attach_refusal s.adapters number view else_by (AdapterFull where_so is_chain_full (reads s).above [] s.adapters))) there ∙ refusal_quiet (reads s).above (attach_refusal s.adapters number view) s.adapters
 
@@ -92,7 +92,7 @@ module _ (s : State) (number : AdapterNo) (target : Node) (deep : Bool) where
 
 ---------------------------------------------------------------- targets that go
 
--- what is done if these targets go, and that is answered
+-- the step if these targets are removed, and this is the answer
 let_go-done : Answer → List Spot → State → List Listed → Stepped
 let_go-done a ss s rs = record {
   outcome = Ok (released_reply a (released ss rs));
@@ -135,7 +135,7 @@ module _ (s : State) (number : AdapterNo) (target : Node) where
       (ap (λ (q : Option Refused). not (option_map_or is_plain q false)) (unwatch-free there known)) (unwatch-free there known) refl o t
       (subst (λ (b : Answer). LetsGo s ((number, target) ∷ []) b o t) is went)
 
-  -- a target that can't be named for want of memory
+  -- an unwatch that is refused for memory
   pub unwatch_wanting : node_refusal (reads s) target ≡ None → is_some (adapter number s.adapters) ≡ true → Executed s (Unwatch number target) (Err (record { refused = Memory; given_back = None })) s
   unwatch_wanting there known = record { may = ap (λ (q : Option Refused). not (option_map_or is_plain q false)) (unwatch-free there known); outcome = refl; state = refl }
 
@@ -144,7 +144,7 @@ module _ (s : State) (number : AdapterNo) (target : Node) where
 counted-found : (number : AdapterNo) (rs : List Listed) → is_some (option_map (λ (r : Listed). r.view.told) (adapter number rs)) ≡ is_some (adapter number rs)
 counted-found number rs = elim (adapter number rs) as (λ o. is_some (option_map (λ (r : Listed). r.view.told) o) ≡ is_some o) [ None ↦ refl | Some r ↦ refl ]
 
--- the adapter of a number is attached if its count is known
+-- the adapter of a number is attached if its count was found
 pub known : (rs : List Listed) (number : AdapterNo) (o : Option ℕ) (b : Bool) → o ≡ option_map (λ (r : Listed). r.view.told) (adapter number rs) → is_some o ≡ b → is_some (adapter number rs) ≡ b
 known rs number o b counted is = sym (counted-found number rs) ∙ ap is_some (sym counted) ∙ is
 
@@ -203,7 +203,7 @@ module _ (s : State) (number : AdapterNo) where
         | Some r ↦ λ _ some. absurd (none-some r.targets some)
       ] refl none
 
-  -- what is known of an adapter whose targets these are
+  -- facts about an adapter that has these targets
   Known : List Target → Type 0
   Known ts = (refusal_of s (Detach number) ≡ None) × (spots_at number ts ≡ spots (is_of number) s.adapters)
 

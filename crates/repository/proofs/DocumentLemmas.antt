@@ -1,4 +1,4 @@
--- Fragments and addresses, which are refused for what a look at the model finds.
+-- Fragments and addresses, whose refusals are found by reading the model.
 use Rattle.std.proofs.Common.{◌≡◌, ◌∙◌, ℕ, true, List, [], Option, Some, None, is_some, Ok, refl, ap}
 use Rattle.std.specs.Prelude.{unwrap_or}
 use Rattle.mm_types.specs.Conditions.{◌else_by◌, ◌unless◌}

@@ -1,4 +1,4 @@
--- Which targets go with what a change destroys.
+-- The targets that are removed with the objects that a change destroys.
 use Rattle.std.proofs.Common.{◌≡◌, ℕ, suc, ◌+◌, ◌≤◌, ◌<◌, ◌||◌, Bool, true, false, cond, List, [], ◌∷◌, ◌++◌, length, length-append, map, if◌then◌else◌, filter, drop, get_or, slice_get, Option, None, Some, option_map, append_assoc, refl, ap, sym, subst, ◌∙◌, arith}
 use Rattle.std.specs.Prelude.{IfSome, unwrap_or}
 use Rattle.std.specs.List.{flat_map, list_any}
@@ -39,12 +39,12 @@ use Rattle.repository.specs.Views.{command_of}
 use Rattle.repository.specs.declared.reply.Answer.{Answer}
 use Rattle.repository.specs.declared.reply.Answer.TheVariants as answer
 
--- what is delivered changes no target
+-- a delivery changes no target
 spots-from : (goes : AdapterNo → Node → Bool) (k : ℕ) (cs : List (ℕ × Notice)) (rs : List Listed) → spots goes (delivered_from k cs rs) ≡ spots goes rs
 spots-from goes k cs [] = refl
 spots-from goes k cs (r ∷ rs) = ap (λ (ss : List Spot). spots_of goes r ++ ss) (spots-from goes (suc k) cs rs)
 
--- there are no more last notifications than targets that go
+-- there are at most as many last notifications as targets that are removed
 told_all-few : (ss : List Spot) (rs : List Listed) → length (told_of_all ss rs) ≤ length ss
 told_all-few [] rs = omega arith
 told_all-few (s ∷ ss) rs =
@@ -74,7 +74,7 @@ none-at os (node.Resource k) h = refl
 abbrev spots_at : AdapterNo → List Target → List Spot
 spots_at k ts = map (λ t. (k, t.node)) ts
 
--- an adapter that has none of some objects as a target loses none with them
+-- an adapter that has none of some objects as a target loses no target with them
 untouched : (os : List ObjectNo) (k : AdapterNo) (ts : List Target) → list_any (λ o. list_any (is_at (node.Object o)) ts) os ≡ false → spots_at k (filter (λ t. is_node_among os t.node) ts) ≡ []
 untouched os k [] h = refl
 untouched os k (t ∷ ts) h =
@@ -82,7 +82,7 @@ untouched os k (t ∷ ts) h =
     let rest : List Target = filter (λ q. is_node_among os q.node) ts in
     ap (λ b. spots_at k (cond b (t ∷ rest) rest)) (none-at os t.node both.0) ∙ untouched os k ts both.1
 
--- those at some indexes, if the adapters that are not there lose none
+-- the targets of the adapters at some indexes, if all other adapters lose none
 module _ (os : List ObjectNo) (all : List Listed) where
   goes : AdapterNo → Node → Bool
   goes k n = is_node_among os n
@@ -103,7 +103,7 @@ module _ (os : List ObjectNo) (all : List Listed) where
   pub at-places : flat_map at_place (touched os all) ≡ spots (λ j n. is_node_among os n) all
   at-places = by-places 0 all (λ i. let e : 0 + i ≡ i = omega arith in ap (slice_get all) e)
 
--- the targets at what a removal has are those at its objects
+-- the targets at the nodes of a removal are the targets at its objects
 pub gone-spots : (r : Reading) (x : Removal) (rs : List Listed) → IsRemoval r x → flat_map (λ k. option_map_or (spots_of (is_gone_at (is_in x.numbers))) (slice_get rs k) []) (touched x.objects.items rs) ≡ spots (is_gone_at (is_in x.numbers)) rs
 gone-spots r x rs is =
     let same : (n : Node) → is_in x.numbers n ≡ is_node_among x.objects.items n = λ n. is.numbers n ∙ ap (λ (os : List ObjectNo). is_node_among os n) (sym is.objects) in
@@ -118,7 +118,7 @@ pub spots-nowhere : (g : Node → Bool) (q : Option Listed) → None ≡ option_
 spots-nowhere g None is = refl
 spots-nowhere g (Some r) is = absurd (none-some (r.no, r.targets) is)
 
--- one index more
+-- one more index
 pub spots-more : (f : ℕ → List Spot) (ks : List ℕ) (i : ℕ) (out new all : List Spot) → i < length ks → new ≡ out ++ f (get_or ks i 0) → out ++ flat_map f (drop i ks) ≡ all → new ++ flat_map f (drop (i + 1) ks) ≡ all
 spots-more f ks i out new all low made whole =
     ap (λ (ss : List Spot). ss ++ flat_map f (drop (i + 1) ks)) made
@@ -129,7 +129,7 @@ spots-more f ks i out new all low made whole =
 pub spots-end : (f : ℕ → List Spot) (ks : List ℕ) (i : ℕ) (out all : List Spot) → length ks ≤ i → out ++ flat_map f (drop i ks) ≡ all → out ≡ all
 spots-end f ks i out all past whole = sym (append-nil out) ∙ ap (λ (js : List ℕ). out ++ flat_map f js) (sym (drop_all i ks past)) ∙ whole
 
--- which targets go with a change, as they were found in the model
+-- the targets that are removed with a change, as they were found in the model
 pub spots-found : (r : Reading) (c : Change) (q : Option Removal) (rs : List Listed) → IsRemovalOf r c q → option_map_or (λ x. spots (is_gone_at (is_in x.numbers)) rs) q [] ≡ going_with r rs c
 spots-found r c q rs of = by q (destroyed_by c) of.whose of.found
   where
@@ -141,7 +141,7 @@ spots-found r c q rs of = by q (destroyed_by c) of.whose of.found
         let goes : is_in x.numbers ≡ gone r o = (λ i n. found.numbers n i) ∙ ap (gone r) (same_Some x.object o is) in
         ap (λ (g : Node → Bool). spots (is_gone_at g) rs) goes
 
--- the answer from before planning, or what the plan destroys, finds or resolves, is the whole answer
+-- the whole answer is the answer from before planning, or is computed from the objects that the plan destroys, finds or resolves
 pub whole-answer : (r : Reading) (rs : List Listed) (text : List ℕ) (c : Change) (early : Option Answer) (q : Option Removal) (x : Option Found) (y : Option Resolved)
     → IsEarlyAnswer (is_answered_late c) (answer_of r rs (command_of text c)) early → late_refusal r c ≡ None → IsRemovalOf r c q → x ≡ target_of r c → y ≡ resolved_by r c
     → unwrap_or early (planned_answer q x y) ≡ answer_of r rs (command_of text c)

@@ -1,4 +1,4 @@
--- The adapters of a legal state: what a chain, a release, a new adapter and a new target leave of them.
+-- The adapters of a legal state after a chain, a release, a new adapter and a new target.
 use Rattle.std.proofs.Common.{◌≡◌, ◌≤◌, ◌<◌, ◌+◌, ◌^◌, ◌&&◌, ◌||◌, ℕ, suc, cond, Bool, true, false, IsTrue, List, [], ◌∷◌, ◌++◌, map, length, nat_le, nat_lt, Option, Some, None, if◌then◌else◌, refl, sym, ap, ◌∙◌, subst, arith, length-append}
 use Rattle.std.specs.List.{All, IsDistinct, list_any, sum_by}
 use Rattle.std.proofs.lemmas.Bool.{or_parts, leb-false, ltb-false}
@@ -21,7 +21,7 @@ use Rattle.adapter_list.proofs.GoingLemmas.{once-filter, one-fewer}
 use Rattle.adapter_list.proofs.WatchLemmas.{once-last}
 use Rattle.models.specs.Reading.{Reading}
 use Rattle.models.specs.Existence.{node_refusal}
-use Rattle.handshake.proofs.KnownLemmas.{none-else_by, none-unless}
+use Rattle.handshake.proofs.KnownLemmas.{none-else_by, none-unless, none-where_so}
 use Rattle.repository.specs.declared.command.Command.TheVariants.{Attach, Watch}
 use Rattle.repository.specs.State.{State, IsLegal, IsLegalAdapter, is_there, reads}
 use Rattle.repository.specs.Step.{closed, joined_by, joins}
@@ -36,10 +36,6 @@ use Rattle.mm_types.proofs.SameLemmas.{same_node-self, same_node-true}
 abbrev pub IsThere : Option Refused → Type 0
 IsThere None = ⊥
 IsThere (Some r) = Unit {0}
-
-pub where-none : (r : Refused) (b : Bool) → (r where_so b) ≡ None → b ≡ false
-where-none r true e = absurd (subst IsThere e tt)
-where-none r false e = refl
 
 pub both-true : (a b : Bool) → IsTrue a → IsTrue b → IsTrue (a && b)
 both-true true b x y = y
@@ -57,14 +53,14 @@ len-told up ns (r ∷ rs) =
     let many : Listed → ℕ = λ q. length q.targets in
     sum_by-cons many (told_all r (heard_of up ns r)) (tell_chain up ns rs) ∙ ap (λ (n : ℕ). many r + n) (len-told up ns rs) ∙ sym (sum_by-cons many r rs)
 
--- to be notified changes no target
+-- notifying changes no target
 pub spots-told : (goes : AdapterNo → Node → Bool) (up : Above) (ns : List Notice) (rs : List Listed) → spots goes (tell_chain up ns rs) ≡ spots goes rs
 spots-told goes up ns [] = refl
 spots-told goes up ns (r ∷ rs) = ap (λ (ss : List Spot). spots_of goes r ++ ss) (spots-told goes up ns rs)
 
 ---------------------------------------------------------------- an adapter of a legal state
 
--- what is asked of an adapter but that its targets are there
+-- the rules of an adapter, except that its targets exist
 record IsCountable (a : Listed) : Type 0 where
   once : IsOnce a
   countable : a.view.told + length a.targets < 2 ^ 64
@@ -74,7 +70,7 @@ losing-countable x n a has h =
     let fewer = one-fewer x a.targets h.once has in
     record { once = once-filter x a.targets h.once; countable = omega (arith, h.countable, fewer, told-hear_all a.view (n ∷ [])) }
 
--- each target of an adapter is there
+-- each target of an adapter exists
 HasThere : Reading → Listed → Type 0
 HasThere r a = (x : Node) → has_target x a ≡ true → IsTrue (is_there r x)
 
@@ -101,7 +97,7 @@ of-there r (t ∷ ts) h =
     behind true e = refl
     behind false e = e
 
--- the parts of it
+-- the parts of these rules
 record Parts (r : Reading) (rs : List Listed) : Type 0 where
   some : HaveTargets rs
   countable : All IsCountable rs
@@ -145,13 +141,13 @@ told-legal up r ns (a ∷ rs) free legal =
     (record { some = one.some; once = one.once; targets = one.targets; countable = rw (told-hear_all a.view (heard_of up ns a)) (count-on a.view.told (length (heard_of up ns a)) (length a.targets) both.0 one.countable) })
     (told-legal up r ns rs both.1 (All-tail (IsLegalAdapter r) a rs legal))
 
--- what is needed of the adapters after a command
+-- the rules of the adapters after a command
 pub record AreLegal (r : Reading) (rs : List Listed) : Type 0 where
   pub few : targets_len rs ≤ TARGETS
   pub distinct : HasDistinctNumbers rs
   pub adapters : All (IsLegalAdapter r) rs
 
--- whichever targets go
+-- the adapters are legal whichever targets are removed
 pub released-legal : (r : Reading) (ss : List Spot) (rs : List Listed) → AreLegal r rs → AreLegal r (released ss rs).others
 released-legal r ss rs legal =
     let p = parts-of r rs legal.adapters in
@@ -165,7 +161,7 @@ released-legal r ss rs legal =
       });
     }
 
--- and if those go that are not there later
+-- the adapters are legal if the targets that no longer exist are removed
 pub gone-legal : (r t : Reading) (gone : Node → Bool) (rs : List Listed) → ((x : Node) → gone x ≡ false → IsTrue (is_there r x) → IsTrue (is_there t x)) → AreLegal r rs → AreLegal t (released (spots (is_gone_at gone) rs) rs).others
 unfolding HasThere
 gone-legal r t gone rs keeps legal =
@@ -179,7 +175,7 @@ gone-legal r t gone rs keeps legal =
       adapters = of-parts t qs (record { some = p.some; countable = p.countable; there = both-each (NoneGoes (is_gone_at gone)) (HasThere r) (HasThere t) (λ a free there x has. keeps x (free x has) (there x has)) qs (others-free (is_gone_at gone) rs legal.distinct) p.there });
     }
 
--- a state in which targets have gone is legal
+-- a state in which targets were removed is legal
 pub let_go-legal : (s : State) (ss : List Spot) → IsLegal s → IsLegal (record { model = s.model; adapters = (released ss s.adapters).others })
 let_go-legal s ss legal =
     let after = released-legal (reads s) ss s.adapters (record { few = legal.few; distinct = legal.distinct; adapters = legal.adapters }) in
@@ -194,16 +190,16 @@ stays-legal r t rs keeps legal = record {
 
 ---------------------------------------------------------------- one more adapter, or target
 
--- the list takes one target more, and an adapter of this number
+-- the list takes one more target, and an adapter of this number
 pub list-free : (rs : List Listed) (number : AdapterNo) → list_refusal rs number ≡ None → (targets_len rs < TARGETS) × (list_any (has_no number) rs ≡ false)
 list-free rs number none =
     elim (is_at_limit rs) as (λ b. is_at_limit rs ≡ b → (if b then Some Limit else if list_any (has_no number) rs then Some AdapterTaken else None) ≡ None → (targets_len rs < TARGETS) × (list_any (has_no number) rs ≡ false)) [
       | true ↦ λ e f. absurd (subst IsThere f tt)
-      | false ↦ λ e f. (leb-false _ _ e, where-none AdapterTaken _ f)
+      | false ↦ λ e f. (leb-false _ _ e, none-where_so AdapterTaken _ f)
     ] refl none
 
 view-countable : (v : View) (n : ℕ) → view_refusal v n ≡ None → v.told + (n + 1) < 2 ^ 64
-view-countable v n none = leb-false _ _ (where-none AdapterFull _ none)
+view-countable v n none = leb-false _ _ (none-where_so AdapterFull _ none)
 
 node-there : (r : Reading) (n : Node) → node_refusal r n ≡ None → IsTrue (is_there r n)
 node-there r n none = let both = none-else_by _ _ none in both-true _ _ (none-unless NoObject _ both.0) (none-unless NoResource _ both.1)

@@ -1,4 +1,5 @@
 -- Every command of a legal state leaves a legal one.
+use Rattle.std.proofs.lemmas.Bool.{and_parts}
 use Rattle.std.proofs.Common.{◌≡◌, ◌+◌, ◌&&◌, ℕ, Bool, true, false, IsTrue, List, [], ◌∷◌, ◌++◌, length, nat_lt, Option, Some, None, option_map, Ok, Err, if◌then◌else◌, refl, sym, ap, ◌∙◌, subst, arith, length-append}
 use Rattle.std.specs.Prelude.{MatchBool, Result}
 use Rattle.std.specs.List.{insert, list_any, remove}
@@ -27,7 +28,7 @@ use Rattle.handshake.specs.declared.act.Act.{Act}
 use Rattle.handshake.specs.declared.act.Act.TheVariants as act
 use Rattle.handshake.specs.declared.change.Change.{Change}
 use Rattle.handshake.specs.declared.change.Change.TheVariants as change
-use Rattle.handshake.proofs.KnownLemmas.{none-else_by}
+use Rattle.handshake.proofs.KnownLemmas.{none-else_by, none-where_so}
 use Rattle.handshake.proofs.AllLemmas.{change-keeps-legal}
 use Rattle.handshake.proofs.LegalLemmas.{left-object, left-uris}
 use Rattle.repository.specs.declared.command.Command.{Command}
@@ -54,13 +55,9 @@ use Rattle.mm_types.specs.declared.document_fault.DocFault.{DocFault}
 use Rattle.mm_types.specs.declared.numbers.ResourceNo.{ResourceNo}
 use Rattle.resource_docs.specs.declared.doc.Doc.{Doc}
 use Rattle.containment.specs.Forest.{subtree}
-use Rattle.repository.proofs.LegalAdapterLemmas.{where-none, both-true, numbers-tell_chain, len-told, spots-told, told-legal, AreLegal, released-legal, gone-legal, stays-legal, attach-legal, watch-legal}
+use Rattle.repository.proofs.LegalAdapterLemmas.{both-true, numbers-tell_chain, len-told, spots-told, told-legal, AreLegal, released-legal, gone-legal, stays-legal, attach-legal, watch-legal}
 
 ---------------------------------------------------------------- no node goes
-
-first-true : (a b : Bool) → (a && b) ≡ true → a ≡ true
-first-true true b h = refl
-first-true false b h = h
 
 -- a node that is there is there after these edits
 abbrev Keeps : Model → Node → List ValueEdit → Type 0
@@ -73,7 +70,7 @@ either-keeps s n false xs ys x y = y
 none-keeps : (s : Model) (n : Node) → Keeps s n []
 none-keeps s n h = h
 
--- after one edit of what an object has under an attribute
+-- the same after one edit of the list of an object under an attribute
 put-keeps : (s : Model) (n m : Node) (f : FeatureNo) (vs : List Value) (flag : Bool) → Keeps s n (put_under f vs flag m)
 put-keeps s (node.Object o) (node.Object k) f vs flag h = ap (λ b. b && true) (change-live s.values.objects (put_stored f (record { list = vs; flag = flag })) k.0 o.0) ∙ h
 put-keeps s (node.Resource r) (node.Object k) f vs flag h = h
@@ -100,7 +97,7 @@ found-keeps : (s : Model) (n : Node) (e : End) (i : Option ℕ) → Keeps s n (o
 found-keeps s n e None = none-keeps s n
 found-keeps s n e (Some i) = remove-keeps s n e i
 
--- what an act makes of an attribute
+-- the same after an act at an attribute
 act-keeps : (s : Model) (n : Node) (e : End) (a : Act) → Keeps s n (act_edits (reading s) e a)
 act-keeps s n e (act.Set v) = put-keeps s n e.node e.feature (v ∷ []) (shape s.metamodel e.feature).is_unsettable
 act-keeps s n e act.Unset = put-keeps s n e.node e.feature [] false
@@ -111,7 +108,7 @@ act-keeps s n e (act.RemoveValue v) = found-keeps s n e (first_at (reading s) e 
 act-keeps s n e (act.Move to from) = move-keeps s n e.node e.feature to from
 act-keeps s n e (act.Resolve i) = none-keeps s n
 
--- with one URI more
+-- the same with one more URI
 more-resources : (us : List (List ℕ)) (u : List ℕ) (k : ℕ) → IsTrue (nat_lt k (length us)) → IsTrue (nat_lt k (length (with_uri us u)))
 more-resources us u k h =
     elim (list_any (bytes_eq u) us) as (λ b. IsTrue (nat_lt k (length (if b then us else us ++ u ∷ [])))) [
@@ -119,19 +116,19 @@ more-resources us u k h =
       | false ↦ rw (length-append us (u ∷ [])) (grind (arith, nat_tests))
     ]
 
--- a node that is there is there after every change that does not destroy it
+-- a node that exists still exists after every change that does not destroy it
 change-keeps-node : (s : Model) (c : Change) (n : Node) → goes_with (reading s) c n ≡ false → IsTrue (is_there (reading s) n) → IsTrue (is_there (reading (effects.after s c)) n)
 change-keeps-node s (change.At e (act.Resolve i)) n stays h = h
 change-keeps-node s (change.At e a) n stays h = either-keeps s n (shape s.metamodel e.feature).is_reference _ _ (none-keeps s n) (act-keeps s n e a) h
 change-keeps-node s (change.Delete o) (node.Object p) stays h =
     ap (λ (q : Option ObjectState). is_object q && true) (left-object s.values (subtree (reading s) o) p stays) ∙ h
 change-keeps-node s (change.Delete o) (node.Resource k) stays h = subst (λ (us : List (List ℕ)). IsTrue (nat_lt k.0 (length us))) (sym (left-uris s.values (subtree (reading s) o))) h
-change-keeps-node s (change.Create c) (node.Object o) stays h = both-true _ true (push-live s.values.objects _ o.0 (first-true _ true h)) refl
+change-keeps-node s (change.Create c) (node.Object o) stays h = both-true _ true (push-live s.values.objects _ o.0 (and_parts _ true h).0) refl
 change-keeps-node s (change.Create c) (node.Resource r) stays h = h
 change-keeps-node s (change.NewResource u) (node.Object o) stays h = h
 change-keeps-node s (change.NewResource u) (node.Resource k) stays h = more-resources s.values.uris u k.0 h
 change-keeps-node s change.ResolveAll n stays h = h
-change-keeps-node s (change.Load k doc) (node.Object o) stays h = ap (λ (b : Bool). b && true) (loaded-live s.metamodel s.values doc o.0 (first-true _ true h))
+change-keeps-node s (change.Load k doc) (node.Object o) stays h = ap (λ (b : Bool). b && true) (loaded-live s.metamodel s.values doc o.0 (and_parts _ true h).0)
 change-keeps-node s (change.Load k doc) (node.Resource j) stays h = subst (λ (us : List (List ℕ)). IsTrue (nat_lt j.0 (length us))) (sym (loaded-uris s.metamodel (length s.values.objects) s.values doc)) h
 
 -- a document that is loaded, if there is one
@@ -182,7 +179,7 @@ model-legal s _ legal early late = legal
 
 ---------------------------------------------------------------- a command that nothing refuses
 
--- of the adapters, once the chain is delivered
+-- the adapters are legal after the chain is delivered
 adapters-legal : (s : State) (c : Command View) (told : List Listed) → told ≡ tell_chain (reads s).above (chain (reads s) c) s.adapters → (r t : Reading) → r ≡ reads s → early_refusal r s.adapters c ≡ None → late_refusal r s.adapters c ≡ None
     → ((x : Node) → is_gone_with r c x ≡ false → IsTrue (is_there r x) → IsTrue (is_there t x)) → AreLegal r told → AreLegal t (joined_by c (released (going r s.adapters c) told).others)
 adapters-legal s (Delete o) told is r t same early late keeps legal = subst (λ (ss : List Spot). AreLegal t (released ss told).others) (ap (spots (is_gone_at (gone r o))) is ∙ spots-told (is_gone_at (gone r o)) (reads s).above (chain (reads s) (Delete o)) s.adapters) (gone-legal r t (gone r o) told keeps legal)
@@ -209,7 +206,7 @@ done-legal s c legal free =
     let adapters = adapters-legal s c told refl r t refl first.0 later.0 (keeps-node s c) (record {
       few = omega (arith, legal.few, ap (λ (n : ℕ). n) (len-told up ns rs));
       distinct = rw (numbers-tell_chain up ns rs) legal.distinct;
-      adapters = told-legal up r ns rs (where-none AdapterFull _ later.1) legal.adapters;
+      adapters = told-legal up r ns rs (none-where_so AdapterFull _ later.1) legal.adapters;
     }) in
     record { model = model-legal s c legal.model first.0 later.0; few = adapters.few; distinct = adapters.distinct; adapters = adapters.adapters }
 
@@ -217,7 +214,7 @@ pub step-legal : (s : State) (c : Command View) → KeepsLegal s c
 step-legal s c legal =
     elim (refusal_of s c) as (λ r. refusal_of s c ≡ r → IsLegal (step_unless s c r).after) [ Some r ↦ λ e. legal | None ↦ λ e. done-legal s c legal e ] refl
 
--- what was executed leaves a legal state too, if memory may be refused
+-- an executed command leaves a legal state, even if memory may be refused
 pub executed-legal : (s t : State) (c : Command View) (o : Outcome) → Executed s c o t → IsLegal s → IsLegal t
 executed-legal s t c o x legal =
     elim (is_memory o) as (λ b. MatchBool b (IsWanting s c o t) (step s c ≡ record { outcome = o; after = t }) → IsLegal t) [

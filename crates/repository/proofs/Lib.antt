@@ -17,11 +17,4 @@ pub mod RunLemmas
 pub mod AloneLemmas
 pub mod RememberedLemmas
 mod InsideLemmas
-mod KeptNodeLemmas
 mod LonePutLemmas
-mod HeardLemmas
-mod ReplayLemmas
-mod ThereLemmas
-mod EnoughLemmas
-mod BareStepLemmas
-mod ReloadLemmas

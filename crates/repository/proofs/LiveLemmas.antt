@@ -1,4 +1,5 @@
--- Objects that live do so if others are made, or if what one has under an attribute is changed; a load does no more to values.
+-- Live objects stay alive if others are made, or if a list of an object under an attribute is changed; a load makes no other edits of
+-- values.
 use Rattle.std.proofs.Common.{◌≡◌, ◌++◌, ℕ, zero, suc, Bool, true, false, ◌&&◌, List, [], ◌∷◌, Option, Some, None, is_some, length, map, option_map, slice_index_or, slice_set, if◌then◌else◌, refl, sym, ◌∙◌, true≢false}
 use Rattle.std.specs.List.{AllByRecursion, enumerate_from}
 use Rattle.mm_types.specs.Resolved.{Metamodel}

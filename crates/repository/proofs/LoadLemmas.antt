@@ -1,4 +1,4 @@
--- What becomes of a text that is loaded.
+-- The load of a text.
 use Rattle.std.proofs.Common.{◌≡◌, ◌∙◌, ℕ, zero, suc, true, false, not, List, [], ◌∷◌, Option, Some, None, Ok, Err, length, nat_lt, slice_get, unwrap_or, arith, refl, sym, ap, subst}
 use Rattle.std.specs.Prelude.{Result}
 use Rattle.std.proofs.lemmas.Bool.Decides.{nat_tests}
@@ -31,7 +31,7 @@ use Rattle.repository.specs.declared.command.Command.TheVariants as command
 use Rattle.change_plans.proofs.RefusalLemmas.{IsNot, later-not, unless-not, where-not}
 use Rattle.repository.proofs.PlanLemmas.{late-not-plain, loaded_as}
 
--- bytes that are read as a document are those of a JSON value that is
+-- bytes that are read as a document are bytes of a JSON value that is read as the document
 bytes-read : (m : Metamodel) (uri bytes : List ℕ) (doc : Doc) → reads_bytes m uri bytes ≡ Ok doc → IsRead m uri doc
 unfolding reads_bytes
 bytes-read m uri bytes doc is = by (parsed bytes) is
@@ -40,7 +40,7 @@ bytes-read m uri bytes doc is = by (parsed bytes) is
     by None h = absurd (cc)
     by (Some d) h = record { source = d; gives = h }
 
--- what a text is read as, reading gives
+-- the document as which a text is read is one that reading gives
 pub text-read : (r : Reading) (k : ResourceNo) (text : List ℕ) (doc : Doc) → reads_into r k text ≡ Ok doc → IsDocument r.metamodel doc
 text-read r k text doc is = record { uri = uri_at r k; read = bytes-read r.metamodel (uri_at r k) text doc is }
 
@@ -66,7 +66,7 @@ below-length [] i x h = absurd (none-some x (sym h))
 below-length (y ∷ ys) zero x h = grind (arith, nat_tests)
 below-length (y ∷ ys) (suc i) x h = let low = below-length ys i x h in grind (arith, nat_tests)
 
--- a resource that has a URI is there
+-- a resource that has a URI exists
 pub resource-there : (s : State) (k : ResourceNo) (uri : List ℕ) → Some uri ≡ slice_get s.model.values.uris k.0 → node_refusal (reads s) (node.Resource k) ≡ None
 resource-there s k uri some = let there = below-length s.model.values.uris k.0 uri some in rw there refl
 
@@ -79,7 +79,7 @@ pub load_out_of_memory : (s : State) (k : ResourceNo) (text : List ℕ) → node
 unfolding loaded_as
 load_out_of_memory s k text there = record { may = ap not (loaded-not-plain s k (reads_into (reads s) k text) there); outcome = refl; state = refl }
 
--- a fault is the answer if nothing else is
+-- a fault is the answer if there is no other refusal
 pub load_faulty : (s : State) (k : ResourceNo) (text : List ℕ) (f : DocFault) (r : Refused) → node_refusal (reads s) (node.Resource k) ≡ None → reads_into (reads s) k text ≡ Err f → Some r ≡ load_refusal (reads s) k (Err f)
     → Executed s (command.Load k text) (Err (record { refused = r; given_back = None })) s
 unfolding loaded_as

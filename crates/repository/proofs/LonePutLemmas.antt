@@ -1,7 +1,8 @@
--- A change that puts one link and notifies no adapter: its answer, and what is remembered of fragments.
+-- A change that puts one link and notifies no adapter: its answer, and the remembered fragments.
 use Rattle.std.proofs.Common.{◌≡◌, ℕ, Bool, true, false, not, ◌&&◌, List, [], ◌∷◌, Option, Some, None, is_some, if◌then◌else◌, refl, sym, ap, subst, ◌∙◌}
 use Rattle.std.proofs.Math.Bool.{or-false}
 use Rattle.std.proofs.lemmas.Option.{none-some}
+use Rattle.std.proofs.lemmas.Bool.{or_parts}
 use Rattle.mm_types.specs.declared.end.End.{End}
 use Rattle.mm_types.specs.declared.numbers.Node.{Node}
 use Rattle.mm_types.specs.declared.numbers.Node.TheVariants as node
@@ -30,14 +31,13 @@ use Rattle.repository.specs.Puts.{IsPutAlone, is_put_heard}
 use Rattle.repository.specs.State.{State, reads}
 use Rattle.repository.specs.Views.{command_of}
 use Rattle.repository.specs.declared.reply.Answer.TheVariants as answer
-use Rattle.repository.proofs.AdapterLemmas.{neither}
 
 not-plain : (a b c : Bool) (x p : NewLink) → (if a then None else if b then None else if c then None else Some x) ≡ Some p → b ≡ false
 not-plain true b c x p h = absurd (none-some p h)
 not-plain false true c x p h = absurd (none-some p h)
 not-plain false false c x p h = refl
 
--- what is added is not there
+-- an object that is added is not in the list
 new-added : (r : Reading) (e : End) (v : Value) (i : Option ℕ) (p : NewLink) → lone_put r (At e (Add v i)) ≡ Some p → is_repeat r e v ≡ false
 new-added r e (value.Object o) i p h =
     let v = value.Object o in
@@ -51,10 +51,10 @@ add-answered r rs e v i p h = ap (λ (b : Bool). answer.Flag (not b)) (sym (new-
 put-unheard : (s : State) (c : Change) (p : NewLink) → lone_put (reads s) c ≡ Some p → is_put_heard s p ≡ false → IsUnheard (reads s).above (chain (reads s) c) s.adapters
 put-unheard s c p lone none =
     let heard_at : Node → Bool = λ x. is_heard (reads s).above x s.adapters in
-    let both = neither (heard_at p.end.node) (is_some p.opposite && heard_at (node.Object p.object)) none in
+    let both = or_parts (heard_at p.end.node) (is_some p.opposite && heard_at (node.Object p.object)) none in
     put-notifiers (λ x. heard_at x ≡ false) (reads s) c p lone both.0 (λ some. sym (ap (λ b. b && heard_at (node.Object p.object)) some) ∙ both.1)
 
--- an addition that is one put and notifies no adapter, by what its parts give
+-- an addition that is one put and notifies no adapter, by the results of its parts
 pub add-alone : (s : State) (m : Model) (e : End) (v : Value) (i : Option ℕ) (q : Option NewLink) (p : NewLink) → m ≡ s.model → is_put_heard s p ≡ false → early_refusal (reading m) (At e (Add v i)) ≡ None → q ≡ lone_put (reading m) (At e (Add v i)) → q ≡ Some p
     → IsPlanOf false m (At e (Add v i)) (of_put p) → IsPutAlone s (At e (Add v i)) p (answer.Flag true)
 add-alone s m e v i q p is none early found some plan =
@@ -80,6 +80,6 @@ set-alone s m e v q p is none early found some plan =
       unheard = put-unheard s c p (subst (λ (x : Model). lone_put (reading x) c ≡ Some p) is (sym found ∙ some)) none;
     }
 
--- a put is of a link that contains if it names a container
+-- a put makes a containing link if it names a container
 pub put-touches : (m : Kinds) (p : NewLink) → IsEditOfKind m (put_edit p) → touches_containment m (put_edit p ∷ []) ≡ is_some p.container
 put-touches m p kind = or-false (is_some (m.container p.end.feature)) ∙ ap is_some (sym kind.1)

@@ -1,4 +1,4 @@
--- What a plan, or its refusal, makes of its command.
+-- The step of a command, by its plan or the refusal of the plan.
 use Rattle.std.proofs.Common.{◌≡◌, inl, inr, Bool, true, false, not, IsTrue, List, [], ◌++◌, Option, Some, None, Ok, Err, if◌then◌else◌, refl, ap, sym, subst, ◌∙◌}
 use Rattle.std.specs.Prelude.{MatchBool, Result, ◌&&◌, is_some, ℕ, option_map, IsFalse}
 use Rattle.std.specs.Option.{option_map_or}
@@ -56,7 +56,7 @@ pub record IsAsked (s : State) (text : List ℕ) (c : Change) : Type 0 where
   pub early : early_refusal (reads s) c ≡ None
   pub proper : IsProper (reads s) text c
 
--- what is asked of the state that is seen holds of the one that shows it
+-- facts about the abstract state hold for the state of the repository
 pub asked-of : (s v : State) (text : List ℕ) (c : Change) → s ≡ v → early_refusal (reads v) c ≡ None → IsProper (reads v) text c → IsAsked s text c
 asked-of s v text c seen early proper =
     record { early = subst (λ (t : State). early_refusal (reads t) c ≡ None) (sym seen) early; proper = subst (λ (t : State). IsProper (reads t) text c) (sym seen) proper }
@@ -70,7 +70,7 @@ both-same : (b : Bool) → (b && b) ≡ b
 both-same true = refl
 both-same false = refl
 
--- a URI as joining gives it is refused as the text that it is
+-- a URI that joining gives is refused like the same text
 uri-refused : (r : Reading) (u : List ℕ) → resource_refusal r u (Some u) ≡ uri_refusal r u
 uri-refused r u = rw (both-same (is_short_text u)) refl
 
@@ -81,17 +81,17 @@ uri-allowed r t u late =
     let short = and_parts (is_short_text t) (is_short_text u) (none-unless TextLength (is_short_text t && is_short_text u) of_text.0) in
     rw (short.1) of_text.1
 
--- what is asked of a resource of a URI that is as joining gives it, by its text
+-- the refusals of a resource with a URI that joining gives, by its text
 module _ (s : State) (u : List ℕ) where
   asked_of : Option (List ℕ) → Option Refused
   asked_of uri = resource_refusal (reads s) u uri else_by (AdapterFull where_so is_chain_full (reads s).above (option_map_or (chain (reads s)) (option_map NewResource uri) []) s.adapters)
 
--- why a text that is read as this is not loaded
+-- the refusals of a load, by the result of reading its text
 module _ (s : State) (k : ResourceNo) where
   unfoldable pub loaded_as : Result Doc DocFault → Option Refused
   loaded_as x = node_refusal (reads s) (node.Resource k) else_by load_refusal (reads s) k x else_by (AdapterFull where_so is_chain_full (reads s).above (option_map_or (chain (reads s)) (load_of k x) []) s.adapters)
 
--- if nothing is found before planning
+-- the refusal if none is found before planning
 refusal-planned : (s : State) (text : List ℕ) (c : Change) → IsProper (reads s) text c → early_refusal (reads s) c ≡ None → refusal_of s (command_of text c) ≡ (late_refusal (reads s) c else_by full s c)
 unfolding full asked_of loaded_as
 refusal-planned s text (NewResource u) web early =
@@ -100,7 +100,7 @@ refusal-planned s text (Load k doc) proper early = ap (loaded_as s k) proper.0 �
 refusal-planned s text ResolveAll brought early = refl
 refusal-planned s text _ brought early = rw early refl
 
--- a condition that is not one of these is not one after another that is not
+-- if two conditions give none of these refusals, both one after the other give none
 ---------------------------------------------------------------- what is found first is not out of memory
 
 abbrev no_memory : Refused → Bool
@@ -155,7 +155,7 @@ refused_as : (s : State) (text : List ℕ) (c : Change) (r : Refused) → is_mem
 refused_as s text (At e a) r other found = rw other (ap (step_unless s (command_of text (At e a))) found)
 refused_as s text c r other found = rw other (ap (step_unless s (command_of text c)) found)
 
--- what is found first
+-- the refusal that is found first
 found-first : (s : State) (text : List ℕ) (c : Change) (r : Refused) → early_refusal (reads s) c ≡ Some r → refusal_of s (command_of text c) ≡ Some r
 found-first s text (NewResource u) r e = absurd (none-some r e)
 found-first s text ResolveAll r e = absurd (none-some r e)
@@ -168,7 +168,7 @@ pub out_of_memory : (s : State) (text : List ℕ) (c : Change) → IsProper (rea
 out_of_memory s text (At e a) brought early = record { may = may-want s text (At e a) brought early; outcome = refl; state = refl }
 out_of_memory s text c brought early = record { may = may-want s text c brought early; outcome = refl; state = refl }
 
--- what planning answers in place of a plan is such a refusal
+-- the refusal that planning returns in place of a plan is one of these
 pub plan_refusal : (s : Model) (c : Change) (r : Refused) → (IsFalse (is_memory_refusal r && looks_first c) → late_refusal (reading s) c ≡ (if is_memory_refusal r then None else Some r)) → IsPlanRefusal s c r
 plan_refusal s c r h =
     elim (is_memory_refusal r) as (λ b. (IsFalse (b && looks_first c) → late_refusal (reading s) c ≡ (if b then None else Some r)) → MatchBool b (Unit {0}) (late_refusal (reading s) c ≡ Some r)) [
@@ -176,12 +176,12 @@ plan_refusal s c r h =
       | false ↦ λ found. found refl
     ] h
 
--- what planning refuses
+-- a change that planning refuses
 pub planned_err : (s : State) (text : List ℕ) (c : Change) (r : Refused) → IsProper (reads s) text c → early_refusal (reads s) c ≡ None → IsPlanRefusal s.model c r → Executed s (command_of text c) (Err (record { refused = r; given_back = None })) s
 planned_err s text c Memory brought early h = out_of_memory s text c brought early
 planned_err s text c r brought early h = refused_as s text c r refl (refusal-planned s text c brought early ∙ ap (λ (o : Option Refused). o else_by full s c) h)
 
--- what is refused by the first refusal, early or late, that is not for memory
+-- a change that is refused with the first refusal, early or late, that is not for memory
 refused-either : (s : State) (text : List ℕ) (c : Change) (r : Refused) (o : Option Refused) → IsProper (reads s) text c → early_refusal (reads s) c ≡ o → (o else_by late_refusal (reads s) c) ≡ Some r → Executed s (command_of text c) (Err (record { refused = r; given_back = None })) s
 refused-either s text c r None proper is found =
     planned_err s text c r proper is (plan_refusal s.model c r (λ h. late-refused (reads s) c r found))
@@ -190,7 +190,7 @@ refused-either s text c r (Some q) proper is found = early_err s text c r (is �
 pub first_err : (s : State) (text : List ℕ) (c : Change) (r : Refused) → IsProper (reads s) text c → (early_refusal (reads s) c else_by late_refusal (reads s) c) ≡ Some r → Executed s (command_of text c) (Err (record { refused = r; given_back = None })) s
 first_err s text c r proper found = refused-either s text c r (early_refusal (reads s) c) proper refl found
 
--- all that a change is refused for, early or late, as it is found of the model `m` that is seen
+-- the early and late refusals of a change, as they are found in the abstract model `m`
 abbrev pub FoundOf : Model → Change → Option Refused → Type 0
 FoundOf m c q = q ≡ (early_refusal (reading m) c else_by late_refusal (reading m) c)
 
@@ -203,7 +203,7 @@ refused-as-found s m c q r proper is found known = first_err s [] c r proper (fo
 pub free-as-found : (s : State) (m : Model) (c : Change) (q : Option Refused) → m ≡ s.model → FoundOf m c q → q ≡ None → (early_refusal (reads s) c ≡ None) × (late_refusal (reads s) c ≡ None)
 free-as-found s m c q is found known = none-else_by _ _ (found-there s m c q None is found known)
 
--- what the adapters refuse
+-- a change that the adapters refuse
 pub chain_err : (s : State) (text : List ℕ) (c : Change) (made : List Notice) (r : Refused) → IsProper (reads s) text c → early_refusal (reads s) c ≡ None → late_refusal (reads s) c ≡ None → TellsAll (reads s).above made (chain (reads s) c) s.adapters → IsChainRefusal (is_chain_full (reads s).above made s.adapters) r → Executed s (command_of text c) (Err (record { refused = r; given_back = None })) s
 unfolding full
 chain_err s text c made r brought early late heard (inl e) = rw e (out_of_memory s text c brought early)
@@ -227,7 +227,7 @@ done_of s u made =
       after = record { model = option_map_or (effects.after s.model) made s.model; adapters = x.others };
     }
 
--- what is done if a text is read as this
+-- the step of a load, by the result of reading its text
 done_loaded : (s : State) (k : ResourceNo) → Result Doc DocFault → Stepped
 done_loaded s k read =
     let ns = option_map_or (chain (reads s)) (load_of k read) [] in
@@ -237,7 +237,7 @@ done_loaded s k read =
       after = record { model = option_map_or (effects.after s.model) (load_of k read) s.model; adapters = x.others };
     }
 
--- which adapters are released by a change of these notifications
+-- the adapters that a change with these notifications releases
 abbrev pub releases_of : State → Change → List Notice → Released
 releases_of s c ns = released (going_with (reads s) s.adapters c) (tell_chain (reads s).above ns s.adapters)
 

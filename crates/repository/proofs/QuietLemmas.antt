@@ -1,4 +1,4 @@
--- Commands that notify nobody.
+-- Commands that notify no adapter.
 use Rattle.std.proofs.Common.{◌≡◌, ◌∙◌, List, [], Option, Some, None, Ok, refl, ap}
 use Rattle.mm_types.specs.Conditions.{◌else_by◌, ◌where_so◌}
 use Rattle.mm_types.specs.declared.refused.Refused.{Refused}
@@ -31,7 +31,7 @@ use Rattle.repository.specs.declared.read.Tally.TheVariants.{Kept, Told}
 use Rattle.repository.specs.declared.reply.Answer.{Answer}
 use Rattle.repository.proofs.AdapterLemmas.{is_chain_full-nil, tell_chain-nil}
 
--- what is done by a command that notifies and releases no adapter, and then does this to the adapters
+-- the step of a command that notifies and releases no adapter, and then changes the adapters in this way
 pub done_quiet : (up : Above) (m : Model) (rs : List Listed) (j : List Listed → List Listed) (a : Answer) → (let y : Stepped = record {
   outcome = Ok (record { answer = a; told = []; released = [] });
   after = record { model = m; adapters = j (tell_chain up [] rs) };
@@ -44,7 +44,7 @@ done_quiet up m rs j a = ap (λ (qs : List Listed). let y : Stepped = record {
   after = record { model = m; adapters = j qs };
 } in y) (tell_chain-nil up rs)
 
--- and by a read
+-- the step of a read
 pub done_read : (s : State) (a : Answer) → (let y : Stepped = record {
   outcome = Ok (record { answer = a; told = []; released = [] });
   after = record { model = s.model; adapters = tell_chain (reads s).above [] s.adapters };
@@ -62,7 +62,7 @@ refusal_quiet up None rs = rw (is_chain_full-nil up rs) refl
 abbrev pub answered : State → Command View → Stepped
 answered s c = record { outcome = Ok (record { answer = answer_of (reads s) s.adapters c; told = []; released = [] }); after = s }
 
--- what is there is read, if a look at the model finds no refusal
+-- a read gives its answer if the model has no refusal for it
 pub read_done : (s : State) (q : Read) → early_read_refusal (reads s) s.adapters q ≡ None → late_read_refusal (reads s) q ≡ None → step s (command.Read q) ≡ answered s (command.Read q)
 read_done s q early late =
     let full : Option Refused = AdapterFull where_so is_chain_full (reads s).above [] s.adapters in

@@ -1,4 +1,4 @@
--- What is read of a feature of one value.
+-- Reads of a single feature.
 use Rattle.std.proofs.Common.{◌≡◌, ◌∙◌, Bool, true, false, [], Option, Some, None, Err, refl, sym, ap, subst}
 use Rattle.mm_types.specs.Conditions.{◌else_by◌, ◌unless◌, ◌where_so◌}
 use Rattle.mm_types.specs.Shapes.{shape}
@@ -22,7 +22,7 @@ none-after : (o : Option Refused) → (o else_by None) ≡ o
 none-after None = refl
 none-after (Some r) = refl
 
--- what is refused of a feature of one value is refused by `e_get` too, and not for memory
+-- a refused read of a single feature is refused by `e_get` too, and not for memory
 pub value-refused : (s : State) (n : Node) (f : FeatureNo) (r : Refused) → IsValueRefusal s n f r → (shape s.model.metamodel f).is_single ≡ true → (is_memory_refusal r ≡ false) × Executed s (get n f) (Err (record { refused = r; given_back = None })) s
 value-refused s n f r h single =
     let found : end_refusal (reads s) (at_end n f) ≡ Some r = sym (none-after (end_refusal (reads s) (at_end n f))) ∙ ap (λ (b : Bool). end_refusal (reads s) (at_end n f) else_by (NotSingle unless b)) (sym single) ∙ h in

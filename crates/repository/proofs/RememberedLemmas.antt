@@ -1,7 +1,6 @@
--- What is remembered of fragments, and of the adapters that are notified at a node, stays true if no link that contains is edited.
+-- The remembered fragments, and the remembered adapters that are notified at a node, stay right if no containing link is edited.
 use Rattle.std.proofs.Common.{◌≡◌, ◌∙◌, ℕ, Bool, true, false, List, Option, Some, None, refl, sym, ap, subst, inl, inr, eqb-true, arith}
 use Rattle.std.specs.Prelude.{◌&&◌, ◌<◌, cond, if◌then◌else◌, is_some, IfSome, [], ◌∷◌, length, not, suc, zero}
-use Rattle.std.specs.Option.{option_map_or}
 use Rattle.std.specs.FinMap as map
 use Rattle.std.specs.Ordering.{eq_by_cmp, nat_cmp}
 use Rattle.std.proofs.lemmas.Bool.{false≢true}
@@ -15,7 +14,7 @@ use Rattle.mm_types.specs.declared.numbers.FeatureNo.{FeatureNo}
 use Rattle.mm_types.specs.declared.numbers.Node.{Node}
 use Rattle.mm_types.specs.declared.numbers.ObjectNo.{ObjectNo}
 use Rattle.mm_values.specs.Values.{ValuesState}
-use Rattle.links.proofs.AboveLemmas.{above_falls, above_held, above_is}
+use Rattle.links.proofs.AboveLemmas.{above_falls, above_held}
 use Rattle.links.proofs.TouchLemmas.{plan-leaves}
 use Rattle.links.specs.Laws.{touches_containment}
 use Rattle.links.specs.Links.{Links}
@@ -26,14 +25,13 @@ use Rattle.models.specs.Legal.{IsLegal, kinds_of}
 use Rattle.models.specs.Model.{model_of, reading}
 use Rattle.models.specs.Reading.{Reading, at_end}
 use Rattle.containment.proofs.PartLemmas.{contains-reference, kinds-are, values-linked}
-use Rattle.fragment_paths.proofs.StayLemmas.{above-stays, fragment-stays}
+use Rattle.fragment_paths.proofs.StayLemmas.{above-stays, fragment-stays, nothing-above}
 use Rattle.fragment_paths.specs.Fragments.{fragment}
 use Rattle.fragment_paths.specs.Kept.{Kept, MayKeep, is_full_for, with_room}
 use Rattle.fragment_paths.specs.Laws.{HaveSameParts}
 use Rattle.links.specs.Holders.{HasNoCycle, above, holder}
 use Rattle.links.specs.LegalSets.{IsLegalSet}
 use Rattle.links.proofs.HolderLemmas.{holder-shift}
-use Rattle.mm_types.specs.declared.end.End.{End}
 use Rattle.repository.specs.Remembered.{is_move, may_change_containers}
 use Rattle.notice_chain.specs.Listed.{Above, Listed}
 use Rattle.notice_chain.specs.declared.notice.Notice.{Notice}
@@ -42,14 +40,14 @@ use Rattle.adapter_list.specs.Rounds.{delivered, delivered_from}
 use Rattle.adapter_list.specs.declared.hearers.Hearers.{Hearers}
 use Rattle.repository.specs.Repository.{KeepsFragments}
 
--- nothing is kept in the empty map
+-- the empty map has no text
 pub none-at : (X : Type 0) (o : ObjectNo) (t : List ℕ) → map.get {R = nat_cmp} map.empty o.0 ≡ Some t → X
 none-at X o t h = absurd (none-some t (sym (map.get-empty nat_cmp o.0) ∙ h))
 
 none-kept : (r : Reading) → KeepsFragments r map.empty
 none-kept r o t h = none-at _ o t h
 
--- if a feature contains, the pair does
+-- if a feature is a containment, its pair has a containing feature
 some-feature : (f : FeatureNo) (x : Option FeatureNo) → is_feature f x ≡ true → is_some x ≡ true
 some-feature f (Some g) h = refl
 some-feature f None h = h
@@ -80,9 +78,6 @@ module _ (m : Metamodel) (v w : ValuesState) (a : Links) (plan : List Edit) (leg
   hearers-after rs h known out = subst (λ (up : Above). AreKnown up rs h) (λ i n. sym (above-stays m v w a (applied a plan) legal after (parts-stay out) n) i) known
 
 ---------------------------------------------------------------- a value that is moved within its list
-
-nothing-above : (s : Links) → IsLegalSet s → HasNoCycle s → (n : Node) → holder s n ≡ None → above s n ≡ []
-nothing-above s legal free n none = above_is s legal free n ∙ ap (λ (x : Option End). option_map_or (λ (d : End). d.node ∷ above s d.node) x []) none
 
 -- if each node has its holder, the nodes above it are the same
 module _ (a b : Links) (legal : IsLegalSet a) (free : HasNoCycle a) (legal_b : IsLegalSet b) (free_b : HasNoCycle b) (stays : (n : Node) → holder b n ≡ holder a n) where

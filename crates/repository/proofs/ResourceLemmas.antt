@@ -1,4 +1,4 @@
--- What becomes of the text of a new resource.
+-- The text of a new resource.
 use Rattle.std.proofs.Common.{◌≡◌, ℕ, Bool, true, false, ◌&&◌, not, IsTrue, List, [], ◌++◌, length, nat_lt, Option, Some, None, is_some, option_map, Ok, Err, if◌then◌else◌, refl, sym, ap, ◌∙◌}
 use Rattle.std.specs.Prelude.{MatchBool}
 use Rattle.std.specs.Option.{option_map_or}
@@ -25,11 +25,11 @@ use Rattle.repository.specs.declared.command.Command.TheVariants.{CreateResource
 use Rattle.change_plans.proofs.RefusalLemmas.{IsNot, later-not, unless-not, where-not}
 
 module _ (s : State) where
-  -- an adapter that is notified of a resource of this URI can't count any further
+  -- an adapter that is notified of a resource with this URI can't count any further
   full_for : Option (List ℕ) → Option Refused
   full_for uri = AdapterFull where_so is_chain_full (reads s).above (option_map_or (chain (reads s)) (option_map NewResource uri) []) s.adapters
 
-  -- why there can be none, whether the text is short or not, if it gives this URI
+  -- the refusal of the resource, by whether the text is short and by the URI that it gives
   asked : Bool → Option (List ℕ) → Option Refused
   asked short uri =
       (TextLength unless (short && option_map_or is_short_text uri true) else_by
@@ -76,7 +76,7 @@ module _ (s : State) where
 
   ---------------------------------------------------------------- a text and the URI that it gives
 
-  -- what is done if the URI is this
+  -- the step with this URI
   done_by : Option (List ℕ) → Stepped
   done_by uri =
       let ns = option_map_or (chain (reads s)) (option_map NewResource uri) [] in
@@ -103,7 +103,7 @@ module _ (s : State) where
   as-short u true short = refl
   as-short u false long = rw long refl
 
-  -- a short text does what its URI does
+  -- a short text has the same step as its URI
   step-same : (t u : List ℕ) → is_short_text t ≡ true → joined [] t ≡ Some u → IsWebUri u → step s (CreateResource t) ≡ step s (CreateResource u)
   step-same t u short gives web =
       let own = joined-web [] u web in

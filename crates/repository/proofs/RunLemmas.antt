@@ -35,7 +35,7 @@ after-memory s u c o x e =
 stepped : (s u : State) (c : Command View) (o : Outcome) → Executed s c o u → is_memory o ≡ false → step s c ≡ record { outcome = o; after = u }
 stepped s u c o x e = subst (λ (b : Bool). MatchBool b (IsWanting s c o u) (step s c ≡ record { outcome = o; after = u })) e x
 
--- what is done one command after another is a run
+-- commands that are executed one after another are a run
 pub run-executed : (cs : List (Command View)) (os : List Outcome) (s t : State) → AllExecuted s cs os t → IsRun s cs os t
 run-executed [] [] s t h = ap (λ (q : State). record { outcomes = []; after = q }) h
 run-executed [] (o ∷ os) s t h = absurd h
@@ -59,7 +59,7 @@ load-metamodel : (s : Model) (k : ResourceNo) (read : Result Doc DocFault) → (
 load-metamodel s k (Ok doc) = refl
 load-metamodel s k (Err f) = refl
 
--- no command changes the metamodel
+-- no command edits the metamodel
 done-metamodel : (s : State) (c : Command View) → (done s c).after.model.metamodel ≡ s.model.metamodel
 done-metamodel s (CreateResource t) = resource-metamodel s (joined [] t)
 done-metamodel s (Load k text) = load-metamodel s.model k (reads_into (reads s) k text)

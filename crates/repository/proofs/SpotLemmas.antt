@@ -1,10 +1,11 @@
 -- What holds of the adapters once targets of theirs have gone.
-use Rattle.std.proofs.Common.{◌≡◌, ◌≤◌, ◌&&◌, ◌||◌, ℕ, suc, Bool, true, false, not, cond, nat_eq, List, [], ◌∷◌, ◌++◌, map, filter, length, if◌then◌else◌, refl, sym, ap, subst, ◌∙◌, arith, eqb-true, eq-eqb}
+use Rattle.std.proofs.Common.{◌≡◌, ◌≤◌, ◌&&◌, ◌||◌, ℕ, suc, Bool, true, false, not, cond, nat_eq, List, [], ◌∷◌, map, filter, length, if◌then◌else◌, refl, sym, ap, subst, ◌∙◌, arith, eqb-true, eq-eqb}
 use Rattle.std.specs.List.{All, AllByRecursion, IsDistinct, list_any, sum_by}
 use Rattle.std.proofs.lemmas.Bool.{false≢true, or_parts}
 use Rattle.std.proofs.lemmas.List.Elements.{All-cons, All-filter, All-head, All-nil, All-tail, All-weaker}
 use Rattle.std.proofs.lemmas.List.Sums.{sum_by-cons}
 use Rattle.std.proofs.lemmas.Map.Keys.{IsDistinct-head, IsDistinct-tail}
+use Rattle.std.proofs.Math.Bool.{and-false}
 use Rattle.mm_types.proofs.SameLemmas.{same_node-true}
 use Rattle.mm_types.specs.Same.{same_node}
 use Rattle.mm_types.specs.declared.numbers.AdapterNo.{AdapterNo}
@@ -16,6 +17,7 @@ use Rattle.notice_chain.specs.declared.target.Target.{Target}
 use Rattle.adapter_list.proofs.MoveLemmas.{none-later, only}
 use Rattle.adapter_list.proofs.NumberLemmas.{distinct-filter}
 use Rattle.adapter_list.proofs.SplitLemmas.{targets_len-staying}
+use Rattle.removal.proofs.ListLemmas.{any-left, any-right}
 
 abbrev numbers : List Listed → List AdapterNo
 numbers rs = map (λ r. r.no) rs
@@ -50,7 +52,7 @@ others-distinct (s ∷ ss) rs distinct = distinct-filter same_no (λ (r : Listed
 
 ---------------------------------------------------------------- what holds on
 
--- it holds on when an adapter loses a target that it has
+-- a property that stays true when an adapter loses a target that it has
 abbrev pub HoldsOn : (Listed → Type 0) → Type 0
 HoldsOn P = (x : Node) (n : Notice) (r : Listed) → has_target x r ≡ true → P r → P (losing x n r)
 
@@ -120,21 +122,13 @@ others-len (s ∷ ss) rs = omega (arith, targets_len-staying (without_all (s ∷
 
 ---------------------------------------------------------------- which targets are left
 
--- a target is one of those that go
+-- a target is one of the targets that are removed
 abbrev is_among : List Spot → AdapterNo → Node → Bool
 is_among ss k x = list_any (λ (s : Spot). same_no s.0 k && same_node x s.1) ss
 
--- the targets of an adapter that go are among these
+-- the removed targets of an adapter are among these
 abbrev Stand : (AdapterNo → Node → Bool) → List Spot → Listed → Type 0
 Stand goes ss r = (x : Node) → has_target x r ≡ true → goes r.no x ≡ true → is_among ss r.no x ≡ true
-
-any-left : {X : Type 0} (p : X → Bool) (xs ys : List X) → list_any p xs ≡ true → list_any p (xs ++ ys) ≡ true
-any-left p [] ys h = absurd (false≢true h)
-any-left p (x ∷ xs) ys h = elim (p x) as (λ b. (b || list_any p xs) ≡ true → (b || list_any p (xs ++ ys)) ≡ true) [ true ↦ λ e. refl | false ↦ λ e. any-left p xs ys e ] h
-
-any-right : {X : Type 0} (p : X → Bool) (xs ys : List X) → list_any p ys ≡ true → list_any p (xs ++ ys) ≡ true
-any-right p [] ys h = h
-any-right p (x ∷ xs) ys h = elim (p x) as (λ b. (b || list_any p (xs ++ ys)) ≡ true) [ true ↦ refl | false ↦ any-right p xs ys h ]
 
 own-by : (goes : AdapterNo → Node → Bool) (k : AdapterNo) (x : Node) (ts : List Target) → list_any (is_at x) ts ≡ true → goes k x ≡ true → is_among (map (λ t. (k, t.node)) (filter (λ t. goes k t.node) ts)) k x ≡ true
 own-by goes k x [] has g = absurd (false≢true has)
@@ -154,7 +148,7 @@ own-by goes k x (t ∷ ts) has g =
           ]
     ] refl has
 
--- at first all do
+-- at first all of them are
 stand-first : (goes : AdapterNo → Node → Bool) (rs : List Listed) → All (Stand goes (spots goes rs)) rs
 stand-first goes [] = All-nil (Stand goes [])
 stand-first goes (r ∷ rs) =
@@ -163,7 +157,7 @@ stand-first goes (r ∷ rs) =
     (λ x has g. any-left (λ (s : Spot). same_no s.0 r.no && same_node x s.1) (spots_of goes r) (spots goes rs) (own-by goes r.no x r.targets has g))
     (All-weaker (Stand goes (spots goes rs)) (Stand goes all) (λ q h x has g. any-right (λ (s : Spot). same_no s.0 q.no && same_node x s.1) (spots_of goes r) (spots goes rs) (h x has g)) rs (stand-first goes rs))
 
--- what is left of some targets is no target that went, and was one before
+-- a remaining target was not removed, and was a target before
 pub left-of : (x y : Node) (ts : List Target) → list_any (is_at y) (filter (λ t. not (is_at x t)) ts) ≡ true → (same_node y x ≡ false) × (list_any (is_at y) ts ≡ true)
 left-of x y [] h = absurd (false≢true h)
 left-of x y (t ∷ ts) h =
@@ -175,10 +169,6 @@ left-of x y (t ∷ ts) h =
         | false ↦ λ _ later. left-of x y ts later
       ] refl k
     ] refl h
-
-and-false : (b : Bool) → (b && false) ≡ false
-and-false true = refl
-and-false false = refl
 
 stand-losing : (goes : AdapterNo → Node → Bool) (s : Spot) (ss : List Spot) (n : Notice) (r : Listed) → Stand goes (s ∷ ss) r → Stand goes ss (losing s.1 n r)
 stand-losing goes s ss n r stand x has g =
@@ -241,7 +231,7 @@ stand-all : (goes : AdapterNo → Node → Bool) (ss : List Spot) (rs : List Lis
 stand-all goes [] rs distinct all = all
 stand-all goes (s ∷ ss) rs distinct all = stand-all goes ss (without s rs) (distinct-without s rs distinct) (stand-without goes s ss rs distinct all)
 
--- no target of an adapter goes
+-- no target of an adapter is removed
 abbrev pub NoneGoes : (AdapterNo → Node → Bool) → Listed → Type 0
 NoneGoes goes r = (x : Node) → has_target x r ≡ true → goes r.no x ≡ false
 
@@ -255,7 +245,7 @@ all-stay goes rs all = by (spots goes rs) all
     by [] h = h
     by (s ∷ ss) h = All-filter has_targets (NoneGoes goes) (without_all (s ∷ ss) rs) h
 
--- those that stay have none of the targets that went
+-- the adapters that stay have none of the removed targets
 pub others-free : (goes : AdapterNo → Node → Bool) (rs : List Listed) → HasDistinctNumbers rs → All (NoneGoes goes) (released (spots goes rs) rs).others
 others-free goes rs distinct =
     all-stay goes rs (All-weaker (Stand goes []) (NoneGoes goes) (none-goes goes) (without_all (spots goes rs) rs) (stand-all goes (spots goes rs) rs distinct (stand-first goes rs)))

@@ -1,15 +1,14 @@
--- What adapters have no part in: what a change makes of the model.
+-- Adapters do not change the effect of a change on the model.
 use Rattle.std.specs.Prelude.{◌≡◌, Bool, true, false, None, Ok}
 use Rattle.notice_chain.specs.View.{View}
-use Rattle.repository.specs.Reload.{bare}
 use Rattle.repository.specs.Run.{Executed}
-use Rattle.repository.specs.State.{State}
+use Rattle.repository.specs.State.{bare, State}
 use Rattle.repository.specs.Step.{refusal_of, step}
 use Rattle.repository.specs.declared.command.Command.{Command}
 use Rattle.repository.specs.declared.command.Command.TheVariants as command
 use Rattle.repository.specs.declared.reply.Reply.{Reply}
 
--- a command asks for a change of the model
+-- whether a command asks for a change of the model
 abbrev pub is_change : Command View → Bool
 is_change (command.At e a) = true
 is_change (command.Create c) = true
@@ -23,7 +22,7 @@ is_change (command.Unwatch number target) = false
 is_change (command.Detach number) = false
 is_change (command.Read q) = false
 
--- a change that is done is done without adapters too, and leaves the same model
+-- a change that is not refused is not refused without adapters either, and leaves the same model
 abbrev pub IsAloneToo : State → Command View → Type 0
 IsAloneToo s c =
     is_change c ≡ true → refusal_of s c ≡ None

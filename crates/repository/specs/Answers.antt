@@ -1,4 +1,4 @@
--- What a command that is not refused answers.
+-- The answers of commands that are not refused.
 use Rattle.std.specs.Prelude.{◌≡◌, ℕ, ◌&&◌, ◌||◌, Bool, List, filter, length, not, pos, int_le, int_lt, Option, Some, None, unwrap_or, if◌then◌else◌, [], true, false}
 use Rattle.std.specs.Option.{option_map_or}
 use Rattle.mm_types.specs.declared.numbers.AdapterNo.{AdapterNo}
@@ -41,11 +41,11 @@ use Rattle.handshake.specs.declared.change.Change.TheVariants as change
 use Rattle.proxies.specs.declared.resolved.Resolved.{Resolved}
 use Rattle.proxies.specs.declared.target.Target.{Target}
 
--- what is counted of the adapter of a number
+-- a count that is taken of the view of an adapter; 0 if none has the number
 abbrev pub count_of : List Listed → AdapterNo → (View → ℕ) → ℕ
 count_of rs number count = option_map_or (λ a. count a.view) (adapter number rs) 0
 
--- what a feature of a node has
+-- the value of a single feature, or the list of a many-valued one
 abbrev pub got : Reading → End → FeatureValue
 got r e = if (shape_at r e).is_single then feature_value.One (value_at r e) else feature_value.Many (r.values e)
 
@@ -53,11 +53,12 @@ abbrev pub got_answer : FeatureValue → Answer
 got_answer (feature_value.One v) = answer.Value v
 got_answer (feature_value.Many vs) = answer.Values vs
 
--- a single end is null, or unsettable and not set
+-- whether a single end has no value: it is null, or unsettable and not set
 abbrev pub is_missing : Reading → End → Bool
 is_missing r e = same_value value.Null (value_at r e) || ((shape_at r e).is_unsettable && not (is_set r e))
 
--- a list has fewer values than its lower bound, or the value of a single feature that should have one is missing
+-- whether an end has too few values: a list has fewer than its lower bound, or a single feature with a lower bound of at least 1 has no
+-- value
 abbrev pub is_too_few : Reading → End → Bool
 is_too_few r e =
     let a = shape_at r e in
@@ -68,8 +69,8 @@ is_too_few r e =
 abbrev pub short_features : Reading → ObjectNo → List FeatureNo
 short_features r o = filter (λ f. is_too_few r (at_end (node.Object o) f)) (all_features_of r (node.Object o))
 
--- an `add` answers whether the list changed, what takes a value out or moves it answers the value, `remove_value` whether it was there,
--- and `resolve` the object that the proxy finds
+-- `add` gives whether the list changed, `remove` and `move` the value, `remove_value` whether the value was there, and `resolve` the object
+-- that the proxy finds
 abbrev pub act_answer : Reading → End → Act → Answer
 act_answer r e (act.Set v) = answer.Done
 act_answer r e act.Unset = answer.Done
@@ -94,8 +95,7 @@ read_answer r rs (asks.ObjectAt t) = answer.Found (at r t)
 read_answer r rs (asks.Adapter number Told) = answer.Count (count_of rs number (λ v. v.told))
 read_answer r rs (asks.Adapter number Kept) = answer.Count (count_of rs number (λ v. length v.kept))
 
--- `delete` answers how many objects it destroyed, `load` how many it made, and `resolve_all` how many proxies it resolved and how many are
--- afterwards
+-- `delete` gives how many objects it destroyed, `load` how many it made, and `resolve_all` how many proxies it resolved and how many remain
 abbrev pub answer_of : Reading → List Listed → Command View → Answer
 answer_of r rs (command.At e a) = act_answer r e a
 answer_of r rs (command.Create c) = answer.Object (record { 0 = r.next })
@@ -109,7 +109,8 @@ answer_of r rs (command.Unwatch number target) = answer.Flag (is_target number t
 answer_of r rs (command.Detach number) = answer.Done
 answer_of r rs (command.Read q) = read_answer r rs q
 
--- what can be answered before a change is planned: all but how much a deletion destroys, what a proxy finds, and how many are resolved
+-- whether the answer of a change is known only when it is planned: how many objects a deletion destroys, which object a proxy finds, how
+-- many proxies are resolved
 abbrev pub is_answered_late : Change → Bool
 is_answered_late (change.Delete o) = true
 is_answered_late (change.At e (act.Resolve i)) = true
@@ -120,7 +121,7 @@ abbrev pub IsEarlyAnswer : Bool → Answer → Option Answer → Type 0
 IsEarlyAnswer false a q = q ≡ Some a
 IsEarlyAnswer true a q = q ≡ None
 
--- the answer of a change that is answered once it is planned
+-- the answer of a change whose answer is known only when it is planned
 abbrev pub planned_answer : Option Removal → Option Target → Option Resolved → Answer
 planned_answer q (Some x) y = answer.Object x.object
 planned_answer q None (Some y) = answer.Resolved y.done y.left

@@ -1,4 +1,4 @@
--- What is read of a list without a copy of it.
+-- Reads of a list that make no copy of it.
 use Rattle.std.specs.Prelude.{ℕ, List, length, slice_get, ok_or, Result, Ok, Err}
 use Rattle.std.specs.Option.{option_map_or}
 use Rattle.mm_types.specs.declared.end.End.{End}
@@ -11,16 +11,16 @@ use Rattle.repository.specs.Answers.{got}
 use Rattle.repository.specs.declared.reply.FeatureValue.{FeatureValue}
 use Rattle.repository.specs.declared.reply.FeatureValue.TheVariants as feature_value
 
--- the list that a feature has; a single value is no list
+-- the list of a feature; `NotMany` for a single value
 abbrev pub list_of : FeatureValue → Result (List Value) Refused
 list_of (feature_value.One v) = Err NotMany
 list_of (feature_value.Many vs) = Ok vs
 
--- the list that `get` answers at an end, or why there is none
+-- the list that `get` gives at an end, or the refusal
 abbrev pub list_at : Reading → End → Result (List Value) Refused
 list_at r e = option_map_or Err (end_refusal r e) (list_of (got r e))
 
--- what is read of a list, if there is one
+-- what f reads of a list, or the refusal of the list
 abbrev pub of_list : {X : Type 0} → (List Value → Result X Refused) → Result (List Value) Refused → Result X Refused
 of_list f (Ok vs) = f vs
 of_list f (Err r) = Err r

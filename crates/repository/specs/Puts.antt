@@ -14,11 +14,11 @@ use Rattle.repository.specs.State.{State, reads}
 use Rattle.repository.specs.Views.{command_of}
 use Rattle.repository.specs.declared.reply.Answer.{Answer}
 
--- an adapter is notified of a put: at its end, or at the object if the feature has an opposite
+-- whether an adapter is notified of a put: at its end, or at the object if the feature has an opposite
 abbrev pub is_put_heard : State → NewLink → Bool
 is_put_heard s p = is_heard (reads s).above p.end.node s.adapters || (is_some p.opposite && is_heard (reads s).above (node.Object p.object) s.adapters)
 
--- the put is all that the change does, it notifies no adapter, and this is its answer
+-- the change does nothing but this put, notifies no adapter, and has this answer
 pub record IsPutAlone (s : State) (c : Change) (p : NewLink) (a : Answer) : Type 0 where
   pub asked : early_refusal (reads s) c ≡ None
   pub proper : IsProper (reads s) [] c

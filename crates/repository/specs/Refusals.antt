@@ -31,7 +31,7 @@ use Rattle.web_uris.specs.Addresses.{has_mark}
 use Rattle.fragment_paths.specs.Fragments.{fragment}
 use Rattle.doc_writer.specs.Saved.{save_refusal}
 
--- the change that a command makes of the model, if it makes one; a text is loaded as what it is read as
+-- the change that a command makes of the model, if it makes one; a load has the document that its text gives
 abbrev pub change_of : Reading → Command View → Option Change
 change_of r (command.At e a) = Some (change.At e a)
 change_of r (command.Create c) = Some (change.Create c)
@@ -41,7 +41,7 @@ change_of r (command.Load k text) = load_of k (reads_into r k text)
 change_of r command.ResolveAll = Some change.ResolveAll
 change_of r _ = None
 
--- the notifications of its change
+-- the notifications of the change that a command makes
 abbrev pub chain : Reading → Command View → List Notice
 chain r c = option_map_or (planned_chain.chain r) (change_of r c) []
 
@@ -50,7 +50,7 @@ chain r c = option_map_or (planned_chain.chain r) (change_of r c) []
 abbrev pub adapter_refusal : List Listed → AdapterNo → Option Refused
 adapter_refusal rs number = NoAdapter unless is_some (adapter number rs)
 
--- what a read names is not there
+-- why a read is refused: something that it names is not there
 abbrev pub early_read_refusal : Reading → List Listed → Read → Option Refused
 early_read_refusal r rs (asks.At e q) = end_refusal r e
 early_read_refusal r rs (asks.Of o q) = object_refusal r o
@@ -73,7 +73,7 @@ early_refusal r rs _ = None
 
 ---------------------------------------------------------------- what is found later
 
--- why there can be no resource of a text, which gives this URI, if it gives one
+-- why no resource of a text can be made; `uri` is the URI that the text gives, if it gives one
 abbrev pub resource_refusal : Reading → List ℕ → Option (List ℕ) → Option Refused
 resource_refusal r t uri =
     TextLength unless (is_short_text t && option_map_or is_short_text uri true) else_by
@@ -81,14 +81,14 @@ resource_refusal r t uri =
     BadUri unless is_some uri else_by
     ResourceExists where_so option_map_or (has_uri r) uri false
 
--- what a look at the model finds
+-- the refusals of reads that are found by a look at the model
 abbrev pub late_read_refusal : Reading → Read → Option Refused
 late_read_refusal r (asks.Of o Fragment) = Dangling unless is_some (fragment r o)
 late_read_refusal r (asks.Save k) = save_refusal r k
 late_read_refusal r (asks.ObjectAt t) = TextLength unless is_short_text t else_by BadUri unless has_mark t
 late_read_refusal r _ = None
 
--- what planning finds, and what the list of adapters does
+-- the refusals that planning finds, and those that the list of adapters finds
 abbrev pub late_refusal : Reading → List Listed → Command View → Option Refused
 late_refusal r rs (command.At e a) = planned.late_refusal r (change.At e a)
 late_refusal r rs (command.Create c) = planned.late_refusal r (change.Create c)
@@ -99,13 +99,13 @@ late_refusal r rs (command.Watch number target deep) = watch_refusal rs number t
 late_refusal r rs (command.Read q) = late_read_refusal r q
 late_refusal r rs _ = None
 
--- an adapter that it notifies can't count any further
+-- an adapter that the command notifies can't count its notifications
 abbrev pub full_refusal : Reading → List Listed → Command View → Option Refused
 full_refusal r rs c = AdapterFull where_so is_chain_full r.above (chain r c) rs
 
 abbrev pub refusal : Reading → List Listed → Command View → Option Refused
 refusal r rs c = early_refusal r rs c else_by late_refusal r rs c else_by full_refusal r rs c
 
--- a refusal of a change that is not refused early: the one that planning finds, or out of memory
+-- a refusal of a change that is not refused early: the refusal that planning finds, or `Memory`
 abbrev pub IsPlanRefusal : Model → Change → Refused → Type 0
 IsPlanRefusal s c r = MatchBool (is_memory_refusal r) (Unit {0}) (planned.late_refusal (reading s) c ≡ Some r)

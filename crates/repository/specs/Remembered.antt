@@ -5,11 +5,11 @@ use Rattle.links.specs.LegalSets.{Kinds}
 use Rattle.links.specs.declared.plan.Edit.{Edit}
 use Rattle.links.specs.declared.plan.Edit.TheVariants as edit
 
--- a plan moves one value within its list, and edits nothing else
+-- whether a plan only moves one value within its list
 abbrev pub is_move : List Edit → Bool
 is_move (edit.Shift e to from ∷ []) = true
 is_move _ = false
 
--- a plan edits a link that contains, and does more than move it within its list
+-- whether a plan edits a link that contains, and does more than move it within its list
 abbrev pub may_change_containers : Kinds → List Edit → Bool
 may_change_containers m plan = touches_containment m plan && not (is_move plan)

@@ -1,4 +1,4 @@
--- What lists of commands do, and when a command may be answered out of memory.
+-- What lists of commands do, and when a command may fail with MEMORY.
 use Rattle.std.specs.Prelude.{◌≡◌, ◌&&◌, Bool, true, false, not, IsTrue, List, [], ◌∷◌, None, MatchBool, Result, Ok, Err, if◌then◌else◌}
 use Rattle.std.specs.Option.{option_map_or}
 use Rattle.mm_types.specs.declared.refused.Refused.{Refused}
@@ -17,12 +17,12 @@ use Rattle.repository.specs.Views.{Outcome}
 use Rattle.repository.specs.Step.{failure, refusal_of, step}
 use Rattle.change_plans.specs.Plans.{is_memory_refusal}
 
--- an outcome is out of memory
+-- whether an outcome is MEMORY
 abbrev pub is_memory : Outcome → Bool
 is_memory (Ok r) = false
 is_memory (Err f) = is_memory_refusal f.refused
 
--- the refusals that are found without memory: MEMORY is never answered in place of one of them
+-- whether a refusal is found without memory; MEMORY never comes in its place
 abbrev pub is_plain : Refused → Bool
 is_plain NoObject = true
 is_plain NoResource = true
@@ -35,7 +35,7 @@ is_plain NoAdapter = true
 is_plain AdapterTaken = true
 is_plain _ = false
 
--- a read copies something, or looks for it with memory
+-- whether a read takes memory, to copy something or to look for it
 abbrev pub read_takes_memory : Read → Bool
 read_takes_memory (asks.At e IsSet) = false
 read_takes_memory (asks.Of o Class) = false
@@ -44,22 +44,22 @@ read_takes_memory (asks.Of o Resource) = false
 read_takes_memory (asks.Adapter number q) = false
 read_takes_memory _ = true
 
--- a command makes or copies something, and so takes memory
+-- whether a command takes memory
 abbrev pub takes_memory : Command View → Bool
 takes_memory (command.Read q) = read_takes_memory q
 takes_memory _ = true
 
--- a command may be answered out of memory: it takes memory, and no refusal applies that is found without
+-- whether a command may fail with MEMORY: it takes memory, and no refusal applies that is found without memory
 abbrev pub may_want_memory : State → Command View → Bool
 may_want_memory s c = takes_memory c && not (option_map_or is_plain (refusal_of s c) false)
 
--- a command is answered out of memory: then nothing changes, no adapter is notified, and what it brought comes back
+-- a command failed with MEMORY: nothing changed, no adapter was notified, and its adapter is given back
 pub record IsWanting (s : State) (c : Command View) (o : Outcome) (t : State) : Type 0 where
   pub may : IsTrue (may_want_memory s c)
   pub outcome : o ≡ Err (failure c Memory)
   pub state : t ≡ s
 
--- the outcome of a command that brings no adapter, and of a read
+-- the outcome of a command that takes no adapter; and `read_outcome`, of a read
 abbrev pub change_outcome : Result (Reply View) Refused → Outcome
 change_outcome (Ok r) = Ok r
 change_outcome (Err r) = Err (record { refused = r; given_back = None })
@@ -72,7 +72,7 @@ read_outcome f (Err r) = Err (record { refused = r; given_back = None })
 abbrev pub answered_outcome : Result Answer Refused → Outcome
 answered_outcome = read_outcome (λ a. a)
 
--- a command was done: its outcome and the state after it are the step's, or it is answered out of memory
+-- a command was executed: its outcome and the state after it are the step's, or it failed with MEMORY
 abbrev pub Executed : State → Command View → Outcome → State → Type 0
 Executed s c o t = MatchBool (is_memory o) (IsWanting s c o t) (step s c ≡ record { outcome = o; after = t })
 
@@ -96,7 +96,7 @@ run s (c ∷ cs) =
     let rest = run one.after cs in
     record { outcomes = one.outcome ∷ rest.outcomes; after = rest.after }
 
--- the outcomes but those out of memory, and the commands that had them
+-- the outcomes without those that are MEMORY; and `commands_kept`, the commands of these outcomes
 abbrev pub outcomes_kept : List Outcome → List Outcome
 outcomes_kept [] = []
 outcomes_kept (o ∷ os) = if is_memory o then outcomes_kept os else o ∷ outcomes_kept os
@@ -106,6 +106,6 @@ commands_kept cs [] = []
 commands_kept [] (o ∷ os) = []
 commands_kept (c ∷ cs) (o ∷ os) = if is_memory o then commands_kept cs os else c ∷ commands_kept cs os
 
--- the outcomes but those out of memory are those of a run of the commands that had them, and so is the state after it
+-- without the commands that failed with MEMORY, the outcomes and the state after them are those of a run
 abbrev pub IsRun : State → List (Command View) → List Outcome → State → Type 0
 IsRun s cs os t = run s (commands_kept cs os) ≡ record { outcomes = outcomes_kept os; after = t }

@@ -1,4 +1,4 @@
--- What a command does: its reply and the state after it.
+-- What a command does: its outcome and the state after it.
 use Rattle.std.specs.Prelude.{List, [], ◌∷◌, ◌++◌, Option, Some, None, Ok, Err, if◌then◌else◌}
 use Rattle.std.specs.Option.{option_map_or}
 use Rattle.mm_types.specs.declared.numbers.AdapterNo.{AdapterNo}
@@ -19,37 +19,38 @@ use Rattle.repository.specs.Views.{Outcome, brought}
 use Rattle.repository.specs.Refusals.{chain, change_of, refusal}
 use Rattle.repository.specs.Answers.{answer_of}
 
--- what a command gives, and the state after it
+-- the outcome of a command, and the state after it
 pub record Stepped : Type 0 where
   pub outcome : Outcome
   pub after : State
 
--- a refused command leaves the state as it was, and gives back what it brought
+-- a refused command leaves the state as it was, and gives back the adapter that it was given
 abbrev pub failure : Command View → Refused → Failure View
 failure c r = record { refused = r; given_back = brought c }
 
 abbrev pub refused : State → Command View → Refused → Stepped
 refused s c r = record { outcome = Err (failure c r); after = s }
 
--- the targets that go with a command: those at what it destroys, the one that it names, or all of an adapter
+-- the targets that are taken away with a command: the targets at objects that it destroys, the target that it names, or all targets of the
+-- adapter that it names
 abbrev pub going : Reading → List Listed → Command View → List Spot
 going r rs (command.Delete o) = spots (is_gone_at (gone r o)) rs
 going r rs (command.Unwatch number target) = (number, target) ∷ []
 going r rs (command.Detach number) = spots (is_of number) rs
 going r rs _ = []
 
--- the adapter that it attaches
+-- the adapter that a command attaches
 abbrev pub joins : Command View → List Listed
 joins (command.Attach number target deep view) = record { no = number; targets = record { node = target; deep = deep } ∷ []; view = view } ∷ []
 joins _ = []
 
--- the adapters once it has attached that one, or has given one a target that it had not
+-- the adapters after a command attached an adapter, or gave an adapter a target that it did not have
 abbrev pub joined_by : Command View → List Listed → List Listed
 joined_by (command.Attach number target deep view) rs = rs ++ joins (command.Attach number target deep view)
 joined_by (command.Watch number target deep) rs = if is_target number target rs then rs else watched number (record { node = target; deep = deep }) rs
 joined_by _ rs = rs
 
--- the chain notifies the adapters that get it by what is above the notifiers before the command, and then the targets go
+-- the chain notifies adapters by the nodes that are above the notifiers before the command, and then the targets are taken away
 abbrev pub releases : Reading → List Listed → Command View → Released
 releases r rs c = released (going r rs c) (tell_chain r.above (chain r c) rs)
 
@@ -74,7 +75,7 @@ done s c =
       after = record { model = model_after s.model c; adapters = adapters_after (reads s) s.adapters c };
     }
 
--- the first refusal that applies, if one does
+-- the first refusal that applies, if any
 abbrev pub refusal_of : State → Command View → Option Refused
 refusal_of s c = refusal (reads s) s.adapters c
 
@@ -85,6 +86,6 @@ step_unless s c None = done s c
 abbrev pub step : State → Command View → Stepped
 step s c = step_unless s c (refusal_of s c)
 
--- closing releases all adapters: each number with its view after its last notification
+-- closing releases all adapters: the number of each, with its view after its last notification
 abbrev pub closed : State → List (AdapterNo × View)
 closed s = (released_where is_any s.adapters).views

@@ -1,4 +1,4 @@
--- Commands and outcomes with views instead of adapters: of an adapter only what it was notified of is determined.
+-- Commands and outcomes with views instead of adapters: contracts determine only what an adapter was notified of.
 use Rattle.std.specs.Prelude.{ℕ, List, map, Option, Some, None, Result, Ok, Err, option_map}
 use Rattle.handshake.specs.declared.change.Change.{Change}
 use Rattle.handshake.specs.declared.change.Change.TheVariants as change
@@ -9,11 +9,11 @@ use Rattle.repository.specs.declared.command.Command.TheVariants as command
 use Rattle.repository.specs.declared.reply.Reply.{Reply}
 use Rattle.repository.specs.declared.reply.Failure.{Failure}
 
--- what a command gives
+-- the outcome of a command: its reply, or its failure
 abbrev pub Outcome : Type 0
 Outcome = Result (Reply View) (Failure View)
 
--- the command that asks for a change, where a document is read from this text
+-- the command that asks for a change; the document of a load is read from this text
 abbrev pub command_of : {A : Type 0} → List ℕ → Change → Command A
 command_of text (change.At e a) = command.At e a
 command_of text (change.Create c) = command.Create c
@@ -22,7 +22,7 @@ command_of text (change.NewResource u) = command.CreateResource u
 command_of text (change.Load k doc) = command.Load k text
 command_of text change.ResolveAll = command.ResolveAll
 
--- the adapter that a command brings
+-- the adapter that a command takes
 abbrev pub brought : {A : Type 0} → Command A → Option A
 brought (command.Attach number target deep adapter) = Some adapter
 brought _ = None
@@ -51,7 +51,7 @@ module _ {A : Type 0} (heard : A → View) where
   outcome_view (Ok r) = Ok (reply_view r)
   outcome_view (Err f) = Err (failure_view f)
 
-  -- a reply or its refusal, of a command that brings no adapter
+  -- a reply or its refusal, of a command that takes no adapter
   abbrev pub changed_view : Result (Reply A) Refused → Result (Reply View) Refused
   changed_view (Ok r) = Ok (reply_view r)
   changed_view (Err r) = Err r

@@ -7,29 +7,29 @@ use mm_types::{AdapterNo, ClassNo, End, Node, ObjectNo, ResourceNo, Text};
 /// A call of the repository, as a value.
 #[derive(Drop)]
 pub enum Command<A = Box<dyn Adapter>> {
-    /// Changes what a feature of a node has.
+    /// Changes the values of a feature of a node.
     At(End, Act),
     /// Makes an object of a class (EMF: EFactory.create; MOF 2.5.1: Reflection, Factory.create).
     Create(ClassNo),
-    /// Destroys an object and all that is below it, and takes them out of every end that holds them (EMF: EcoreUtil.delete, recursively;
+    /// Destroys an object and all objects below it, and takes them out of every end that holds them (EMF: EcoreUtil.delete, recursively;
     /// MOF 2.5.1: Reflection, Object.delete).
     Delete(ObjectNo),
     /// Makes a resource of the URI that a text gives (EMF: ResourceSet.createResource).
     CreateResource(Text),
-    /// Makes what a text says in an empty resource (EMF: Resource.load).
+    /// Loads the document of a text into an empty resource (EMF: Resource.load).
     Load(ResourceNo, Text),
-    /// Resolves all proxies, one after another, by object number, feature and position; passes over those that `resolve` would refuse
-    /// (EMF: EcoreUtil.resolveAll).
+    /// Resolves all proxies, one after another, by object number, feature and position; skips each that `resolve` would refuse (EMF:
+    /// EcoreUtil.resolveAll).
     ResolveAll,
-    /// Attaches an adapter to a node, last in attach order (EMF: Notifier.eAdapters().add). A deep one is also notified of what
-    /// happens below the node (EMF: EContentAdapter).
+    /// Attaches an adapter to a node, last in attach order (EMF: Notifier.eAdapters().add). A deep adapter is also notified of changes
+    /// below the node (EMF: EContentAdapter).
     Attach {
         no: AdapterNo,
         target: Node,
         deep: bool,
         adapter: A,
     },
-    /// Gives an adapter one target more (EMF: Notifier.eAdapters().add of an adapter that is attached elsewhere).
+    /// Gives an adapter one more target (EMF: Notifier.eAdapters().add of an adapter that is attached elsewhere).
     Watch {
         no: AdapterNo,
         target: Node,
@@ -40,7 +40,7 @@ pub enum Command<A = Box<dyn Adapter>> {
         no: AdapterNo,
         target: Node,
     },
-    /// Detaches an adapter from all its targets, and gives it back, notified of that (EMF:
+    /// Detaches an adapter from all its targets, notifies it of that, and gives it back (EMF:
     /// Notifier.eAdapters().remove).
     Detach(AdapterNo),
     /// Asks for something, and changes nothing.

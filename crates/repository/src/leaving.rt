@@ -1,4 +1,4 @@
-//! The targets that go, and the adapters that leave with their last ones.
+//! The targets that are taken away, and the adapters that are released with their last target.
 ghost use Rattle.std.specs.Prelude.{◌≡◌, ◌+◌, ◌^◌, ◌<◌, ◌≤◌, ◌++◌, ◌∷◌, [], filter, length, map, vec_capacity, vec_len, IfOk, IfSome, OnOk};
 ghost use Rattle.std.specs.Option.{option_map_or};
 ghost use Rattle.models.specs.Reading.{Reading};
@@ -45,7 +45,7 @@ pub(crate) fn own_spots(
     Ok(spots)
 }
 
-/// The targets that go with what a change destroys.
+/// The targets that are taken away with the objects that a change destroys.
 pub(crate) fn spots_gone<A: Adapter>(
     alloc: Global,
     adapters: &AdapterList<A>,
@@ -60,7 +60,7 @@ pub(crate) fn spots_gone<A: Adapter>(
     }
 }
 
-/// The targets that go with an object. Only the adapters that have some of them are looked at.
+/// The targets that are taken away with an object. Only the adapters that have some of them are looked at.
 fn spots_with<A: Adapter>(
     alloc: Global,
     adapters: &AdapterList<A>,
@@ -79,7 +79,7 @@ fn spots_with<A: Adapter>(
     Ok(spots)
 }
 
-/// Adds the targets of an adapter that go.
+/// Adds the targets of an adapter that are taken away.
 fn add_gone(
     spots: &mut Vec<(AdapterNo, Node)>,
     removal: &Removal,
@@ -97,17 +97,17 @@ fn add_gone(
     Ok(())
 }
 
-/// Which targets go, and capacity for all notifications: reserved before anything changes.
+/// The targets that are taken away, and capacity for all notifications: reserved before anything changes.
 #[derive(Drop)]
 pub(crate) struct Leaving<A> {
-    /// The targets that go: the adapters in attach order, the targets of each in the order in which it got them.
+    /// The targets that are taken away: the adapters in attach order, the targets of each in the order in which it got them.
     pub release: Release<A>,
-    /// Capacity for the notifications of a chain, and then for the last ones from those targets.
+    /// Capacity for the notifications of a chain, and then for the last notifications from these targets.
     pub told: Vec<(AdapterNo, Notice)>,
 }
 
 impl<A: Adapter> Leaving<A> {
-    /// Capacity for so many notifications of a chain, and then for the last notifications from targets that go.
+    /// Capacity for so many notifications of a chain, and then for the last notifications from targets that are taken away.
     pub(crate) fn reserve(
         alloc: Global,
         spots: Vec<(AdapterNo, Node)>,
@@ -123,7 +123,7 @@ impl<A: Adapter> Leaving<A> {
     }
 }
 
-/// Capacity for the targets that go, if any do.
+/// Capacity for the targets that are taken away, if there are any.
 pub(crate) fn room_for<A: Adapter>(
     alloc: Global,
     spots: Vec<(AdapterNo, Node)>,
@@ -139,8 +139,8 @@ pub(crate) fn room_for<A: Adapter>(
     Ok(Some(Leaving::reserve(alloc, spots, chain_told)?))
 }
 
-/// Delivers the notifications of a round, and then releases the targets for which there is capacity. Gives which adapter was notified of
-/// what, and the adapters that are handed out.
+/// Delivers the notifications of a round, and then releases the targets for which there is capacity. Returns which adapter was notified of
+/// what, and the adapters that are given back.
 pub(crate) fn notify<A: Adapter>(
     alloc: Global,
     adapters: &mut AdapterList<A>,
@@ -160,7 +160,7 @@ pub(crate) fn notify<A: Adapter>(
     }
 }
 
-/// Releases targets: their last notifications come after those of a chain.
+/// Releases targets. Their last notifications come after the notifications of a chain.
 fn let_go<A: Adapter>(
     adapters: &mut AdapterList<A>,
     leaving: Leaving<A>,

@@ -1,10 +1,9 @@
-//! The repository: objects of classes known only at run time, each command answered or refused.
+//! The repository: objects of classes known only at run time. Each command is answered or refused.
 //!
-//! `specs/Step.antt` says what a command does, and `specs/Run.antt` what a list of them does.
+//! `specs/Step.antt` says what a command does, and `specs/Run.antt` what a list of commands does.
 #![tactic(auto)]
 
 mod command;
-pub mod laws;
 mod leaving;
 mod lone_puts;
 mod preparing;

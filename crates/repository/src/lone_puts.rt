@@ -1,4 +1,4 @@
-//! What a change does that edits one value or puts one link, and nothing else.
+//! Changes that edit one value or put one link, and nothing else.
 ghost use Rattle.std.specs.FinMap as map;
 ghost use Rattle.std.specs.Prelude.{◌≡◌, ◌∷◌, [], List, OnErr, OnOk, false, if◌then◌else◌, is_some};
 ghost use Rattle.mm_values.specs.Room.{values_of};
@@ -14,7 +14,7 @@ use mm_types::{End, Node, Value};
 use mm_values::{NewValues, Values};
 use std::alloc::AllocError;
 
-/// Forgets the fragments, and the adapters that are notified at a node, if a put is one of a link that contains. Takes no memory.
+/// Forgets the fragments, and the adapters that are notified at a node, if a put makes a link that contains. Takes no memory.
 #[inline(always)]
 pub(crate) fn forget_put(paths: &mut PathCache, hearers: &mut Hearers, put: NewLink)
     ensures paths { paths.new ≡ (if is_some put.container then map.empty else paths.old) }
@@ -26,8 +26,8 @@ pub(crate) fn forget_put(paths: &mut PathCache, hearers: &mut Hearers, put: NewL
     }
 }
 
-/// Replaces what a node has under an attribute by one value; nothing is done at a resource, which has no attributes. Errs only if memory is
-/// refused, and then nothing that is seen has changed.
+/// Replaces the values of a node under an attribute by one value; nothing is done at a resource, which has no attributes. Errs only if
+/// memory is refused, and then nothing that contracts see has changed.
 #[inline(always)]
 pub(crate) fn put_value(
     values: &mut Values,

@@ -1,4 +1,4 @@
-//! What is made ready for a change before anything changes.
+//! A change is prepared before anything changes.
 ghost use Rattle.std.specs.Prelude.{◌≡◌, ℕ, List, [], false, None, length, nat_lt, true, IfOk, IfErr, IfSome, OnOk};
 ghost use Rattle.mm_types.specs.Ends.{value_in};
 ghost use Rattle.mm_values.specs.Room as values_room;
@@ -6,8 +6,8 @@ ghost use Rattle.notice_chain.specs.Listed.{Listed};
 ghost use Rattle.links.specs.Holders.{HasNoCycle, above};
 ghost use Rattle.links.specs.LegalSets.{IsLegalSet, Kinds};
 ghost use Rattle.models.specs.Model.{reading};
-ghost use Rattle.change_plans.specs.Plans.{IsPlanOf, of_values};
-ghost use Rattle.handshake.specs.Changes.{edits_values_alone};
+ghost use Rattle.change_plans.specs.Plans.{IsPlanOf, of_links, of_values};
+ghost use Rattle.handshake.specs.Changes.{edits_links_alone, edits_values_alone};
 ghost use Rattle.handshake.specs.Refusals.{early_refusal as early_refusal_of};
 ghost use Rattle.adapter_list.specs.Hearing.{AreKnown};
 ghost use Rattle.adapter_list.specs.Refusals.{IsChainRefusal};
@@ -25,10 +25,10 @@ use crate::leaving::{Leaving, room_for, spots_gone};
 use crate::reply::Answer;
 use adapter_list::{AdapterList, Hearers, Round};
 use adapters::Adapter;
-use change_plans::{Planned, plan, plan_values};
+use change_plans::{Planned, plan, plan_links, plan_values};
 use handshake::{Act, Change};
-use links::LinkStore;
-use mm_types::{AdapterNo, End, Node, ObjectNo, Refused, ResourceNo, Seq};
+use links::{LinkStore, Plan};
+use mm_types::{AdapterNo, End, Node, ObjectNo, Refused, ResourceNo};
 use mm_values::{ValuePlan, Values};
 use models::{ModelRef, copied};
 use notice_chain::Chain;
@@ -36,7 +36,7 @@ use proxies::{Resolved, Target};
 use removal::Removal;
 use std::alloc::{AllocError, Global};
 
-/// The answer of a change, which targets go with what it destroys, and its plan.
+/// The answer of a change, the targets that are taken away with the objects that it destroys, and its plan.
 #[derive(Drop)]
 pub(crate) struct Prepared {
     pub answer: Answer,
@@ -73,7 +73,7 @@ pub(crate) fn prepare<L: LinkStore, A: Adapter>(
     })
 }
 
-/// The answer of a change that edits values alone, its edits, and its notifications if an adapter may have to get them.
+/// The answer of a change that edits only values, its edits, and its notifications if an adapter may have to get them.
 #[derive(Drop)]
 pub(crate) struct PreparedValues {
     pub answer: Answer,
@@ -81,29 +81,7 @@ pub(crate) struct PreparedValues {
     pub chain: Chain,
 }
 
-impl PreparedValues {
-    /// The same, as what is prepared for any change: it edits no link, and no target goes. Takes no memory.
-    pub(crate) fn into_prepared(self, alloc: Global) -> Prepared
-        ensures answer { result.answer ≡ self.answer }
-        ensures spots { result.spots.items ≡ [] }
-        ensures planned { result.planned ≡ of_values self.values self.chain }
-    {
-        Prepared {
-            answer: self.answer,
-            spots: Vec::new(alloc),
-            planned: Planned {
-                removal: None,
-                target: None,
-                resolved: None,
-                edits: Seq::new(alloc),
-                values: self.values,
-                chain: self.chain,
-            },
-        }
-    }
-}
-
-/// Prepares a change that edits values alone, or gives the refusal that planning finds.
+/// Prepares a change that edits only values, or gives the refusal that planning finds.
 pub(crate) fn prepare_values<L: LinkStore>(
     alloc: Global,
     model: &ModelRef<L>,
@@ -127,14 +105,47 @@ pub(crate) fn prepare_values<L: LinkStore>(
     })
 }
 
-/// Takes all memory that a plan needs, capacity for the notifications of the targets that go, and at last the capacity that the adapters
-/// need, in attach order. Nothing changes.
+/// The answer of a change that edits only links, its edits, and its notifications if an adapter may have to get them.
+#[derive(Drop)]
+pub(crate) struct PreparedLinks {
+    pub answer: Answer,
+    pub edits: Plan,
+    pub chain: Chain,
+}
+
+/// Prepares a change that edits only links, or gives the refusal that planning finds.
+pub(crate) fn prepare_links<L: LinkStore, A: Adapter>(
+    alloc: Global,
+    model: &ModelRef<L>,
+    adapters: &AdapterList<A>,
+    change: &Change,
+) -> Result<PreparedLinks, Refused>
+    requires asked { early_refusal_of (reading model.now) change.now ≡ None }
+    requires proper { (text : List ℕ) × IsProper (reading model.now) text change.now }
+    requires links { edits_links_alone model.now.metamodel change.now ≡ true }
+    ensures answer { IfOk result (λ p. (rs : List Listed) (text : List ℕ) → IsProper (reading model.now) text change.now → p.answer ≡ answer_of (reading model.now) rs (command_of text change.now)) }
+    ensures planned { IfOk result (λ p. IsPlanOf (nat_lt 0 (length adapters.now.0)) model.now change.now (of_links p.edits p.chain)) }
+    ensures refused { IfErr result (λ r. IsPlanRefusal model.now change.now r) }
+{
+    let answer = early_answer(alloc, model, change)?;
+    let (edits, chain) = plan_links(alloc, model, change, adapters.len() > 0)?;
+    Ok(PreparedLinks {
+        answer: answer.unwrap_or(Answer::Done),
+        edits,
+        chain,
+    })
+}
+
+/// Takes all memory that a plan needs, then capacity for the notifications of the targets that are taken away, and last the capacity that
+/// the adapters need, in attach order. Nothing changes.
 pub(crate) fn reserve<L: LinkStore, A: Adapter>(
     alloc: Global,
     store: &mut L,
     values: &mut Values,
     adapters: &mut AdapterList<A>,
-    planned: &Planned,
+    edits: &Plan,
+    edited: &ValuePlan,
+    chain: &Chain,
     spots: Vec<(AdapterNo, Node)>,
     hearers: &mut Hearers,
 ) -> Result<(Round, Option<Leaving<A>>), Refused>
@@ -146,25 +157,25 @@ pub(crate) fn reserve<L: LinkStore, A: Adapter>(
     ensures kinds { (m : Kinds) → L.kinds store.old m → L.kinds store.new m }
     ensures values { values_room.values_of values.new ≡ values_room.values_of values.old }
     ensures adapters { adapters.new.0 ≡ adapters.old.0 }
-    ensures links_room { OnOk result (L.has_room store.new planned.now.edits) }
-    ensures values_room { OnOk result (values_room.HasRoom values.new planned.now.values) }
-    ensures round { IfOk result (λ p. p.0 ≡ round_of (above (L.links store.old)) planned.now.chain adapters.old.0) }
+    ensures links_room { OnOk result (L.has_room store.new edits.now) }
+    ensures values_room { OnOk result (values_room.HasRoom values.new edited.now) }
+    ensures round { IfOk result (λ p. p.0 ≡ round_of (above (L.links store.old)) chain.now adapters.old.0) }
     ensures fits { IfOk result (λ p. RoundFits adapters.new.0 adapters.new.1 p.0) }
-    ensures counted { OnOk result (is_chain_full (above (L.links store.old)) planned.now.chain adapters.old.0 ≡ false) }
+    ensures counted { OnOk result (is_chain_full (above (L.links store.old)) chain.now adapters.old.0 ≡ false) }
     ensures spots { IfOk result (λ p. spots_in p.1 ≡ spots.items) }
     ensures room { IfOk result (λ p. IfSome p.1 (HasRoom (length p.0.told))) }
-    ensures reason { IfErr result (IsChainRefusal (is_chain_full (above (L.links store.old)) planned.now.chain adapters.old.0)) }
+    ensures reason { IfErr result (IsChainRefusal (is_chain_full (above (L.links store.old)) chain.now adapters.old.0)) }
 {
-    store.reserve_for(&planned.edits)?;
-    values.reserve_for(&planned.values)?;
-    let round = adapters.round(store, planned.chain.as_slice(), hearers)?;
+    store.reserve_for(edits)?;
+    values.reserve_for(edited)?;
+    let round = adapters.round(store, chain.as_slice(), hearers)?;
     let leaving = room_for(alloc, spots, round.told_len())?;
     adapters.reserve_round(&round)?;
     Ok((round, leaving))
 }
 
-/// The answer of a change that is not refused; `None` for a deletion and for the resolving of proxies: their plans give the answer. Errs
-/// only if memory is refused.
+/// The answer of a change that is not refused; `None` for a deletion and for resolving proxies, whose plans give the answer. Errs only if
+/// memory is refused.
 fn early_answer<L: LinkStore>(
     alloc: Global,
     model: &ModelRef<L>,
@@ -183,7 +194,7 @@ fn early_answer<L: LinkStore>(
     }
 }
 
-/// `early_answer` of what is done at an end.
+/// `early_answer` of an act at an end.
 fn early_act_answer<L: LinkStore>(
     alloc: Global,
     model: &ModelRef<L>,
@@ -202,7 +213,7 @@ fn early_act_answer<L: LinkStore>(
     }
 }
 
-/// The number of the object that is made next.
+/// The number that the next object gets.
 pub(crate) fn next_object<L: LinkStore>(model: &ModelRef<L>) -> ObjectNo
     ensures { result ≡ record { 0 = (reading model.now).next } }
 {
@@ -210,7 +221,7 @@ pub(crate) fn next_object<L: LinkStore>(model: &ModelRef<L>) -> ObjectNo
     ObjectNo(model.next() as u32)
 }
 
-/// The object that a proxy finds, how many proxies are resolved, or how many objects go, as an answer.
+/// The object that a proxy finds, how many proxies are resolved, or how many objects are destroyed, as an answer.
 fn planned_answer(
     removal: &Option<Removal>,
     target: Option<Target>,

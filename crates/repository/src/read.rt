@@ -1,4 +1,4 @@
-//! The reads of a repository, as values: what is named, and what is asked of it.
+//! The reads of a repository, as values: a name, and the question about it.
 use mm_types::{AdapterNo, End, Node, ObjectNo, ResourceNo, Text};
 
 /// A read of the repository, as a value.
@@ -8,7 +8,7 @@ pub enum Read {
     At(End, EndRead),
     /// Asks about an object.
     Of(ObjectNo, ObjectRead),
-    /// Asks about a node and what is below it.
+    /// Asks about a node and the nodes below it.
     Under(Node, NodeRead),
     /// Asks for the text of a resource (EMF: Resource.save).
     Save(ResourceNo),
@@ -18,23 +18,23 @@ pub enum Read {
     Adapter(AdapterNo, Tally),
 }
 
-/// What is asked about a feature of a node.
+/// A question about a feature of a node.
 #[derive(Clone, Copy, Drop)]
 pub enum EndRead {
-    /// What it has (EMF: EObject.eGet; MOF 2.5.1: Reflection, Object.get).
+    /// Its value or its list (EMF: EObject.eGet; MOF 2.5.1: Reflection, Object.get).
     Get,
     /// Whether it is set (EMF: EObject.eIsSet; MOF 2.5.1: Reflection, Object.isSet).
     IsSet,
 }
 
-/// What is asked about an object.
+/// A question about an object.
 #[derive(Clone, Copy, Drop)]
 pub enum ObjectRead {
     /// Its class (EMF: EObject.eClass; MOF 2.5.1: Reflection, Element.getMetaClass).
     Class,
     /// The object that contains it (EMF: EObject.eContainer; MOF 2.5.1: Reflection, Object.container).
     Container,
-    /// The resource that it is in, through however many objects (EMF: EObject.eResource).
+    /// The resource that it is in, directly or below other objects (EMF: EObject.eResource).
     Resource,
     /// Which of its features have fewer values than they should (EMF: Diagnostician.validate, of multiplicities).
     Validate,
@@ -42,7 +42,7 @@ pub enum ObjectRead {
     Fragment,
 }
 
-/// What is asked about a node and what is below it.
+/// A question about a node and the nodes below it.
 #[derive(Clone, Copy, Drop)]
 pub enum NodeRead {
     /// The objects that the node directly contains (EMF: EObject.eContents).
@@ -54,8 +54,8 @@ pub enum NodeRead {
 /// Which notifications of an adapter are counted.
 #[derive(Clone, Copy, Drop)]
 pub enum Tally {
-    /// All that it got.
+    /// All notifications that it got.
     Told,
-    /// Those that it keeps.
+    /// The notifications that it keeps.
     Kept,
 }

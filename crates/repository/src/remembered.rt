@@ -12,7 +12,7 @@ use fragment_paths::PathCache;
 use links::{Edit, Plan};
 use mm_meta::Meta;
 
-/// Whether an edit is one of a link that contains: of a containment reference or of the opposite of one.
+/// Whether an edit is of a link that contains: at an end of a containment or of a container reference.
 fn is_of_containment(meta: &Meta, edit: &Edit) -> bool
     ensures { result ≡ contains_by (kinds_of meta.now) (edit_end edit.now).feature }
 {
@@ -33,8 +33,8 @@ fn is_move(edits: &Plan) -> bool
     matches!(edits.as_slice(), [Edit::Shift { .. }])
 }
 
-/// Forgets what is remembered and may be wrong after a change: the fragments if a plan edits a link that contains, and the adapters that
-/// are notified at a node if the plan may give a node another container, or if targets go. Takes no memory.
+/// Forgets what may be wrong after a change: the fragments, if the plan edits a link that contains; and the adapters that are notified at a
+/// node, if the plan may give a node another container, or if targets are taken away. Takes no memory.
 pub(crate) fn forget_touched(
     paths: &mut PathCache,
     hearers: &mut Hearers,

@@ -1,4 +1,4 @@
-//! Replies and refusals of commands that bring no adapter.
+//! Replies and refusals of commands that take no adapter.
 ghost use Rattle.std.specs.Prelude.{◌≡◌, [], true};
 ghost use Rattle.notice_chain.specs.View.{View};
 ghost use Rattle.repository.specs.Run.{answered_outcome, change_outcome, read_outcome};
@@ -9,7 +9,7 @@ use crate::reply::{Answer, Failure, Reply};
 use mm_types::{ObjectNo, Refused, Seq};
 use std::alloc::Global;
 
-/// An answer, as the reply of a command that notifies nobody. Takes no memory.
+/// An answer, as the reply of a command that notifies no adapter. Takes no memory.
 pub(crate) fn reply<A>(alloc: Global, answer: Answer) -> Reply<A>
     ensures { result ≡ record { answer = answer; told = []; released = [] } }
 {
@@ -28,7 +28,7 @@ pub(crate) fn replied_done<A>(alloc: Global, done: Result<(), Refused>) -> Resul
     Ok(reply(alloc, Answer::Done))
 }
 
-/// That a list has a value more, as a reply.
+/// The reply of an addition that changed its list.
 pub(crate) fn replied_added<A>(
     alloc: Global,
     added: Result<(), Refused>,
@@ -58,7 +58,7 @@ pub(crate) fn replied<A>(alloc: Global, read: Result<Answer, Refused>) -> Result
     Ok(reply(alloc, answer))
 }
 
-/// The outcome of a command that brings no adapter.
+/// The outcome of a command that takes no adapter.
 pub(crate) fn outcome<A>(found: Result<Reply<A>, Refused>) -> Result<Reply<A>, Failure<A>>
     ensures { (heard : A → View) → outcome_view heard result ≡ change_outcome (changed_view heard found) }
 {

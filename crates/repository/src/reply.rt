@@ -1,4 +1,4 @@
-//! What a command gives.
+//! The replies and the failures of commands.
 ghost use Rattle.std.specs.Prelude.{◌≡◌};
 
 use adapters::Adapter;
@@ -9,15 +9,15 @@ use snapshots::Snapshot;
 /// The answer of a command that is done.
 #[derive(Debug, Drop)]
 pub enum Answer {
-    /// Of a command that only changes something.
+    /// The answer of a command that only changes something.
     Done,
     /// The object that was made.
     Object(ObjectNo),
     /// The resource that was made.
     Resource(ResourceNo),
-    /// The value of a single-valued feature, or the value that was taken out of a list or moved in it.
+    /// The value of a single feature, or the value that was taken out of a list or moved in it.
     Value(Value),
-    /// The values of a feature of many, in order.
+    /// The values of a many-valued feature, in order.
     Values(Seq<Value>),
     /// Whether a feature is set, or whether a list changed.
     Flag(bool),
@@ -49,12 +49,12 @@ pub enum Answer {
     Snapshot(Snapshot),
 }
 
-/// What a feature has.
+/// What a feature holds.
 #[derive(Debug, Drop)]
 pub enum FeatureValue {
-    /// The value of a feature of one; null if it is empty.
+    /// The value of a single feature; null if it is empty.
     One(Value),
-    /// The values of a feature of many, in order.
+    /// The values of a many-valued feature, in order.
     Many(Seq<Value>),
 }
 
@@ -72,20 +72,20 @@ impl FeatureValue {
     }
 }
 
-/// What a command that is done gives.
+/// The reply of a command that is done.
 #[derive(Drop)]
 pub struct Reply<A = Box<dyn Adapter>> {
     pub answer: Answer,
     /// Which adapter was notified of what, in order.
     pub told: Seq<(AdapterNo, Notice)>,
-    /// The adapters that are no longer attached, each with its number.
+    /// The adapters that were released by it, each with its number.
     pub released: Seq<(AdapterNo, A)>,
 }
 
-/// What a command that is refused gives.
+/// The failure of a command that is refused.
 #[derive(Drop)]
 pub struct Failure<A = Box<dyn Adapter>> {
     pub refused: Refused,
-    /// The adapter that the command brought, as it was.
+    /// The adapter that the command was given, as it was.
     pub given_back: Option<A>,
 }

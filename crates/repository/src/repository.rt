@@ -7,6 +7,7 @@ mod attaching;
 mod changes;
 mod commands;
 mod documents;
+mod endings;
 mod list_reads;
 mod lists;
 mod loads;
@@ -26,12 +27,13 @@ use models::ModelRef;
 use std::alloc::Global;
 use std::marker::Model;
 
-/// Objects of a metamodel's classes with what they hold, their links in a store, and the adapters that are notified of their changes (EMF:
+/// Objects of a metamodel's classes with their values, their links in a store, and the adapters that are notified of their changes (EMF:
 /// Resource with EObjects; MOF 2.5.1: Extent).
 ///
-/// A command that is refused changes nothing and notifies nobody. Contracts see a repository as its `State`, which is always legal. Code
-/// that holds a repository is generic over its store and the kind of its adapters; only the outermost caller picks them, mostly
-/// `Box<dyn Adapter>`. A repository that is dropped drops its adapters without notifying them; `close` gives them back.
+/// A command that is refused changes nothing and notifies no adapter. Contracts see a repository as its `State`, which is always legal.
+/// Code that holds a repository is generic over its store and the type of its adapters; only the outermost caller picks them. Most callers
+/// pick `Box<dyn Adapter>` for the adapters. A repository that is dropped drops its adapters without notifying them; `close` gives them
+/// back.
 #[derive(Drop)]
 pub struct Repository<L: LinkStore, A: Adapter = Box<dyn Adapter>> {
     alloc: Global,
@@ -39,9 +41,9 @@ pub struct Repository<L: LinkStore, A: Adapter = Box<dyn Adapter>> {
     values: Values,
     store: L,
     adapters: AdapterList<A>,
-    /// Fragments that were asked for, until a containing link changes.
+    /// The fragments that were computed since a containing link last changed.
     paths: PathCache,
-    /// The adapters of the last notification, until a containing link changes, or an adapter gets or loses a target.
+    /// The adapters of the last notification; forgotten when a containing link changes, or an adapter gets or loses a target.
     hearers: Hearers,
 }
 
@@ -85,22 +87,21 @@ impl<L: LinkStore, A: Adapter> Repository<L, A> {
         &self.meta
     }
 
-    /// Its model: the metamodel, the values and the links. Takes no memory.
+    /// The model: the metamodel, the values and the links. Takes no memory.
     pub(crate) fn model(&self) -> ModelRef<'_, L>
         ensures { result ≡ self.now.model }
     {
         ModelRef::new(&self.meta, &self.values, &self.store)
     }
 
-    /// What holds of every repository, for proofs that know it by its view: its state is legal.
+    /// The state of every repository is legal. Proofs that know a repository by its view call this.
     pub fn lemma_is_legal(&self)
         ensures { s.IsLegal self.now }
     {
         let _ = &self.alloc;
     }
 
-    /// What holds of every repository too: joining leaves the URIs of its resources and of its proxies as they are, so a resource that
-    /// is saved is read back (`round_trip::laws`).
+    /// The URIs of every repository's resources and proxies are normalised, so a resource that is saved is read back (`round_trip::laws`).
     pub fn has_steady_texts(&self)
         ensures { HasSteadyTexts self.now.model }
     {

@@ -5,11 +5,8 @@ use Rattle.std.specs.List.{enumerate_from, list_any}
 use Rattle.std.specs.Option.{option_map_or}
 use Rattle.std.proofs.lemmas.List.{length-take-le, take_more}
 use Rattle.std.proofs.lemmas.Bool.Decides.{Decides-eqb}
+use Rattle.std.proofs.Math.Bool.{or-false}
 use Rattle.resource_docs.proofs.ReadingLemmas.{any-push, enumerate-push}
-
-pub any-same : {X : Type 0} (p q : X → Bool) (xs : List X) → ((x : X) → p x ≡ q x) → list_any p xs ≡ list_any q xs
-any-same p q [] same = refl
-any-same p q (x ∷ xs) same = ap (λ b. b || list_any p xs) (same x) ∙ ap (λ b. q x || b) (any-same p q xs same)
 
 -- positions that are not read
 pub any-numbered : {X : Type 0} (p : X → Bool) (n : ℕ) (xs : List X) → list_any (λ y. p y.1) (enumerate_from n xs) ≡ list_any p xs
@@ -42,10 +39,6 @@ none-before : {X : Type 0} (q : X → Bool) (o n : ℕ) (xs : List X) → o < n 
 none-before q o n [] less = refl
 none-before q o n (x ∷ xs) less = ap (λ b. (b && q x) || list_any (λ y. nat_eq o y.0 && q y.1) (enumerate_from (n + 1) xs)) (differ o n less) ∙ none-before q o (n + 1) xs (omega (arith, less))
 
-or_false : (b : Bool) → b || false ≡ b
-or_false true = refl
-or_false false = refl
-
 more_than : (n i : ℕ) → nat_eq (n + suc i) n ≡ false
 more_than n i = by _ refl
   where
@@ -59,7 +52,7 @@ any-at q n zero (x ∷ xs) =
     let here : nat_eq (n + 0) n ≡ true = eq-eqb (n + 0) n (omega arith) in
     ap (λ b. (b && q x) || list_any (λ y. nat_eq (n + 0) y.0 && q y.1) (enumerate_from (n + 1) xs)) here
     ∙ ap (λ b. q x || b) (none-before q (n + 0) (n + 1) xs (omega arith))
-    ∙ or_false (q x)
+    ∙ or-false (q x)
 any-at q n (suc i) (x ∷ xs) =
     ap (λ b. (b && q x) || list_any (λ y. nat_eq (n + suc i) y.0 && q y.1) (enumerate_from (n + 1) xs)) (more_than n i)
     ∙ ap (λ k. list_any (λ y. nat_eq k y.0 && q y.1) (enumerate_from (n + 1) xs)) (let e : n + suc i ≡ n + 1 + i = omega arith in e)

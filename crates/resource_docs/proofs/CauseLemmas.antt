@@ -1,4 +1,4 @@
--- What bytes, a value and its parts are read as, by cases.
+-- The results of reading bytes, a value and its parts, by cases.
 use Rattle.std.proofs.Common.{◌≡◌, ◌∙◌, ◌≤◌, Bool, true, false, List, [], Option, Some, None, ℕ, ℤ, IsUtf8, ap, arith, cond, length, map, refl, subst, sym}
 use Rattle.std.specs.Prelude.{◌||◌, Ok, Err, flat_map, filter_map, is_some, not}
 use Rattle.std.specs.List.{enumerate_from, list_any}
@@ -60,7 +60,7 @@ all_causes None None (Some x) e v s = refl
 all_causes None None None (Some x) v s = refl
 all_causes None None None None v s = refl
 
--- the causes that are found early, and those that are known late
+-- the causes that are found before values are read, and the causes that are found after
 in_two : (m : Metamodel) (b : Base) (d : Data) (t : Option Top) (doc : Doc) → option_or (shape_cause m t (parts m d)) (sense_cause m b d (parts m d) doc) ≡ option_or (early_cause m t (parts m d)) (late_cause m b d (parts m d) doc)
 in_two m b d t doc =
     let ps = parts m d in
@@ -80,7 +80,7 @@ shape_right m b d t here none =
     sym (ap (λ o. unless_faulty o (doc_read m b d)) (in_two m b d (top d) (doc_read m b d))
     ∙ ap (λ o. unless_faulty (option_or o (late_cause m b d (parts m d) (doc_read m b d))) (doc_read m b d)) (ap (λ x. early_cause m x (parts m d)) here ∙ sym none))
 
--- a value that is none of its feature's, and that there is none
+-- the cause that is found after values are read: `Value` if a value is not of its feature's type, else a later one
 abbrev by_values : Metamodel → Base → Data → Bool → Option DocFault
 by_values m b d other = option_or (cause.Value where_so other) (sense_cause m b d (parts m d) (doc_read m b d))
 

@@ -1,4 +1,4 @@
--- What a set of namings says of the ends of a document.
+-- The ends of a document, by a set of namings.
 use Rattle.std.proofs.Common.{◌≡◌, ◌∙◌, ◌+◌, ◌++◌, Bool, true, false, List, [], ◌∷◌, Option, Some, None, ℕ, ap, arith, cond, nat_eq, refl, sym}
 use Rattle.std.specs.Prelude.{◌&&◌, ◌||◌, flat_map, is_some, not, slice_get}
 use Rattle.std.specs.List.{enumerate_from, list_any}
@@ -22,7 +22,8 @@ use Rattle.resource_docs.specs.declared.doc.Doc.{Doc}
 use Rattle.resource_docs.specs.declared.doc.DocObject.{DocObject}
 use Rattle.resource_docs.specs.declared.ends.Ends.{Ends}
 use Rattle.resource_docs.specs.declared.ends.Naming.{Naming}
-use Rattle.resource_docs.proofs.AnyLemmas.{any-at, any-numbered, any-pulled, any-same}
+use Rattle.resource_docs.proofs.AnyLemmas.{any-at, any-numbered, any-pulled}
+use Rattle.doc_parts.proofs.KnowLemmas.{list_any-as}
 
 abbrev named_by : Naming → Content → Bool
 named_by k c = nat_eq k.feature c.feature.0 && among c.values k
@@ -50,7 +51,7 @@ at_object k (Some x) = sym (under_named k x.contents)
 -- the namings of a document are those of its ends
 named_in : (d : Doc) (k : Naming) → by_objects d.objects k ≡ among (values_in d (object_of k) (feature_of k)) k
 named_in d k =
-    any-same (λ y. by_contents y.0 y.1.contents k) (λ y. nat_eq (0 + k.object) y.0 && list_any (named_by k) y.1.contents) (enumerate_from 0 d.objects)
+    list_any-as (λ y. by_contents y.0 y.1.contents k) (λ y. nat_eq (0 + k.object) y.0 && list_any (named_by k) y.1.contents) (enumerate_from 0 d.objects)
     (λ y. any-pulled (nat_eq k.object y.0) (named_by k) y.1.contents ∙ ap (λ n. nat_eq n y.0 && list_any (named_by k) y.1.contents) (let e : k.object ≡ 0 + k.object = omega arith in e))
     ∙ any-at (λ x. list_any (named_by k) x.contents) 0 k.object d.objects
     ∙ at_object k (slice_get d.objects k.object)
@@ -70,9 +71,9 @@ unanswered m e d o f _ ends = refl
 
 pub one_sided_in : (m : Metamodel) (e : Ends) (d : Doc) → IsEndsOf e d.objects → any_one_sided_by m e d.objects ≡ of_content (is_one_sided m d) d
 one_sided_in m e d ends =
-    any-same (λ x. list_any (one_sided_by m e x.0) x.1.contents) (λ x. list_any (is_one_sided m d (record { 0 = x.0 })) x.1.contents) (enumerate_from 0 d.objects)
-    (λ x. any-same (one_sided_by m e x.0) (is_one_sided m d (record { 0 = x.0 })) x.1.contents
-    (λ c. ap (λ b. not (is_containment m c.feature) && b) (any-same (unanswered_by m e x.0 c.feature) (is_unanswered m d (record { 0 = x.0 }) c.feature) c.values (λ v. unanswered m e d x.0 c.feature v ends))))
+    list_any-as (λ x. list_any (one_sided_by m e x.0) x.1.contents) (λ x. list_any (is_one_sided m d (record { 0 = x.0 })) x.1.contents) (enumerate_from 0 d.objects)
+    (λ x. list_any-as (one_sided_by m e x.0) (is_one_sided m d (record { 0 = x.0 })) x.1.contents
+    (λ c. ap (λ b. not (is_containment m c.feature) && b) (list_any-as (unanswered_by m e x.0 c.feature) (is_unanswered m d (record { 0 = x.0 }) c.feature) c.values (λ v. unanswered m e d x.0 c.feature v ends))))
 
 ---------------------------------------------------------------- if nothing has to be answered
 

@@ -1,4 +1,4 @@
--- What a few documents are read as, and why others can't be read.
+-- A few documents as they are read, and others with the causes for which they can't be read.
 use Rattle.std.proofs.Common.{◌≡◌, ℕ, List, [], ◌∷◌, map, codes, refl}
 use Rattle.std.specs.Prelude.{Result, Ok, Err}
 use Rattle.serde_json.proofs.OnLiterals.{serde_json_on_literals}
@@ -16,7 +16,7 @@ use Rattle.resource_docs.specs.declared.doc.Content.{Content}
 use Rattle.resource_docs.specs.Causes.{cause_of, reads_bytes}
 use Rattle.mm_meta.proofs.Library.{fid, library, oid, v}
 
--- what an example unfolds to compute what bytes are read as
+-- the definitions that an example unfolds to compute the result of reading
 unfoldable on_literals : Rattle.std.specs.Prelude.⊤
 unfolding serde_json_on_literals url_on_literals joined top written parts doc_read cause_of reads_bytes
 on_literals = tt

@@ -2,9 +2,10 @@
 use Rattle.std.proofs.Common.{◌≡◌, ◌∙◌, ◌+◌, ◌<◌, ◌++◌, Bool, true, false, List, [], ◌∷◌, Option, Some, None, ℕ, ap, arith, cond, get_or, length, map, refl, sym, take}
 use Rattle.std.specs.Prelude.{◌&&◌, ◌||◌, is_some, not, option_to_list}
 use Rattle.std.specs.List.{cons_option, enumerate_from, filter_map, list_any}
-use Rattle.std.proofs.lemmas.List.{length-map, length-take-le, map-append, take_more}
+use Rattle.std.proofs.lemmas.List.{length-map, length-take-le, map-append, take_more, append-nil}
 use Rattle.std.proofs.lemmas.List.Elements.{filter_map-append}
 use Rattle.std.proofs.lemmas.List.Folds.{list_any-append}
+use Rattle.std.proofs.Math.Bool.{or-false, and-true}
 use Rattle.serde_json.specs.Data.{Data}
 use Rattle.borrowed_json.specs.View.{view}
 use Rattle.borrowed_json.specs.declared.value.Json as json
@@ -39,12 +40,8 @@ cons_one (Some y) = refl
 pub filter_map-push : {X Y : Type 0} (f : X → Option Y) (xs : List X) (x : X) → filter_map f (xs ++ x ∷ []) ≡ filter_map f xs ++ option_to_list (f x)
 filter_map-push f xs x = filter_map-append f xs (x ∷ []) ∙ ap (λ ys. filter_map f xs ++ ys) (cons_one (f x))
 
-or_false : (b : Bool) → b || false ≡ b
-or_false true = refl
-or_false false = refl
-
 pub any-push : {X : Type 0} (p : X → Bool) (xs : List X) (x : X) → list_any p (xs ++ x ∷ []) ≡ list_any p xs || p x
-any-push p xs x = list_any-append p xs (x ∷ []) ∙ ap (λ b. list_any p xs || b) (or_false (p x))
+any-push p xs x = list_any-append p xs (x ∷ []) ∙ ap (λ b. list_any p xs || b) (or-false (p x))
 
 pub views_more : (vs : List json.Json) (i : ℕ) (v : json.Json) → i < length vs → v ≡ get_or vs i v → map view (take (i + 1) vs) ≡ map view (take i vs) ++ view v ∷ []
 views_more vs i v below is = ap (map view) (take_more vs i v below ∙ ap (λ x. take i vs ++ x ∷ []) (sym is)) ∙ map-append view (take i vs) (v ∷ [])
@@ -67,10 +64,6 @@ not_lost : (b : Bool) → b && false ≡ false
 not_lost true = refl
 not_lost false = refl
 
-link_lost : (b : Bool) → b && true ≡ b
-link_lost true = refl
-link_lost false = refl
-
 one_value : (m : Metamodel) (b : Base) (ps : List Part) (path : Path) (f : FeatureNo) (k : Kind) (ds : List Data) (d : Data) (o : Option Value) (lost : Bool) (old : ReadValues)
     → o ≡ value_of m b ps path f k (length ds, d) → lost ≡ is_lost m b ps k d → old ≡ values_so_far m b ps path f k ds
     → new_values (old.values ++ option_to_list o) (old.is_lost || lost) ≡ values_so_far m b ps path f k (ds ++ d ∷ [])
@@ -88,13 +81,9 @@ pub found_value : (m : Metamodel) (b : Base) (ps : List Part) (path : Path) (f :
 found_value m b ps path f k ds d n o v vs old count some is before more =
     let here : Some v ≡ value_of m b ps path f k (length ds, d) = sym some ∙ is ∙ ap (λ i. value_of m b ps path f k (i, d)) count in
     ap (λ xs. new_values xs old.is_lost) more
-    ∙ ap (new_values (old.values ++ v ∷ [])) (sym (or_false old.is_lost))
+    ∙ ap (new_values (old.values ++ v ∷ [])) (sym (or-false old.is_lost))
     ∙ one_value m b ps path f k ds d (Some v) false old here
     (sym (lost_by m b ps path f k (length ds, d) ∙ ap (λ x. is_link k && not (is_some x)) (sym here) ∙ not_lost (is_link k))) before
-
-append_none : {X : Type 0} (xs : List X) → xs ++ [] ≡ xs
-append_none [] = refl
-append_none (x ∷ xs) = ap (λ ys. x ∷ ys) (append_none xs)
 
 pub lost_value : (m : Metamodel) (b : Base) (ps : List Part) (path : Path) (f : FeatureNo) (k : Kind) (ds : List Data) (d : Data) (n : ℕ) (o : Option Value) (link : Bool) (old new : ReadValues)
     → n ≡ length ds → o ≡ None → o ≡ value_of m b ps path f k (n, d) → link ≡ is_link k → old ≡ values_so_far m b ps path f k ds → new ≡ new_values old.values (old.is_lost || link)
@@ -102,6 +91,6 @@ pub lost_value : (m : Metamodel) (b : Base) (ps : List Part) (path : Path) (f : 
 lost_value m b ps path f k ds d n o link old new count none is links before more =
     let here : None ≡ value_of m b ps path f k (length ds, d) = sym none ∙ is ∙ ap (λ i. value_of m b ps path f k (i, d)) count in
     more
-    ∙ ap (λ xs. new_values xs (old.is_lost || link)) (sym (append_none old.values))
+    ∙ ap (λ xs. new_values xs (old.is_lost || link)) (sym (append-nil old.values))
     ∙ one_value m b ps path f k ds d None link old here
-    (links ∙ sym (lost_by m b ps path f k (length ds, d) ∙ ap (λ x. is_link k && not (is_some x)) (sym here) ∙ link_lost (is_link k))) before
+    (links ∙ sym (lost_by m b ps path f k (length ds, d) ∙ ap (λ x. is_link k && not (is_some x)) (sym here) ∙ and-true (is_link k))) before

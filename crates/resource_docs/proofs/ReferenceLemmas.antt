@@ -1,4 +1,4 @@
--- What a path leads to is the part of its number.
+-- A path leads to the part with its number.
 use Rattle.std.proofs.Common.{◌≡◌, ◌∙◌, Bool, List, Option, Some, None, ℕ, ap, cond, get_or, refl, sym}
 use Rattle.std.specs.Prelude.{option_and_then, option_map, slice_get}
 use Rattle.std.proofs.lemmas.Option.{same_Some, slice_get-get_or, slice_get-map}

@@ -1,4 +1,4 @@
--- A list has a value twice where one is the same as an earlier one.
+-- A list has a value twice if a value is the same as an earlier one.
 use Rattle.std.proofs.Common.{◌≡◌, ◌∙◌, ◌+◌, ◌<◌, ◌++◌, Bool, true, false, List, [], ◌∷◌, ℕ, suc, nat_le, ap, arith, cond, drop, get_or, length, map, refl, sym, take}
 use Rattle.std.specs.Prelude.{◌||◌, not}
 use Rattle.std.specs.List.{list_any}
@@ -68,7 +68,7 @@ repeats_longer (x ∷ xs) ws h =
 repeats_more : (vs : List Value) (i : ℕ) (v : Value) → i < length vs → v ≡ get_or vs i v → repeats_value (take (i + 1) vs) ≡ repeats_value (take i vs) || list_any (same_value v) (take i vs)
 repeats_more vs i v below is = ap repeats_value (take_more vs i v below ∙ ap (λ x. take i vs ++ x ∷ []) (sym is)) ∙ repeats-push (take i vs) v
 
--- the value of a key is among those of keys, or not
+-- whether the value of a key is among the values of earlier keys
 seen_before : (vs : List Value) (i : ℕ) (v : Value) (k : Key) (ks : List Key) → value_of_key k ≡ v → map value_of_key ks ≡ take i vs → list_any (ghosts.eq k) ks ≡ list_any (same_value v) (take i vs)
 seen_before vs i v k ks is keys = any_key k ks ∙ ap (λ x. list_any (same_value x) (map value_of_key ks)) is ∙ ap (list_any (same_value v)) keys
 

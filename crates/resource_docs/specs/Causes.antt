@@ -1,4 +1,4 @@
--- Why a document can't be read: the first cause that applies to anything that is looked at.
+-- Why a document can't be read: the first cause that applies to any part that is looked at.
 use Rattle.std.specs.Prelude.{◌≡◌, ℕ, ◌&&◌, ◌||◌, pos, Bool, true, false, not, List, [], ◌∷◌, length, is_some, Option, Some, None, Result, Ok, Err, if◌then◌else◌}
 use Rattle.std.specs.List.{enumerate_from, list_any}
 use Rattle.std.specs.Option.{option_map_or}
@@ -52,7 +52,7 @@ repeats_value (v ∷ vs) = list_any (same_value v) vs || repeats_value vs
 abbrev pub has_repeat : Metamodel → Content → Bool
 has_repeat m c = (shape m c.feature).is_unique && repeats_value c.values
 
--- an object that is named under a feature with opposite doesn't name the one that names it
+-- whether the object that a value names does not name the object o back under the opposite
 abbrev pub is_unanswered : Metamodel → Doc → ObjectNo → FeatureNo → Value → Bool
 is_unanswered m d o f (value.Object b) =
     option_map_or (λ g. not (list_any (same_value (value.Object o)) (values_in d b g))) (shape m f).opposite false
@@ -65,17 +65,17 @@ abbrev pub is_proxy : Value → Bool
 is_proxy (value.Proxy t) = true
 is_proxy _ = false
 
--- a reference with an opposite leads to another resource: a fault of documents of the first format
+-- whether a reference with an opposite leads to another resource, which is a fault in documents of the first format
 abbrev pub has_cross : Metamodel → Content → Bool
 has_cross m c = is_some (shape m c.feature).opposite && list_any is_proxy c.values
 
 ---------------------------------------------------------------- the causes in order
 
--- something holds of a list of the document
+-- whether the content of some feature of some object has a property
 abbrev pub of_content : (ObjectNo → Content → Bool) → Doc → Bool
 of_content holds d = list_any (λ x. list_any (holds (record { 0 = x.0 })) x.1.contents) (enumerate_from 0 d.objects)
 
--- the shape of what is written, its names and types
+-- the causes by the shape of the parts, and by their names and types
 abbrev pub shape_cause : Metamodel → Option Top → List Part → Option DocFault
 shape_cause m t ps =
     cause.Layout where_so (not (is_some t) || list_any is_misshapen ps) else_by
@@ -84,7 +84,7 @@ shape_cause m t ps =
     cause.Feature where_so of_written (has_other_key m) ps else_by
     cause.Value where_so of_entry m (λ e. not (is_content m e)) ps
 
--- what it leads to, how much there is of it, and how deep it lies
+-- the causes that depend on the targets of references, on the number of values, and on the level of a part
 abbrev pub sense_cause : Metamodel → Base → Data → List Part → Doc → Option DocFault
 sense_cause m b d ps doc =
     cause.Reference where_so of_entry m (has_lost m b ps) ps else_by
@@ -101,11 +101,11 @@ abbrev pub unless_faulty : Option DocFault → Doc → Result Doc DocFault
 unless_faulty None doc = Ok doc
 unless_faulty (Some f) doc = Err f
 
--- what a JSON value is read as, in the resource of a base
+-- the document that a JSON value gives, in the resource of a base, or its fault
 abbrev pub reads : Metamodel → Base → Data → Result Doc DocFault
 reads m b d = unless_faulty (cause_of m b d) (doc_read m b d)
 
--- what bytes are read as: the first cause is that they are no JSON
+-- the JSON value of bytes; none if they are no JSON in UTF-8, which is the first cause
 abbrev pub parsed : List ℕ → Option Data
 parsed bytes = if is_utf8 bytes then read bytes else None
 
@@ -116,22 +116,22 @@ reads_if m b (Some d) = reads m b d
 unfoldable pub reads_bytes : Metamodel → List ℕ → List ℕ → Result Doc DocFault
 reads_bytes m uri bytes = reads_if m (base_of uri) (parsed bytes)
 
--- each proxy of a document has the text of one, whose URI joining leaves as it is
+-- each proxy of a document has the text of a proxy, with a normalised URI
 abbrev pub HasSteadyProxies : Doc → Type 0
 HasSteadyProxies = OfDocProxies IsSteadyProxy
 
--- a document as reading gives it for a metamodel, in a resource of a URI
+-- a document is read from some JSON value, by a metamodel, in the resource of a URI
 pub record IsRead (m : Metamodel) (uri : List ℕ) (doc : Doc) : Type 0 where
   pub source : Data
   pub gives : reads m (base_of uri) source ≡ Ok doc
 
--- what was answered is what is to be read, a document or its fault, unless memory was refused
+-- the result is the document or the fault that is defined; or `Memory`
 abbrev pub Answers : Result Doc Refused → Result Doc DocFault → Type 0
 Answers (Ok doc) wanted = (wanted ≡ Ok doc) × HasSteadyProxies doc
 Answers (Err (Document f)) wanted = wanted ≡ Err f
 Answers (Err Memory) wanted = Unit {0}
 Answers (Err _) wanted = ⊥
 
--- what reading gives: the document, its fault, or that memory was refused
+-- the result of reading bytes: the document, its fault, or `Memory`
 abbrev pub Reads : Result Doc Refused → Metamodel → List ℕ → List ℕ → Type 0
 Reads result m uri bytes = Answers result (reads_bytes m uri bytes)

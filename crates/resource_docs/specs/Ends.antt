@@ -1,4 +1,4 @@
--- Which objects of a document name which.
+-- Which objects of a document refer to which other objects.
 use Rattle.std.specs.Prelude.{◌≡◌, ℕ, ◌&&◌, Bool, false, is_some, not, List, nat_eq}
 use Rattle.std.specs.List.{enumerate_from, list_any}
 use Rattle.std.specs.Option.{option_map_or}
@@ -22,7 +22,7 @@ has e k = list_any (same_naming k) e.namings.keys
 
 ---------------------------------------------------------------- what names what
 
--- the object that is named is among values
+-- whether the object that a naming names is among values
 abbrev pub among : List Value → Naming → Bool
 among vs k = list_any (same_value (value.Object (record { 0 = k.named }))) vs
 
@@ -55,6 +55,6 @@ any_one_sided_by m e os = list_any (λ x. list_any (one_sided_by m e x.0) x.1.co
 
 ---------------------------------------------------------------- what has to be answered
 
--- what is named under a feature with an opposite that contains nothing has to name back
+-- whether objects that are named under a feature have to name back: it has an opposite and is no containment
 abbrev pub asks_back : Metamodel → Content → Bool
 asks_back m c = not (is_containment m c.feature) && is_some (shape m c.feature).opposite

@@ -1,4 +1,4 @@
--- Values as a set keeps them, and lists that repeat nothing by their order.
+-- Values as keys of a set; and lists of objects in rising order, which repeat nothing.
 use Rattle.std.specs.Prelude.{◌&&◌, ℕ, suc, nat_le, Bool, true, false, List, [], ◌∷◌}
 use Rattle.mm_types.specs.declared.value.Value.{Value}
 use Rattle.mm_types.specs.declared.value.Value.TheVariants as value
@@ -15,7 +15,7 @@ value_of_key (key.Object o) = value.Object (record { 0 = o })
 value_of_key (key.Proxy t) = value.Proxy t.now
 value_of_key (key.Adapter a) = value.Adapter (record { 0 = a })
 
--- objects in the order of their numbers, the first of which is n at least
+-- whether a list has only objects, in the order of their numbers, from n on
 abbrev pub rising_from : ℕ → List Value → Bool
 rising_from n [] = true
 rising_from n (value.Object o ∷ vs) = nat_le n o.0 && rising_from (suc o.0) vs

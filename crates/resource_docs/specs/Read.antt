@@ -24,7 +24,7 @@ values_read m b ps path e =
 abbrev pub content_read : Metamodel → Base → List Part → Path → Entry → Content
 content_read m b ps path e = record { feature = e.feature; values = values_read m b ps path e }
 
--- an empty array is the same as absent
+-- the contents of an object; an empty array is left out
 abbrev pub contents_read : Metamodel → Base → List Part → Path → List Entry → List Content
 contents_read m b ps path es = filter (λ c. not (is_nil c.values)) (map (content_read m b ps path) es)
 
@@ -52,12 +52,12 @@ doc_read m b d =
 abbrev pub values_under : DocObject → FeatureNo → List Value
 values_under o f = flat_map (λ c. if same_feature f c.feature then c.values else []) o.contents
 
--- what is in a document under a feature of an object
+-- the values of a document under a feature of an object
 abbrev pub values_in : Doc → ObjectNo → FeatureNo → List Value
 values_in d o f = option_map_or (λ x. values_under x f) (slice_get d.objects o.0) []
 
 ---------------------------------------------------------------- proxies
 
--- something holds of the text of each proxy of a document
+-- `Holds` is true of the text of each proxy of a document
 abbrev pub OfDocProxies : (List ℕ → Type 0) → Doc → Type 0
 OfDocProxies Holds doc = All (λ (o : DocObject). All (λ (c : Content). All (OfProxy Holds) c.values) o.contents) doc.objects

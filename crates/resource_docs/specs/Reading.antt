@@ -1,4 +1,4 @@
--- What is read so far, and whether a reference in it is lost.
+-- What is read so far, and whether a reference in it leads nowhere.
 use Rattle.std.specs.Prelude.{◌≡◌, ◌++◌, ◌||◌, ℕ, Bool, false, not, List, [], ◌∷◌, filter, filter_map, is_some, map, Option, Some}
 use Rattle.std.specs.List.{All, enumerate_from, list_any}
 use Rattle.std.specs.Option.{option_map_or}
@@ -29,7 +29,7 @@ use Rattle.resource_docs.specs.declared.objects.ReadContents.{ReadContents}
 use Rattle.resource_docs.specs.declared.objects.ReadObjects.{ReadObjects}
 use Rattle.resource_docs.specs.declared.values.ReadValues.{ReadValues}
 
--- something holds of the path whose first part has a number, whatever the parts that were found
+-- `says` is true of each path whose first part has the number n, for all lists of parts that the found parts can be
 abbrev pub Numbered : Metamodel → FoundParts → ℕ → (List Part → Path → Type 0) → Type 0
 Numbered m f n says = (ps : List Part) (path : Path) → Knows m f ps → number_of ps path ≡ Some n → says ps path
 
@@ -38,12 +38,12 @@ Numbered m f n says = (ps : List Part) (path : Path) → Knows m f ps → number
 abbrev pub new_values : List Value → Bool → ReadValues
 new_values vs lost = record { values = vs; is_lost = lost }
 
--- the first values of a feature
+-- the values that the first data of a feature give
 abbrev pub values_so_far : Metamodel → Base → List Part → Path → FeatureNo → Kind → List Data → ReadValues
 values_so_far m b ps path f k ds =
     record { values = filter_map (value_of m b ps path f k) (enumerate_from 0 ds); is_lost = list_any (is_lost m b ps k) ds }
 
--- all that is written under a feature
+-- the values that all data of a feature give
 abbrev pub entry_read : Metamodel → Base → List Part → Path → Entry → ReadValues
 entry_read m b ps path e = record { values = values_read m b ps path e; is_lost = has_lost m b ps e }
 
@@ -58,7 +58,7 @@ contents_so_far m b ps path es =
       has_long = list_any (is_long m) es;
     }
 
--- with what was read under one more feature, unless that is nothing
+-- the contents with the values of one more feature, if it has any
 abbrev pub with_values : ReadContents → FeatureNo → ReadValues → ReadContents
 with_values r f v =
     record {
@@ -68,7 +68,7 @@ with_values r f v =
       has_long = r.has_long;
     }
 
--- with what is wrong with what is written under one more feature
+-- the contents with the faults of what is written under one more feature
 abbrev pub with_flaws : Metamodel → ReadContents → Entry → ReadContents
 with_flaws m r e =
     record { contents = r.contents; is_lost = r.is_lost; has_other = r.has_other || not (is_content m e); has_long = r.has_long || is_long m e }
@@ -84,7 +84,7 @@ objects_so_far m b ps qs =
 
 ---------------------------------------------------------------- causes
 
--- what is found without reading: the shape of what is written, and its names
+-- the causes that are found before values are read: by the shape of the parts, and by their names
 abbrev pub early_cause : Metamodel → Option Top → List Part → Option DocFault
 early_cause m t ps =
     cause.Layout where_so (not (is_some t) || list_any is_misshapen ps) else_by
@@ -92,13 +92,13 @@ early_cause m t ps =
     cause.Class where_so of_written (has_no_class m) ps else_by
     cause.Feature where_so of_written (has_other_key m) ps
 
--- and what is known once it is read
+-- the causes that are known after the values are read
 abbrev pub late_cause : Metamodel → Base → Data → List Part → Doc → Option DocFault
 late_cause m b d ps doc = cause.Value where_so of_entry m (λ e. not (is_content m e)) ps else_by sense_cause m b d ps doc
 
 ---------------------------------------------------------------- proxies
 
--- each proxy has the text of one, whose URI joining leaves as it is
+-- each proxy of a content has the text of a proxy, with a normalised URI
 abbrev pub IsProxyContent : Content → Type 0
 IsProxyContent c = All IsProxyValue c.values
 

@@ -1,4 +1,4 @@
--- What the text of a reference leads to: an object of the document itself, or one of another resource.
+-- What the text of a reference leads to: an object of the document itself, or an object of another resource.
 use Rattle.std.specs.Prelude.{◌≡◌, ℕ, List, [], ◌∷◌, Option, Some, option_map, if◌then◌else◌}
 use Rattle.std.specs.Str.{bytes_eq}
 use Rattle.json_fields.specs.Fields.{◌>>=◌}
@@ -17,28 +17,28 @@ pub record Base : Type 0 where
 abbrev pub base_of : List ℕ → Base
 base_of uri = record { uri = uri; join = joined uri }
 
--- an empty part is the resource's own URI
+-- the URI that a text means; an empty text means the resource's own URI
 abbrev pub uri_meant : Base → List ℕ → Option (List ℕ)
 uri_meant b [] = Some b.uri
 uri_meant b (c ∷ cs) = b.join (c ∷ cs)
 
--- the resource's own URI is compared as a text
+-- the target at a URI: an object of the document if the URI is the resource's own, as a text; else an object elsewhere
 abbrev pub target_in : Base → List ℕ → List ℕ → Path → Target
 target_in b rest uri p = if bytes_eq uri b.uri then Here p else Elsewhere (address_text uri rest)
 
--- a URI, or an empty part, and a fragment after it
+-- the target of a URI, or an empty text, and the fragment after it
 abbrev pub target_at : Base → List ℕ → List ℕ → Option Target
 target_at b part rest = parse rest >>= (λ p. option_map (λ u. target_in b rest u p) (uri_meant b part))
 
--- without `#` a fragment of the document; with it a URI before the first one, and a fragment after
+-- the target of a text: without `#` it is a fragment of the document; else a URI comes before the first `#`, and a fragment after it
 abbrev pub target : Base → List ℕ → Option Target
 target b t = if has_mark t then target_at b (uri_part t) (fragment_part t) else option_map Here (parse t)
 
--- what stands for an object of another resource has the text of a proxy, whose URI joining leaves as it is
+-- the target in another resource has the text of a proxy, with a normalised URI
 abbrev pub IsProxyTarget : Target → Type 0
 IsProxyTarget (Here p) = Unit {0}
 IsProxyTarget (Elsewhere t) = IsSteadyProxy t
 
--- joining leaves a URI other than the resource's own as it is
+-- a URI other than the resource's own is normalised
 abbrev pub IsWebElsewhere : List ℕ → List ℕ → Type 0
 IsWebElsewhere uri meant = (meant ≡ uri → ⊥) → IsWebUri meant

@@ -1,4 +1,4 @@
--- What the values under a feature are read as: values of attributes, objects of the document by their numbers, and proxies.
+-- How the values under a feature are read: as values of attributes, as objects of the document by their numbers, or as proxies.
 use Rattle.std.specs.Prelude.{ℕ, Bool, true, false, not, List, slice_get, Option, Some, None, is_some, option_map, if◌then◌else◌}
 use Rattle.std.specs.List.{list_any}
 use Rattle.std.specs.Option.{option_map_or}
@@ -29,7 +29,7 @@ use Rattle.resource_docs.specs.declared.target.Target.TheVariants.{Here, Elsewhe
 abbrev pub object_of : ℕ → Value
 object_of n = value.Object (record { 0 = n })
 
--- an object of the document that conforms, or a proxy
+-- the value of a target: an object of the document whose class conforms, or a proxy
 abbrev pub led_to : Metamodel → List Part → ClassNo → Target → Option Value
 led_to m ps class (Here p) =
     number_of ps p >>= (λ n. slice_get ps n >>= (λ q. if conforms_to m class q.json then Some (object_of n) else None))
@@ -38,12 +38,12 @@ led_to m ps class (Elsewhere t) = Some (value.Proxy t)
 abbrev pub reference_value : Metamodel → Base → List Part → ClassNo → Data → Option Value
 reference_value m b ps class d = as_str d >>= target b >>= led_to m ps class
 
--- a reference that holds no parts
+-- whether a feature is a reference and no containment
 abbrev pub is_link : Kind → Bool
 is_link (Attribute t unique unsettable default) = false
 is_link (Reference class containment opposite) = not containment
 
--- a text that leads nowhere, or to an object of another class
+-- whether the data under a reference leads nowhere, or to an object of another class
 abbrev pub is_lost : Metamodel → Base → List Part → Kind → Data → Bool
 is_lost m b ps (Attribute t unique unsettable default) d = false
 is_lost m b ps (Reference class true opposite) d = false
@@ -54,7 +54,7 @@ has_lost m b ps e = option_map_or (λ g. list_any (is_lost m b ps g.kind) (value
 
 ---------------------------------------------------------------- values
 
--- the value that is at a position under a feature of the object that has a path
+-- the value of the data at a position, under a feature of the object at a path
 abbrev pub value_of : Metamodel → Base → List Part → Path → FeatureNo → Kind → ℕ × Data → Option Value
 value_of m b ps p f (Attribute t unique unsettable default) v = attribute_value m (shape m f).is_single t v.1
 value_of m b ps p f (Reference class true opposite) v = option_map object_of (number_of ps (with_step p (step_to m f v.0)))
@@ -62,11 +62,11 @@ value_of m b ps p f (Reference class false opposite) v = reference_value m b ps 
 
 ---------------------------------------------------------------- proxies
 
--- something holds of the text of a proxy
+-- if a value is a proxy, `Holds` is true of its text
 abbrev pub OfProxy : (List ℕ → Type 0) → Value → Type 0
 OfProxy Holds (value.Proxy t) = Holds t
 OfProxy Holds _ = Unit {0}
 
--- a proxy has the text of one, whose URI joining leaves as it is
+-- if a value is a proxy, it has the text of a proxy, with a normalised URI
 abbrev pub IsProxyValue : Value → Type 0
 IsProxyValue v = OfProxy IsSteadyProxy v

@@ -6,7 +6,7 @@ use std::alloc::{AllocError, Global};
 use std::marker::Model;
 use std::{mem, slice};
 
-/// How values are kept. Most features have one, which takes no block of memory.
+/// How values are kept. Most features have one value, which takes no block of memory.
 #[derive(Debug, Drop)]
 enum Layout {
     Empty,

@@ -1,4 +1,4 @@
-//! Which objects of a document name which, and whether those that are named name back.
+//! Which objects of a document name which, and whether a named object names back.
 ghost use Rattle.std.specs.Prelude.{◌≡◌, ◌||◌, ◌∷◌, [], IfOk, OnOk, false};
 ghost use Rattle.std.specs.List.{list_any};
 ghost use Rattle.resource_docs.specs.Causes.{is_one_sided, of_content};
@@ -52,7 +52,7 @@ impl Ends {
         self.namings.contains(&naming)
     }
 
-    /// Adds what one value names.
+    /// Adds the naming of one value, if it is an object.
     fn add_value(
         &mut self,
         object: usize,
@@ -71,7 +71,7 @@ impl Ends {
         }
     }
 
-    /// Adds what values under a feature of an object name.
+    /// Adds the namings of the values under a feature of an object.
     fn add_values(
         &mut self,
         object: usize,
@@ -86,7 +86,7 @@ impl Ends {
         Ok(())
     }
 
-    /// Adds what an object names.
+    /// Adds the namings of an object.
     fn add_object(&mut self, object: usize, contents: &[Content]) -> Result<(), AllocError>
         ensures { OnOk result ((k : Naming) → has self.new k ≡ has self.old k || by_contents object contents.now k) }
     {
@@ -155,7 +155,7 @@ impl Ends {
             .any(|content| self.is_one_sided(meta, object, content))
     }
 
-    /// Whether an object names one, under a feature with opposite, that does not name back. Takes no memory.
+    /// Whether some object names another under a feature with an opposite, and that one does not name back. Takes no memory.
     fn has_one_sided(&self, meta: &Meta, objects: &[DocObject]) -> bool
         ensures { result ≡ any_one_sided_by meta.now self.now objects.now }
     {
@@ -167,7 +167,7 @@ impl Ends {
     }
 }
 
-/// Whether what a list names has to name back: its feature has an opposite, and contains nothing.
+/// Whether the objects of a content have to name back: its feature has an opposite, and is no containment.
 fn asks_back(meta: &Meta, content: &Content) -> bool
     ensures { result ≡ asks_meant meta.now content.now }
 {
@@ -188,8 +188,8 @@ fn is_any_asked(meta: &Meta, objects: &[DocObject]) -> bool
         .any(|object| any_asks_back(meta, object.contents.as_slice()))
 }
 
-/// Whether an object of a document names one, under a feature with opposite, that does not name back. Errs only if
-/// memory is refused; takes none if no list has to be answered.
+/// Whether some object of a document names another under a feature with an opposite, and that one does not name back.
+/// Errs only if memory is refused; takes none if no object has to name back.
 pub(crate) fn has_one_sided(alloc: Global, meta: &Meta, doc: &Doc) -> Result<bool, AllocError>
     ensures { IfOk result (λ b. b ≡ of_content (is_one_sided meta.now doc.now) doc.now) }
 {

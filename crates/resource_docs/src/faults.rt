@@ -32,7 +32,7 @@ pub(crate) fn has_first_format(top: TopMembers) -> bool
     top.format == i64::from(limits::FIRST_DOCUMENT_FORMAT)
 }
 
-/// What is wrong with the shape of what is written, or with its names. Takes no memory.
+/// What is wrong with the shape of the parts, or with their names. Takes no memory.
 pub(crate) fn early_cause(meta: &Meta, top: TopMembers, found: &FoundParts) -> Option<DocFault>
     ensures { (ps : List Part) → Knows meta.now found.now ps → result ≡ early_meant meta.now (Some (new_top top.entry.format (items_view top.entry.roots.now))) ps }
 {
@@ -58,8 +58,8 @@ fn has_many_roots(meta: &Meta, count: usize) -> bool
     count > limits::LIST_VALUES
 }
 
-/// What is known of a document beside what was read: whether it has the first format, the number of its roots, whether a reference
-/// is lost, and whether a list is too long.
+/// What is known of a document beside the objects that were read: whether it has the first format, the number of its roots, whether a
+/// reference leads nowhere, and whether a list is too long.
 #[derive(Clone, Copy)]
 pub(crate) struct Noted {
     pub has_first_format: bool,
@@ -68,8 +68,7 @@ pub(crate) struct Noted {
     pub has_long: bool,
 }
 
-/// What is wrong with what a document leads to, with how much there is of it, or with how deep it lies. Errs only if memory is
-/// refused.
+/// What is wrong with the targets of references, with the number of values, or with the depth of a part. Errs only if memory is refused.
 pub(crate) fn sense_cause(
     source: &Source,
     noted: Noted,

@@ -17,8 +17,8 @@ use mm_meta::Meta;
 use mm_types::{ClassNo, FeatureNo, Seq};
 use std::alloc::{AllocError, Global};
 
-/// What is read of an object: its contents; whether a reference among them is lost; and whether any of what is written is not of
-/// the type of its feature, or more than that may have.
+/// What is read of an object: its contents; whether a reference leads nowhere; and whether some content is not of its feature's type, or
+/// has too many values.
 #[derive(Drop)]
 pub(crate) struct ReadContents {
     pub contents: Seq<Content>,
@@ -27,7 +27,7 @@ pub(crate) struct ReadContents {
     pub has_long: bool,
 }
 
-/// What is read of a document: its objects, and the same of all that is written in them.
+/// What is read of a document: its objects, and whether any of them has such a fault.
 #[derive(Drop)]
 pub(crate) struct ReadObjects {
     pub objects: Seq<DocObject>,
@@ -49,7 +49,7 @@ fn no_contents(alloc: Global, room: usize) -> Result<ReadContents, AllocError>
     })
 }
 
-/// Adds what was read under a feature, unless that is nothing.
+/// Adds the values that were read under a feature, if there are any.
 fn add_values(
     read: &mut ReadContents,
     feature: FeatureNo,
@@ -66,7 +66,7 @@ fn add_values(
     Ok(())
 }
 
-/// Notes what is wrong with what is written under a feature, by itself.
+/// Notes the faults that a content has by itself.
 fn note_flaws<'t>(read: &mut ReadContents, meta: &Meta, feature: FeatureNo, content: &'t Json<'t>)
     ensures { read.new ≡ with_flaws meta.now read.old (new_entry feature (view content.now)) }
 {
@@ -74,7 +74,7 @@ fn note_flaws<'t>(read: &mut ReadContents, meta: &Meta, feature: FeatureNo, cont
     read.has_long = read.has_long || is_long(meta, feature, content);
 }
 
-/// Reads what is written under one more feature.
+/// Reads the content of one more feature.
 fn add_feature(
     read: &mut ReadContents,
     source: &Source,
@@ -114,7 +114,7 @@ fn read_features(
     Ok(read)
 }
 
-/// Reads what is written in the object of a part.
+/// Reads the contents of the object of a part.
 fn read_contents(source: &Source, part: &FoundPart) -> Result<ReadContents, AllocError>
     ensures value { IfOk result (λ r. (ps : List Part) (p : Part) → Knows source.now.meta.now source.now.found.now ps → part_seen part.now ≡ seen source.now.meta.now ps p
         → r ≡ contents_so_far source.now.meta.now (base_of source.now.uri.now) ps p.path (entries source.now.meta.now p.json)) }

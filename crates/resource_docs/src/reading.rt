@@ -28,7 +28,7 @@ use std::alloc::Global;
 /// How deep arrays and objects nest at most in JSON that is read.
 const NESTING: usize = 127;
 
-/// The document whose objects were read, of which is known whether it has the first format.
+/// The document whose objects were read; `has_first_format` says whether it has the first format.
 fn read_rest(
     source: &Source,
     has_first_format: bool,
@@ -66,8 +66,7 @@ fn read_rest(
     }
 }
 
-/// Reads the document whose parts were found and have the right shape and names, and of which is known whether it has the first
-/// format.
+/// Reads the document whose parts were found and have the right shape and names; `has_first_format` says whether it has the first format.
 fn read_found(source: &Source, has_first_format: bool, roots: &[Json]) -> Result<Doc, Refused>
     ensures { (d : Data) → Knows source.now.meta.now source.now.found.now (parts source.now.meta.now d) → has_first_format ≡ option_map_or first_meant (top_meant d) false
         → root_parts d ≡ roots_from (map view roots.now)
@@ -91,7 +90,7 @@ fn read_parts(source: &Source, top: TopMembers) -> Result<Doc, Refused>
     }
 }
 
-/// Reads the document of a top.
+/// Reads the document that has these top members.
 fn read_top(alloc: Global, meta: &Meta, uri: &str, top: TopMembers) -> Result<Doc, Refused>
     ensures { (d : Data) → depth d ≤ NESTING → top_meant d ≡ Some (new_top top.entry.format (items_view top.entry.roots.now)) → Answers result (reads meta.now (base_of uri.now) d) }
 {
@@ -109,7 +108,7 @@ fn read_top(alloc: Global, meta: &Meta, uri: &str, top: TopMembers) -> Result<Do
     }
 }
 
-/// Reads a document that nests no deeper than JSON does that is read.
+/// Reads a document that nests no deeper than JSON may that is read.
 fn read_value(alloc: Global, meta: &Meta, uri: &str, json: &Json) -> Result<Doc, Refused>
     requires { depth (view json.now) ≤ NESTING }
     ensures { Answers result (reads meta.now (base_of uri.now) (view json.now)) }
@@ -133,26 +132,26 @@ fn read_text(alloc: Global, meta: &Meta, uri: &str, text: &str) -> Result<Doc, R
     }
 }
 
-/// What the bytes of a document are read as, in the resource of a URI: its objects and roots; else `Document` with the
-/// lowest cause that applies:
+/// Reads the bytes of a document in the resource of a URI: its objects and roots; else `Document` with the lowest cause
+/// that applies:
 ///
 /// - `Syntax` if the bytes are no JSON, of at most 127 levels, in UTF-8;
 /// - `Layout` if the value does not have the shape of a document, or has a key that is not listed;
 /// - `Format` if its format is neither 1 nor 2;
 /// - `Class` if an object names no class, or an abstract one;
 /// - `Feature` if a key is no feature of the object's class, or a container reference;
-/// - `Value` if what is written under a feature is not of its type, or a text has more than 65,535 bytes;
+/// - `Value` if the content of a feature is not of its type, or a text has more than 65,535 bytes;
 /// - `Reference` if a text is no fragment and no URI with a fragment, or leads to no object of the document that
 ///   conforms;
 /// - `Duplicate` if a unique list repeats a value;
 /// - `Bound` if a list has more values than its upper bound, or than 1,000,000;
-/// - `OneSided` if an object names another under a feature with opposite, and that one does not name it;
+/// - `OneSided` if an object names another under a feature with an opposite, and that one does not name it back;
 /// - `Cross` if its format is 1, and a reference with an opposite leads to a different resource;
 /// - `Depth` if an object is below level 40.
 ///
-/// `Memory` if memory is refused, or if there are more than 2^32 objects or values of a list, whatever else applies; no other
-/// refusal. References into other resources become proxies, by their joined URIs. The time is linear in the document, for
-/// each metamodel: the members of an object are looked through once for each feature of its class, some two times in all.
+/// `Memory` if memory is refused, or if there are more than 2^32 objects or values of a list, whatever else applies; no other refusal.
+/// References into other resources become proxies, by their joined URIs. For each metamodel the time is linear in the document: the members
+/// of an object are searched about twice for each feature of its class.
 pub fn read_doc(alloc: Global, meta: &Meta, uri: &str, bytes: &[u8]) -> Result<Doc, Refused>
     ensures { Reads result meta.now uri.now bytes.now }
 {

@@ -1,4 +1,4 @@
-//! What the text of a reference is read as, among the parts that were found.
+//! The texts of references are read, among the parts that were found.
 ghost use Rattle.std.specs.Prelude.{◌≡◌, IfOk, IfSome, List, None, Some, if◌then◌else◌, slice_get};
 ghost use Rattle.borrowed_json.specs.View.{view};
 ghost use Rattle.doc_parts.specs.FoundParts.{Knows, conforms_seen, part_seen};
@@ -59,8 +59,8 @@ fn led_to(meta: &Meta, found: &FoundParts, class: ClassNo, target: Target) -> Op
     }
 }
 
-/// What a reference to a class is read as: an object of the document that conforms, or a proxy; nothing if the text
-/// leads nowhere, or to an object of a wrong class. Errs only if memory is refused.
+/// The value of a reference to a class: an object of the document that conforms, or a proxy; `None` if the text leads
+/// nowhere, or to an object of a wrong class. Errs only if memory is refused.
 pub(crate) fn reference_value(
     source: &Source,
     class: ClassNo,

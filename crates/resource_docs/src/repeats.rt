@@ -39,7 +39,7 @@ fn key_of(value: &Value) -> Key<'_>
     }
 }
 
-/// Whether values are objects in the order of their numbers; then none is there twice. Takes no memory.
+/// Whether values are objects in the order of their numbers; then no value comes twice. Takes no memory.
 fn are_rising(values: &[Value]) -> bool
     ensures { result ≡ rising_from 0 values.now }
 {
@@ -63,7 +63,7 @@ fn repeats_value(alloc: Global, values: &[Value]) -> Result<bool, AllocError>
     if values.len() < 2 {
         return Ok(false);
     }
-    // So are the objects that an object contains.
+    // The objects that an object contains are rising, too.
     if are_rising(values) {
         return Ok(false);
     }

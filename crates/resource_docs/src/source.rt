@@ -1,9 +1,9 @@
-//! What a document is read with.
+//! The data with which a document is read.
 use doc_parts::FoundParts;
 use mm_meta::Meta;
 use std::alloc::Global;
 
-/// What values are read with: the metamodel, the URI of the document's resource, and the parts that were found in it.
+/// The data with which values are read: the metamodel, the URI of the document's resource, and the parts that were found in it.
 #[derive(Clone, Copy)]
 pub(crate) struct Source<'r, 't, 'm> {
     pub alloc: Global,

@@ -17,14 +17,14 @@ use doc_parts::{PartKey, attribute_value, index_of, values_of};
 use mm_types::{FeatureNo, Kind, ObjectNo, Value};
 use std::alloc::{AllocError, Global};
 
-/// What is read under a feature: its values, and whether a reference among them is lost.
+/// What is read under a feature: its values, and whether a reference leads nowhere.
 #[derive(Drop)]
 pub(crate) struct ReadValues {
     pub values: DocValues,
     pub is_lost: bool,
 }
 
-/// The object that a step leads to under a part. The part is given by its number.
+/// The object to which a step leads from the part of a number.
 fn part_at(source: &Source, number: u32, name: &str, index: Option<u32>) -> Option<Value>
     ensures value { Numbered source.now.meta.now source.now.found.now number (λ ps path. result ≡ option_map object_of (number_of ps (with_step path (new_step name.now index)))) }
     ensures proxy { IfSome result IsProxyValue }
@@ -39,7 +39,7 @@ fn part_at(source: &Source, number: u32, name: &str, index: Option<u32>) -> Opti
     }
 }
 
-/// The object at a position under a feature of a part. The part is given by its number.
+/// The object at a position under a feature of the part of a number.
 fn part_of(source: &Source, number: u32, feature: FeatureNo, position: u32) -> Option<Value>
     ensures value { Numbered source.now.meta.now source.now.found.now number (λ ps path. result ≡ option_map object_of (number_of ps (with_step path (step_to source.now.meta.now feature position)))) }
     ensures proxy { IfSome result IsProxyValue }
@@ -55,8 +55,7 @@ fn part_of(source: &Source, number: u32, feature: FeatureNo, position: u32) -> O
     )
 }
 
-/// The value that is read at a position under a feature of a part. The part is given by its number. Errs only if memory
-/// is refused.
+/// The value that is read at a position under a feature of the part of a number. Errs only if memory is refused.
 fn value_of(
     source: &Source,
     number: u32,
@@ -84,7 +83,7 @@ fn value_of(
     }
 }
 
-/// Whether a feature is a reference that holds no parts.
+/// Whether a feature is a reference and no containment.
 fn is_link(kind: &Kind) -> bool
     ensures { result ≡ link_meant kind.now }
 {
@@ -155,8 +154,7 @@ fn read_values(
     Ok(read)
 }
 
-/// Reads what is written under a feature of a part. The part is given by its number. Errs only if memory is refused, or if
-/// there are more than 2^32 values.
+/// Reads the content of a feature of the part of a number. Errs only if memory is refused, or if there are more than 2^32 values.
 pub(crate) fn read_content<'t>(
     source: &Source,
     number: u32,

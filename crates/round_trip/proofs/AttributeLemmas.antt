@@ -1,4 +1,4 @@
--- What is written for a value of an attribute is read as that value.
+-- The JSON that is written for a value of an attribute is read as that value.
 use Rattle.std.proofs.Common.{◌≡◌, ◌∙◌, ◌&&◌, ◌^◌, ◌-◌, ◌<◌, ℕ, ℤ, pos, negsuc, neg_ℤ, int_le, int_lt, nat_lt, Bool, true, false, List, [], Option, Some, None, option_and_then, option_map, unwrap_or, if◌then◌else◌, refl, ap, arith}
 use Rattle.std.specs.Option.{option_or}
 use Rattle.std.proofs.lemmas.Bool.{and_parts, false≢true}
@@ -41,7 +41,7 @@ below-64 : (b : ℕ) → b < 2 ^ 63 → (z : ℤ) → int_le z (pos b) ≡ true 
 below-64 b low (pos n) h = low-number n b low h
 below-64 b low (negsuc n) h = refl
 
--- so is one of so many bits, if they are 64 at most
+-- a number of at most 64 bits is read as it was
 int-read : (bits : ℕ) → 2 ^ (bits - 1) - 1 < 2 ^ 63 → (z : ℤ) → is_of_bits bits z ≡ true → (as_i64 (of_integer z) such_that is_of_bits bits) ≡ Some z
 int-read bits low z h =
     let both = and_parts (int_le (neg_ℤ (pos (2 ^ (bits - 1)))) z) (int_le z (pos (2 ^ (bits - 1) - 1))) h in

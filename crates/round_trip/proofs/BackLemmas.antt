@@ -1,11 +1,12 @@
 -- No cause of refusal applies to the document of a resource, so it is read as that resource.
-use Rattle.std.proofs.Common.{◌≡◌, ◌∙◌, ◌≤◌, ℕ, suc, Bool, true, false, cond, List, [], ◌∷◌, Option, Some, None, ap, arith, length, map, nat_le, nat_lt, refl, sym}
+use Rattle.std.proofs.Common.{◌≡◌, ◌∙◌, ◌≤◌, ℕ, suc, true, false, cond, List, [], ◌∷◌, Option, Some, None, ap, arith, length, map, nat_le, nat_lt, refl, sym}
 use Rattle.std.specs.Prelude.{◌&&◌, ◌||◌, Contains, Ok, is_some, not}
 use Rattle.std.specs.List.{list_any}
 use Rattle.std.specs.Option.{option_map_or}
 use Rattle.std.proofs.lemmas.Bool.Decides.{nat_tests}
 use Rattle.std.proofs.lemmas.List.{length-map}
 use Rattle.std.specs.Str.{is_utf8}
+use Rattle.std.proofs.lemmas.Bool.{false_from_ne_true}
 use Rattle.serde_json.specs.Data.{Data}
 use Rattle.serde_json.specs.Read.{read}
 use Rattle.mm_types.specs.Conditions.{◌else_by◌, ◌where_so◌}
@@ -63,15 +64,11 @@ use Rattle.round_trip.proofs.SideLemmas.{none-content, none-sided}
 
 ---------------------------------------------------------------- lists
 
-not-true : (b : Bool) → (b ≡ true → ⊥) → b ≡ false
-not-true true h = absurd (h refl)
-not-true false h = refl
-
 -- a list that has no value at two indexes repeats none
 no-repeat : (vs : List Value) → sets.IsDistinct vs → repeats_value vs ≡ false
 no-repeat [] d = refl
 no-repeat (v ∷ vs) d =
-    ap (λ b. b || repeats_value vs) (any-none (same_value v) vs (each-at _ vs (λ i w at. not-true (same_value v w) (λ same.
+    ap (λ b. b || repeats_value vs) (any-none (same_value v) vs (each-at _ vs (λ i w at. false_from_ne_true (same_value v w) (λ same.
     let again = d 0 (suc i) v refl (at ∙ ap Some (sym (same_value-true v w same))) in
     absurd (omega (arith, again))))))
     ∙ no-repeat vs (λ i j w a b. (let same = d (suc i) (suc j) w a b in omega (arith, same)))
@@ -155,7 +152,7 @@ module _ (s : Model) (legal : IsLegal s) (k : ResourceNo) (uri : List ℕ) (foun
       ap (nat_lt 40) (read.objects o inside).level
       ∙ none-passes (is_too_deep (reading s)) (objects_in (reading s) k) o (allowed (reading s) k fine.allowed).none_deep inside)
 
-  -- what is saved is no document of the first format
+  -- a saved document is no document of the first format
   newer : option_map_or has_first_format (top d) false ≡ false
   newer = ap (λ t. option_map_or has_first_format t false) found.top
 

@@ -1,4 +1,4 @@
--- The parts in an object, as they are read, are the objects that it contains, each at its own path.
+-- The parts that are read inside of an object are the objects that it contains, each at its own path.
 use Rattle.std.proofs.Common.{◌≡◌, ◌∙◌, ◌+◌, ◌++◌, ◌&&◌, ℕ, suc, Bool, true, false, cond, not, List, [], ◌∷◌, Option, Some, None, filter, flat_map, map, option_map, slice_get, arith, refl, sym, ap, if◌then◌else◌}
 use Rattle.std.specs.Prelude.{option_and_then, unwrap_or}
 use Rattle.std.specs.List.{AllByRecursion, enumerate_from, list_all}
@@ -6,6 +6,7 @@ use Rattle.std.specs.Option.{option_map_or}
 use Rattle.std.proofs.lemmas.Bool.{true≢false}
 use Rattle.std.proofs.lemmas.List.{map-append}
 use Rattle.std.proofs.lemmas.Option.{none-some, same_Some}
+use Rattle.std.proofs.Math.Bool.{and-true}
 use Rattle.serde_json.specs.Data.{Data, array}
 use Rattle.serde_json.specs.Find.{as_array}
 use Rattle.serde_json.specs.View.{items_of}
@@ -44,7 +45,7 @@ use Rattle.round_trip.proofs.ObjectLemmas.{object-read}
 
 ---------------------------------------------------------------- lists
 
--- data that are numbered are the parts of the objects that they were written of
+-- numbered data are the parts of the objects for which they were written
 pub numbered : (at : ℕ → Data → Part) (part : ObjectNo → Part) (data_is : ObjectNo → Data) (os : List ObjectNo) (n : ℕ)
     → ((i j : ℕ) (c : ObjectNo) → j ≡ n + i → slice_get os i ≡ Some c → at j (data_is c) ≡ part c) → map (λ (v : ℕ × Data). at v.0 v.1) (enumerate_from n (map data_is os)) ≡ map part os
 numbered at part data_is [] n each = refl
@@ -58,13 +59,9 @@ object-is None c h = absurd (none-some c h)
 object-is (Some (value.Object d)) c h = ap (λ (x : ObjectNo). Some (value.Object x)) (same_Some d c h)
 object-is (Some _) c h = absurd (none-some c h)
 
--- the object at an index among objects alone
+-- the object at an index of a list of only objects
 pub object-at : (vs : List Value) (i : ℕ) (c : ObjectNo) → list_all lookups.is_object vs ≡ true → slice_get (objects_of vs) i ≡ Some c → slice_get vs i ≡ Some (value.Object c)
 object-at vs i c all at = object-is (slice_get vs i) c (objects-get vs i all ∙ at)
-
-and-true : (b : Bool) → (b && true) ≡ b
-and-true true = refl
-and-true false = refl
 
 -- an end that holds nothing has no objects
 no-objects : (vs : List Value) → not (is_nil vs) ≡ false → objects_of vs ≡ []
@@ -78,7 +75,7 @@ pub record IsPlaced (s : Model) (o : ObjectNo) : Type 0 where
   pub live : is_live (reading s) o ≡ true
   pub path : path_of (reading s) o ≡ Some (path_in (reading s) o)
 
--- a path that is there is the one that is taken
+-- if there is a path, it is the one that is used
 pub own-path : (x : Option Path) (p : Path) → x ≡ Some p → x ≡ Some (unwrap_or x (new_path 0 []))
 own-path x p is = is ∙ ap Some (sym (ap (λ (y : Option Path). unwrap_or y (new_path 0 [])) is))
 
@@ -88,7 +85,7 @@ stands-at s e i o legal reference there =
     ap (λ (x : Option ℕ). unwrap_or x 0) (sym (position-target s e (value.Object o) (Some i) legal reference (ap (λ (vs : List Value). slice_get vs i) (sym (values-linked s e reference)) ∙ there)))
 
 module _ (s : Model) (legal : IsLegal s) (k : ResourceNo) (o : ObjectNo) (placed : IsPlaced s o) where
-  -- what is at an end of the object
+  -- the values at an end of the object
   abbrev values : FeatureNo → List Value
   values f = values_at s (at_end (node.Object o) f)
 
@@ -99,7 +96,7 @@ module _ (s : Model) (legal : IsLegal s) (k : ResourceNo) (o : ObjectNo) (placed
     all-are : list_all lookups.is_object (values f) ≡ true
     all-are = ends.all-objects s (at_end (node.Object o) f) legal contains
 
-    -- the path of a part is a step further
+    -- the path of a part has one step more
     path-under : (i : ℕ) (c : ObjectNo) → slice_get (values f) i ≡ Some (value.Object c) → path_of (reading s) c ≡ Some (with_step (path_in (reading s) o) (step_to s.metamodel f i))
     path-under i c at =
         let r = reading s in
@@ -130,7 +127,7 @@ module _ (s : Model) (legal : IsLegal s) (k : ResourceNo) (o : ObjectNo) (placed
         ∙ and-true (is_set r e)
         ∙ set-by (shape s.metamodel f) (values f) (r.flag e) plain.0 plain.1 all-are
 
-    -- and then what is read under it is what was written of each part
+    -- then the values that are read under it are the data of each part
     values-read : not (is_nil (values f)) ≡ true → values_of s.metamodel (entry_of (reading s) k o f) ≡ map (data_of (reading s) k) (objects_of (values f))
     values-read some =
         let r = reading s in
@@ -142,7 +139,7 @@ module _ (s : Model) (legal : IsLegal s) (k : ResourceNo) (o : ObjectNo) (placed
         ] refl
         ∙ values-are r k (data_of r k) f contains (values f) all-are
 
-    -- as a part at its own path
+    -- they are parts, each at its own path
     parts-under : not (is_nil (values f)) ≡ true → parts_in s.metamodel (path_in (reading s) o) (entry_of (reading s) k o f) ≡ map (part_of (reading s) k) (objects_of (values f))
     parts-under some =
         let r = reading s in
@@ -155,7 +152,7 @@ module _ (s : Model) (legal : IsLegal s) (k : ResourceNo) (o : ObjectNo) (placed
         let path = path-under i c (object-at (values f) i c all-are there) in
         ap (λ (n : ℕ). at n (data_of r k c)) (sym same) ∙ (λ l. record { path = unwrap_or (sym path l) (new_path 0 []); json = data_of r k c }))
 
-    -- if it is not written, it holds no parts
+    -- a feature that is not written has no parts
     none-under : is_written (reading s) o f ≡ false → objects_of (values f) ≡ []
     none-under none = no-objects (values f) (sym written-is ∙ none)
 
@@ -188,7 +185,7 @@ module _ (s : Model) (legal : IsLegal s) (k : ResourceNo) (o : ObjectNo) (placed
         ]
       ] refl
 
-  -- the parts in an object are those of the objects that it contains
+  -- the parts inside of an object are those of the objects that it contains
   pub parts-read : flat_map (parts_in s.metamodel (path_in (reading s) o)) (entries s.metamodel (data_of (reading s) k o)) ≡ map (part_of (reading s) k) (forest.contents (reading s) (node.Object o))
   parts-read = ap (flat_map (parts_in s.metamodel (path_in (reading s) o))) (object-read s legal k o placed.live).entries ∙ parts-of (all_features_of (reading s) (node.Object o))
 
@@ -201,6 +198,6 @@ module _ (s : Model) (legal : IsLegal s) (k : ResourceNo) (o : ObjectNo) (placed
         | false ↦ λ _. all-parts fs
       ] refl
 
-  -- each of which lives, in a resource
+  -- each of these objects lives, in a resource
   pub all-placed : AllByRecursion (IsPlaced s) (forest.contents (reading s) (node.Object o))
   all-placed = all-parts (all_features_of (reading s) (node.Object o))

@@ -1,4 +1,4 @@
--- What is written of a containment reference: the objects that it holds, if it holds any.
+-- For a containment reference its objects are written, if it has any.
 use Rattle.std.proofs.Common.{◌≡◌, ◌∙◌, Bool, true, false, not, List, [], ◌∷◌, Option, Some, None, map, option_to_list, slice_get, refl, sym, ap, if◌then◌else◌}
 use Rattle.std.specs.Prelude.{option_and_then, unwrap_or}
 use Rattle.std.specs.List.{list_all}
@@ -40,7 +40,7 @@ reference-plain m f = by (lookups.feature m f)
     by None h = (refl, refl)
     by (Some x) h = reference-kind m f x x.kind h
 
--- a feature that contains is no container reference, since of two opposites one contains
+-- a containment is no container reference, since only one of two opposites is a containment
 pub plain-containment : (m : Metamodel) → IsOfDocument m → (f : FeatureNo) → is_containment m f ≡ true → lookups.is_container m f ≡ false
 plain-containment m d f contains =
     elim (lookups.opposite m f) as (λ x. lookups.opposite m f ≡ x → option_map_or (λ g. lookups.is_containment_kind g.kind) (option_and_then (lookups.feature m) x) false ≡ false) [
@@ -63,7 +63,7 @@ plain-containment m d f contains =
 
 ---------------------------------------------------------------- when a containment is written
 
--- an end that has objects alone is set if it has any
+-- an end that has only objects is set if it has any
 pub set-by : (a : Shape) (vs : List Value) (flag : Bool) → a.is_unsettable ≡ false → a.default ≡ value.Null → list_all lookups.is_object vs ≡ true → ends.is_set a (record { values = shown a.is_single vs; flag = flag }) ≡ not (is_nil vs)
 set-by a vs flag fixed null all =
     elim a.is_single as (λ b. (if b then (if a.is_unsettable then flag else not (same_value (value_in (shown b vs) 0) a.default)) else not (is_nil (shown b vs))) ≡ not (is_nil vs)) [
@@ -79,7 +79,7 @@ set-by a vs flag fixed null all =
 ---------------------------------------------------------------- values
 
 module _ (r : Reading) (k : ResourceNo) (part : ObjectNo → Data) (f : FeatureNo) (contains : is_containment r.metamodel f ≡ true) where
-  -- of objects that a feature contains each is written as a part
+  -- each object that a feature contains is written as a part
   pub values-are : (vs : List Value) → list_all lookups.is_object vs ≡ true → map (value_data r k part f) vs ≡ map part (objects_of vs)
   values-are [] all = refl
   values-are (value.Object c ∷ vs) all =
@@ -88,7 +88,7 @@ module _ (r : Reading) (k : ResourceNo) (part : ObjectNo → Data) (f : FeatureN
       λ i. first i ∷ rest i
   values-are (_ ∷ vs) all = absurd (false≢true all)
 
--- a single end that holds anything holds its first value alone
+-- a single end with a value has only its first value
 pub one-value : (g : Value → Data) (vs : List Value) → vs ≡ option_to_list (slice_get vs 0) → not (is_nil vs) ≡ true → g (value_in vs 0) ∷ [] ≡ map g vs
 one-value g [] one some = absurd (false≢true some)
 one-value g (v ∷ vs) one some = ap (map g) (sym one)

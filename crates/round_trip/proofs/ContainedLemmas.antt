@@ -1,4 +1,4 @@
--- What is written for an object under a containment reference is read as that object, by its number.
+-- The JSON that is written for an object under a containment reference is read as that object, by its number.
 use Rattle.std.proofs.Common.{◌≡◌, ◌∙◌, ℕ, Bool, true, false, Contains, List, [], slice_get, is_some, Option, Some, None, option_map, unwrap_or, if◌then◌else◌, refl, sym, ap}
 use Rattle.std.specs.Option.{option_map_or}
 use Rattle.std.proofs.lemmas.Bool.{and_from, false≢true}
@@ -40,7 +40,7 @@ use Rattle.round_trip.proofs.ValuesTargetLemmas.{contains-parts}
 use Rattle.round_trip.specs.Copied.{renamed}
 use Rattle.round_trip.specs.ValuesLaws.{parts_of}
 
--- what is laid out as an object is a JSON object
+-- data with the layout of an object is a JSON object
 written-object : (d : Data) (w : Written) → written d ≡ Some w → is_some (as_object d) ≡ true
 unfolding written
 written-object null w h = absurd (none-some w h)
@@ -50,7 +50,7 @@ written-object (string t) w h = absurd (none-some w h)
 written-object (array ds) w h = absurd (none-some w h)
 written-object (object ms) w h = refl
 
--- if there is a class, it does not matter what is said of none
+-- if there is a class, the result for no class does not matter
 known-conforms : (p : ClassNo → Bool) (x : Option ClassNo) → option_map_or p x false ≡ true → option_map_or p x true ≡ true
 known-conforms p None h = absurd (false≢true h)
 known-conforms p (Some c) h = h
@@ -74,11 +74,11 @@ module _ (s : Model) (legal : IsLegal s) (k : ResourceNo) (o : ObjectNo) (f : Fe
   there : Contains (objects_in (reading s) k) c
   there = part-written s legal k o f i c inside contains at
 
-  -- the object itself is written, and no reference to it
+  -- the object itself is written, and not a reference to it
   part-data : object_under (reading s) k (data_of (reading s) k) f c ≡ data_of (reading s) k c
   part-data = ap (λ (b : Bool). if b then data_of (reading s) k c else string (reference_text (reading s) k c)) contains
 
-  -- the path of what contains it, one step further, is its own path
+  -- its path is the path of its container and one more step
   part-path : (shape s.metamodel f).is_reference ≡ true → with_step (path_in (reading s) o) (step_to s.metamodel f i) ≡ path_in (reading s) c
   part-path reference =
       let r = reading s in
@@ -95,7 +95,7 @@ module _ (s : Model) (legal : IsLegal s) (k : ResourceNo) (o : ObjectNo) (f : Fe
   part-read reference = ap (λ (q : Path). option_map object_of (number_of (parts_of (reading s) k) q)) (part-path reference) ∙ renamed-here s legal k c there
 
   module _ (parts : AreParts (reading s) k) (conforms : option_map_or (λ x. lookups.conforms s.metamodel x target) ((reading s).class c) false ≡ true) where
-    -- what is written for an object whose class conforms is an object that may be there
+    -- the JSON that is written for an object whose class conforms is accepted there
     pub part-good : may_stand s.metamodel target (object_under (reading s) k (data_of (reading s) k) f c) ≡ true
     part-good =
         let part = parts.each c there in

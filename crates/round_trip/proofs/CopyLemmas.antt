@@ -1,4 +1,4 @@
--- The document of a resource is read as the resource, were no cause of refusal to apply.
+-- The document of a resource is read as the resource, if no cause of refusal applies.
 use Rattle.std.proofs.Common.{◌≡◌, ◌∙◌, ℕ, ◌+◌, Bool, true, false, List, [], ◌∷◌, Option, Some, ap, arith, filter, map, option_map, refl, sym}
 use Rattle.std.specs.Prelude.{Contains, filter_map, if◌then◌else◌, not, unwrap_or}
 use Rattle.std.specs.List.{enumerate_from}
@@ -41,7 +41,7 @@ use Rattle.round_trip.proofs.ListLemmas.{all-kept, each-mapped, each-of, filter_
 
 ---------------------------------------------------------------- values
 
--- what is written under a feature has the data of its values, one if the feature is single
+-- the JSON under a feature has the data of its values, which is one value if the feature is single
 written-values : (single : Bool) (v : Value → Data) (vs : List Value) → (single ≡ true → vs ≡ value_in vs 0 ∷ [])
     → (if single then (if single then v (value_in vs 0) else array (items_of (map v vs))) ∷ [] else option_map_or list_of (as_array (if single then v (value_in vs 0) else array (items_of (map v vs)))) []) ≡ map v vs
 written-values true v vs one = ap (map v) (sym (one refl))

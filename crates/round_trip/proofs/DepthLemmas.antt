@@ -1,4 +1,4 @@
--- The document of a resource nests no deeper than JSON does that is read: three levels for each level of objects.
+-- The document of a resource nests no deeper than JSON that can be read: three levels for each level of objects.
 use Rattle.std.proofs.Common.{◌≡◌, ◌≤◌, ◌+◌, ◌*◌, ℕ, zero, suc, Bool, true, false, List, [], ◌∷◌, Ordering, Less, Equal, Greater, ap, arith, codes, length, map, refl, slice_get, subst, Some}
 use Rattle.std.specs.Prelude.{Contains, if◌then◌else◌}
 use Rattle.std.specs.Cmp.Lexicographic.{slice_cmp}
@@ -75,7 +75,7 @@ module _ (s : Model) (legal : IsLegal s) (k : ResourceNo) (uri : List ℕ) (foun
   abbrev made : ObjectNo → FeatureNo → Value → Data
   made o f = value_data (reading s) k (data_of (reading s) k) f
 
-  -- what an object contains is in the resource too, one level deeper
+  -- a part of an object is in the resource too, one level deeper
   contained : (o c : ObjectNo) (f : FeatureNo) (i : ℕ) → Contains os o → is_containment s.metamodel f ≡ true → slice_get (values_at s (at_end (node.Object o) f)) i ≡ Some (value.Object c)
       → Contains os c × (level (reading s) c ≡ suc (level (reading s) o))
   contained o c f i inside contains at =
@@ -99,7 +99,7 @@ module _ (s : Model) (legal : IsLegal s) (k : ResourceNo) (uri : List ℕ) (foun
   value-depth n o f i (value.Proxy t) below inside at = omega arith
   value-depth n o f i (value.Adapter a) below inside at = omega arith
 
-  -- three levels for each level of objects that may still come
+  -- the depth of an object: three levels for each level of objects that may still come
   object-depth : (j : ℕ) (o : ObjectNo) → Contains os o → 41 ≤ level (reading s) o + j → depth (data_of (reading s) k o) ≤ 3 * j
   object-depth zero o inside low = let most = shallow o inside in absurd (omega (arith, low, most))
   object-depth (suc j) o inside low =

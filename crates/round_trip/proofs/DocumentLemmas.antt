@@ -1,19 +1,15 @@
 -- The parts of the document of a resource are its objects, in loading order.
-use Rattle.std.proofs.Common.{◌≡◌, ◌∙◌, ◌+◌, ◌<◌, ◌++◌, ℕ, zero, suc, List, [], ◌∷◌, Option, Some, Contains, arith, eq-eqb, flat_map, length, map, pos, slice_get, true, refl, sym, ap}
+use Rattle.std.proofs.Common.{◌≡◌, ◌∙◌, ◌+◌, ◌<◌, ◌++◌, ℕ, zero, suc, List, [], ◌∷◌, Option, Some, Contains, arith, flat_map, length, map, pos, slice_get, true, refl, sym, ap}
 use Rattle.std.specs.Prelude.{unwrap_or}
 use Rattle.std.specs.List.{AllByRecursion, enumerate_from}
 use Rattle.std.specs.Option.{option_map_or}
 use Rattle.std.proofs.lemmas.List.Elements.{All-contains, All-from_recursion}
 use Rattle.std.proofs.lemmas.List.{map-append}
-use Rattle.std.proofs.lemmas.Option.{slice_get_past}
 use Rattle.serde_json.specs.Data.{Data, depth}
 use Rattle.serde_json.specs.View.{items_of}
 use Rattle.serde_json.proofs.OnLiterals.{serde_json_on_literals}
 use Rattle.mm_types.specs.Lookups as lookups
-use Rattle.mm_types.specs.Resolved.{Metamodel}
-use Rattle.mm_types.specs.Same.{is_feature}
-use Rattle.mm_types.specs.Shapes.{contents_shape, is_containment, shape, shape_of}
-use Rattle.mm_types.specs.declared.feature.Feature.{Feature}
+use Rattle.mm_types.specs.Shapes.{is_containment, shape}
 use Rattle.mm_types.specs.declared.numbers.Node.TheVariants as node
 use Rattle.mm_types.specs.declared.numbers.ObjectNo.{ObjectNo}
 use Rattle.mm_types.specs.declared.numbers.ResourceNo.{ResourceNo}
@@ -29,6 +25,7 @@ use Rattle.fragment_paths.proofs.ObjectLemmas as ends
 use Rattle.fragment_paths.proofs.UpLemmas.{path-root}
 use Rattle.fragment_paths.specs.Finding.{roots}
 use Rattle.fragment_paths.specs.Fragments.{path_of}
+use Rattle.fragment_paths.proofs.InsideLemmas.{contents-contains}
 use Rattle.mm_types.specs.declared.limits.TheConstants.{DOCUMENT_FORMAT}
 use Rattle.doc_parts.proofs.DataLemmas.{list_of-items_of}
 use Rattle.doc_parts.proofs.DepthLemmas.{parts_within}
@@ -43,7 +40,7 @@ use Rattle.round_trip.proofs.LevelLemmas.{live-under}
 use Rattle.round_trip.proofs.PartsListLemmas.{all-flat_map}
 use Rattle.round_trip.proofs.ObjectLemmas.{object-read}
 
--- what is found in each part of a list is what the objects give
+-- the parts that are found in a list of parts are those of the objects
 same-parts : (P : ObjectNo → Type 0) (part : ObjectNo → Part) (read : Part → List Part) (below : ObjectNo → List ObjectNo) (os : List ObjectNo)
     → ((o : ObjectNo) → P o → read (part o) ≡ map part (below o)) → AllByRecursion P os → flat_map read (map part os) ≡ map part (flat_map below os)
 same-parts P part read below [] same all = refl
@@ -51,12 +48,6 @@ same-parts P part read below (o ∷ os) same all =
     let here = same o all.0 in
     let rest = same-parts P part read below os same all.1 in
     (λ i. here i ++ rest i) ∙ sym (map-append part (below o) (flat_map below os))
-
--- a resource contains its roots
-contents-contain : (m : Metamodel) → is_containment m (lookups.contents m) ≡ true
-contents-contain m =
-    ap (λ (x : Option Feature). is_feature (lookups.contents m) (option_map_or (λ g. shape_of m (lookups.contents m) g g.kind) x (contents_shape m)).containing) (slice_get_past m.features (length m.features) (omega arith))
-    ∙ eq-eqb (length m.features) (length m.features) refl
 
 -- the document has its roots
 top-read : (r : Reading) (k : ResourceNo) → top (document r k) ≡ Some (new_top (pos DOCUMENT_FORMAT) (items_of (map (data_of r k) (roots r k))))
@@ -66,7 +57,7 @@ top-read r k = refl
 module _ (s : Model) (legal : IsLegal s) where
   ---------------------------------------------------------------- trees
 
-  -- with levels enough a tree is the subtree
+  -- with enough levels a tree is the subtree
   tree-whole : (more n : ℕ) (o : ObjectNo) → n ≡ more + length s.values.objects → 0 < length s.values.objects → tree (reading s) n o ≡ subtree (reading s) o
   tree-whole zero n o is some = let same : n ≡ length s.values.objects = omega (arith, is) in ap (λ (j : ℕ). tree (reading s) j o) same ∙ enough-levels s legal o some
   tree-whole (suc more) zero o is some = absurd (omega (arith, is))
@@ -75,7 +66,7 @@ module _ (s : Model) (legal : IsLegal s) where
       ∙ sym (subtree-parts s legal o)
 
   module _ (k : ResourceNo) where
-    -- a part and all in it are an object and all that is below it
+    -- a part and all parts inside of it are an object and all objects below it
     tree-read : (n : ℕ) (o : ObjectNo) → IsPlaced s o → parts_from s.metamodel n (part_of (reading s) k o) ≡ map (part_of (reading s) k) (tree (reading s) n o)
     tree-read zero o placed = refl
     tree-read (suc n) o placed =
@@ -86,7 +77,7 @@ module _ (s : Model) (legal : IsLegal s) where
         ap (λ ps. part o ∷ flat_map read ps) (parts-read s legal k o placed)
         ∙ ap (λ ps. part o ∷ ps) (same-parts (IsPlaced s) part read (tree r n) held (tree-read n) (all-placed s legal k o placed))
 
-    -- each of which lives, in a resource
+    -- each of these objects lives, in a resource
     tree-placed : (n : ℕ) (o : ObjectNo) → IsPlaced s o → AllByRecursion (IsPlaced s) (tree (reading s) n o)
     tree-placed zero o placed = tt
     tree-placed (suc n) o placed = (placed, all-flat_map (IsPlaced s) (IsPlaced s) (tree (reading s) n) (contents (reading s) (node.Object o)) (tree-placed n) (all-placed s legal k o placed))
@@ -94,7 +85,7 @@ module _ (s : Model) (legal : IsLegal s) where
     ---------------------------------------------------------------- roots
 
     contained : is_containment s.metamodel (lookups.contents s.metamodel) ≡ true
-    contained = contents-contain s.metamodel
+    contained = contents-contains s.metamodel
 
     refers : (shape s.metamodel (lookups.contents s.metamodel)).is_reference ≡ true
     refers = let f = lookups.contents s.metamodel in contains-reference s.metamodel f f (contains-itself f (shape s.metamodel f).containing contained)
@@ -128,7 +119,7 @@ module _ (s : Model) (legal : IsLegal s) where
 
     ---------------------------------------------------------------- the document
 
-    -- so are all parts, in the order of the trees
+    -- all parts are the objects of the resource, in the order of the trees
     parts-are : parts s.metamodel (document (reading s) k) ≡ map (part_of (reading s) k) (objects_in (reading s) k)
     parts-are =
         let r = reading s in

@@ -1,11 +1,10 @@
--- What is at an end that is written: some values, no more than there may be, and none twice if each is there once.
+-- The values of an end that is written: at least one, no more than the end may have, and none twice if the feature is unique.
 use Rattle.std.proofs.Common.{◌≡◌, ◌∙◌, ◌≤◌, ℕ, zero, suc, Bool, true, false, List, [], ◌∷◌, Option, Some, None, ap, arith, if◌then◌else◌, int_le, length, nat_eq, nat_le, option_map, option_to_list, pos, refl, slice_get, sym, subst}
 use Rattle.std.specs.Prelude.{◌&&◌, Contains, IsTrue, not, option_and_then, unwrap_or}
-use Rattle.std.specs.List.{All, IsDistinct, list_any, slice_index_or}
+use Rattle.std.specs.List.{IsDistinct, list_any}
 use Rattle.std.specs.Option.{option_map_or}
-use Rattle.std.proofs.lemmas.Bool.{and_parts, eq-eqb, false≢true}
+use Rattle.std.proofs.lemmas.Bool.{and_parts, eq-eqb, false≢true, not-true}
 use Rattle.std.proofs.lemmas.Bool.Decides.{nat_tests}
-use Rattle.std.proofs.lemmas.List.Elements.{All-head, All-tail}
 use Rattle.std.proofs.lemmas.Option.{none-some, same_Some}
 use Rattle.mm_types.specs.Ends.{shown, value_in}
 use Rattle.mm_types.specs.Ends as ends
@@ -30,6 +29,7 @@ use Rattle.models.specs.Legal.{IsLegal, IsLegalObject, IsUniqueList, is_legal_en
 use Rattle.models.specs.Model.{Model, attribute_values, kept_values, reading, values_at}
 use Rattle.models.specs.Reading.{at_end, is_set}
 use Rattle.models.proofs.EndLemmas.{upper-single, values-single}
+use Rattle.models.proofs.PlaceLemmas.{legal-at}
 use Rattle.containment.proofs.PartLemmas.{values-linked}
 use Rattle.doc_writer.specs.Written.{is_written, written_features}
 use Rattle.round_trip.proofs.ContainLemmas.{reference-plain}
@@ -50,10 +50,6 @@ pub record IsWrittenOf (s : Model) (o : ObjectNo) (f : FeatureNo) : Type 0 where
 
 none-in : {X P : Type 0} (x : X) → Contains [] x → P
 none-in x (k, low, at) = absurd (omega (arith, low))
-
-not-true : (b : Bool) → not b ≡ true → b ≡ false
-not-true true h = absurd (false≢true h)
-not-true false h = refl
 
 module _ (s : Model) (legal : IsLegal s) (o : ObjectNo) (f : FeatureNo) where
   of-class : Contains (unwrap_or (option_and_then (lookups.features s.metamodel) ((reading s).class o)) []) f
@@ -85,12 +81,6 @@ module _ (s : Model) (legal : IsLegal s) (o : ObjectNo) (f : FeatureNo) where
       record { class = c.0; is = c.1; has = c.2; feature = g.0; there = g.1; set = both.0; plain = not-true (lookups.is_container s.metamodel f) both.1 }
 
 ---------------------------------------------------------------- what is kept for an attribute
-
--- what holds of each position that may be empty
-pub legal-at : {X : Type 0} (P : Option X → Type 0) (os : List (Option X)) (i : ℕ) → P None → All P os → P (slice_index_or os i None)
-legal-at P [] i none all = none
-legal-at P (x ∷ os) zero none all = All-head P x os all
-legal-at P (x ∷ os) (suc i) none all = legal-at P os i none (All-tail P x os all)
 
 -- a list that is kept has no more values than it may, and none twice if each is there once
 record IsKept (a : Shape) (vs : List Value) : Type 0 where
@@ -124,7 +114,7 @@ no-two a n one h =
     let few : suc (suc n) ≤ 1 = grind (arith, nat_tests, below) in
     omega (arith, few)
 
--- there is one value if the feature is single, and some value in any case
+-- there is exactly one value if the feature is single, and at least one otherwise
 pub record IsSome (a : Shape) (vs : List Value) : Type 0 where
   pub some : is_nil vs ≡ false
   pub one : a.is_single ≡ true → vs ≡ value_in vs 0 ∷ []
@@ -144,7 +134,7 @@ many-some : (a : Shape) (vs : List Value) (flag : Bool) → a.is_single ≡ fals
 many-some a vs flag many set =
     not-true (is_nil vs) (sym (ap (λ (b : Bool). if b then (if a.is_unsettable then flag else not (same_value (value_in (shown b vs) 0) a.default)) else not (is_nil (shown b vs))) many) ∙ set)
 
--- a reference that is set has some value
+-- a reference that is set has at least one value
 set-some : (a : Shape) (vs : List Value) (flag : Bool) → a.is_unsettable ≡ false → a.default ≡ value.Null → ends.is_set a (record { values = shown a.is_single vs; flag = flag }) ≡ true → is_nil vs ≡ false
 set-some a [] flag settable null set =
     elim a.is_single as (λ b. (if b then (if a.is_unsettable then flag else not (same_value (value_in (shown b []) 0) a.default)) else not (is_nil (shown b []))) ≡ true → true ≡ false) [
@@ -161,7 +151,7 @@ pub end-few : (s : Model) (e : End) (vs : List Value) → IsTrue (is_legal_end (
 end-few s e [] h some = absurd (false≢true (sym some))
 end-few s e (v ∷ vs) h some = (and_parts _ _ (and_parts _ _ h).1).1
 
--- a list that repeats nothing has no value at two indexes
+-- a list without repetitions has no value at two indexes
 distinct-places : (vs : List Value) → IsDistinct same_value vs → sets.IsDistinct vs
 unfolding IsDistinct
 distinct-places [] d j k v at there = absurd (none-some v at)

@@ -1,4 +1,4 @@
--- A resource as a document: a folder has another in it, which likes it, and likes the folder of another resource.
+-- A resource as a document: a folder contains another one, which likes the first folder and the folder of another resource.
 use Rattle.std.specs.Prelude.{ℕ, pos, negsuc, true, false, List, [], ◌∷◌, codes, find, map, option_map, slice_get, None, unwrap_or}
 use Rattle.std.proofs.Common.{◌≡◌, refl}
 use Rattle.std.specs.Fmt.{digits}
@@ -51,7 +51,7 @@ end_of n f = record { node = n; feature = fid f }
 abbrev pub v : ℕ → Value
 v n = value.Object (record { 0 = n })
 
--- where this is what object 2 likes
+-- the values of ends, if object 2 likes these
 abbrev pub values : List Value → List (End × List Value)
 values likes =
     (end_of (resource 0) 3, v 1 ∷ []) ∷ (end_of (resource 1) 3, v 0 ∷ []) ∷ (end_of (o 1) 1, v 2 ∷ []) ∷ (end_of (o 1) 0, value.Text (codes "A") ∷ [])

@@ -1,4 +1,4 @@
--- The objects of a resource: what is in the trees of its roots is in it, and what is in it is there.
+-- The objects of a resource are exactly the objects of the trees of its roots.
 use Rattle.std.proofs.Common.{◌≡◌, ℕ, zero, suc, true, Contains, ◌∷◌, flat_map, length, slice_get, Some, eq-eqb, inl, inr, refl, ap, ◌∙◌}
 use Rattle.std.specs.List.{list_any}
 use Rattle.std.proofs.lemmas.Bool.{false≢true, or_cases, or_left, or_right}
@@ -47,7 +47,7 @@ module _ (s : Model) (legal : IsLegal s) where
       (all-objects (λ c. resource_of (reading s).above c ≡ Some k) (values_at s (roots_end (reading s) k))
       (λ i c at. resource-root s legal c (roots_end (reading s) k) k (holder-at s legal (node.Resource k) f (contents-contains s.metamodel) i c at) refl)) h
 
-  -- all in the tree of an object is in the object's resource
+  -- all objects of the tree of an object are in the object's resource
   tree-inside : (n : ℕ) (o c : ObjectNo) (k : ResourceNo) → resource_of (reading s).above o ≡ Some k → list_any (same_object c) (tree (reading s) n o) ≡ true → resource_of (reading s).above c ≡ Some k
   tree-inside zero o c k at h = absurd (false≢true h)
   tree-inside (suc n) o c k at h =
@@ -94,7 +94,7 @@ module _ (s : Model) (legal : IsLegal s) where
       let under = each-inside s legal (IsUnderRoot s k) k (root-under k) (λ c e p h is _ up. part-under k c e p h is up) o inside in
       in-all (subtree r) (roots r k) under.place under.root o under.there (among-found (subtree r under.root) o (subtree-has s legal under.root (node.Object o) ∙ under.below))
 
-  -- so is what a written object contains
+  -- an object that a written object contains is written
   pub part-written : (k : ResourceNo) (o : ObjectNo) (f : FeatureNo) (i : ℕ) (c : ObjectNo) → Contains (objects_in (reading s) k) o → is_containment s.metamodel f ≡ true
       → slice_get ((reading s).values (at_end (node.Object o) f)) i ≡ Some (value.Object c) → Contains (objects_in (reading s) k) c
   part-written k o f i c written contains at =

@@ -1,9 +1,7 @@
 -- What is written of an attribute is kept in the object: if nothing is, the attribute is not set.
-use Rattle.std.proofs.Common.{◌≡◌, ◌∙◌, ◌&&◌, ℕ, zero, suc, Bool, true, false, All, IsTrue, List, [], ◌∷◌, not, slice_get, slice_index_or, Option, Some, None, option_map, unwrap_or, if◌then◌else◌, refl, sym, ap, subst}
+use Rattle.std.proofs.Common.{◌≡◌, ◌∙◌, ◌&&◌, ℕ, Bool, true, false, IsTrue, List, [], ◌∷◌, not, slice_get, Option, Some, None, option_map, unwrap_or, if◌then◌else◌, refl, sym, ap}
 use Rattle.std.specs.List.{list_all}
 use Rattle.std.proofs.lemmas.Bool.{and_parts, false≢true}
-use Rattle.std.proofs.lemmas.List.Elements.{All-head, All-tail}
-use Rattle.std.proofs.lemmas.Option.{none-some, same_Some}
 use Rattle.mm_types.specs.Ends as ends
 use Rattle.mm_types.specs.Ends.{shown, value_in}
 use Rattle.mm_types.specs.Resolved.{Metamodel}
@@ -19,24 +17,16 @@ use Rattle.mm_values.specs.Values.{ObjectState, object_at, stored_under}
 use Rattle.models.specs.Legal.{IsLegal, IsLegalObject, is_legal_list, is_legal_value}
 use Rattle.models.specs.Model.{Model, attribute_values, kept_flag, kept_values, reading}
 use Rattle.models.specs.Reading.{at_end, is_set}
+use Rattle.containment.proofs.PartLemmas.{all-get}
+use Rattle.doc_writer.proofs.PlainLemmas.{object-legal}
 
 ---------------------------------------------------------------- what an object keeps
-
-all-get : (p : Value → Bool) (vs : List Value) (k : ℕ) (v : Value) → list_all p vs ≡ true → slice_get vs k ≡ Some v → p v ≡ true
-all-get p [] k v all at = absurd (none-some v at)
-all-get p (w ∷ ws) zero v all at = subst (λ (x : Value). p x ≡ true) (same_Some w v at) (and_parts (p w) (list_all p ws) all).0
-all-get p (w ∷ ws) (suc k) v all at = all-get p ws k v (and_parts (p w) (list_all p ws) all).1 at
-
-object-legal : (m : Metamodel) (os : List (Option ObjectState)) (i : ℕ) → All (IsLegalObject m) os → IsLegalObject m (slice_index_or os i None)
-object-legal m [] i all = tt
-object-legal m (o ∷ os) zero all = All-head (IsLegalObject m) o os all
-object-legal m (o ∷ os) (suc i) all = object-legal m os i (All-tail (IsLegalObject m) o os all)
 
 list-legal : (m : Metamodel) (c : ClassNo) (f : FeatureNo) (vs : List Value) → IsTrue (is_legal_list m c f vs) → list_all (is_legal_value m f) vs ≡ true
 list-legal m c f [] h = refl
 list-legal m c f (v ∷ vs) h = (and_parts _ _ (and_parts _ _ h).1).0
 
--- values of the attribute, and a flag if it is unsettable, single and has one
+-- values of the attribute, and a flag if it is unsettable, single and has a value
 record IsKept (m : Metamodel) (f : FeatureNo) (vs : List Value) (flag : Bool) : Type 0 where
   each : list_all (is_legal_value m f) vs ≡ true
   flagged : flag ≡ ((shape m f).is_unsettable && ((shape m f).is_single && not (is_nil vs)))
@@ -53,7 +43,7 @@ object-keeps m f (Some y) legal = record { each = list-legal m y.class f (stored
 
 ---------------------------------------------------------------- what is set
 
--- an attribute that keeps nothing is not set
+-- an attribute without stored values is not set
 nothing-set : (a : Shape) (flag : Bool) → flag ≡ (a.is_unsettable && (a.is_single && false)) → ends.is_set a (record { values = shown a.is_single (attribute_values a []); flag = flag }) ≡ false
 nothing-set a flag flagged = by a.is_single a.is_unsettable flagged
   where
@@ -63,7 +53,7 @@ nothing-set a flag flagged = by a.is_single a.is_unsettable flagged
     by true false h = ap not (same_value-self a.default)
     by false unsettable h = refl
 
--- each value of an attribute that is set is kept, and so is a legal one
+-- each value of an attribute that is set is stored, and is legal
 pub kept-legal : (s : Model) → IsLegal s → (o : ObjectNo) (f : FeatureNo) (i : ℕ) (v : Value) → (shape s.metamodel f).is_reference ≡ false → is_set (reading s) (at_end (node.Object o) f) ≡ true
     → slice_get ((reading s).values (at_end (node.Object o) f)) i ≡ Some v → is_legal_value s.metamodel f v ≡ true
 kept-legal s legal o f i v attribute set at =

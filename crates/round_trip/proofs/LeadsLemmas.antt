@@ -1,4 +1,4 @@
--- The text of a reference leads back to the object that it was written for, and no two objects have one address.
+-- The text of a reference leads back to the object for which it was written, and no two objects have the same address.
 use Rattle.std.proofs.Common.{◌≡◌, ◌∙◌, ℕ, Bool, true, false, List, [], length, slice_get, slice_index_or, Some, option_map, inl, inr, nat_eq, unwrap_or, refl, sym, ap, eq-eqb}
 use Rattle.std.specs.Prelude.{option_and_then, if◌then◌else◌}
 use Rattle.std.specs.Option.{option_map_or}
@@ -55,7 +55,7 @@ module _ (s : Model) (o : ObjectNo) (j : ResourceNo) (inside : resource_of (read
 ---------------------------------------------------------------- where it leads
 
 module _ (s : Model) (legal : IsLegal s) where
-  -- resources of two numbers have two URIs
+  -- resources with different numbers have different URIs
   two-uris : (j k : ResourceNo) (u w : List ℕ) → nat_eq j.0 k.0 ≡ false → slice_get (reading s).uris j.0 ≡ Some u → slice_get (reading s).uris k.0 ≡ Some w → u ≡ w → ⊥
   two-uris j k u w other first second same =
       let one : j ≡ k = same_Some j k (sym (named-at (reading s) j u legal.uris.distinct first) ∙ ap (resource_named (reading s)) same ∙ named-at (reading s) k w legal.uris.distinct second) in
@@ -82,7 +82,7 @@ module _ (s : Model) (legal : IsLegal s) where
           ∙ target-address uri u (text_in s o j l) l.path (steady.uris j.0 [] below) (two-uris j k u uri other uri-is known) (text-read s o j inside l)
           ∙ ap (λ x. Some (Elsewhere (unwrap_or x []))) (sym is)
 
-  -- an address finds its object
+  -- an address leads to its object
   address-finds : (o : ObjectNo) (t : List ℕ) → address (reading s) o ≡ Some t → at (reading s) t ≡ Some o
   address-finds o t is =
       option_and_then_some _ (resource_of (reading s).above o) t is

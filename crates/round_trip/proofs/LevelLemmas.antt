@@ -1,4 +1,4 @@
--- What is written of an object does not depend on the levels that are left, if they are enough.
+-- The JSON that is written for an object does not depend on the levels that are left, if they are enough.
 use Rattle.std.proofs.Common.{◌≡◌, ◌∙◌, ◌+◌, ◌<◌, ◌≤◌, ℕ, zero, suc, true, false, List, [], ◌∷◌, Some, arith, codes, length, map, slice_get, refl, sym, ap, if◌then◌else◌}
 use Rattle.std.specs.Prelude.{option_and_then}
 use Rattle.serde_json.specs.Data.{Data, array, object, string}
@@ -27,7 +27,7 @@ use Rattle.round_trip.proofs.PartsListLemmas.{all-passing}
 
 ---------------------------------------------------------------- the same parts
 
--- two ways to write parts that agree on those that are in a list
+-- two ways to write parts that agree on the objects of a list
 abbrev AgreeOn : Reading → FeatureNo → (ObjectNo → Data) → (ObjectNo → Data) → List Value → Type 0
 AgreeOn r f p q vs = (i : ℕ) (c : ObjectNo) → is_containment r.metamodel f ≡ true → slice_get vs i ≡ Some (value.Object c) → p c ≡ q c
 
@@ -51,7 +51,7 @@ module _ (r : Reading) (k : ResourceNo) (p q : ObjectNo → Data) where
       let rest = same-values f vs (λ i c contains at. same (suc i) c contains at) in
       λ i. first i ∷ rest i
 
-  -- what a feature holds is written in the same way
+  -- the values of a feature are written in the same way
   same-content : (o : ObjectNo) (f : FeatureNo) → AgreeOn r f p q (r.values (at_end (node.Object o) f)) → content_data r k p o f ≡ content_data r k q o f
   same-content o f same =
       let vs = r.values (at_end (node.Object o) f) in
@@ -75,7 +75,7 @@ module _ (s : Model) (legal : IsLegal s) where
       all-passing (is_live (reading s)) (objects_of (values_at s e)) i c (all-live s e legal refers)
       (sym (objects-get (values_at s e) i (all-objects s e legal contains)) ∙ ap (option_and_then object_of) at)
 
-  -- and is a part of the node
+  -- an object that is under a containment is a part of the node
   part-under : (n : Node) (f : FeatureNo) (i : ℕ) (c : ObjectNo) → is_containment s.metamodel f ≡ true → slice_get (values_at s (at_end n f)) i ≡ Some (value.Object c) → IsPart s n c
   part-under n f i c contains at =
       let e = at_end n f in
@@ -88,7 +88,7 @@ module _ (s : Model) (legal : IsLegal s) where
         here = refl;
       }
 
-  -- once the levels go past the deepest object, one more writes nothing else
+  -- if there are more levels than the deepest object has, one more level changes nothing
   more-levels : (k : ResourceNo) (n : ℕ) (o : ObjectNo) → 0 < n → length s.values.objects ≤ n + depth s legal o → object_data (reading s) k (suc n) o ≡ object_data (reading s) k n o
   more-levels k zero o some far = absurd (omega (arith, some))
   more-levels k (suc n) o some far =

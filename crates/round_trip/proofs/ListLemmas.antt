@@ -1,4 +1,4 @@
--- What holds of each item of a list, and what follows for the list.
+-- Properties of each item of a list, and their consequences for the list.
 use Rattle.std.proofs.Common.{◌≡◌, ◌∙◌, ℕ, zero, suc, ◌+◌, Bool, true, false, cond, List, [], ◌∷◌, Option, Some, ap, arith, map, refl, subst}
 use Rattle.std.specs.Prelude.{◌&&◌, ◌||◌, Contains, filter, filter_map, slice_get}
 use Rattle.std.specs.List.{AllByRecursion, cons_option, enumerate_from, list_all, list_any}
@@ -22,7 +22,7 @@ of-each P [] x all (k, low, at) = absurd (omega (arith, low))
 of-each P (y ∷ ys) x all (zero, low, at) = subst P at all.0
 of-each P (y ∷ ys) x all (suc k, low, at) = of-each P ys x all.1 (k, omega (arith, low), at)
 
--- what a test keeps was there and passes it
+-- an item that a filter keeps was in the list and passes the test
 pub filtered-in : {X : Type 0} (p : X → Bool) (xs : List X) (x : X) → Contains (filter p xs) x → Contains xs x × (p x ≡ true)
 filtered-in {X} p xs x there = (of-each (λ y. Contains xs y) (filter p xs) x (all xs (λ y at. at)) there, passes-kept p xs x there)
   where
@@ -74,7 +74,7 @@ mapped-in f [] x (k, low, at) = absurd (omega (arith, low))
 mapped-in f (y ∷ ys) x (zero, low, at) = subst (λ z. Contains (map f (y ∷ ys)) (f z)) at (in-front (f y) (map f ys))
 mapped-in f (y ∷ ys) x (suc k, low, at) = behind (f y) (map f ys) (f x) (mapped-in f ys x (k, omega (arith, low), at))
 
--- what is at an index of a list that was made item by item
+-- the item at an index of a list that was made item by item
 pub mapped-at : {X Y : Type 0} (f : X → Y) (xs : List X) (i : ℕ) (y : Y) → slice_get (map f xs) i ≡ Some y → (x : X) × (slice_get xs i ≡ Some x) × (f x ≡ y)
 mapped-at f [] i y at = absurd (none-some y at)
 mapped-at f (x ∷ xs) zero y at = (x, refl, same_Some (f x) y at)
@@ -88,7 +88,7 @@ pub filter_map-each : {X Y : Type 0} (f : X → Option Y) (g : X → Y) (xs : Li
 filter_map-each f g [] all = refl
 filter_map-each f g (x ∷ xs) all = ap (λ o. cons_option o (filter_map f xs)) all.0 ∙ ap (λ ys. g x ∷ ys) (filter_map-each f g xs all.1)
 
--- what is read of each item with its index
+-- the results of reading each item with its index
 pub read-each : {X Y Z : Type 0} (f : ℕ × Y → Option Z) (d : X → Y) (g : X → Z) (n : ℕ) (xs : List X) → ((i : ℕ) (x : X) → slice_get xs i ≡ Some x → f (n + i, d x) ≡ Some (g x))
     → filter_map f (enumerate_from n (map d xs)) ≡ map g xs
 read-each f d g n [] h = refl

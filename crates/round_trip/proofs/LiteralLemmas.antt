@@ -1,4 +1,4 @@
--- The name of a literal is that of no other one of its enumeration, so it leads back to the literal.
+-- No other literal of its enumeration has the name of a literal, so the name leads back to the literal.
 use Rattle.std.proofs.Common.{◌≡◌, ℕ, zero, suc, ◌++◌, ◌||◌, Bool, true, false, cond, List, [], ◌∷◌, nat_lt, position, slice_get, length, Option, Some, None, option_and_then, option_map, unwrap_or, take, refl, sym, ap, ◌∙◌, ltb-true}
 use Rattle.std.specs.Option.{option_map_or}
 use Rattle.std.specs.Str.{bytes_eq}
@@ -19,7 +19,7 @@ use Rattle.doc_parts.proofs.WayLemmas.{position_cons}
 
 ---------------------------------------------------------------- names that repeat none
 
--- none of them is among those seen
+-- none of the names is among the names seen before
 not-seen : (seen names : List (List ℕ)) (i : ℕ) (w : List ℕ) → repeats seen names ≡ false → slice_get names i ≡ Some w → is_among seen w ≡ false
 not-seen seen [] i w once at = absurd (none-some w at)
 not-seen seen (n ∷ ns) zero w once at = ap (is_among seen) (sym (same_Some n w at)) ∙ (or_parts (is_among seen n) (repeats (seen ++ n ∷ []) ns) once).0
@@ -27,13 +27,13 @@ not-seen seen (n ∷ ns) (suc i) w once at =
     let later = not-seen (seen ++ n ∷ []) ns i w (or_parts (is_among seen n) (repeats (seen ++ n ∷ []) ns) once).1 at in
     (or_parts (is_among seen w) (is_among (n ∷ []) w) (sym (list_any-append (bytes_eq w) seen (n ∷ [])) ∙ later)).0
 
--- nor is one of them the last that was seen
+-- none of the names is the last name that was seen
 not-last : (seen : List (List ℕ)) (n w : List ℕ) → is_among (seen ++ n ∷ []) w ≡ false → bytes_eq n w ≡ false
 not-last seen n w none = false_from_ne_true (bytes_eq n w) (λ same.
     let here = (bytes_eq-Decides w n).1 (sym ((bytes_eq-Decides n w).0 same)) in
     true≢false (sym (or_right (is_among seen w) (is_among (n ∷ []) w) (ap (λ (b : Bool). b || false) here)) ∙ sym (list_any-append (bytes_eq w) seen (n ∷ [])) ∙ none))
 
--- so each is first found where it is
+-- so each name is found at its own index
 found-at : (seen names : List (List ℕ)) (i : ℕ) (w : List ℕ) → repeats seen names ≡ false → slice_get names i ≡ Some w → position (λ l. bytes_eq l w) names ≡ Some i
 found-at seen [] i w once at = absurd (none-some w at)
 found-at seen (n ∷ ns) zero w once at =

@@ -1,4 +1,4 @@
--- What is written under the features of a class is found under their names, since no two of them share one.
+-- The values that are written under the features of a class are found under their names, since no two features share a name.
 use Rattle.std.proofs.Common.{◌≡◌, ◌∙◌, ◌&&◌, ℕ, Bool, true, false, cond, not, List, [], ◌∷◌, Option, Some, None, map, filter, filter_map, option_map, refl, sym, ap, if◌then◌else◌}
 use Rattle.std.specs.Prelude.{nat_eq, unwrap_or}
 use Rattle.std.specs.List.{AllByRecursion, IsDistinct, cons_option, list_any}
@@ -19,7 +19,7 @@ use Rattle.doc_parts.specs.Parts.{Entry, content_at, entry_at, new_entry}
 use Rattle.doc_writer.specs.Document.{members_with}
 use Rattle.round_trip.proofs.PartsListLemmas.{all-both, all-more}
 
--- a name that is other than each feature's
+-- a name that no feature has
 abbrev IsOther : (FeatureNo → List ℕ) → List ℕ → List FeatureNo → Type 0
 IsOther name n fs = AllByRecursion (λ f. n ≡ name f → ⊥) fs
 
@@ -69,7 +69,7 @@ module _ (m : Metamodel) (d : IsOfDocument m) (c : ClassNo) where
 ---------------------------------------------------------------- members
 
 module _ (name : FeatureNo → List ℕ) (content : FeatureNo → Data) (written : FeatureNo → Bool) where
-  -- the members of those features that are written, put among others
+  -- the members of the features that are written, put among other members
   abbrev filled : Members → List FeatureNo → Members
   filled old fs = members_with old (map (λ f. (name f, content f)) (filter written fs))
 
@@ -107,13 +107,13 @@ module _ (name : FeatureNo → List ℕ) (content : FeatureNo → Data) (written
         | false ↦ entries-of m ms fs all.1
       ]
 
--- under a container reference nothing is written
+-- nothing is written under a container reference
 no-container : (set container : Bool) (o : Option Data) (d : Data) → o ≡ cond (set && not container) (Some d) None → (if container then None else o) ≡ cond (set && not container) (Some d) None
 no-container true true o d is = refl
 no-container false true o d is = refl
 no-container set false o d is = is
 
--- what is written of an object whose features have other names each is read from its members
+-- if the features of an object have different names, their values are read from its members
 pub entries-read : (m : Metamodel) (content : FeatureNo → Data) (set : FeatureNo → Bool) (fs : List FeatureNo) → NamesAreApart (lookups.feature_name m) fs
     → filter_map (entry_at m (members_with no_members (map (λ f. (lookups.feature_name m f, content f)) (filter (λ f. set f && not (lookups.is_container m f)) fs)))) fs
     ≡ map (λ f. new_entry f (content f)) (filter (λ f. set f && not (lookups.is_container m f)) fs)

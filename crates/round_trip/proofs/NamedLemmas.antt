@@ -1,5 +1,5 @@
--- As what a value that is written is named: an object of the resource by its number, one of another resource by its address. No two
--- values of a list get one name.
+-- The names of values in a document: an object of the resource has its number as its name, and an object of another resource its address.
+-- No two values of a list get the same name.
 use Rattle.std.proofs.Common.{◌≡◌, ◌∙◌, ℕ, Bool, true, false, cond, List, [], Option, Some, None, ap, eqb-true, map, nat_eq, option_map, refl, slice_get, sym}
 use Rattle.std.specs.Prelude.{Contains, is_some, not, option_and_then, position, unwrap_or}
 use Rattle.std.specs.List.{list_any}
@@ -23,11 +23,10 @@ use Rattle.mm_types.specs.declared.refused.Refused.TheVariants.{Dangling, TooDee
 use Rattle.mm_types.specs.declared.value.Value.{Value}
 use Rattle.mm_types.specs.declared.value.Value.TheVariants as value
 use Rattle.links.specs.LegalSets as sets
-use Rattle.links.specs.Links.{text_of}
+use Rattle.links.proofs.ShownLemmas.{object_value, proxy_value}
 use Rattle.models.specs.Legal.{IsLegal}
 use Rattle.models.specs.Model.{Model, reading, values_at}
 use Rattle.models.specs.Reading.{Reading, at_end}
-use Rattle.models.specs.Reading.{object_of as reading_object}
 use Rattle.models.proofs.PlaceLemmas.{is_target}
 use Rattle.containment.specs.Above.{resource_of}
 use Rattle.fragment_paths.specs.Finding.{at}
@@ -53,7 +52,7 @@ use Rattle.round_trip.proofs.OrderLemmas.{position-there}
 
 ---------------------------------------------------------------- what saving refuses
 
--- nothing of what saving refuses is so
+-- none of the refusals of a save applies
 pub record IsAllowed (r : Reading) (k : ResourceNo) : Type 0 where
   pub none_dangling : list_any (has_dangling r) (objects_in r k) ≡ false
   pub none_deep : list_any (is_too_deep r) (objects_in r k) ≡ false
@@ -70,9 +69,6 @@ pub allowed : (r : Reading) (k : ResourceNo) → save_refusal r k ≡ None → I
 allowed r k none =
     let first = not-so Dangling (list_any (has_dangling r) (objects_in r k)) (TooDeep where_so list_any (is_too_deep r) (objects_in r k)) none in
     record { none_dangling = first.0; none_deep = not-last TooDeep (list_any (is_too_deep r) (objects_in r k)) first.1 }
-
-object-value : (x y : ObjectNo) → value.Object x ≡ value.Object y → x ≡ y
-object-value x y same = same_Some x y (ap reading_object same)
 
 -- what an object of a resource that may be saved refers to is in a resource
 not-dangling : (s : Model) (k : ResourceNo) (o : ObjectNo) (f : FeatureNo) (b : ObjectNo) (i : ℕ) → list_any (has_dangling (reading s)) (objects_in (reading s) k) ≡ false → Contains (objects_in (reading s) k) o
@@ -105,9 +101,6 @@ some-object (Some n) v h = ap lookups.is_object (sym (same_Some (object_of n) v 
 
 ---------------------------------------------------------------- names
 
-proxy-text : (t u : List ℕ) → value.Proxy t ≡ value.Proxy u → t ≡ u
-proxy-text t u same = same_Some t u (ap text_of same)
-
 -- an object of another resource
 pub record IsElsewhere (r : Reading) (k : ResourceNo) (b : ObjectNo) : Type 0 where
   pub nowhere : position (same_object b) (objects_in r k) ≡ None
@@ -115,7 +108,7 @@ pub record IsElsewhere (r : Reading) (k : ResourceNo) (b : ObjectNo) : Type 0 wh
   pub text : List ℕ
   pub is : address r b ≡ Some text
 
--- an object of the resource has a number, one of another an address
+-- an object of the resource has a number, and an object of another resource an address
 pub data IsNamed (r : Reading) (k : ResourceNo) (b : ObjectNo) : Type 0 where
   Numbered : (n : ℕ) → position (same_object b) (objects_in r k) ≡ Some n → IsNamed r k b
   Addressed : IsElsewhere r k b → IsNamed r k b
@@ -161,7 +154,7 @@ module _ (s : Model) (legal : IsLegal s) (k : ResourceNo) (uri : List ℕ) (lead
   is-object o f (Reference target true opposite) i v parts is = some-object (number_of (parts_of (reading s) k) (with_step (path_in (reading s) o) (step_to s.metamodel f i))) (renamed (reading s) os v) is
   is-object o f (Reference target false opposite) i v parts is = absurd parts
 
-  -- what is not in the resource is no part of its objects
+  -- an object that is not in the resource is no part of its objects
   not-contained : (o : ObjectNo) (f : FeatureNo) (b : ObjectNo) (i : ℕ) → Contains os o → Contains (written_features (reading s) o) f → slice_get (values_at s (at_end (node.Object o) f)) i ≡ Some (value.Object b)
       → position (same_object b) os ≡ None → is_containment s.metamodel f ≡ false
   not-contained o f b i inside there at nowhere =
@@ -197,12 +190,12 @@ module _ (s : Model) (legal : IsLegal s) (k : ResourceNo) (uri : List ℕ) (lead
 
   one-object : (a b : ObjectNo) → IsNamed (reading s) k a → IsNamed (reading s) k b → renamed (reading s) os (value.Object a) ≡ renamed (reading s) os (value.Object b) → value.Object a ≡ value.Object b
   one-object a b (Numbered n x) (Numbered i y) same =
-      let number = ap (λ (o : ObjectNo). o.0) (object-value (record { 0 = n }) (record { 0 = i }) (sym (name-numbered a n x) ∙ same ∙ name-numbered b i y)) in
+      let number = ap (λ (o : ObjectNo). o.0) (object_value (record { 0 = n }) (record { 0 = i }) (sym (name-numbered a n x) ∙ same ∙ name-numbered b i y)) in
       ap value.Object (same_Some a b (sym (position-there os a n x) ∙ ap (slice_get os) number ∙ position-there os b i y))
   one-object a b (Numbered n x) (Addressed y) same = absurd (true≢false (ap lookups.is_object (sym (name-numbered a n x) ∙ same ∙ name-addressed b y)))
   one-object a b (Addressed x) (Numbered i y) same = absurd (false≢true (ap lookups.is_object (sym (name-addressed a x) ∙ same ∙ name-numbered b i y)))
   one-object a b (Addressed x) (Addressed y) same =
-      let text = proxy-text x.text y.text (sym (name-addressed a x) ∙ same ∙ name-addressed b y) in
+      let text = proxy_value x.text y.text (sym (name-addressed a x) ∙ same ∙ name-addressed b y) in
       ap value.Object (leads.one_address a b y.text (x.is ∙ ap Some text) y.is)
 
   no-proxy : (o : ObjectNo) (f : FeatureNo) (a : ObjectNo) (t : List ℕ) (i j : ℕ) → Contains os o → IsNamed (reading s) k a → slice_get (values_at s (at_end (node.Object o) f)) i ≡ Some (value.Object a)
@@ -210,7 +203,7 @@ module _ (s : Model) (legal : IsLegal s) (k : ResourceNo) (uri : List ℕ) (lead
   no-proxy o f a t i j inside (Numbered n x) first second same = true≢false (ap lookups.is_object (sym (name-numbered a n x) ∙ same))
   no-proxy o f a t i j inside (Addressed x) first second same =
       let vs = values_at s (at_end (node.Object o) f) in
-      let text = proxy-text x.text t (sym (name-addressed a x) ∙ same) in
+      let text = proxy_value x.text t (sym (name-addressed a x) ∙ same) in
       fine.none_twice o f a t inside (stands vs i (value.Object a) first) (stands vs j (value.Proxy t) second) x.other (x.is ∙ ap Some text)
 
   one-name : (o : ObjectNo) (f : FeatureNo) (i j : ℕ) (v w : Value) → Contains os o → Contains (written_features (reading s) o) f → slice_get (values_at s (at_end (node.Object o) f)) i ≡ Some v

@@ -1,4 +1,4 @@
--- An object that was saved is read with its class and the features that are written of it.
+-- An object that was saved is read with its class and its written features.
 use Rattle.std.proofs.Common.{◌≡◌, ◌∙◌, ℕ, true, false, not, List, [], Option, Some, None, codes, get_or, map, option_map, refl, sym, ap, subst}
 use Rattle.std.specs.Prelude.{filter_map, is_some, option_and_then, unwrap_or}
 use Rattle.std.specs.List.{IsDistinct}
@@ -32,7 +32,7 @@ use Rattle.round_trip.proofs.ClassLemmas.{own-class}
 use Rattle.round_trip.proofs.LevelLemmas.{data-is}
 use Rattle.round_trip.proofs.NameLemmas.{NamesAreApart, entries-read, names-apart}
 
--- what is written as an object is read as one
+-- JSON that is written for an object is read as an object
 written-read : (c : List ℕ) (ms : Members) → written (two (codes "class") (string c) (codes "features") (object ms)) ≡ Some (new_written c ms)
 unfolding written serde_json_on_literals
 written-read c ms = refl
@@ -73,7 +73,7 @@ module _ (s : Model) (legal : IsLegal s) (k : ResourceNo) (o : ObjectNo) (live :
       ap (λ (x : Option ClassNo). option_map_or (λ (c : Class). c.name) (option_and_then (lookups.class s.metamodel) x) []) h.is
       ∙ ap (λ (x : Option Class). option_map_or (λ (c : Class). c.name) x []) h.there
 
-  -- the name that is written finds the class
+  -- the class is found by the name that is written
   by-name : (h : HasClass s o) → lookups.class_by_name s.metamodel (class_name (reading s) o) ≡ Some h.class
   by-name h = ap (lookups.class_by_name s.metamodel) (name-is h) ∙ own-class s.metamodel legal.metamodel h.class h.state h.there
 

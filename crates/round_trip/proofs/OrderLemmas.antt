@@ -1,8 +1,8 @@
--- The objects of a resource are all different, so each one's number is its index among them.
+-- The objects of a resource are all different, so the number of each is its index among them.
 use Rattle.std.proofs.Common.{◌≡◌, ◌∙◌, ℕ, zero, suc, Bool, true, false, cond, List, [], ◌∷◌, Option, Some, None, ap, eq-eqb, inl, inr, option_map, refl, slice_get, sym, subst}
 use Rattle.std.specs.Prelude.{Contains, flat_map, position}
 use Rattle.std.specs.List.{IsDistinct, list_any}
-use Rattle.std.proofs.lemmas.Bool.{false≢true, or_cases}
+use Rattle.std.proofs.lemmas.Bool.{false≢true, or_cases, false_from_ne_true}
 use Rattle.std.proofs.lemmas.Option.{none-some, same_Some}
 use Rattle.mm_types.specs.Lookups as lookups
 use Rattle.mm_types.specs.Same.{same_object}
@@ -36,10 +36,6 @@ use Rattle.round_trip.proofs.ListLemmas.{of-each}
 
 ---------------------------------------------------------------- lists of objects
 
-not-true : (b : Bool) → (b ≡ true → ⊥) → b ≡ false
-not-true true h = absurd (h refl)
-not-true false h = refl
-
 -- lists of different objects, no two of which share one
 distinct-flat_map : (f : ObjectNo → List ObjectNo) (xs : List ObjectNo) → ((x : ObjectNo) → Contains xs x → IsDistinct same_object (f x)) → IsDistinct same_object xs
     → ((x y c : ObjectNo) → Contains xs x → Contains xs y → list_any (same_object c) (f x) ≡ true → list_any (same_object c) (f y) ≡ true → x ≡ y) → IsDistinct same_object (flat_map f xs)
@@ -62,7 +58,7 @@ position-next o x xs other = position_cons (same_object o) x xs ∙ ap (λ (b : 
 position-first : (o x : ObjectNo) (xs : List ObjectNo) → same_object o x ≡ true → position (same_object o) (x ∷ xs) ≡ Some 0
 position-first o x xs same = position_cons (same_object o) x xs ∙ ap (λ (b : Bool). cond b (Some 0) (option_map suc (position (same_object o) xs))) same
 
--- what is found at an index is there
+-- an object that is found at an index is there
 pub position-there : (os : List ObjectNo) (o : ObjectNo) (n : ℕ) → position (same_object o) os ≡ Some n → slice_get os n ≡ Some o
 position-there [] o n at = absurd (none-some n at)
 position-there (x ∷ xs) o n at =
@@ -75,14 +71,14 @@ position-there (x ∷ xs) o n at =
     by None is h there = absurd (none-some n h)
     by (Some k) is h there = ap (slice_get (x ∷ xs)) (sym (same_Some (suc k) n h)) ∙ there k is
 
--- and what is at an index of different objects is found there
+-- in a list of different objects the object at an index is found there
 pub there-position : (os : List ObjectNo) (o : ObjectNo) (n : ℕ) → IsDistinct same_object os → slice_get os n ≡ Some o → position (same_object o) os ≡ Some n
 unfolding IsDistinct
 there-position [] o n d at = absurd (none-some o at)
 there-position (x ∷ xs) o zero d at = position-first o x xs (eq-eqb o.0 x.0 (ap (λ (y : ObjectNo). y.0) (sym (same_Some x o at))))
 there-position (x ∷ xs) o (suc n) d at =
     let there = stands xs n o at in
-    position-next o x xs (not-true (same_object o x) (λ same. false≢true (sym (of-each (λ y. same_object x y ≡ false) xs o d.0 there) ∙ eq-eqb x.0 o.0 (ap (λ (y : ObjectNo). y.0) (sym (same-object o x same))))))
+    position-next o x xs (false_from_ne_true (same_object o x) (λ same. false≢true (sym (of-each (λ y. same_object x y ≡ false) xs o d.0 there) ∙ eq-eqb x.0 o.0 (ap (λ (y : ObjectNo). y.0) (sym (same-object o x same))))))
     ∙ ap (option_map suc) (there-position xs o n d.1 at)
 
 ---------------------------------------------------------------- the objects of a resource
@@ -92,7 +88,7 @@ root-kept None t = refl
 root-kept (Some q) t = refl
 
 module _ (s : Model) (legal : IsLegal s) (k : ResourceNo) where
-  -- all in a tree are reached from one root
+  -- all objects of a tree are reached from one root
   same-root : (n i : ℕ) (p c : ObjectNo) → option_map (λ (q : Path). q.root) (path_of (reading s) p) ≡ Some i → list_any (same_object c) (tree (reading s) n p) ≡ true
       → option_map (λ (q : Path). q.root) (path_of (reading s) c) ≡ Some i
   same-root zero i p c at h = absurd (false≢true h)
@@ -111,7 +107,7 @@ module _ (s : Model) (legal : IsLegal s) (k : ResourceNo) where
   abbrev end-of : End
   end-of = roots_end (reading s) k
 
-  -- a root is held by the resource, at its position
+  -- the holder of a root is the resource, which has the root at its position
   root-held : (o : ObjectNo) → Contains (roots (reading s) k) o → holder s.links (node.Object o) ≡ Some end-of
   root-held o there =
       of-each (λ x. holder s.links (node.Object x) ≡ Some end-of) (roots (reading s) k) o

@@ -39,13 +39,13 @@ module _ (s : Model) (legal : IsLegal s) where
       let at = located-object s legal o k inside in
       at.is ∙ ap Some (sym (ap (λ (x : Option Path). unwrap_or x (new_path 0 [])) at.is))
 
-  -- which finds it
+  -- the path of an object leads to it
   path-finds : (k : ResourceNo) (o : ObjectNo) → resource_of (reading s).above o ≡ Some k → find (reading s) k (path_in (reading s) o) ≡ Some o
   path-finds k o inside =
       let at = located-object s legal o k inside in
       ap (λ (x : Option Path). find (reading s) k (unwrap_or x (new_path 0 []))) at.is ∙ at.finds
 
-  -- so two objects have one path only if they are one
+  -- so two objects with the same path are the same object
   one-path : (k : ResourceNo) (o p : ObjectNo) → resource_of (reading s).above o ≡ Some k → resource_of (reading s).above p ≡ Some k
       → same_path (path_in (reading s) o) (path_in (reading s) p) ≡ same_object o p
   one-path k o p here there = by (same_path (path_in (reading s) o) (path_in (reading s) p)) (same_object o p) refl refl
@@ -69,7 +69,7 @@ module _ (s : Model) (legal : IsLegal s) where
       ap (λ (ns : List Node). length ns) (above_is s.links legal.links.set legal.links.forest (node.Resource k)
       ∙ ap (λ (x : Option End). option_map_or (λ (e : End). e.node ∷ above s.links e.node) x []) (resource_top s.links k legal.links.set))
 
-  -- a path has a step fewer than there are nodes above its object
+  -- a path has one step fewer than there are nodes above its object
   abbrev HasLevel : ObjectNo → Type 0
   HasLevel o = (q : Path) → path_of (reading s) o ≡ Some q → suc (length q.steps) ≡ length (above s.links (node.Object o))
 

@@ -1,7 +1,7 @@
 -- Each value that is written is read as it was, whatever the kind of its feature.
-use Rattle.std.proofs.Common.{◌≡◌, ◌∙◌, ℕ, Bool, true, false, Contains, List, slice_get, not, is_some, Option, Some, if◌then◌else◌, refl, sym, ap}
+use Rattle.std.proofs.Common.{◌≡◌, ◌∙◌, ℕ, Bool, true, false, Contains, List, slice_get, is_some, Option, Some, if◌then◌else◌, refl, sym, ap}
 use Rattle.std.specs.Option.{option_map_or}
-use Rattle.std.proofs.lemmas.Bool.{and_parts}
+use Rattle.std.proofs.lemmas.Bool.{and_parts, not-true}
 use Rattle.serde_json.specs.Data.{Data, string}
 use Rattle.mm_types.specs.Lookups as lookups
 use Rattle.mm_types.specs.Shapes.{Shape, shape}
@@ -39,13 +39,9 @@ use Rattle.round_trip.specs.Copied.{renamed}
 use Rattle.round_trip.specs.ValuesLaws.{AreReadAs, parts_of}
 use Rattle.round_trip.specs.Readable.{IsReadable}
 
-not-true : (b : Bool) → not b ≡ true → b ≡ false
-not-true true h = sym h
-not-true false h = refl
-
 module _ (s : Model) (good : IsLegal s) (steady : HasSteadyTexts s) (k : ResourceNo) (uri : List ℕ) (parts : AreParts (reading s) k) (back : LeadsBack (reading s) k uri) (ok : IsReadable (reading s) k uri)
     (o : ObjectNo) (f : FeatureNo) (g : Feature) (i : ℕ) (inside : Contains (objects_in (reading s) k) o) (set : Contains (written_features (reading s) o) f) (known : lookups.feature s.metamodel f ≡ Some g) where
-  -- a value is one of a kind of feature, and is read as it was
+  -- a value of a kind of feature is read as it was
   abbrev IsReadBy : Kind → Value → Type 0
   IsReadBy x v =
       (is_value s.metamodel (shape s.metamodel f).is_single x (value_data (reading s) k (data_of (reading s) k) f v) ≡ true)

@@ -1,4 +1,4 @@
--- What is written for what a reference leads to is read as that: an object of the resource by its number, and else a proxy.
+-- The JSON for a value of a reference is read as this value: an object of the resource by its number, and any other object as a proxy.
 use Rattle.std.proofs.Common.{◌≡◌, ◌∙◌, ℕ, Bool, true, false, Contains, List, [], length, nat_eq, slice_get, not, is_some, Option, Some, None, option_map, unwrap_or, if◌then◌else◌, eq-eqb, eqb-true, le-leb, refl, sym, ap}
 use Rattle.std.specs.Prelude.{option_and_then}
 use Rattle.std.specs.List.{list_any}
@@ -71,7 +71,7 @@ module _ (s : Model) (legal : IsLegal s) (k : ResourceNo) (uri : List ℕ) (back
         let there = none-passes (λ g. list_any (is_dangling r) (targets_under r o g)) (reference_features r o) f here is-reference in
         some-one (resource_of r.above b) (none-passes (is_dangling r) (targets_under r o f) b there is-target)
 
-    -- its text is short
+    -- the text of the reference is short
     pub text-short : is_short (reference_text (reading s) k b) ≡ true
     text-short = le-leb (length (reference_text (reading s) k b)) TEXT_BYTES (ok.short b (record { object = o; feature = f; inside = inside; written = is-reference; there = is-target }))
 
@@ -96,7 +96,7 @@ module _ (s : Model) (legal : IsLegal s) (k : ResourceNo) (uri : List ℕ) (back
           ∙ sym (ap (option_map object_of) number)
           ∙ renamed-here s legal k b written
 
-      -- an object of another resource is a proxy of its address
+      -- an object of another resource is a proxy with its address
       led-elsewhere : is_in (reading s) k b ≡ false → Some (value.Proxy (unwrap_or (address (reading s) b) [])) ≡ Some (renamed (reading s) (objects_in (reading s) k) (value.Object b))
       led-elsewhere out =
           let r = reading s in

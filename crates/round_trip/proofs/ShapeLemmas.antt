@@ -1,5 +1,5 @@
--- The document of a resource has the shape of one: its objects have classes that are there, each key is a feature of its object's class,
--- and what is written under it is of the feature's type.
+-- The document of a resource has the right shape: its objects have classes of the metamodel, each key is a feature of its object's class,
+-- and the values under it are of the feature's type.
 use Rattle.std.proofs.Common.{◌≡◌, ◌∙◌, ℕ, Bool, true, false, List, [], ◌∷◌, Option, Some, None, Ordering, Less, Equal, Greater, ap, map, option_map, refl, sym, subst}
 use Rattle.std.specs.Prelude.{◌&&◌, ◌||◌, ◌==◌, Contains, if◌then◌else◌, is_some, not}
 use Rattle.std.specs.Cmp.Lexicographic.{slice_cmp}
@@ -30,6 +30,7 @@ use Rattle.links.specs.Holders.{holder}
 use Rattle.models.specs.Legal.{IsLegal, IsLegalObject}
 use Rattle.models.specs.Model.{Model, reading, values_at}
 use Rattle.models.specs.Reading.{at_end, is_live, objects_of}
+use Rattle.models.proofs.PlaceLemmas.{legal-at}
 use Rattle.containment.specs.Above.{resource_of}
 use Rattle.fragment_paths.proofs.HeldLemmas.{held, held-object}
 use Rattle.fragment_paths.proofs.NameLemmas.{own-name}
@@ -47,7 +48,7 @@ use Rattle.round_trip.specs.PartsLaws.{AreParts}
 use Rattle.round_trip.specs.Parts.{data_of, entry_of, features_data, part_of}
 use Rattle.round_trip.specs.ValuesLaws.{AreReadAs}
 use Rattle.round_trip.proofs.CopyLemmas.{values-written}
-use Rattle.round_trip.proofs.EndLemmas.{legal-at, written-of}
+use Rattle.round_trip.proofs.EndLemmas.{written-of}
 use Rattle.round_trip.proofs.ValuesListLemmas.{stands}
 use Rattle.round_trip.proofs.ListLemmas.{all-pass, all-passed, any-none, each-at, each-mapped, each-of, of-each}
 
@@ -92,7 +93,7 @@ module _ (s : Model) (legal : IsLegal s) where
       of-each (λ x. is_live (reading s) x ≡ true) (objects_of (values_at s e)) o (all-passed (is_live (reading s)) (objects_of (values_at s e)) (all-live s e legal at.reference))
       (stands (objects_of (values_at s e)) _ o (held-object s legal o e at))
 
-  -- what is in a resource lives
+  -- an object in a resource lives
   pub live-inside : (o : ObjectNo) (k : ResourceNo) → resource_of (reading s).above o ≡ Some k → is_live (reading s) o ≡ true
   live-inside o k inside = by (holder s.links (node.Object o)) refl
     where

@@ -1,4 +1,4 @@
--- In the document of a resource both objects of a pair that are in it name each other.
+-- In the document of a resource two linked objects that are both in it name each other.
 use Rattle.std.proofs.Common.{◌≡◌, ◌∙◌, ℕ, zero, suc, ◌+◌, Bool, true, false, List, [], ◌∷◌, Option, Some, None, ap, arith, eq-eqb, eqb-true, map, nat_eq, option_map, refl, slice_get, sym, subst}
 use Rattle.std.specs.Prelude.{◌&&◌, ◌||◌, Contains, IsTrue, flat_map, if◌then◌else◌, not, option_and_then, unwrap_or}
 use Rattle.std.specs.List.{enumerate_from, list_any}
@@ -28,10 +28,10 @@ use Rattle.mm_types.specs.declared.value.Value.TheVariants as value
 use Rattle.links.specs.Links.{end}
 use Rattle.links.specs.Plans.{Has}
 use Rattle.links.proofs.SideLemmas.{both_ends_agree}
-use Rattle.models.specs.Legal.{IsLegal, is_legal_end, is_legal_target, kinds_of}
+use Rattle.models.specs.Legal.{IsLegal, is_legal_end, kinds_of}
 use Rattle.models.specs.Model.{Model, reading, values_at}
 use Rattle.models.specs.Reading.{Reading, all_features_of, at_end, has_feature, is_set}
-use Rattle.models.proofs.PlaceLemmas.{is_target}
+use Rattle.models.proofs.PlaceLemmas.{is_target, target-legal}
 use Rattle.containment.proofs.PartLemmas.{legal-at, values-linked}
 use Rattle.doc_writer.specs.Written.{is_written, objects_in, written_features}
 use Rattle.doc_parts.proofs.DataLemmas.{list_any-map}
@@ -58,7 +58,7 @@ any-counted p g n (x ∷ xs) h =
     ap (λ b. b || list_any p (enumerate_from (n + 1) (map g xs))) (ap (λ (k : ℕ). p (k, g x)) (let e : n ≡ n + 0 = omega arith in e) ∙ h 0 x refl)
     ∙ any-counted p g (n + 1) xs (λ i y at. ap (λ (k : ℕ). p (k, g y)) (let e : n + 1 + i ≡ n + suc i = omega arith in e) ∙ h (suc i) y at)
 
--- nothing holds of a resource's document that holds of none of its contents
+-- a test that fails for each content of a resource's document fails for the document
 pub none-content : (r : Reading) (k : ResourceNo) (holds : ObjectNo → Content → Bool)
     → ((n : ℕ) (o : ObjectNo) (f : FeatureNo) → slice_get (objects_in r k) n ≡ Some o → Contains (written_features r o) f → holds (record { 0 = n }) (content_copied r (objects_in r k) o f) ≡ false)
     → of_content holds (copied r k) ≡ false
@@ -100,16 +100,11 @@ first-set a v vs flag settable null target = by a.is_single v target
     by true _ is = absurd (false≢true is)
     by false w is = refl
 
-pub target-of : (r : Reading) (f : FeatureNo) (v : Value) → is_legal_target r f v ≡ true → is_target v ≡ true
-target-of r f (value.Object o) h = refl
-target-of r f (value.Proxy t) h = refl
-target-of r f _ h = absurd (false≢true h)
-
 some-set : (r : Reading) (e : End) (vs : List Value) (i : ℕ) (v : Value) → (shape r.metamodel e.feature).is_unsettable ≡ false → (shape r.metamodel e.feature).default ≡ value.Null → IsTrue (is_legal_end r e vs) → slice_get vs i ≡ Some v
     → ends.is_set (shape r.metamodel e.feature) (record { values = shown (shape r.metamodel e.feature).is_single vs; flag = r.flag e }) ≡ true
 some-set r e [] i v settable null legal at = absurd (none-some v at)
 some-set r e (w ∷ ws) i v settable null legal at =
-    first-set (shape r.metamodel e.feature) w ws (r.flag e) settable null (target-of r e.feature w (legal-at r e (w ∷ ws) 0 w legal refl).1)
+    first-set (shape r.metamodel e.feature) w ws (r.flag e) settable null (target-legal r e.feature w (legal-at r e (w ∷ ws) 0 w legal refl).1)
 
 -- a class's feature is among all features of its objects
 pub among-class : (r : Reading) (o : ObjectNo) (f : FeatureNo) → has_feature r (node.Object o) f ≡ true → Contains (all_features_of r (node.Object o)) f
@@ -123,7 +118,7 @@ among-class r o f = by_class (r.class o)
     by_class None h = absurd (false≢true h)
     by_class (Some c) h = by_all (lookups.features r.metamodel c) h
 
--- the opposite of a reference that contains nothing is no container reference
+-- the opposite of a reference that is no containment is no container reference
 no-container : (m : Metamodel) (f g : FeatureNo) (x : Feature) → lookups.feature m f ≡ Some x → lookups.opposite m g ≡ Some f → is_containment m f ≡ false → lookups.is_container m g ≡ false
 no-container m f g x there back other =
     ap (λ (o : Option FeatureNo). option_map_or (λ y. lookups.is_containment_kind y.kind) (option_and_then (lookups.feature m) o) false) back
@@ -150,7 +145,7 @@ module _ (s : Model) (legal : IsLegal s) (k : ResourceNo) (uri : List ℕ) (lead
       let linked = values-linked s near (opposites_are_pairs m legal.metamodel f g opposite).near_refers in
       both_ends_agree (kinds_of m) s.links legal.links.set legal.links.kinds near (at_end (node.Object b) g) opposite (i, ap (λ (vs : List Value). slice_get vs i) (sym linked) ∙ at)
 
-  -- and is written
+  -- the other end is written
   far-written : (o : ObjectNo) (f g : FeatureNo) (b : ObjectNo) (x : Feature) → lookups.feature m f ≡ Some x → (shape m f).opposite ≡ Some g → is_containment m f ≡ false → Has s.links (at_end (node.Object b) g) (value.Object o)
       → Contains (written_features (reading s) b) g
   far-written o f g b x there opposite other has =
@@ -166,7 +161,7 @@ module _ (s : Model) (legal : IsLegal s) (k : ResourceNo) (uri : List ℕ) (lead
 
   ---------------------------------------------------------------- both name each other
 
-  -- what a document has under a feature of an object by its number
+  -- the values that a document has under a feature of an object, by its number
   under-number : (b : ObjectNo) (j : ℕ) (g : FeatureNo) → slice_get os j ≡ Some b → values_in (copied (reading s) k) (record { 0 = j }) g ≡ values_under (object_copied (reading s) os b) g
   unfolding copied
   under-number b j g at =

@@ -1,4 +1,4 @@
--- What a text leads to: a fragment to a path here, and the address of another resource to a proxy.
+-- The targets of texts: a fragment leads to a path in the document, and an address in another resource leads to a proxy.
 use Rattle.std.proofs.Common.{◌≡◌, ◌∙◌, ◌<◌, ◌||◌, ℕ, Bool, true, false, cond, not, List, [], ◌∷◌, ◌++◌, length, Option, Some, None, option_map, refl, ap, sym, codes, bytes_eq, get_or, true≢false, ⊎_elim, eq-or-lt_of_le}
 use Rattle.std.specs.Prelude.{is_some}
 use Rattle.std.specs.List.{list_any, position_or_len}
@@ -31,12 +31,12 @@ empty-web true true s rest web text = cc
 empty-web true false s rest web text = no-scheme s rest web (same_Some (s ++ rest) [] text)
 empty-web false c s rest web text = cc
 
--- a URI of the web begins with its scheme, so it is not empty
+-- a URI of http or https begins with its scheme, so it is not empty
 web-not-empty : IsWebUri [] → ⊥
 web-not-empty web = option_and_then_some web_text (if_parsed (parse_url None [])) [] web
     (λ u parsed text. empty-web (is_web u) (list_any is_mark (serialize u)) u.scheme _ refl text)
 
--- and joined with any base it is what is meant
+-- joined with any base, a URI of http or https is the URI that is meant
 meant-web : (uri u : List ℕ) → IsWebUri u → uri_meant (base_of uri) u ≡ Some u
 meant-web uri [] web = absurd (web-not-empty web)
 meant-web uri (c ∷ cs) web = joined-web uri (c ∷ cs) web
@@ -46,7 +46,7 @@ meant-web uri (c ∷ cs) web = joined-web uri (c ∷ cs) web
 mark-within : (t : List ℕ) → has_mark t ≡ true → position_or_len is_mark t < length t
 mark-within t marked = ⊎_elim (λ last. absurd (true≢false (sym marked ∙ none_passes is_mark t last))) (λ below. below) (eq-or-lt_of_le (prefix_len-le-length (λ c. not (is_mark c)) t))
 
--- a text with `#` is what is before the first one, `#`, and what is after
+-- a text with `#` is the text before the first `#`, the `#`, and the text after it
 around-mark : (t : List ℕ) → has_mark t ≡ true → address_text (uri_part t) (fragment_part t) ≡ t
 around-mark t marked =
     let below = mark-within t marked in
@@ -79,7 +79,7 @@ target-proxy uri t proxy apart = by (parse (fragment_part t)) refl proxy.text.fr
         ∙ target-parts uri (uri_part t) (fragment_part t) p proxy.steady apart parsed
         ∙ ap (λ x. Some (Elsewhere x)) (around-mark t proxy.text.mark)
 
--- and so does the address of an object in another resource
+-- the address of an object in another resource leads to a proxy with this address
 pub target-address : (uri u rest : List ℕ) (p : Path) → IsWebUri u → (u ≡ uri → ⊥) → parse rest ≡ Some p → target (base_of uri) (address_text u rest) ≡ Some (Elsewhere (address_text u rest))
 target-address uri u rest p web apart parsed =
     target-proxy uri (address_text u rest) (steady_proxy u rest p web parsed) (λ same. apart (sym (uri-of_address u rest (web_joined u web)) ∙ same))

@@ -8,12 +8,12 @@ use Rattle.std.proofs.lemmas.Bool.Decides.{nat_tests}
 use Rattle.std.proofs.lemmas.Fmt.{digits_decimal}
 use Rattle.std.proofs.lemmas.List.Folds.{list_any-append}
 use Rattle.mm_types.specs.Names.{is_name, is_name_byte}
+use Rattle.mm_types.proofs.IntegerLemmas.{digits_model}
 use Rattle.web_uris.specs.Addresses.{has_mark}
 use Rattle.web_uris.specs.Joined.{is_mark}
 use Rattle.web_uris.specs.Paths.{AreWritten, IsWritable, IsWritten, index_text, path_text, step_text}
 use Rattle.web_uris.specs.declared.path.Path.{Path}
 use Rattle.web_uris.specs.declared.path.Step.{Step}
-use Rattle.web_uris.proofs.PathFacts.{digits_model}
 
 ---------------------------------------------------------------- words
 

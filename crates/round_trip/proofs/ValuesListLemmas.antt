@@ -1,4 +1,4 @@
--- Elements of lists, as tests and indexes find them.
+-- Elements of lists that are found by tests and by indexes.
 use Rattle.std.proofs.Common.{◌≡◌, ℕ, zero, suc, Bool, true, false, cond, Contains, List, [], ◌∷◌, map, filter, flat_map, position, slice_get, Some, None, option_map, arith, eq-eqb, inl, inr, refl, sym, ap, ◌∙◌, subst}
 use Rattle.std.specs.List.{list_any}
 use Rattle.std.proofs.lemmas.Bool.{false_from_ne_true, false≢true, or_cases, or_parts, true≢false}
@@ -16,7 +16,7 @@ use Rattle.doc_parts.proofs.WayLemmas.{position_cons}
 ---------------------------------------------------------------- elements and indexes
 
 module _ {X : Type 0} where
-  -- what is at an index is an element, and an element is at an index
+  -- the value at an index is an element, and each element is at an index
   pub stands : (xs : List X) (k : ℕ) (x : X) → slice_get xs k ≡ Some x → Contains xs x
   stands xs k x at = (k, slice_get_within xs k x at, get_or_from_slice_get xs k x x at)
 
@@ -29,7 +29,7 @@ module _ {X : Type 0} where
   pub in-front : (x : X) (xs : List X) → Contains (x ∷ xs) x
   in-front x xs = (0, omega arith, refl)
 
-  -- no element passes a test that none does
+  -- if no element passes a test, a given element does not
   pub none-passes : (p : X → Bool) (xs : List X) (x : X) → list_any p xs ≡ false → Contains xs x → p x ≡ false
   none-passes p xs x none c = false_from_ne_true (p x) (λ passes. true≢false (sym (list_any_at p xs c.0 x c.1 (ap p c.2 ∙ passes)) ∙ none))
 
@@ -51,7 +51,7 @@ module _ {X : Type 0} where
   passes-kept p xs x c = All-contains (λ y. p y ≡ true) (filter p xs) x (filter_passes p xs) c
 
 module _ {X Y : Type 0} where
-  -- what one element gives is among what all give
+  -- the results of one element are among the results of all
   pub in-all : (f : X → List Y) (xs : List X) (k : ℕ) (x : X) (y : Y) → slice_get xs k ≡ Some x → Contains (f x) y → Contains (flat_map f xs) y
   in-all f [] k x y at c = absurd (none-some x at)
   in-all f (z ∷ zs) zero x y at c = Contains-append_left (f z) (flat_map f zs) y (subst (λ (w : X). Contains (f w) y) (sym (same_Some z x at)) c)
@@ -84,7 +84,7 @@ object-among (v ∷ vs) zero o at = subst (λ (w : Value). Contains (objects_of 
 object-among (value.Object p ∷ vs) (suc k) o at = behind p (objects_of vs) o (object-among vs k o at)
 object-among (v ∷ vs) (suc k) o at = object-among vs k o at
 
--- an object of a list is found where it is
+-- an object of a list is found at its index
 pub record IsAt (os : List ObjectNo) (o : ObjectNo) : Type 0 where
   pub number : ℕ
   pub found : position (same_object o) os ≡ Some number

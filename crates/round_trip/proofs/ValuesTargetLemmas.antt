@@ -1,4 +1,4 @@
--- What is at a reference: an object whose class conforms, or a proxy if the reference takes proxies. And the text of a proxy there.
+-- A value at a reference is an object whose class conforms, or a proxy if the reference takes proxies; and the text of a proxy there.
 use Rattle.std.proofs.Common.{◌≡◌, ◌∙◌, ℕ, Bool, true, false, List, slice_get, Option, Some, None, if◌then◌else◌, eq-eqb, refl, sym, ap}
 use Rattle.std.specs.Option.{option_map_or}
 use Rattle.std.proofs.lemmas.Bool.{false≢true}
@@ -35,14 +35,14 @@ pub shape-of : (m : Metamodel) (f : FeatureNo) (g : Feature) (x : Kind) → look
 shape-of m f g x known kind = ap (λ (o : Option Feature). option_map_or (λ y. shape_of m f y y.kind) o (contents_shape m)) known ∙ ap (shape_of m f g) kind
 
 module _ (m : Metamodel) (f : FeatureNo) (g : Feature) (target : ClassNo) (opposite : Option FeatureNo) (known : lookups.feature m f ≡ Some g) where
-  -- a containment reference contains, and takes no proxies
+  -- a containment reference is a containment, and takes no proxies
   pub contains-parts : g.kind ≡ Reference target true opposite → is_containment m f ≡ true
   contains-parts kind = ap (λ (a : Shape). is_feature f a.containing) (shape-of m f g (Reference target true opposite) known kind) ∙ eq-eqb f.0 f.0 refl
 
   no-proxies : g.kind ≡ Reference target true opposite → takes_proxies (shape m f) ≡ false
   no-proxies kind = ap takes_proxies (shape-of m f g (Reference target true opposite) known kind)
 
-  -- another reference contains nothing, unless it is a container reference
+  -- any other reference contains nothing, unless it is a container reference
   pub links-only : g.kind ≡ Reference target false opposite → lookups.is_container m f ≡ false → is_containment m f ≡ false
   links-only kind plain =
       ap (λ (a : Shape). is_feature f a.containing) (shape-of m f g (Reference target false opposite) known kind)
@@ -66,7 +66,7 @@ far-placed (At d j) n e k t = elim (same_end d e) as (λ b. (if b then at_index 
 far-placed (Alone o) n e k t = λ h. none-some _ h
 far-placed (Proxy u) n e k t = λ h. none-some _ h
 
--- a link that is somewhere with a proxy is that proxy
+-- a link that has a proxy at a position is that proxy
 placed-far : (l : Link) (e : End) (k : ℕ) (t : List ℕ) → indexed l e ≡ Some (k, value.Proxy t) → l.far ≡ Proxy t
 placed-far l e k t = elim (same_end l.end e) as (λ b. (if b then at_index l.index (far_value l.far) else far_indexed l.far (node_value l.end.node) e) ≡ Some (k, value.Proxy t) → l.far ≡ Proxy t) [
   | true ↦ λ h. far-of_value l.far t (some_pair_parts l.index k (far_value l.far) (value.Proxy t) h).1
@@ -92,7 +92,7 @@ module _ (s : Model) (legal : IsLegal s) (o : ObjectNo) (f : FeatureNo) (g : Fea
       sym (ap (λ (x : Option Feature). option_map_or (λ y. lookups.is_of_kind s.metamodel class (lookups.is_single y) y.kind (value.Object b)) x (lookups.is_live_object class (value.Object b))) known
       ∙ ap (λ (x : Kind). lookups.is_of_kind s.metamodel class (lookups.is_single g) x (value.Object b)) kind) ∙ taken
 
-  -- what holds of each object that conforms, and of each proxy if they are taken, holds of what is there
+  -- a property of each object that conforms, and of each proxy if proxies are taken, holds for the value there
   pub each-target : (P : Value → Type 0) → ((b : ObjectNo) → v ≡ value.Object b → option_map_or (λ c. lookups.conforms s.metamodel c target) ((reading s).class b) false ≡ true → P (value.Object b))
       → ((t : List ℕ) → v ≡ value.Proxy t → takes_proxies (shape s.metamodel f) ≡ true → P (value.Proxy t)) → P v
   each-target P object proxy = by v refl legal-target
@@ -102,14 +102,14 @@ module _ (s : Model) (legal : IsLegal s) (o : ObjectNo) (f : FeatureNo) (g : Fea
       by (value.Proxy t) is taken = proxy t is taken
       by _ is taken = absurd (false≢true taken)
 
-  -- a proxy there has the text of one, and joining leaves its URI as it is
+  -- a proxy there has a legal text, and joining leaves its URI as it is
   pub steady-there : HasSteadyTexts s → (t : List ℕ) → v ≡ value.Proxy t → IsSteadyProxy t
   steady-there steady t is =
       let e = at_end (node.Object o) f in
       let stands = (legal.links.set.placed.ends e).only i (value.Proxy t) (ap (λ (vs : List Value). slice_get vs i) (sym (values-linked s e refers)) ∙ at ∙ ap Some is) in
       steady.proxies stands.0 t stands.1 (placed-far stands.0 e i t stands.2)
 
--- at a containment reference are objects alone
+-- a containment reference has only objects
 pub each-part : (s : Model) → IsLegal s → (o : ObjectNo) (f : FeatureNo) (g : Feature) (i : ℕ) (v : Value) (target : ClassNo) (opposite : Option FeatureNo) → lookups.feature s.metamodel f ≡ Some g
     → g.kind ≡ Reference target true opposite → slice_get ((reading s).values (at_end (node.Object o) f)) i ≡ Some v → (P : Value → Type 0)
     → ((b : ObjectNo) → v ≡ value.Object b → option_map_or (λ c. lookups.conforms s.metamodel c target) ((reading s).class b) false ≡ true → P (value.Object b)) → P v

@@ -1,4 +1,5 @@
--- A resource as a document: its objects named by their positions in loading order, those of other resources by their addresses.
+-- A resource as a document, which names the objects of the resource by their positions in loading order, and other objects by their
+-- addresses.
 use Rattle.std.specs.Prelude.{List, [], map, position, unwrap_or}
 use Rattle.std.specs.Option.{option_map_or}
 use Rattle.mm_types.specs.Same.{same_object}
@@ -16,7 +17,7 @@ use Rattle.resource_docs.specs.declared.doc.Content.{Content}
 use Rattle.resource_docs.specs.declared.doc.Doc.{Doc}
 use Rattle.resource_docs.specs.declared.doc.DocObject.{DocObject}
 
--- an object by its position among those of the resource; one of another resource by its address, as a proxy
+-- a value as the document has it: an object of the resource becomes its position, an object of another resource a proxy with its address
 abbrev pub renamed : Reading → List ObjectNo → Value → Value
 renamed r os (value.Object o) =
     option_map_or (λ n. value.Object (record { 0 = n })) (position (same_object o) os) (value.Proxy (unwrap_or (address r o) []))

@@ -1,4 +1,4 @@
--- What is saved is read back: the document of a resource is read as the resource, up to the numbers of its objects.
+-- What is saved is read back: reading the document of a resource gives the resource, except for the numbers of its objects.
 use Rattle.std.specs.Prelude.{◌≡◌, ℕ, true, List, Ok}
 use Rattle.std.specs.Str.{is_utf8}
 use Rattle.mm_types.specs.declared.numbers.ResourceNo.{ResourceNo}
@@ -18,7 +18,7 @@ ReadsBack s =
     IsLegal s → HasSteadyTexts s → (k : ResourceNo) (uri : List ℕ) → IsReadable (reading s) k uri
     → reads s.metamodel (base_of uri) (document (reading s) k) ≡ Ok (copied (reading s) k)
 
--- and so is a text of it, as saving answers one
+-- the text of a resource, as a save returns it, is read as that resource
 abbrev pub ReadsTextBack : Model → Type 0
 ReadsTextBack s =
     IsLegal s → HasSteadyTexts s → (k : ResourceNo) (uri text : List ℕ) → IsReadable (reading s) k uri → IsReadAs (reading s) k text → is_utf8 text ≡ true

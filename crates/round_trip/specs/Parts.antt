@@ -16,15 +16,15 @@ use Rattle.doc_writer.specs.Written.{written_features}
 abbrev pub path_in : Reading → ObjectNo → Path
 path_in r o = unwrap_or (path_of r o) (new_path 0 [])
 
--- what is written of an object and of all in it: no tree has more levels than objects were made
+-- the JSON value of an object with all that it contains; no tree has more levels than objects were made
 abbrev pub data_of : Reading → ResourceNo → ObjectNo → Data
 data_of r k o = object_data r k r.next o
 
--- what is written of its features
+-- the members that are written for an object's features
 abbrev pub features_data : Reading → ResourceNo → ObjectNo → Members
 features_data r k o = members (map (feature_member r k (data_of r k) o) (written_features r o))
 
--- an object as a part, and a feature that is written as an entry
+-- an object as a part of the document; and `entry_of`, a written feature as an entry
 abbrev pub part_of : Reading → ResourceNo → ObjectNo → Part
 part_of r k o = record { path = path_in r o; json = data_of r k o }
 

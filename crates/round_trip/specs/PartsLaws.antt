@@ -1,4 +1,4 @@
--- What is found in the document of a resource: the objects of the resource, each with the features that are written of it.
+-- The parts of a resource's document are the objects of the resource, each with its written features.
 use Rattle.std.specs.Prelude.{◌≡◌, pos, Contains, Some, map}
 use Rattle.serde_json.specs.View.{items_of}
 use Rattle.mm_types.specs.declared.limits.TheConstants.{DOCUMENT_FORMAT}
@@ -12,7 +12,7 @@ use Rattle.doc_writer.specs.Document.{class_name, document}
 use Rattle.doc_writer.specs.Written.{objects_in, written_features}
 use Rattle.round_trip.specs.Parts.{data_of, entry_of, features_data, part_of}
 
--- an object is read with its class and, in order, the features that are written of it
+-- an object is read with its class and, in order, its written features
 pub record IsPart (r : Reading) (k : ResourceNo) (o : ObjectNo) : Type 0 where
   pub written : written (data_of r k o) ≡ Some (new_written (class_name r o) (features_data r k o))
   pub class : class_of r.metamodel (data_of r k o) ≡ r.class o

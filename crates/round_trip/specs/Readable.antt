@@ -1,4 +1,4 @@
--- What a resource must be for its document to be read again as that resource.
+-- The conditions under which the document of a resource is read back as that resource.
 use Rattle.std.specs.Prelude.{◌≡◌, ℕ, ◌≤◌, false, List, Contains, length, slice_get, Some, None}
 use Rattle.mm_types.specs.declared.limits.TheConstants.{TEXT_BYTES}
 use Rattle.mm_types.specs.declared.numbers.FeatureNo.{FeatureNo}
@@ -14,7 +14,7 @@ use Rattle.doc_writer.specs.Document.{reference_text}
 use Rattle.doc_writer.specs.Saved.{reference_features, save_refusal, targets_under}
 use Rattle.doc_writer.specs.Written.{objects_in}
 
--- a value is under a feature of an object of a resource
+-- some object of a resource has a value under some feature
 pub record Holds (r : Reading) (k : ResourceNo) (v : Value) : Type 0 where
   pub object : ObjectNo
   pub feature : FeatureNo
@@ -29,14 +29,14 @@ pub record Refers (r : Reading) (k : ResourceNo) (o : ObjectNo) : Type 0 where
   pub written : Contains (reference_features r object) feature
   pub there : Contains (targets_under r object feature) o
 
--- no end of the resource has both an object of another one and a proxy of that object's address
+-- no end of the resource has both an object of another resource and a proxy with that object's address
 abbrev pub HasNoneTwice : Reading → ResourceNo → Type 0
 HasNoneTwice r k =
     (o : ObjectNo) (f : FeatureNo) (b : ObjectNo) (t : List ℕ) → Contains (objects_in r k) o → Contains (r.values (at_end (node.Object o) f)) (value.Object b)
     → Contains (r.values (at_end (node.Object o) f)) (value.Proxy t) → is_in r k b ≡ false → address r b ≡ Some t → ⊥
 
--- the resource is there and saving it is not refused, no text of a reference is too long, no proxy names the resource itself, and none
--- is beside the object whose address it is
+-- the resource exists, its save is not refused, no text of a reference is too long, no proxy has an address in the resource itself, and no
+-- end has both a proxy and the object at its address
 pub record IsReadable (r : Reading) (k : ResourceNo) (uri : List ℕ) : Type 0 where
   pub there : slice_get r.uris k.0 ≡ Some uri
   pub allowed : save_refusal r k ≡ None

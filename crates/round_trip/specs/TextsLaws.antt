@@ -1,4 +1,4 @@
--- What the texts of references lead to: in the resource that they are written in, to the object that they were written for.
+-- The text of a reference, read in the resource in which it is written, leads to the object for which it was written.
 use Rattle.std.specs.Prelude.{◌≡◌, ℕ, List, [], Some, unwrap_or, if◌then◌else◌}
 use Rattle.mm_types.specs.declared.numbers.ObjectNo.{ObjectNo}
 use Rattle.mm_types.specs.declared.numbers.ResourceNo.{ResourceNo}
@@ -12,11 +12,12 @@ use Rattle.resource_docs.specs.Texts.{base_of, target}
 use Rattle.resource_docs.specs.declared.target.Target.{Target}
 use Rattle.resource_docs.specs.declared.target.Target.TheVariants.{Here, Elsewhere}
 
--- what the reference of a resource to an object leads to: the object's path in the resource, or its address in another one
+-- the target of a resource's reference to an object: the object's path in the resource, or its address in another resource
 abbrev pub target_of : Reading → ResourceNo → ObjectNo → Target
 target_of r k o = if is_in r k o then Here (unwrap_or (path_of r o) (new_path 0 [])) else Elsewhere (unwrap_or (address r o) [])
 
--- in a resource of this URI each text of a reference leads to what it was written for; and no two objects have one address
+-- in a resource of this URI, each text of a reference leads to the object, or the address, for which it was written; and no two objects
+-- have one address
 pub record LeadsBack (r : Reading) (k : ResourceNo) (uri : List ℕ) : Type 0 where
   pub object : (o : ObjectNo) (j : ResourceNo) → resource_of r.above o ≡ Some j → target (base_of uri) (reference_text r k o) ≡ Some (target_of r k o)
   pub proxy : (t : List ℕ) → IsSteadyProxy t → (uri_part t ≡ uri → ⊥) → target (base_of uri) t ≡ Some (Elsewhere t)

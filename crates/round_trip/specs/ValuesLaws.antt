@@ -1,4 +1,4 @@
--- The objects and the values of a resource, as they are read in its document.
+-- The objects and the values of a resource, as they are read from its document.
 use Rattle.std.specs.Prelude.{◌≡◌, ℕ, true, List, Contains, map, position, Some, slice_get}
 use Rattle.mm_types.specs.Lookups as lookups
 use Rattle.mm_types.specs.Same.{same_object}
@@ -32,12 +32,12 @@ pub record IsPlaced (r : Reading) (k : ResourceNo) (o : ObjectNo) : Type 0 where
   pub number : number_of (parts_of r k) (path_in r o) ≡ position (same_object o) (objects_in r k)
   pub level : level_of (part_of r k o) ≡ level r o
 
--- what is written for a value under a feature is a value of that feature, and is read as it
+-- the JSON value of a value under a feature is accepted for that feature, and is read as the value in the document
 pub record IsReadAs (r : Reading) (k : ResourceNo) (uri : List ℕ) (o : ObjectNo) (f : FeatureNo) (g : Feature) (i : ℕ) (v : Value) : Type 0 where
   pub good : is_value r.metamodel (shape r.metamodel f).is_single g.kind (value_data r k (data_of r k) f v) ≡ true
   pub value : value_of r.metamodel (base_of uri) (parts_of r k) (path_in r o) f g.kind (i, value_data r k (data_of r k) f v) ≡ Some (renamed r (objects_in r k) v)
 
--- and so each value that is written
+-- each object has its place in the document, and each written value is read as the value in the document
 pub record AreReadAs (r : Reading) (k : ResourceNo) (uri : List ℕ) : Type 0 where
   pub objects : (o : ObjectNo) → Contains (objects_in r k) o → IsPlaced r k o
   pub values : (o : ObjectNo) (f : FeatureNo) (g : Feature) (i : ℕ) (v : Value) → Contains (objects_in r k) o → Contains (written_features r o) f

@@ -10,27 +10,27 @@ ghost use Rattle.round_trip.specs.Readable.{IsReadable};
 ghost use Rattle.round_trip.specs.TextsLaws.{LeadsBack};
 ghost use Rattle.round_trip.specs.ValuesLaws.{AreReadAs};
 
-/// The parts of the document of a resource are the objects of the resource, in loading order, each with its path, its class
-/// and the features that are written of it.
+/// The parts of the document of a resource are the objects of the resource, in loading order, each with its path, its class and its written
+/// features.
 pub fn the_parts_of_a_saved_document_are_its_objects()
     ensures { (s : Model) → IsLegal s → (k : ResourceNo) → AreParts (reading s) k }
 {}
 
-/// The text by which a resource refers to an object leads, read in that resource, to that object's path, or to a proxy of its
-/// address if it is in a different resource; the text of a proxy leads to that proxy.
+/// Read in a resource, the text by which the resource refers to an object leads to that object's path, or to a proxy with its address if
+/// the object is in a different resource. The text of a proxy leads to that proxy.
 pub fn a_reference_leads_to_its_object()
     ensures { (s : Model) → IsLegal s → HasSteadyTexts s → (k : ResourceNo) (uri : List ℕ) → slice_get (reading s).uris k.0 ≡ Some uri → LeadsBack (reading s) k uri }
 {}
 
-/// Each object that is written is read at its position, and each value as it was: an object of the resource by its number in loading
-/// order, one of a different resource as a proxy of its address.
+/// Each object that is written is read at its position, and each value as it was: an object of the resource by its number in loading order,
+/// an object of a different resource as a proxy with its address.
 pub fn each_value_is_read_as_it_was()
     ensures { (s : Model) → IsLegal s → HasSteadyTexts s → (k : ResourceNo) (uri : List ℕ) → AreParts (reading s) k → LeadsBack (reading s) k uri → IsReadable (reading s) k uri → AreReadAs (reading s) k uri }
 {}
 
-/// The document of a resource is read as that resource: its objects in loading order, each with its class and with the values of
-/// the features that are set, objects of other resources as proxies of their addresses. So is the text that
-/// `doc_writer::write_doc` returns.
+/// The document of a resource is read as that resource: its objects in loading order, each with its class and the values of the features
+/// that are set. Objects of other resources are proxies with their addresses. The text that `doc_writer::write_doc` returns is read so,
+/// too.
 pub fn what_is_saved_is_read_back()
     ensures value { (s : Model) → ReadsBack s }
     ensures text { (s : Model) → ReadsTextBack s }

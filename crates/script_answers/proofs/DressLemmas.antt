@@ -90,7 +90,7 @@ kept_last_by : (b : Bool) (ps : List Printed) (p : Printed) → (b && list_any (
 kept_last_by true ps p none = until_last ps p none
 kept_last_by false ps p none = refl
 
--- it keeps one more line, whatever that prints
+-- such a run keeps one more line, whatever the line prints
 pub kept_last : (d : Dress) (ps : List Printed) (p : Printed) → is_stopped d ps ≡ false → kept d (ps ++ p ∷ []) ≡ ps ++ p ∷ []
 kept_last d ps p going = kept_last_by d.stop ps p going
 
@@ -101,7 +101,7 @@ stopped_by true true false going = refl
 stopped_by true false false going = refl
 stopped_by false c any going = refl
 
--- and ends after it if it is refused or bad
+-- it ends after this line if the line is refused or bad
 pub stopped_last : (d : Dress) (ps : List Printed) (p : Printed) → is_stopped d ps ≡ false → is_stopped d (ps ++ p ∷ []) ≡ (d.stop && is_fault p.turn)
 stopped_last d ps p going =
     ap (λ x. d.stop && x) (list_any-append (λ q. is_fault q.turn) ps (p ∷ []))
@@ -121,7 +121,7 @@ kept_append_by : (b : Bool) (ps more : List Printed) → (b && list_any (λ q. i
 kept_append_by true ps more ended = until_append ps more ended
 kept_append_by false ps more ended = cc
 
--- what comes after the end of a run isn't kept
+-- lines after the end of a run are not kept
 pub kept_append : (d : Dress) (ps more : List Printed) → is_stopped d ps ≡ true → kept d (ps ++ more) ≡ kept d ps
 kept_append d ps more ended = kept_append_by d.stop ps more ended
 

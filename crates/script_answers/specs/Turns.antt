@@ -4,7 +4,7 @@ use Rattle.std.specs.List.{flat_map}
 use Rattle.script_answers.specs.declared.turn.Turn.{Turn}
 use Rattle.script_answers.specs.declared.turn.Turn.TheVariants as turned
 
--- what a line printed, and how it is counted
+-- the output of a line, and how it is counted
 pub record Printed : Type 0 where
   pub text : List ℕ
   pub turn : Turn
@@ -16,17 +16,17 @@ printed text turn = record { text = text; turn = turn }
 abbrev pub texts : List Printed → List ℕ
 texts = flat_map (λ p. p.text)
 
--- a line is lost: its command was answered out of memory
+-- whether a line is lost: its command failed with MEMORY
 abbrev pub is_lost : Turn → Bool
 is_lost turned.Lost = true
 is_lost _ = false
 
--- a line is passed over: it prints nothing
+-- whether a line is skipped: it prints nothing
 abbrev pub is_blank : Turn → Bool
 is_blank turned.Blank = true
 is_blank _ = false
 
--- a line is refused, or bad
+-- whether a line is refused, lost or bad
 abbrev pub is_fault : Turn → Bool
 is_fault turned.Bad = true
 is_fault turned.Refused = true

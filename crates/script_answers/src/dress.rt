@@ -5,20 +5,20 @@ ghost use Rattle.script_answers.specs.Turns.{is_fault};
 
 use crate::turn::Turn;
 
-/// What a run writes beside the answers of its lines, and where it ends.
+/// What a run writes beside the answers of its lines, and at which line it ends.
 #[derive(Clone, Copy)]
 pub struct Dress {
-    /// Each line that is not passed over is written before its answer, as `> LINE`.
+    /// Each line that is not skipped is written before its answer, as `> LINE`.
     pub echo: bool,
-    /// Each line of an answer begins with the number of its line in the script, as `7: ok`. Lines are counted from 1, the
-    /// ones that are passed over included.
+    /// Each line of an answer begins with the number of its line in the script, as `7: ok`. Lines are counted from 1; skipped lines count
+    /// too.
     pub number: bool,
     /// The run ends after the first line that is refused or bad.
     pub stop: bool,
 }
 
 impl Dress {
-    /// Answers alone, of all lines.
+    /// The answers of all lines, and nothing else.
     pub fn plain() -> Self
         ensures { result ≡ plain }
     {

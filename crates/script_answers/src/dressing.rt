@@ -11,10 +11,10 @@ use script_lines::next_line;
 use script_streams::{RunFault, write_all, write_parts};
 use std::io::Write;
 
-/// What comes before a line that is echoed.
+/// The text before a line that is echoed.
 const ECHO: &[u8] = b"> ";
 
-/// What comes after the number of a line.
+/// The text after the number of a line.
 const NUMBERED: &[u8] = b": ";
 
 /// Ends a line.
@@ -71,9 +71,9 @@ fn write_answer<W: Write>(
     }
 }
 
-/// Writes what a line of the script prints, by the output options.
+/// Writes the output of a line of the script, by the output options.
 ///
-/// Errs with `Write` as `write_all` does; what was written by then is a prefix of it.
+/// Errs with `Write` as `write_all` does; then a prefix of the output was written.
 pub fn write_dressed<W: Write>(
     writer: &mut W,
     dress: Dress,

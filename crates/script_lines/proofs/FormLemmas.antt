@@ -1,8 +1,8 @@
 -- Forms of a line, by cases.
-use Rattle.std.proofs.Common.{◌≡◌, ◌∙◌, ◌≤◌, ◌&&◌, ◌||◌, ◌+◌, ℕ, suc, nat_eq, not, Bool, true, false, List, [], ◌∷◌, None, IsUtf8, ap, arith, codes, cond, if◌then◌else◌, length, refl, take}
+use Rattle.std.proofs.Common.{◌≡◌, ◌∙◌, ◌≤◌, ◌&&◌, ◌+◌, ℕ, suc, nat_eq, not, Bool, true, false, List, [], ◌∷◌, None, IsUtf8, ap, arith, codes, cond, if◌then◌else◌, length, refl, take}
 use Rattle.std.specs.List.{before_first, position_or_len}
 use Rattle.std.specs.Str.{bytes_eq, is_utf8}
-use Rattle.std.proofs.lemmas.Bool.{true≢false}
+use Rattle.std.proofs.lemmas.Bool.{or_parts}
 use Rattle.std.proofs.lemmas.Str.{IsUtf8-from_is_utf8, is_utf8-from_IsUtf8}
 use Rattle.script_lines.specs.Words.{after_spaces, is_space, words}
 use Rattle.script_lines.specs.Forms.{form, form_of, is_load, line_of, may_load, text_line}
@@ -44,15 +44,11 @@ pub text_form : (bytes : List ℕ) → IsUtf8 bytes → form bytes ≡ text_line
 unfolding form
 text_form bytes h = let e = is_utf8-from_IsUtf8 bytes h in rw e refl
 
-both-false : (a b : Bool) → (a || b) ≡ false → (a ≡ false) × (b ≡ false)
-both-false true b h = absurd (true≢false h)
-both-false false b h = (refl, h)
-
 -- a line that begins with another letter has another verb
 pub no_load_begins : (bytes : List ℕ) → may_load bytes ≡ false → is_load bytes ≡ false
 no_load_begins [] h = refl
 no_load_begins (c ∷ cs) h =
-    let both = both-false (is_space c) (nat_eq c 108) h in
+    let both = or_parts (is_space c) (nat_eq c 108) h in
     let more : 1 + position_or_len is_space cs ≡ suc (position_or_len is_space cs) = omega arith in
     ap (λ (b : Bool). bytes_eq (before_first is_space (if b then after_spaces cs else c ∷ cs)) (codes "load")) both.0
     ∙ ap (λ (b : Bool). bytes_eq (take (cond (not b) (1 + position_or_len is_space cs) 0) (c ∷ cs)) (codes "load")) both.0

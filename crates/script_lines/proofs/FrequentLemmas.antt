@@ -52,7 +52,7 @@ name_at : (b : Bool) (w f : List ℕ) → cond b (Some w) None ≡ Some f → (b
 name_at true w f h = (refl, cc)
 name_at false w f h = absurd (true≢false (ap is_some (sym h)))
 
--- a name is the word that it is read from
+-- a name is the word from which it is read
 name_is : (w f : List ℕ) → name_in w ≡ Some f → (is_name w ≡ true) × (w ≡ f)
 name_is w f h = name_at (is_name w) w f h
 
@@ -106,7 +106,7 @@ object_before (c ∷ cs) n len some mark number within space =
     let is : c ≡ 35 = mark in
     rw is (object_at cs n len number at)
 
--- an object and a name were cut off a text
+-- an object and a name were cut off the front of a text
 pub feature_read : (text rest more : List ℕ) (o : ObjectNo) (f : List ℕ) → object_in (before_first is_space text) ≡ Some o → rest ≡ after_first is_space text
     → name_in (before_first is_space rest) ≡ Some f → more ≡ after_first is_space rest → ReadsFeature o f more text
 feature_read text rest more o f object_is rest_is name more_is =
@@ -122,7 +122,7 @@ pub value_read : (o : ObjectNo) (f w rest text : List ℕ) → words rest ≡ w 
 value_read o f w rest text one r =
     record { object = r.object; words_are = r.words_are ∙ ap (λ x. r.object ∷ f ∷ x) one; object_is = r.object_is; name_is = r.name_is }
 
--- what is said of a verb and the rest of a line is said of the line
+-- a property of a verb and the rest of a line is one of the line
 pub feature_line : (v : Verb) (line rest : List ℕ) (r : Option Frequent) → line ≡ verb_text v ++ rest
     → IfSome r (λ f. text_line (verb_text v ++ rest) ≡ frequent_line f) → IfSome r (λ f. text_line line ≡ frequent_line f)
 feature_line v line rest r is h = subst (λ t. IfSome r (λ f. text_line t ≡ frequent_line f)) (sym is) h

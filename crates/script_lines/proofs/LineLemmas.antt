@@ -4,22 +4,19 @@ use Rattle.std.specs.List.{after_first, before_first, list_all, position_or_len}
 use Rattle.std.proofs.lemmas.Bool.Decides.{nat_tests}
 use Rattle.std.proofs.lemmas.List.{length-drop}
 use Rattle.std.proofs.lemmas.List.Sums.{position_or_len_is}
+use Rattle.std.proofs.lemmas.Bool.{false_from_ne_true}
 use Rattle.memchr.specs.Find.{NoneBefore, Nowhere, Passes, is_byte}
 use Rattle.script_lines.specs.Lines.{IsCut, has_no_newline, is_newline, lines, with_byte, with_newlines}
 
-eq_false : (b : Bool) → (b ≡ true → ⊥) → b ≡ false
-eq_false true h = absurd (h refl)
-eq_false false h = refl
-
 pub newline_at : (bs : List ℕ) (n : ℕ) → NoneBefore (Passes (is_byte 10) bs) 0 (length bs) n → Passes (is_byte 10) bs n → n ≡ position_or_len is_newline bs
 newline_at bs n before here =
-    sym (position_or_len_is is_newline bs n 0 (let h = before.high in omega arith) (λ k low. eq_false _ (before.before k (omega arith) low)) (λ low. here))
+    sym (position_or_len_is is_newline bs n 0 (let h = before.high in omega arith) (λ k low. false_from_ne_true _ (before.before k (omega arith) low)) (λ low. here))
 
 pub no_newline : (bs : List ℕ) → Nowhere (Passes (is_byte 10) bs) 0 (length bs) → length bs ≡ position_or_len is_newline bs
 no_newline bs nowhere =
-    sym (position_or_len_is is_newline bs (length bs) 0 (omega arith) (λ k low. eq_false _ (nowhere k (omega arith) low)) (λ low. absurd (omega arith)))
+    sym (position_or_len_is is_newline bs (length bs) 0 (omega arith) (λ k low. false_from_ne_true _ (nowhere k (omega arith) low)) (λ low. absurd (omega arith)))
 
--- the lines of some bytes are the first one and those of what follows it
+-- the lines of some bytes are the first line and the lines of the bytes after it
 first_at : (b : Bool) (c : ℕ) (cs : List ℕ) (n : ℕ) → lines cs ≡ take n cs ∷ lines (drop (n + 1) cs)
     → cond b ([] ∷ lines cs) (with_byte c (lines cs)) ≡ take (cond (not b) (1 + n) 0) (c ∷ cs) ∷ lines (drop (cond (not b) (1 + n) 0 + 1) (c ∷ cs))
 first_at true c cs n h = refl

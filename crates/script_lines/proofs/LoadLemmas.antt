@@ -1,11 +1,13 @@
 -- The spaces and the cuts of a line `load RES REST`.
-use Rattle.std.proofs.Common.{◌∙◌, ◌≡◌, ◌≢◌, ◌==◌, ◌+◌, ◌++◌, ◌||◌, ℕ, suc, Bool, true, false, List, [], ◌∷◌, Option, None, Some, IfSome, ap, arith, codes, cond, drop, is_some, length, not, refl, sym, take, true≢false}
+use Rattle.std.proofs.Common.{◌∙◌, ◌≡◌, ◌≢◌, ◌==◌, ◌+◌, ◌++◌, ◌||◌, ℕ, suc, Bool, true, false, List, [], ◌∷◌, Option, None, Some, IfSome, ap, arith, codes, cond, drop, is_some, length, not, refl, sym, true≢false}
 use Rattle.std.specs.List.{list_any, position_or_len}
 use Rattle.std.specs.Str.{is_utf8}
 use Rattle.std.specs.Str.Pattern.{CutsPrefixes, FindsCharPrefix, IsTrimStartMatches}
 use Rattle.std.proofs.lemmas.Bool.Decides.{nat_tests}
 use Rattle.std.proofs.lemmas.Str.Ascii.{encode_ascii}
 use Rattle.std.proofs.lemmas.Str.Pattern.{drop_at_char}
+use Rattle.std.proofs.lemmas.Bool.{or_parts}
+use Rattle.std.proofs.Math.Seq.{take-append_seam}
 use Rattle.script_lines.specs.Words.{after_spaces, is_space}
 use Rattle.script_lines.specs.Values.{resource_in}
 use Rattle.script_lines.specs.Forms.{form, line_with, load_form}
@@ -51,10 +53,6 @@ no_load bs h = let e = none_found bs h in rw e refl
 
 -- ---- a resource, a space and a text
 
-or_false : (b more : Bool) → (b || more) ≡ false → (b ≡ false) × (more ≡ false)
-or_false true more h = (h, absurd (true≢false h))
-or_false false more h = (refl, h)
-
 or_true : (b more : Bool) → more ≡ true → (b || more) ≡ true
 or_true true more h = refl
 or_true false more h = h
@@ -66,16 +64,12 @@ cut_step false k n h e = omega arith
 cut_at : (w text : List ℕ) → list_any is_space w ≡ false → position_or_len is_space (w ++ 32 ∷ text) ≡ length w
 cut_at [] text h = refl
 cut_at (c ∷ cs) text h =
-    let parts = or_false (is_space c) (list_any is_space cs) h in
+    let parts = or_parts (is_space c) (list_any is_space cs) h in
     cut_step (is_space c) _ (length cs) parts.0 (cut_at cs text parts.1)
 
 space_there : (w text : List ℕ) → list_any is_space (w ++ 32 ∷ text) ≡ true
 space_there [] text = refl
 space_there (c ∷ cs) text = or_true (is_space c) _ (space_there cs text)
-
-before : (w xs : List ℕ) → take (length w) (w ++ xs) ≡ w
-before [] xs = refl
-before (c ∷ cs) xs = ap (λ x. c ∷ x) (before cs xs)
 
 behind : (w text : List ℕ) → drop (length w + 1) (w ++ 32 ∷ text) ≡ text
 behind [] text = refl
@@ -83,10 +77,10 @@ behind (c ∷ cs) text = let e : suc (length cs) + 1 ≡ suc (length cs + 1) = o
 
 no_space_leads : (w text : List ℕ) (r : ResourceNo) → resource_in w ≡ Some r → list_any is_space w ≡ false → after_spaces (w ++ 32 ∷ text) ≡ w ++ 32 ∷ text
 no_space_leads [] text r h none = absurd (true≢false (ap is_some (sym h)))
-no_space_leads (c ∷ cs) text r h none = let e : is_space c ≡ false = (or_false (is_space c) (list_any is_space cs) none).0 in rw e refl
+no_space_leads (c ∷ cs) text r h none = let e : is_space c ≡ false = (or_parts (is_space c) (list_any is_space cs) none).0 in rw e refl
 
 load_form_is : (w text : List ℕ) (r : ResourceNo) → resource_in w ≡ Some r → list_any is_space w ≡ false → load_form (w ++ 32 ∷ text) ≡ Some (Load r text)
-load_form_is w text r h none = rw (space_there w text, cut_at w text none, before w (32 ∷ text), behind w text, h) refl
+load_form_is w text r h none = rw (space_there w text, cut_at w text none, take-append_seam w (32 ∷ text), behind w text, h) refl
 
 -- every byte after the space that ends the resource is the text of the document
 pub text_kept : (w text : List ℕ) (r : ResourceNo) → resource_in w ≡ Some r → list_any is_space w ≡ false

@@ -10,7 +10,7 @@ use Rattle.script_lines.specs.Words.{is_space}
 use Rattle.script_lines.proofs.NumberLemmas.{all_in_front, front_first}
 use Rattle.script_lines.proofs.WordLemmas.{first_space}
 
--- up to the first byte that fails a test, all bytes pass it
+-- all bytes before the first one that fails a test pass it
 pub first_failing : (p : ℕ → Bool) (xs : List ℕ) → position_or_len (λ x. not (p x)) xs ≡ prefix_len p xs
 first_failing p [] = refl
 first_failing p (x ∷ xs) = at (p x) (first_failing p xs)

@@ -1,5 +1,5 @@
 -- Numbers of up to nine digits, and what they write.
-use Rattle.std.proofs.Common.{◌∙◌, ◌≡◌, ◌≢◌, ◌&&◌, ◌==◌, ◌+◌, ◌*◌, ◌<◌, ◌≤◌, ◌^◌, ℕ, zero, suc, Bool, true, false, List, [], ◌∷◌, None, Some, ap, arith, cond, drop, get_or, is_some, length, nat_le, nat_lt, neg_ℤ, pos, refl, rules, slice_index, sym, take, true≢false}
+use Rattle.std.proofs.Common.{◌∙◌, ◌≡◌, ◌≢◌, ◌&&◌, ◌==◌, ◌+◌, ◌*◌, ◌<◌, ◌≤◌, ◌^◌, ℕ, zero, suc, Bool, true, false, List, [], ◌∷◌, None, Some, ap, arith, cond, drop, get_or, is_some, length, nat_le, nat_lt, neg_ℤ, pos, refl, slice_index, sym, take, true≢false}
 use Rattle.std.specs.Char.{is_ascii_digit}
 use Rattle.std.specs.List.{list_all, prefix_len}
 use Rattle.std.specs.Str.Parse.{AllDigits, digits_value}
@@ -9,28 +9,23 @@ use Rattle.std.proofs.lemmas.Int.Digits.{digits_more, digits_value_more}
 use Rattle.std.proofs.lemmas.List.{length-take, take-take}
 use Rattle.std.proofs.lemmas.List.Sums.{prefix_len-le-length}
 use Rattle.std.proofs.lemmas.Str.{digit_value_digit}
-use Rattle.std.proofs.lemmas.Str.Parse.{IsDigitsTest, IsNumeralModel, digits_value_short, numerals_by_value, tells_digits}
+use Rattle.std.proofs.lemmas.Str.Parse.{IsNumeralModel, digits_value_short, numerals_by_value, tells_digits}
 use Rattle.mm_types.specs.Integers.{integer, is_decimal, natural}
+use Rattle.mm_types.proofs.IntegerLemmas.{digits_model}
 
 -- ---- digits, one after another
-
-digits_tell : IsDigitsTest (λ ds. list_all is_ascii_digit ds ≡ true)
-digits_tell = search rules
-
-digits_model : IsNumeralModel (λ ds. list_all is_ascii_digit ds ≡ true) (digits_value 10)
-digits_model = numerals_by_value _ digits_tell
 
 all_digits_model : IsNumeralModel (AllDigits 10) (digits_value 10)
 all_digits_model = numerals_by_value _ tells_digits
 
--- nine digits more than some write less than 2^32
+-- fewer than nine digits have a value below 10^8
 pub digits_low : (bs : List ℕ) (i : ℕ) → i < 9 → AllDigits 10 (take i bs) → digits_value 10 (take i bs) < 100000000
 digits_low bs i few all = digits_value_short all_digits_model (take i bs) 8 all (omega (arith, length-take i bs))
 
 pub digit_is : (c : ℕ) → is_ascii_digit c ≡ true → (48 ≤ c) × (c ≤ 57)
 digit_is c h = grind (arith, nat_tests)
 
--- one digit more is read
+-- one more digit is read
 pub digit_read : (bs : List ℕ) (i n d : ℕ) → i < length bs → is_ascii_digit (get_or bs i 0) ≡ true → d + 48 ≡ get_or bs i 0 → AllDigits 10 (take i bs)
     → n ≡ digits_value 10 (take i bs) → AllDigits 10 (take (i + 1) bs) × (n * 10 + d ≡ digits_value 10 (take (i + 1) bs))
 digit_read bs i n d within digit is all value =
@@ -40,7 +35,7 @@ digit_read bs i n d within digit is all value =
 
 -- ---- the number at the front
 
--- what passes a test from the front on passes it
+-- the bytes at the front that pass a test pass it
 pub all_in_front : (p : ℕ → Bool) (xs : List ℕ) → list_all p (take (prefix_len p xs) xs) ≡ true
 all_in_front p [] = refl
 all_in_front p (x ∷ xs) = at (p x) refl (all_in_front p xs)
@@ -57,7 +52,7 @@ decimal_of (c ∷ d ∷ cs) some all first = let other : c ≢ 48 = first (omega
 natural_is : (w : List ℕ) → is_decimal w ≡ true → digits_value 10 w < 2 ^ 32 → natural w ≡ Some (digits_value 10 w)
 natural_is w decimal low = let l : nat_lt (digits_value 10 w) (2 ^ 32) ≡ true = grind (arith, nat_tests) in rw (decimal, l) refl
 
--- the first byte of some bytes is the first of the longer ones
+-- the first byte of a prefix is the first byte of the whole
 pub front_first : (bytes : List ℕ) (len : ℕ) → 0 < len → get_or (take len bytes) 0 0 ≡ get_or bytes 0 0
 front_first [] zero some = refl
 front_first [] (suc k) some = refl
@@ -91,7 +86,7 @@ natural_parts false c v n h = absurd (true≢false (ap is_some (sym h)))
 pub natural_digits : (w : List ℕ) (n : ℕ) → natural w ≡ Some n → list_all is_ascii_digit w ≡ true
 natural_digits w n h = (and_parts _ _ (natural_parts (is_decimal w) (nat_lt (digits_value 10 w) (2 ^ 32)) _ n h).0).0
 
--- a number below 2^32 is one of 64 bits
+-- a number below 2^32 fits in 64 bits
 pub natural_is_integer : (w : List ℕ) (n : ℕ) → slice_index w 0 ≢ 45 → natural w ≡ Some n → integer w ≡ Some (pos n)
 natural_is_integer w n minus h =
     let parts = natural_parts (is_decimal w) (nat_lt (digits_value 10 w) (2 ^ 32)) _ n h in
@@ -108,7 +103,7 @@ no_zero [] decimal some = absurd (some refl)
 no_zero (c ∷ []) decimal some = single (c == 48) c refl some
 no_zero (c ∷ d ∷ cs) decimal some = grind (arith, nat_tests)
 
--- a minus and a number other than 0 write that number below 0
+-- a minus and a number other than 0 are read as the negative number
 pub minus_is_integer : (w : List ℕ) (n : ℕ) → slice_index w 0 ≡ 45 → natural (drop 1 w) ≡ Some n → n ≢ 0 → integer w ≡ Some (neg_ℤ (pos n))
 minus_is_integer w n minus h some =
     let ds : List ℕ = drop 1 w in

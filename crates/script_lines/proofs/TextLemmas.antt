@@ -1,4 +1,4 @@
--- A JSON string of bytes that need no escape reads as what is between its quotation marks.
+-- A JSON string of bytes that need no escape is read as the bytes between its quotation marks.
 use Rattle.std.proofs.Common.{◌∙◌, ◌≡◌, ◌≤◌, ◌-◌, ◌&&◌, ◌==◌, ℕ, true, List, [], ◌∷◌, ◌++◌, Some, ap, append-nil, arith, drop, get_or, length, nat_le, not, refl, sub-one, sym, take}
 use Rattle.std.specs.List.{list_all}
 use Rattle.std.proofs.lemmas.Bool.{and_parts}

@@ -1,4 +1,4 @@
--- Names are ASCII, and a text is what serde_json reads.
+-- Names are ASCII, and a text is the one that serde_json reads.
 use Rattle.std.proofs.Common.{◌≡◌, ◌-◌, ◌&&◌, ◌<◌, ℕ, Bool, true, false, List, Option, None, Some, IsUtf8, arith, cond, length, nat_eq, nat_lt, refl, slice_index}
 use Rattle.std.specs.Prelude.{option_and_then}
 use Rattle.std.specs.Str.{IsAscii, is_utf8}
@@ -27,7 +27,7 @@ refused_at true true r h = rw (h refl) refl
 refused_at true false r h = refl
 refused_at false b r h = refl
 
--- what serde_json refuses is no text
+-- a word that serde_json refuses is no text
 pub text_refused : (w : List ℕ) → (IsUtf8 w → read w ≡ None) → None ≡ text_in w
 text_refused w h = refused_at (nat_eq (slice_index w (length w - 1)) 34) (is_utf8 w) (read w) (λ e. h (IsUtf8-from_is_utf8 w e))
 

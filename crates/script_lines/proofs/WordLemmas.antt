@@ -1,4 +1,4 @@
--- Going on by one step through a line.
+-- One step through the words of a line.
 use Rattle.std.proofs.Common.{ap, ◌∙◌, ◌&&◌, ◌==◌, sub-one, ◌≡◌, ◌≢◌, ◌+◌, ◌-◌, ◌<◌, ◌≤◌, ◌++◌, ℕ, zero, suc, Bool, true, false, List, [], ◌∷◌, None, Some, nat_lt, add-one, append_assoc, arith, cond, drop, drop-cons, get_or, length, not, position, refl, sym, take, true≢false}
 use Rattle.std.proofs.lemmas.Bool.{and_parts}
 use Rattle.std.proofs.lemmas.Bool.Decides.{nat_tests}
@@ -94,7 +94,7 @@ skipped_at false c cs is h =
     let f : 1 + n ≡ suc n = omega arith in
     rw (e, f) h
 
--- the space after a word says nothing
+-- the space after a word is skipped
 space_skipped : (bs : List ℕ) → words_after 0 (drop (position_or_len is_space bs) bs) ≡ words_after 0 (drop (position_or_len is_space bs + 1) bs)
 space_skipped [] = refl
 space_skipped (c ∷ cs) = skipped_at (is_space c) c cs refl (space_skipped cs)
@@ -128,7 +128,7 @@ cut_begins : (bs : List ℕ) → begins_plain (before_first is_space bs) ≡ tru
 cut_begins [] h = h
 cut_begins (c ∷ cs) h = cut_begins_at (is_space c) c cs (position_or_len is_space cs) refl h
 
--- what is before the first space is the first word
+-- the bytes before the first space are the first word
 pub plain_cut : (bs : List ℕ) → begins_plain (before_first is_space bs) ≡ true
     → words_after 0 bs ≡ before_first is_space bs ∷ words_after 0 (after_first is_space bs)
 plain_cut bs h = plain_cut_at bs (cut_begins bs h)

@@ -1,5 +1,5 @@
--- What a line asks for: its first word says what is done, the others to what. A `load` line ends with the text of a
--- document, which is not cut into words.
+-- What a line asks for: its first word is the verb, and the other words are its arguments. A `load` line ends with the
+-- text of a document, which is not cut into words.
 use Rattle.std.specs.Prelude.{ℕ, nat_eq, ◌||◌, Bool, true, false, List, [], ◌∷◌, Option, Some, None, option_map, option_and_then, codes, if◌then◌else◌}
 use Rattle.std.specs.Option.{option_zip}
 use Rattle.std.specs.List.{after_first, before_first, list_any}
@@ -120,7 +120,7 @@ watch_form a n d = option_map (λ p. asks.Watch p.0.0 p.0.1 p.1) (option_zip (op
 abbrev pub unwatch_form : List ℕ → List ℕ → Option Form
 unwatch_form a n = option_map (λ p. asks.Unwatch p.0 p.1) (option_zip (adapter_in a) (node_in n))
 
--- `resolveall`, the one form of a verb alone
+-- `resolveall`, the only form that is just a verb
 abbrev pub alone : List ℕ → Option Form
 alone verb = if bytes_eq verb (codes "resolveall") then Some asks.ResolveAll else None
 
@@ -189,7 +189,7 @@ form_of (verb ∷ a ∷ b ∷ c ∷ []) = with_three verb a b c
 form_of (verb ∷ a ∷ b ∷ c ∷ d ∷ []) = with_four verb a b c d
 form_of _ = None
 
--- a line with words has a form or is bad
+-- a line with words, which has a form or is bad
 abbrev pub line_with : Option Form → Line
 line_with None = line.Bad
 line_with (Some f) = line.Form f
@@ -198,30 +198,30 @@ abbrev pub line_of : List (List ℕ) → Line
 line_of [] = line.Blank
 line_of ws = line_with (form_of ws)
 
--- the verb of a line: what is before the first space that follows those that lead the line
+-- the verb of a line: the bytes after its leading spaces, up to the next space
 abbrev pub verb_in : List ℕ → List ℕ
 verb_in bytes = before_first is_space (after_spaces bytes)
 
--- what follows that space
+-- the bytes after the verb and the space that follows it
 abbrev pub behind_verb : List ℕ → List ℕ
 behind_verb bytes = after_first is_space (after_spaces bytes)
 
--- `load RES REST`, from RES on: the first space ends RES, and REST is every byte that follows it
+-- `load RES REST`, from RES on: the first space ends RES, and REST is all bytes after that space
 abbrev pub load_form : List ℕ → Option Form
 load_form bytes =
     if list_any is_space bytes then option_map (λ r. asks.Load r (after_first is_space bytes)) (resource_in (before_first is_space bytes))
     else None
 
--- the line begins with the word `load`
+-- whether the first word of a line is `load`
 abbrev pub is_load : List ℕ → Bool
 is_load bytes = bytes_eq (verb_in bytes) (codes "load")
 
--- a line whose first byte is none of these gives no text
+-- whether a line may be a `load` line, by its first byte: a space, or `l`
 abbrev pub may_load : List ℕ → Bool
 may_load [] = false
 may_load (c ∷ cs) = is_space c || nat_eq c 108
 
--- what the text of a line asks for
+-- what a line asks for, if its bytes are UTF-8
 abbrev pub text_line : List ℕ → Line
 text_line bytes = if is_load bytes then line_with (load_form (after_spaces (behind_verb bytes))) else line_of (words bytes)
 

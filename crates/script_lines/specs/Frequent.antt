@@ -1,4 +1,4 @@
--- The most frequent lines: what each asks for, and how its words are read one after another.
+-- The most frequent kinds of lines: what each asks for, and how its words are read one after another.
 use Rattle.std.specs.Prelude.{◌≡◌, ℕ, List, [], ◌∷◌, None, Some, codes, option_map}
 use Rattle.mm_types.specs.declared.numbers.Node.TheVariants as node
 use Rattle.mm_types.specs.declared.numbers.ObjectNo.{ObjectNo}
@@ -19,7 +19,7 @@ verb_text verb.Get = codes "get "
 verb_text verb.Set = codes "set "
 verb_text verb.Add = codes "add "
 
--- what a line asks for: it is bad if its last word writes no value
+-- what a frequent line asks for; it is bad if its last word is no value
 abbrev pub frequent_line : Frequent → Line
 frequent_line (frequent.New c) = line.Form (asks.New c)
 frequent_line (frequent.Get o f) = line.Form (asks.Get (node.Object o) f)
@@ -27,14 +27,14 @@ frequent_line (frequent.Set o f w) = line_with (option_map (λ v. asks.Set (node
 frequent_line (frequent.Add o f w) = line_with (option_map (λ v. asks.Add (node.Object o) f v None) (value_in w))
 frequent_line (frequent.Container o) = line.Form (asks.Container o)
 
--- a text begins with an object and a name, and has the words of the rest after them
+-- a text has as words an object, a name, and the words of the rest
 pub record ReadsFeature (o : ObjectNo) (f rest text : List ℕ) : Type 0 where
   pub object : List ℕ
   pub words_are : words text ≡ object ∷ f ∷ words rest
   pub object_is : object_in object ≡ Some o
   pub name_is : name_in f ≡ Some f
 
--- a text is an object, a name and one word more
+-- a text has as words an object, a name and one more word
 pub record ReadsValue (o : ObjectNo) (f w text : List ℕ) : Type 0 where
   pub object : List ℕ
   pub words_are : words text ≡ object ∷ f ∷ w ∷ []

@@ -4,7 +4,7 @@ use Rattle.std.specs.Borrow.{Bor}
 use Rattle.std.specs.List.{after_first, before_first, list_all}
 use Rattle.script_lines.specs.declared.grammar.TheConstants.{NEWLINE}
 
--- one more byte at the front of the first line
+-- the lines with one more byte at the front of the first line
 abbrev pub with_byte : ℕ → List (List ℕ) → List (List ℕ)
 with_byte c [] = (c ∷ []) ∷ []
 with_byte c (l ∷ ls) = (c ∷ l) ∷ ls
@@ -24,14 +24,14 @@ with_newlines (l ∷ ls) = l ++ NEWLINE ∷ with_newlines ls
 abbrev pub has_no_newline : List ℕ → Bool
 has_no_newline l = list_all (λ c. not (is_newline c)) l
 
--- some bytes are cut after their first line: the bytes before the first newline; the rest is what follows that newline
+-- bytes are cut after their first line: `line` is before the first newline, and `rest` after it
 pub record IsCut (bytes line rest : List ℕ) : Type 0 where
   pub line_is : line ≡ before_first is_newline bytes
   pub rest_is : rest ≡ after_first is_newline bytes
   pub shorter : length rest < length bytes
   pub lines_are : lines bytes ≡ line ∷ lines rest
 
--- what is answered is the first line of some bytes and what follows it, or nothing if there are no bytes
+-- the result of a cut is the first line of some bytes and the rest, or none if there are no bytes
 abbrev pub CutsLine : Option (Bor (List ℕ) × Bor (List ℕ)) → List ℕ → Type 0
 CutsLine None bytes = length bytes ≡ 0
 CutsLine (Some p) bytes = IsCut bytes p.0.now p.1.now

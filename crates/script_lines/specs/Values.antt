@@ -1,4 +1,4 @@
--- What single words write: names, nodes, adapters and values.
+-- The meaning of single words: names, nodes, adapters and values.
 use Rattle.std.specs.Prelude.{ℕ, ◌==◌, ◌&&◌, ◌-◌, Bool, true, false, nat_le, not, List, [], ◌∷◌, length, slice_index, Option, Some, None, option_map, option_and_then, codes, if◌then◌else◌}
 use Rattle.std.specs.Option.{option_zip}
 use Rattle.std.specs.Str.{bytes_eq, is_utf8}
@@ -27,20 +27,20 @@ adapter n = record { 0 = n }
 abbrev pub name_in : List ℕ → Option (List ℕ)
 name_in w = if is_name w then Some w else None
 
--- the text that a word writes as a JSON string; the string ends with the word
+-- the text of a word that is a JSON string; the string ends with the word
 abbrev pub text_in : List ℕ → Option (List ℕ)
 text_in w = if slice_index w (length w - 1) == QUOTE && is_utf8 w then option_and_then as_str (read w) else None
 
--- the text that a word after a quotation mark writes
+-- the text of a word, if the word begins with a quotation mark
 abbrev pub string_in : List ℕ → Option (List ℕ)
 string_in [] = None
 string_in (c ∷ cs) = if c == QUOTE then text_in (c ∷ cs) else None
 
--- a byte stands for itself in a JSON string: it is no quotation mark, no backslash and no control character
+-- whether a byte stands for itself in a JSON string: it is no quotation mark, no backslash and no control character
 abbrev pub is_plain : ℕ → Bool
 is_plain c = nat_le SPACE c && (not (c == QUOTE) && not (c == BACKSLASH))
 
--- a mark, and a number after it
+-- the number of a word after a mark
 abbrev pub number_in : ℕ → List ℕ → Option ℕ
 number_in mark [] = None
 number_in mark (c ∷ cs) = if c == mark then natural cs else None
@@ -67,7 +67,7 @@ node_in (c ∷ cs) = if c == OBJECT_MARK then option_map (λ n. node.Object (obj
 abbrev pub feature_in : List ℕ → List ℕ → Option (Node × List ℕ)
 feature_in n f = option_zip (node_in n) (name_in f)
 
--- a text, a literal, an object or a number; the first byte says which of them
+-- a text, a literal, an object or a number; the first byte decides
 abbrev pub other_value_in : List ℕ → Option WrittenValue
 other_value_in [] = None
 other_value_in (c ∷ cs) = if c == QUOTE then option_map written.Text (text_in (c ∷ cs))

@@ -1,5 +1,5 @@
--- The words of a line: they are separated by spaces, and a word that begins with a quotation mark goes on
--- to the next one that no backslash escapes.
+-- The words of a line are separated by spaces. A word that begins with a quotation mark goes on at least to the next
+-- quotation mark that no backslash escapes.
 use Rattle.std.specs.Prelude.{ℕ, zero, suc, ◌==◌, ◌-◌, Bool, true, false, List, [], ◌∷◌, take, if◌then◌else◌}
 use Rattle.std.specs.List.{position_or_len}
 use Rattle.script_lines.specs.declared.grammar.TheConstants.{BACKSLASH, QUOTE, SPACE}
@@ -7,7 +7,7 @@ use Rattle.script_lines.specs.declared.grammar.TheConstants.{BACKSLASH, QUOTE, S
 abbrev pub is_space : ℕ → Bool
 is_space c = c == SPACE
 
--- what follows the spaces that lead some bytes
+-- the bytes after their leading spaces
 abbrev pub after_spaces : List ℕ → List ℕ
 after_spaces [] = []
 after_spaces (c ∷ cs) = if is_space c then after_spaces cs else c ∷ cs
@@ -16,15 +16,15 @@ after_spaces (c ∷ cs) = if is_space c then after_spaces cs else c ∷ cs
 abbrev pub plain_len : List ℕ → ℕ
 plain_len = position_or_len is_space
 
--- how many bytes of a word follow its first quotation mark: up to the next one that no backslash escapes, and from
--- there to the next space
+-- how many bytes of a word follow its first quotation mark: up to the next quotation mark that no backslash escapes,
+-- and from there to the next space
 abbrev pub quoted_len : Bool → List ℕ → ℕ
 quoted_len escaped [] = 0
 quoted_len true (c ∷ cs) = suc (quoted_len false cs)
 quoted_len false (c ∷ cs) = if c == QUOTE then suc (plain_len cs)
     else if c == BACKSLASH then suc (quoted_len true cs) else suc (quoted_len false cs)
 
--- how long the word is that begins here
+-- the length of the word with which the bytes begin
 abbrev pub word_len : List ℕ → ℕ
 word_len [] = 0
 word_len (c ∷ cs) = if c == QUOTE then suc (quoted_len false cs) else suc (plain_len cs)

@@ -49,27 +49,27 @@ pub enum Form<'a> {
     },
     /// A new resource of the URI that a text gives (EMF: ResourceSet.createResource).
     Resource(Text),
-    /// The object at the address of the proxy at a position of a reference, counted from 0, put instead of it (EMF: EcoreUtil.resolve).
+    /// The proxy at a position of a reference, counted from 0, replaced by the object at its address (EMF: EcoreUtil.resolve).
     Resolve {
         object: ObjectNo,
         feature: Name<'a>,
         index: u32,
     },
-    /// The same for every proxy, one after another: those that can't be resolved are left (EMF: EcoreUtil.resolveAll).
+    /// Every proxy resolved, one after another; a proxy that can't be resolved is left (EMF: EcoreUtil.resolveAll).
     ResolveAll,
-    /// An adapter attached to a node. A deep one is also notified of what happens below the node (EMF: Notifier.eAdapters().add).
+    /// An adapter attached to a node. A deep adapter is also notified of changes below the node (EMF: Notifier.eAdapters().add).
     Attach {
         no: AdapterNo,
         target: Node,
         deep: bool,
     },
-    /// One target more for an adapter that is attached (EMF: Notifier.eAdapters().add).
+    /// One more target for an adapter that is attached (EMF: Notifier.eAdapters().add).
     Watch {
         no: AdapterNo,
         target: Node,
         deep: bool,
     },
-    /// One target less (EMF: Notifier.eAdapters().remove).
+    /// One target taken from an adapter (EMF: Notifier.eAdapters().remove).
     Unwatch {
         no: AdapterNo,
         target: Node,
@@ -87,7 +87,7 @@ pub enum Form<'a> {
     Within(ObjectNo),
     /// The objects that a node directly contains (EMF: EObject.eContents).
     Contents(Node),
-    /// Destroys an object and all that is below it (EMF: EcoreUtil.delete, recursively).
+    /// Destroys an object and all objects below it (EMF: EcoreUtil.delete, recursively).
     Delete(ObjectNo),
     /// The features of an object that have fewer values than they should (EMF: Diagnostician.validate, of multiplicities).
     Validate(ObjectNo),
@@ -97,7 +97,7 @@ pub enum Form<'a> {
     At(Text),
     /// The document of a resource (EMF: Resource.save).
     Save(ResourceNo),
-    /// A resource loaded from a document, whose text the line gives as it is (EMF: Resource.load).
+    /// A resource loaded from a document; the line has the text of the document as it is (EMF: Resource.load).
     Load {
         resource: ResourceNo,
         text: Text,

@@ -1,4 +1,4 @@
-//! The most frequent lines, which are read without a list of their words. Most lines of a script are of these forms, and to cut a line
+//! The most frequent lines, which are read without a list of their words. Most lines of a script are of these forms, and cutting a line
 //! into a list of words takes longer than the change that it asks for.
 ghost use Rattle.std.specs.Prelude.{◌≡◌, ◌++◌, ◌∷◌, [], IfSome, Some, codes, drop, true};
 ghost use Rattle.std.specs.List.{after_first, before_first};
@@ -31,7 +31,7 @@ pub enum Frequent<'a> {
     Container(ObjectNo),
 }
 
-/// The verb of such a line.
+/// The verb of a frequent line.
 #[derive(Clone, Copy, Drop)]
 enum Verb {
     New,
@@ -87,7 +87,7 @@ fn container_line_of(line: &str) -> Option<Frequent<'_>>
     Some(Frequent::Container(object))
 }
 
-/// The object before the first space of a text, and what follows that space.
+/// The object before the first space of a text, and the text after that space.
 fn object_before_space(text: &str) -> Option<(ObjectNo, &str)>
     ensures { IfSome result (λ p. (object_in (before_first is_space text.now) ≡ Some p.0) × (p.1.now ≡ after_first is_space text.now)) }
 {
@@ -110,7 +110,7 @@ fn object_before_space(text: &str) -> Option<(ObjectNo, &str)>
     Some((ObjectNo(number), rest))
 }
 
-/// The object and the name of a feature that a text begins with, one space after each, and what follows.
+/// The object and the name of a feature with which a text begins, each followed by one space; and the rest of the text.
 fn object_feature_of(text: &str) -> Option<(ObjectNo, Name<'_>, &str)>
     ensures { IfSome result (λ p. ReadsFeature p.0 p.1 p.2.now text.now) }
 {
@@ -119,7 +119,7 @@ fn object_feature_of(text: &str) -> Option<(ObjectNo, Name<'_>, &str)>
     Some((object, feature, more))
 }
 
-/// The one word that a text is.
+/// The word that a text is, if it is one word.
 fn word_of(text: &str) -> Option<Word<'_>>
     ensures { IfSome result (λ w. words text.now ≡ w ∷ []) }
 {
@@ -130,7 +130,7 @@ fn word_of(text: &str) -> Option<Word<'_>>
     }
 }
 
-/// A line of a verb other than `new`, by what follows the verb.
+/// A line of a verb other than `new`, from the text after the verb.
 fn feature_line_of(verb: Verb, text: &str) -> Option<Frequent<'_>>
     ensures { IfSome result (λ f. text_line (verb_text verb ++ text.now) ≡ frequent_line f) }
 {
@@ -149,8 +149,8 @@ fn feature_line_of(verb: Verb, text: &str) -> Option<Frequent<'_>>
     }
 }
 
-/// A line of one of the most frequent forms, whose words have one space between them. `None` for any other line, of which nothing is said
-/// then: it may still be of such a form, with more spaces. Takes no memory.
+/// A line of one of the most frequent forms, whose words have one space between them. `None` for any other line, even if it has such a form
+/// with more spaces. Takes no memory.
 pub fn frequent_of(line: &str) -> Option<Frequent<'_>>
     ensures { IfSome result (λ f. text_line line.now ≡ frequent_line f) }
 {

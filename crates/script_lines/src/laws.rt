@@ -12,15 +12,15 @@ ghost use Rattle.mm_types.specs.declared.numbers.ResourceNo.{ResourceNo};
 
 use crate::grammar::{NEWLINE, SPACE};
 
-/// A script is its lines, each with a newline after it but perhaps the last, and no line has a newline in it. So
-/// nothing of a script is dropped, and every newline ends a line.
+/// A script is its lines, with a newline after each but perhaps the last, and no line has a newline in it. So no byte
+/// of a script is lost, and every newline ends a line.
 pub fn a_script_is_its_lines()
     ensures whole { (bytes : List ℕ) → (with_newlines (lines bytes) ≡ bytes) ⊎ (with_newlines (lines bytes) ≡ bytes ++ NEWLINE ∷ []) }
     ensures cut { (bytes : List ℕ) → list_all has_no_newline (lines bytes) ≡ true }
 {}
 
-/// The text of a `load` line is every byte after the one space that ends its resource, with the spaces at both its
-/// ends. It may be empty, but without that space the line is bad.
+/// The text of a `load` line is all bytes after the one space that ends its resource; leading and trailing spaces
+/// belong to it. It may be empty, but without that space the line is bad.
 pub fn a_load_line_keeps_its_text()
     ensures kept { (word text : List ℕ) (r : ResourceNo) → resource_in word ≡ Some r → list_any is_space word ≡ false
         → let bytes : List ℕ = codes "load " ++ (word ++ SPACE ∷ text) in is_utf8 bytes ≡ true → form bytes ≡ line.Form (asks.Load r text) }

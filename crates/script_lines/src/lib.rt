@@ -1,5 +1,5 @@
-//! The language of scripts: how the bytes of a script are lines, how a line is words, and what each
-//! line asks for.
+//! The language of scripts: how the bytes of a script are cut into lines, how a line is cut into words, and which
+//! command each line gives.
 #![tactic(auto)]
 
 mod adapter_forms;

@@ -1,4 +1,4 @@
-//! A line of a script, and what it asks for.
+//! A line of a script, and its command.
 ghost use Rattle.std.specs.Prelude.{◌≡◌, IfOk, MatchOption, map};
 ghost use Rattle.script_lines.specs.Forms.{form, line_of as the_line_of, line_with as the_line_with, text_line};
 ghost use Rattle.script_lines.specs.declared.line.Line.TheVariants as asked;
@@ -13,7 +13,7 @@ use std::str;
 /// A line of a script.
 #[derive(Drop)]
 pub enum Line<'a> {
-    /// It is empty or has only spaces, and is passed over.
+    /// It is empty or has only spaces, and is skipped.
     Blank,
     /// It is not UTF-8, or fits no form.
     Bad,
@@ -31,7 +31,7 @@ fn line_with(form: Option<Form<'_>>) -> Line<'_>
     }
 }
 
-/// What the words of a line ask for.
+/// The command of the words of a line.
 fn line_of<'a>(alloc: Global, words: &[&'a str]) -> Result<Line<'a>, AllocError>
     ensures { IfOk result (λ l. l ≡ the_line_of (map (λ w. w.now) words.now)) }
 {
@@ -41,7 +41,7 @@ fn line_of<'a>(alloc: Global, words: &[&'a str]) -> Result<Line<'a>, AllocError>
     Ok(line_with(form_of(alloc, words)?))
 }
 
-/// What the text of a line asks for. Errs only if memory is refused for the text that the line writes as a value.
+/// What the text of a line asks for. Errs only if memory is refused for a text that is the value of the line.
 pub fn text_line_of(alloc: Global, text: &str) -> Result<Line<'_>, AllocError>
     ensures { IfOk result (λ l. l ≡ text_line text.now) }
 {
@@ -61,12 +61,11 @@ pub(crate) fn text_of_line(line: &[u8]) -> Option<&str>
     }
 }
 
-/// What a line asks for. Errs only if memory is refused for the text that the line writes as a value.
+/// What a line asks for. Errs only if memory is refused for a text that is the value of the line.
 ///
-/// A line is the bytes between two newlines, without them. It is blank if it is empty or has only
-/// spaces, and bad if it is not UTF-8 or fits no form of the language. The text that a `load` line gives
-/// is not cut into words: it is what follows the one space after the resource, to the end of the line.
-/// The time is linear in the line's length.
+/// A line is the bytes between two newlines, without them. It is blank if it is empty or has only spaces, and bad if it
+/// is not UTF-8 or fits no form of the language. The text of a `load` line is not cut into words: it is all that
+/// follows the one space after the resource, to the end of the line. The time is linear in the line's length.
 pub fn parse_line(alloc: Global, line: &[u8]) -> Result<Line<'_>, AllocError>
     ensures { IfOk result (λ l. l ≡ form line.now) }
 {

@@ -18,7 +18,7 @@ pub(crate) fn line_len_of(bytes: &[u8]) -> usize
     }
 }
 
-/// What follows a line of `n` bytes and its newline.
+/// The bytes after a line of `n` bytes and its newline.
 fn after_line(bytes: &[u8], n: usize) -> &[u8]
     requires { n ≤ length bytes.now }
     ensures { result.now ≡ drop (n + 1) bytes.now }
@@ -30,9 +30,9 @@ fn after_line(bytes: &[u8], n: usize) -> &[u8]
     }
 }
 
-/// The first line of a script, without its newline, and what follows that newline; `None` if the script is empty.
+/// The first line of a script, without its newline, and the bytes after that newline; `None` if the script is empty.
 ///
-/// The last line of a script need not end with a newline: then nothing follows it.
+/// The last line of a script need not end with a newline; then no bytes follow it.
 pub fn next_line(bytes: &[u8]) -> Option<(&[u8], &[u8])>
     ensures { CutsLine result bytes.now }
 {

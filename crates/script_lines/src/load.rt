@@ -12,14 +12,14 @@ use crate::words::cut_at_space;
 use mm_types::{ResourceNo, Text};
 use std::alloc::{AllocError, Global};
 
-/// What follows the spaces that lead a text.
+/// A text without its leading spaces.
 fn after_spaces_of(text: &str) -> &str
     ensures { result.now ≡ after_spaces text.now }
 {
     text.trim_start_matches(' ')
 }
 
-/// Whether a line may be a `load` line, by its first byte alone.
+/// Whether a line may be a `load` line, by only its first byte.
 fn may_load(line: &str) -> bool
     ensures { result ≡ the_may_load line.now }
 {
@@ -29,7 +29,7 @@ fn may_load(line: &str) -> bool
     }
 }
 
-/// The verb of a line, and what follows the space after it.
+/// The verb of a line, and the text after the space that follows it.
 fn verb_of(line: &str) -> (&str, &str)
     ensures verb { result.0.now ≡ verb_in line.now }
     ensures rest { result.1.now ≡ behind_verb line.now }
@@ -37,7 +37,7 @@ fn verb_of(line: &str) -> (&str, &str)
     cut_at_space(after_spaces_of(line))
 }
 
-/// What follows the verb of a `load` line; `None` for a line with a different verb. Most lines are recognised by their first byte.
+/// The text after the verb of a `load` line; `None` for a line with a different verb. Most lines are recognised by their first byte.
 pub fn loaded_of(line: &str) -> Option<&str>
     ensures { MatchOption result (is_load line.now ≡ false) (λ rest. (is_load line.now ≡ true) × (rest.now ≡ behind_verb line.now)) }
 {
@@ -48,7 +48,7 @@ pub fn loaded_of(line: &str) -> Option<&str>
     if verb == "load" { Some(rest) } else { None }
 }
 
-/// The resource and the text of `load RES REST`, by what follows the verb.
+/// The resource and the text of `load RES REST`, from the text after the verb.
 fn parts_of(rest: &str) -> Option<(ResourceNo, &str)>
     ensures { option_map (λ p. asks.Load p.0 p.1.now) result ≡ load_form (after_spaces rest.now) }
 {
@@ -57,7 +57,7 @@ fn parts_of(rest: &str) -> Option<(ResourceNo, &str)>
     Some((resource, text))
 }
 
-/// `load RES REST`, by what follows the verb. Errs only if memory is refused for the text.
+/// `load RES REST`, from the text after the verb. Errs only if memory is refused for the text.
 pub fn load_of<'a>(alloc: Global, rest: &str) -> Result<Option<Form<'a>>, AllocError>
     ensures { IfOk result (λ o. o ≡ load_form (after_spaces rest.now)) }
 {

@@ -48,7 +48,7 @@ fn name_len_of(bytes: &[u8]) -> usize
 }
 
 impl<'a> Name<'a> {
-    /// The name before the first space of a text, and what follows that space; nothing follows if there is no space.
+    /// The name before the first space of a text, and the text after that space, which is empty if there is no space.
     pub(crate) fn before_space(text: &'a str) -> Option<(Self, &'a str)>
         ensures { IfSome result (λ p. (name_in (before_first is_space text.now) ≡ Some p.0) × (p.1.now ≡ after_first is_space text.now)) }
     {

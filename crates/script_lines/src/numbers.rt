@@ -9,7 +9,7 @@ use crate::grammar::MINUS;
 use mm_types::integers;
 use mm_types::integers::integer_of;
 
-/// So many digits are read at most. Each number of so many digits is below 2^32.
+/// The greatest number of digits that are read. Each number of so many digits is below 2^32.
 const MOST_DIGITS: usize = 9;
 
 /// The first bytes, as many as are read.
@@ -41,8 +41,8 @@ fn digits_of(bytes: &[u8]) -> (u32, usize)
     (number, bytes.len())
 }
 
-/// The number at the front, and how many digits it has. `None` if there is no digit, or a 0 before further digits. No more than nine digits
-/// are read: another may follow.
+/// The number at the front, and how many digits it has. `None` if there is no digit, or a 0 before further digits. At most nine digits are
+/// read, and a further digit may follow.
 #[inline]
 pub(crate) fn number_begun(bytes: &[u8]) -> Option<(u32, usize)>
     ensures { IfSome result (λ p. (natural (take p.1 bytes.now) ≡ Some p.0) × (p.1 ≤ length bytes.now)) }
@@ -57,7 +57,7 @@ pub(crate) fn number_begun(bytes: &[u8]) -> Option<(u32, usize)>
     Some((number, len))
 }
 
-/// The number of 32 bits that a word writes.
+/// The number of a word, of 32 bits.
 #[inline]
 pub(crate) fn natural_of(word: &str) -> Option<u32>
     ensures { result ≡ natural word.now }
@@ -80,7 +80,7 @@ fn non_negative_of(word: &str) -> Option<i64>
     }
 }
 
-/// The number of 64 bits that a word with a minus writes.
+/// The number of a word with a minus, of 64 bits.
 fn negative_of(word: &str) -> Option<i64>
     requires some { 0 < length word.now }
     requires minus { slice_index word.now 0 ≡ MINUS }
@@ -92,7 +92,7 @@ fn negative_of(word: &str) -> Option<i64>
     }
 }
 
-/// The number of 64 bits that a word writes.
+/// The number of a word, of 64 bits.
 pub(crate) fn int_of(word: &str) -> Option<i64>
     requires { 0 < length word.now }
     ensures { result ≡ integer word.now }

@@ -230,7 +230,7 @@ fn move_of<'a>(node: &str, feature: &'a str, to: &str, from: &str) -> Option<For
     })
 }
 
-/// The form of a verb alone: `resolveall`.
+/// The form of a line that is only a verb: `resolveall`.
 fn alone_of<'a>(verb: &str) -> Option<Form<'a>>
     ensures { result ≡ alone verb.now }
 {

@@ -1,4 +1,4 @@
-//! The bytes of a script, and what is known of them.
+//! The bytes of a script, which may be known to be UTF-8.
 ghost use Rattle.std.specs.Prelude.{◌≡◌, MatchOption};
 ghost use Rattle.std.specs.List.{after_first, before_first};
 ghost use Rattle.script_lines.specs.Forms.{form, text_line};
@@ -20,7 +20,7 @@ pub enum Source<'a> {
     Bytes(&'a [u8]),
 }
 
-/// What comes before the first newline of a text, and what follows it; nothing follows if there is no newline.
+/// The text before the first newline, and the text after it, which is empty if there is no newline.
 fn cut_at_newline(text: &str) -> (&str, &str)
     ensures before { result.0.now ≡ before_first is_newline text.now }
     ensures after { result.1.now ≡ after_first is_newline text.now }
@@ -42,7 +42,7 @@ fn known_text(text: &str) -> &str
 }
 
 impl<'a> Source<'a> {
-    /// The bytes of a script, which are looked through once to see whether they are UTF-8.
+    /// The bytes of a script, which are checked once for UTF-8.
     pub fn new(bytes: &'a [u8]) -> Self
         ensures { bytes_of result ≡ bytes.now }
     {
@@ -62,7 +62,7 @@ impl<'a> Source<'a> {
         }
     }
 
-    /// The first line, without its newline, and what follows that newline, as `next_line` cuts them; `None` if there are no bytes.
+    /// The first line, without its newline, and the bytes after that newline, as `next_line` cuts them; `None` if there are no bytes.
     pub fn next_line(self) -> Option<(Self, Self)>
         ensures { CutsSource result (bytes_of self.entry) }
     {

@@ -34,7 +34,7 @@ fn plain_text(word: &str) -> Option<&str>
     Some(&word[1..len - 1])
 }
 
-/// The text that a JSON value is; it is moved.
+/// The text of a JSON value that is a string; it is moved.
 fn string_of(value: Value) -> Option<Text>
     ensures { result ≡ as_str (view value) }
 {
@@ -44,7 +44,7 @@ fn string_of(value: Value) -> Option<Text>
     }
 }
 
-/// The text that a word writes as a JSON string, read by `serde_json`.
+/// The text of a word that is a JSON string, read by `serde_json`.
 fn escaped_text(alloc: Global, word: &str) -> Result<Option<Text>, AllocError>
     ensures { IfOk result (λ o. o ≡ text_in word.now) }
 {
@@ -59,7 +59,7 @@ fn escaped_text(alloc: Global, word: &str) -> Result<Option<Text>, AllocError>
     }
 }
 
-/// The text that a word writes as a JSON string.
+/// The text of a word that is a JSON string.
 ///
 /// A text without escapes is copied as it is: reading it as JSON would take many times as long.
 pub fn text_of(alloc: Global, word: &str) -> Result<Option<Text>, AllocError>

@@ -65,7 +65,7 @@ pub fn feature_of<'a>(node: &str, name: &'a str) -> Option<(Node, Name<'a>)>
     node_of(node).zip(Name::from_word(name))
 }
 
-/// The text that a word writes as a JSON string; any other word writes none.
+/// The text of a word that is a JSON string; any other word has none.
 pub fn string_of(alloc: Global, word: &str) -> Result<Option<Text>, AllocError>
     ensures { IfOk result (λ o. o ≡ string_in word.now) }
 {
@@ -75,7 +75,7 @@ pub fn string_of(alloc: Global, word: &str) -> Result<Option<Text>, AllocError>
     }
 }
 
-/// The text that a word writes, as a value.
+/// The text of a word, as a value.
 fn text_value_of(alloc: Global, word: &str) -> Result<Option<WrittenValue<'_>>, AllocError>
     ensures { IfOk result (λ o. o ≡ option_map written.Text (text_in word.now)) }
 {
@@ -85,7 +85,7 @@ fn text_value_of(alloc: Global, word: &str) -> Result<Option<WrittenValue<'_>>, 
     }
 }
 
-/// The value that a word writes without a mark: `null`, `true` or `false`.
+/// The value of a word without a mark: `null`, `true` or `false`.
 fn word_value_of(word: &str) -> Option<WrittenValue<'_>>
     ensures { result ≡ word_value_in word.now }
 {
@@ -101,7 +101,7 @@ fn word_value_of(word: &str) -> Option<WrittenValue<'_>>
     None
 }
 
-/// The number that a word writes, as a value.
+/// The number of a word, as a value.
 fn number_value_of(word: &str) -> Option<WrittenValue<'_>>
     requires { 0 < length word.now }
     ensures { result ≡ option_map written.Int (integer word.now) }
@@ -109,7 +109,7 @@ fn number_value_of(word: &str) -> Option<WrittenValue<'_>>
     Some(WrittenValue::Int(int_of(word)?))
 }
 
-/// The value that a word writes with a mark, or without one.
+/// The value of a word with a mark, or without one.
 fn marked_value_of(word: &str) -> Option<WrittenValue<'_>>
     requires some { 0 < length word.now }
     requires no_text { slice_index word.now 0 ≢ QUOTE }
@@ -124,7 +124,7 @@ fn marked_value_of(word: &str) -> Option<WrittenValue<'_>>
     }
 }
 
-/// The value that a word writes; its first byte says which kind of value it is.
+/// The value of a word; its first byte says which kind of value it is.
 pub fn value_of(alloc: Global, word: &str) -> Result<Option<WrittenValue<'_>>, AllocError>
     ensures { IfOk result (λ o. o ≡ value_in word.now) }
 {

@@ -1,4 +1,4 @@
-//! A line is cut into words at its spaces. A word that begins with a quotation mark goes on to the next one.
+//! A line is cut into words at its spaces. A word that begins with a quotation mark goes on at least to the next quotation mark.
 ghost use Rattle.std.specs.Prelude.{◌≡◌, ◌<◌, ◌≤◌, ◌+◌, ◌∷◌, [], drop, false, length, map, position, slice_index, take, true};
 ghost use Rattle.std.specs.List.{after_first, before_first};
 ghost use Rattle.std.specs.Str.{IsUtf8};
@@ -44,7 +44,7 @@ fn quoted_len_of(bytes: &[u8]) -> usize
     bytes.len()
 }
 
-/// The length of the word that begins here.
+/// The length of the word with which the bytes begin.
 fn word_len_of(bytes: &[u8]) -> usize
     requires { 0 < length bytes.now }
     ensures value { result ≡ word_len bytes.now }
@@ -60,7 +60,7 @@ fn word_len_of(bytes: &[u8]) -> usize
     }
 }
 
-/// The word that a text begins with, and what follows it.
+/// The word with which a text begins, and the rest of the text.
 fn first_word(text: &str) -> (&str, &str)
     requires { 0 < length text.now }
     ensures word { result.0.now ≡ take (word_len text.now) text.now }
@@ -71,7 +71,7 @@ fn first_word(text: &str) -> (&str, &str)
     text.split_at(word_len_of(text.as_bytes()))
 }
 
-/// The first bytes of a text, and what follows the space after them; nothing follows at the end of the text.
+/// The first bytes of a text, and the text after the space that follows them, which is empty at the end of the text.
 #[inline]
 pub fn cut_at(text: &str, len: usize) -> (&str, &str)
     requires within { len ≤ length text.now }
@@ -87,7 +87,7 @@ pub fn cut_at(text: &str, len: usize) -> (&str, &str)
     }
 }
 
-/// What comes before the first space of a text, and what follows it; nothing follows if there is no space.
+/// The text before the first space, and the text after it, which is empty if there is no space.
 pub fn cut_at_space(text: &str) -> (&str, &str)
     ensures before { result.0.now ≡ before_first is_space text.now }
     ensures after { result.1.now ≡ after_first is_space text.now }
@@ -103,7 +103,7 @@ pub fn is_word(text: &str) -> bool
     !bytes.is_empty() && (bytes[0] != SPACE && word_len_of(bytes) == bytes.len())
 }
 
-/// What follows the ASCII byte that a text begins with.
+/// A text without its first byte, which is ASCII.
 pub fn after_byte(text: &str) -> &str
     requires some { 0 < length text.now }
     requires ascii { slice_index text.now 0 < 128 }
@@ -112,7 +112,7 @@ pub fn after_byte(text: &str) -> &str
     &text[1..]
 }
 
-/// How many words of a line are looked at: one more than the longest form has, since a line of more words fits none.
+/// How many words of a line are looked at: one more than the longest form has, since a line of more words fits no form.
 pub const MOST_WORDS: usize = 6;
 
 /// The first words of a line, as many as are looked at.

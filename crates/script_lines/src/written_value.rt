@@ -2,7 +2,7 @@
 use crate::name::Name;
 use mm_types::{ObjectNo, Text};
 
-/// A value as a line writes it. Which value of a feature it stands for depends on the feature's type.
+/// A value as it is written in a line. Which value of a feature it stands for depends on the feature's type.
 #[derive(Drop)]
 pub enum WrittenValue<'a> {
     /// `null`

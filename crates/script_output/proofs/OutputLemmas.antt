@@ -1,4 +1,4 @@
--- A text after what is printed.
+-- Texts that are appended to the output.
 use Rattle.std.proofs.Common.{◌∙◌, ◌≡◌, ◌++◌, ◌∷◌, ◌||◌, ◌==◌, ◌<◌, ◌≤◌, ◌/◌, ◌%◌, ◌^◌, ℕ, ℤ, pos, negsuc, int_le, unsigned_abs, nat_lt, Bool, true, false, true≢false, List, [], ap, append-nil, append_assoc, arith, refl, sym}
 use Rattle.std.specs.Fmt.{decimal, signed_decimal}
 use Rattle.std.proofs.lemmas.Fmt.{decimal_digit, decimal_step}
@@ -16,7 +16,7 @@ unfolding print_from
 one_string out old before t start new is kept empty one =
     is ∙ (ap (λ x. x ++ print new) kept ∙ ap (λ x. old ++ print x) (one ∙ ap (λ x. x ++ string t ∷ []) empty)) ∙ ap (λ x. old ++ x) (append-nil (quoted t))
 
--- a text without escapes is in its quotation marks as it is
+-- a text without escapes is printed unchanged between quotation marks
 unescaped : (t : List ℕ) → list_any is_stop t ≡ false → escape t ≡ t
 unescaped [] h = refl
 unescaped (x ∷ xs) h =
@@ -28,7 +28,7 @@ unescaped (x ∷ xs) h =
 pub plain_string : (t : List ℕ) → list_any is_stop t ≡ false → 34 ∷ (t ++ 34 ∷ []) ≡ quoted t
 plain_string t h = ap (λ x. 34 ∷ (x ++ 34 ∷ [])) (sym (unescaped t h))
 
--- the digits of a number are those before the last, and the last
+-- the digits of a number are the digits before the last one, and the last one
 pub decimal_split : (old mid new : List ℕ) (n : ℕ) → 10 ≤ n → n < 2 ^ 64 → mid ≡ old ++ decimal (n / 10) → new ≡ mid ++ decimal (n % 10) → new ≡ old ++ decimal n
 decimal_split old mid new n lo hi first last =
     last ∙ ap (λ x. x ++ decimal (n % 10)) first ∙ append_assoc old (decimal (n / 10)) (decimal (n % 10))

@@ -1,4 +1,4 @@
--- The names that a metamodel has for what is printed.
+-- The names of features, enumerations and literals, as they are printed.
 use Rattle.std.specs.Prelude.{ℕ, List, [], Option, Some, None, option_and_then, codes}
 use Rattle.std.specs.Option.{option_map_or}
 use Rattle.mm_types.specs.Lookups as lookups
@@ -11,7 +11,7 @@ use Rattle.mm_types.specs.declared.numbers.FeatureNo.{FeatureNo}
 use Rattle.mm_types.specs.declared.value.Value.{Value}
 use Rattle.mm_types.specs.declared.value.Value.TheVariants as value
 
--- the name of a feature of the metamodel; any other number is that of the one feature of resources
+-- the name of a feature of the metamodel; any other number is that of `contents`, the only feature of resources
 abbrev pub feature_name : Metamodel → FeatureNo → List ℕ
 feature_name m f = option_map_or (λ g. g.name) (lookups.feature m f) (codes "contents")
 
@@ -26,7 +26,7 @@ abbrev pub enum_of_kind : Kind → Option ℕ
 enum_of_kind (Attribute t unique unsettable default) = enum_of_type t
 enum_of_kind (Reference target containment opposite) = None
 
--- the enumeration that is a feature's type
+-- the enumeration that is the type of a feature, if it is one
 abbrev pub enum_of : Metamodel → FeatureNo → Option ℕ
 enum_of m f = option_and_then (λ g. enum_of_kind g.kind) (lookups.feature m f)
 

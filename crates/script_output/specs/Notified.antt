@@ -1,4 +1,4 @@
--- What is printed of adapters: their notifications, and how many.
+-- What is printed of adapters: their notifications, and the counts of these.
 use Rattle.std.specs.Prelude.{ℕ, List, [], ◌∷◌, ◌++◌, codes}
 use Rattle.std.specs.Fmt.{decimal, signed_decimal}
 use Rattle.std.specs.Option.{option_map_or}

@@ -1,11 +1,11 @@
-//! The names that a metamodel has for what is printed.
+//! The names of features, enumerations and literals, as they are printed.
 ghost use Rattle.std.specs.Prelude.{◌≡◌};
 ghost use Rattle.script_output.specs.Names as n;
 
 use mm_meta::Meta;
 use mm_types::{ClassNo, DataType, FeatureNo, Kind, Value};
 
-/// The name of a feature of the metamodel; `contents` for any other number, as that of the one feature of resources.
+/// The name of a feature of the metamodel; for any other number `contents`, the only feature of resources.
 pub fn feature_name(meta: &Meta, feature: FeatureNo) -> &str
     ensures { result.now ≡ n.feature_name meta.now feature }
 {
@@ -15,7 +15,7 @@ pub fn feature_name(meta: &Meta, feature: FeatureNo) -> &str
     }
 }
 
-/// The enumeration that is a feature's type; None if the feature has a different type, or if there is none of the number.
+/// The enumeration that is a feature's type; None if the feature has a different type, or if no feature has the number.
 pub fn enum_of(meta: &Meta, feature: FeatureNo) -> Option<u32>
     ensures { result ≡ n.enum_of meta.now feature }
 {

@@ -1,4 +1,4 @@
-//! A text that grows at its end, by values, answers and refusals.
+//! A text to which values, answers and refusals are appended.
 ghost use Rattle.std.specs.Prelude.{◌≡◌, ◌<◌, ◌++◌, ◌∷◌, [], OnOk};
 ghost use Rattle.std.specs.Fmt.{decimal, signed_decimal};
 ghost use Rattle.std.specs.List.{list_any};
@@ -21,7 +21,7 @@ use std::alloc::{AllocError, Global};
 use std::marker::Model;
 use std::mem;
 
-/// A text that grows at its end, seen as its bytes. A call that is refused memory may have added a part of its text.
+/// A text that grows at its end. Contracts see its bytes. A call that is refused memory may have added a part of its text.
 #[derive(Drop)]
 pub struct Output {
     alloc: Global,
@@ -84,7 +84,7 @@ impl Output {
         self.byte(NEWLINE)
     }
 
-    /// Adds a number in decimal. One of up to three digits is added without a buffer.
+    /// Adds a number in decimal. A number of up to three digits is added without a buffer.
     pub fn natural(&mut self, n: u64) -> Result<(), AllocError>
         ensures ok { OnOk result (self.new ≡ self.old ++ decimal n) }
     {
@@ -156,7 +156,7 @@ impl Output {
         self.byte(QUOTE)
     }
 
-    /// Adds a text as a JSON string by a writer, which looks for what has to be escaped.
+    /// Adds a text as a JSON string by a writer, which finds the bytes that have to be escaped.
     fn escaped(&mut self, text: &str) -> Result<(), AllocError>
         ensures ok { OnOk result (self.new ≡ self.old ++ json_text text.now) }
     {
@@ -264,7 +264,7 @@ fn is_escaped(byte: u8) -> bool
     byte == b'"' || byte == b'\\' || byte < 32
 }
 
-/// Whether a byte of a text is escaped in a JSON string. The loop has no end at the first one, so that it takes many bytes at a time.
+/// Whether some byte of a text is escaped in a JSON string. The loop does not stop at the first such byte, so that it can be vectorised.
 fn has_escaped(bytes: &[u8]) -> bool
     ensures { result ≡ list_any is_stop bytes.now }
 {

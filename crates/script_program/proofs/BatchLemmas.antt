@@ -1,4 +1,4 @@
--- Answers without output options are the text, and what a run writes is made of the whole script.
+-- Without output options the answers are the text, and the output of a run is `dressed` of the whole script.
 use Rattle.std.proofs.Common.{◌∙◌, ◌≡◌, ◌⊎◌, ◌++◌, ℕ, true, false, inl, inr, List, [], Option, None, Some, ap, append-nil, subst, sym}
 use Rattle.std.specs.Prelude.{IfSome}
 use Rattle.std.specs.Io.KnownBytes.{Appends}

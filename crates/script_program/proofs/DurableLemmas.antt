@@ -1,4 +1,4 @@
--- What a run keeps in a journal, as models.
+-- The lines that a run keeps in a journal, as models.
 use Rattle.std.proofs.Common.{◌≡◌, ◌≤◌, ◌∙◌, ◌++◌, ⊎_elim, inl, inr, ℕ, List, [], ◌∷◌, Option, Some, None, ap, arith, subst, sym}
 use Rattle.std.specs.Prelude.{IfSome}
 use Rattle.std.specs.Io.KnownBytes.{Appends}
@@ -17,7 +17,7 @@ use Rattle.script_program.proofs.KeptLemmas.{RanAll, Runs, kept_all, model_of-ap
 use Rattle.script_streams.specs.declared.run_fault.RunFault.{RunFault}
 
 module _ {S : Type 0} (of : S → Session) (m : Metamodel) (j : S) (before : List (List ℕ)) (from : model_of m before ≡ Some (of j).state.model) where
-  -- the lines from before, and those that were kept of some
+  -- the earlier lines, and the lines that were kept of some others
   kept_so_far : (k : S) (ls : List (List ℕ)) (ps : List durable.Printed) → RanAll (of j) ls ps (of k) → model_of m (before ++ durable.kept_lines ls ps) ≡ Some (of k).state.model
   kept_so_far k ls ps all = model_of-append m (of j).state.model before (durable.kept_lines ls ps) (Some (of k).state.model) from all.again
 

@@ -1,4 +1,4 @@
--- What a journal keeps of a line, and what the line leaves when it is run again.
+-- Whether a journal keeps a line, and the model that the line leaves when it is run again.
 use Rattle.std.proofs.Common.{◌≡◌, ◌∙◌, ◌++◌, inl, inr, ℕ, Bool, true, false, List, [], ◌∷◌, Option, Some, None, Ok, Err, Result, refl, sym, ap, ap₂, subst, if◌then◌else◌}
 use Rattle.std.specs.Prelude.{MatchBool, option_and_then}
 use Rattle.std.proofs.lemmas.Bool.{both_ways, cases_Bool}
@@ -10,9 +10,8 @@ use Rattle.mm_types.specs.declared.refused.Refused.{Refused}
 use Rattle.models.specs.Model.{Model}
 use Rattle.notice_chain.specs.Listed.{Listed}
 use Rattle.notice_chain.specs.View.{View}
-use Rattle.repository.specs.Reload.{bare}
 use Rattle.repository.specs.Run.{Executed, IsWanting, is_memory}
-use Rattle.repository.specs.State.{State}
+use Rattle.repository.specs.State.{bare, State}
 use Rattle.repository.specs.Step.{Stepped, step}
 use Rattle.repository.specs.Views.{Outcome}
 use Rattle.repository.specs.declared.command.Command.{Command}
@@ -35,8 +34,9 @@ use Rattle.script_answers.specs.declared.turn.Turn.{Turn}
 use Rattle.script_answers.specs.declared.turn.Turn.TheVariants as turned
 use Rattle.repository.proofs.AloneLemmas.{comes_back, keeps_model}
 
--- A line was run that asks for a change or not. If it counts as kept, it leaves the model that is named, and else the one from before.
--- Without adapters there are none afterwards, and what does not count as kept, though it can be done, is lost.
+-- A line was run, which is a change or not. If it counts as kept, it leaves the model `after`, and otherwise the model from before. Without
+-- adapters before it, there are none afterwards. Without adapters, a change that can be done and does not count as kept was refused for
+-- memory.
 record Counts (s u : Session) (asked : Bool) (after : Option Model) (turn : Turn) : Type 0 where
   pub again : durable.is_kept (journal_turn asked turn) ≡ true → after ≡ Some u.state.model
   pub other : durable.is_kept (journal_turn asked turn) ≡ false → u.state.model ≡ s.state.model
@@ -80,7 +80,7 @@ failed_is_not_kept false = refl
 alone : (s : State) → s.adapters ≡ [] → s ≡ bare s.model
 alone s none = ap (λ (rs : List Listed). let t : State = record { model = s.model; adapters = rs } in t) none
 
--- done without adapters, a change is done, and leaves none
+-- a change that is done without adapters leaves no adapters
 lone_after : (s u : Session) (c : Command View) (r : _) → is_change c ≡ true → Executed s.state c (Ok r) u.state → s.state.adapters ≡ [] → u.state.adapters ≡ []
 lone_after s u c r is x none =
     let back = comes_back s.state c r u.state is x in
@@ -89,7 +89,7 @@ lone_after s u c r is x none =
 not_wanting : (s u : State) (c : Command View) (f : Failure View) → is_memory (Err f) ≡ false → Executed s c (Err f) u → step s c ≡ record { outcome = Err f; after = u }
 not_wanting s u c f is x = subst (λ (b : Bool). MatchBool b (IsWanting s c (Err f) u) (step s c ≡ record { outcome = Err f; after = u })) is x
 
--- what can be done without adapters is refused only out of memory
+-- a change that can be done without adapters is refused only for memory
 only_memory : (s u : Session) (c : Command View) (f : Failure View) (m : Model) (b : Bool) → is_memory (Err f) ≡ b → Executed s.state c (Err f) u.state
     → s.state.adapters ≡ [] → model_after_request s.state.model (request.Execute c) ≡ Some m → durable.is_lost (journal_turn true (if b then turned.Lost else turned.Refused)) ≡ true
 only_memory s u c f m true is x none done = refl
@@ -178,7 +178,7 @@ model_of-append m a (head ∷ ls) more b is leaves = replayed-append _ a ls more
 
 -- ---- lines that a journal counts
 
--- Lines were run: what they printed as lines of a script.
+-- Lines were run as lines of a script, with their output.
 pub record RanAll (s : Session) (ls : List (List ℕ)) (ps : List durable.Printed) (t : Session) : Type 0 where
   pub printed : List Printed
   pub ran : RunsLines s ls printed t
@@ -236,7 +236,7 @@ first_done : (o : Option Model) (ls : List (List ℕ)) (n : Model) → option_an
 first_done None ls n is = absurd (cc is)
 first_done (Some m) ls n is = (m, refl)
 
--- what leaves a model, run in turn without adapters, is refused by no session that has none, but for memory
+-- if lines leave a model when they are run in turn without adapters, a session without adapters refuses none of them, except for memory
 pub none_refused : (x : Session) (ls : List (List ℕ)) (n : Model) → x.state.adapters ≡ [] → replayed x.state.model ls ≡ Some n → durable.Refuses RunsJournaled x ls → ⊥
 none_refused x [] n none is refused = refused
 none_refused x (l ∷ ls) n none is refused =

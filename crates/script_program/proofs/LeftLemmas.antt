@@ -1,4 +1,4 @@
--- What is left of a repository when the answer of a line could not be added, or not written.
+-- The repository after the answer of a line could not be added to the output, or not written.
 use Rattle.std.proofs.Common.{◌≡◌, ◌⊎◌, inl, inr, ℕ, [], List, Option, Result, Ok, Err, OnErr, refl, subst, sym}
 use Rattle.std.proofs.KnownBytes.{Appends-nil}
 use Rattle.notice_chain.specs.View.{View}
@@ -16,7 +16,7 @@ use Rattle.script_answers.specs.declared.dress.Dress.{Dress}
 use Rattle.script_program.specs.declared.request.Request.{Request}
 use Rattle.script_program.specs.declared.request.Request.TheVariants as request
 
--- at an error
+-- the state after an error
 pub on_error : {V E X : Type 0} (r : Result V E) → X → OnErr r X
 on_error (Ok v) x = tt
 on_error (Err e) x = x

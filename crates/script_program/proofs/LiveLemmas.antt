@@ -37,7 +37,7 @@ front_of_answer line s q old new (inl same) = inl same.0
 front_of_answer line s q old new (inr one) =
     inr (record { printed = one.printed; after = one.after; ran = one.ran; written = front_more old new one.printed.text (10 ∷ []) one.written })
 
--- it is written, and the empty line is not
+-- the answer is written, and the empty line is not
 pub front_behind : (line : List ℕ) (s u : Session) (old mid new : Option (List ℕ)) (turn : Turn) → AnswersLine plain 0 line s old mid turn u → AppendsFront mid new (10 ∷ [])
     → (new ≡ old) ⊎ AnswersLiveFront line s old new
 front_behind line s u old mid new turn one behind =
@@ -127,7 +127,7 @@ module _ (z : Session) where
     pub paused : (w1 : Option (List ℕ)) → Goes z a b s number printed summary old w0 → Keeps w0 w1 → IfSome a (PrintsLiveFront z old w1)
     paused w1 g kept = front_at a b old w1 g.done printed s g.read g.ran (front_whole old w1 _ (Appends-kept old w0 w1 _ g.written kept))
 
-    -- the last of them is written in part, or nothing of it
+    -- the last answer is written in part, or nothing of it
     pub stopped : (c : Option (List ℕ)) (line : List ℕ) (end : LineEnd) (w1 w2 : Option (List ℕ))
         → Goes z a b s number printed summary old w0 → Keeps w0 w1 → ReadsLine b c line end → (end ≡ Input → 0 < length line)
         → (w2 ≡ w1) ⊎ AnswersLiveFront line s w1 w2 → IfSome a (PrintsLiveFront z old w2)

@@ -1,4 +1,4 @@
--- What lines print is the text that is defined for the numbers of the lost ones.
+-- The output of lines is the text that is defined for the numbers of the lost lines.
 use Rattle.std.proofs.Common.{◌∙◌, ◌≡◌, ◌==◌, ◌+◌, ◌<◌, ◌≤◌, ◌++◌, ℕ, zero, suc, Bool, true, false, IsTrue, List, [], ◌∷◌, Option, Some, Ok, Err, ap, ap₂, append-nil, append_assoc, arith, cond, length, map, refl, slice_get, slice_index, subst, sym}
 use Rattle.std.specs.Prelude.{fold}
 use Rattle.std.specs.List.{All}
@@ -100,7 +100,7 @@ none_below k j (p ∷ ps) low = in_below (is_lost p.turn) k j (lost_from (suc k)
 abbrev AgreeFrom : ℕ → List ℕ → List ℕ → Type 0
 AgreeFrom k m n = (j : ℕ) → k ≤ j → is_in m j ≡ is_in n j
 
--- what the first lines print goes on with what the others print
+-- the output of the first lines is followed by the output of the others
 goes_on : (m : List ℕ) (k : ℕ) (s t : Session) (first rest : List (List ℕ)) (ps : List Printed) → RunsLines s first ps t → AgreeFrom k m (lost_from k ps)
     → (n : ℕ) × (printed_from m k s (first ++ rest) ≡ ps ++ printed_from m n t rest)
 unfolding printed_from

@@ -1,4 +1,4 @@
--- A script goes on by one line, where the answers of its last lines wait in a block.
+-- A script goes on by one line, while the answers of its last lines wait in a block.
 use Rattle.std.proofs.Common.{◌≡◌, ◌∙◌, ◌+◌, ◌<◌, ◌++◌, ℕ, List, [], ◌∷◌, Option, inl, inr, ap, append-nil, append_assoc, length, refl, subst, sym}
 use Rattle.std.proofs.lemmas.List.{nil_from_length}
 use Rattle.std.specs.Io.KnownBytes.{Appends}
@@ -18,7 +18,7 @@ use Rattle.script_streams.specs.Streams.{AppendsFront}
 use Rattle.script_streams.proofs.FrontLemmas.{front_after, front_more}
 use Rattle.script_program.proofs.ScriptLemmas.{Ran, front_of, line_behind, none_run, one_more, whole_of}
 
--- Some first lines were run. Of their answers a front is written, and the rest is in the block.
+-- Some first lines were run. A prefix of their answers is written, and the rest is in the block.
 pub record Waits (z : Session) (bytes rest : List ℕ) (s : Session) (summary : Summary) (old now : Option (List ℕ)) (block : List ℕ) : Type 0 where
   pub number : ℕ
   pub printed : List Printed

@@ -7,7 +7,7 @@ use Rattle.mm_types.specs.declared.numbers.AdapterNo.{AdapterNo}
 use Rattle.notice_chain.specs.View.{View}
 use Rattle.script_program.specs.Pool.{Pool, box_in, box_of, index, with_box, with_entry, without}
 
--- what is put where it is, or past the end, changes nothing
+-- putting an element where it is, or past the end, changes nothing
 set-there : {X : Type 0} (xs : List X) (i : ℕ) (x : X) → slice_get xs i ≡ Some x → slice_set xs i x ≡ xs
 set-there [] i x h = refl
 set-there {X = X} (y ∷ xs) zero x h = ap (λ (o : Option X). option_map_or (λ z. z ∷ xs) o (y ∷ xs)) (sym h)
@@ -45,7 +45,7 @@ nowhere-to-put o pool number = at (index number)
     at None h = refl
     at (Some i) h = set-past pool i o h
 
--- an adapter that is taken out and put back is where it was
+-- after an adapter is taken out and put back, the pool is as it was
 pub put-back : (pool : Pool) (number : AdapterNo) (v : View) → box_of pool number ≡ Ok v → with_box (without pool number) (number, v) ≡ pool
 put-back pool number v = at (index number)
   where

@@ -46,7 +46,7 @@ within_more _ s n w = record { lines = omega (arith, w.lines); refused = omega (
 pub summary_of_push : (ps : List Printed) (p : Printed) → summary_of (ps ++ p ∷ []) ≡ with_turn (summary_of ps) p.turn
 summary_of_push ps p = ap (fold with_turn no_lines) (map-append (λ (q : Printed). q.turn) ps (p ∷ [])) ∙ fold-append with_turn no_lines (map (λ (q : Printed). q.turn) ps) (p.turn ∷ [])
 
--- Some first lines were run, and the rest of the bytes is what follows them.
+-- Some first lines were run, and the rest of the bytes follows them.
 pub record Ran (d : Dress) (z : Session) (bytes rest : List ℕ) (s : Session) (number : ℕ) (printed : List Printed) (summary : Summary) : Type 0 where
   pub done : List (List ℕ)
   pub all : done ++ lines rest ≡ lines bytes
@@ -96,7 +96,7 @@ one_more d z bytes rest more line s u number printed summary p g going cut short
       none_behind = kept_last d printed p going;
     }
 
--- what is written of it is after what was written
+-- the output of the line is appended to the earlier output
 pub line_behind : (d : Dress) (z : Session) (bytes rest : List ℕ) (s : Session) (number : ℕ) (printed : List Printed) (summary : Summary) (line : List ℕ) (p : Printed)
     → (g : Ran d z bytes rest s number printed summary)
     → dressed_from d 1 (g.done ++ line ∷ []) (printed ++ p ∷ []) ≡ dressed_from d 1 g.done printed ++ dressed_line d (number + 1) line p
@@ -168,7 +168,7 @@ module _ (d : Dress) (z : Session) (bytes : List ℕ) where
         } in
         subst (λ t. GoesOn d z bytes more u (number + 1) (printed ++ p ∷ []) (with_turn summary t) old new) is goes
 
-    -- it ends the run
+    -- the line ends the run
     pub ended : (u : Session) (turn : Turn) → GoesOn d z bytes rest s number printed summary old mid → lines rest ≡ line ∷ lines more → length more < length rest
         → AnswersLine d (number + 1) line s mid new turn u → (d.stop && is_fault turn) ≡ true
         → PrintsDressed d z (EndsIn u.state) old new bytes (with_turn summary turn)
@@ -182,7 +182,7 @@ module _ (d : Dress) (z : Session) (bytes : List ℕ) where
         (subst (Appends old new) (sym (line_behind d z bytes rest s number printed summary line p on.so_far)) (Appends-trans old mid new _ _ on.written one.written)) refl in
         subst (λ t. PrintsDressed d z (EndsIn u.state) old new bytes (with_turn summary t)) is whole
 
-    -- its answer is written in part, or nothing of it
+    -- the answer of the line is written in part, or nothing of it
     pub stopped : (q : State) → GoesOn d z bytes rest s number printed summary old mid → lines rest ≡ line ∷ lines more → length more < length rest
         → ((new ≡ mid) × (q ≡ s.state)) ⊎ AnswersFront d (number + 1) line s (EndsIn q) mid new → PrintsDressedFront d z (EndsIn q) old new bytes
     unfolding one_more

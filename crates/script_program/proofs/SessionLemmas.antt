@@ -1,4 +1,4 @@
--- What comes back of a command that was executed.
+-- The adapters that a command gives back.
 use Rattle.std.proofs.Common.{◌∷◌, ◌≡◌, ◌∙◌, [], List, Option, Result, Ok, Err, map, refl, sym, ap, subst}
 use Rattle.std.specs.Prelude.{ℕ, fold, IfOk}
 use Rattle.std.proofs.lemmas.Result.{IfOk-weaker}
@@ -25,12 +25,12 @@ use Rattle.script_answers.specs.Turns.{Printed}
 use Rattle.script_answers.specs.declared.turn.Turn.{Turn}
 use Rattle.script_program.proofs.PoolLemmas.{put-back}
 
--- what brings nothing, and releases nothing, leaves the pool as it is
+-- a command that takes no adapter and releases none leaves the pool as it is
 pub unheard-pool : {X : Type 0} (pool : Pool) (c : Command View) (f : X → Answer) (r : Result X Refused) → joins c ≡ [] → pool ≡ pool_after pool c (read_outcome f r)
 unheard-pool pool c f (Ok x) alone = ap (λ (js : List Listed). fold without pool (map (λ a. a.no) js)) (sym alone)
 unheard-pool pool c f (Err e) alone = refl
 
--- what was brought and is put back leaves the pool as it was
+-- after the adapter of a command is put back, the pool is as it was
 undone : (before : Pool) (c : Command View) → IsBrought before c → option_map_or (with_box (taken before c)) (option_zip (brought_no c) (brought c)) (taken before c) ≡ before
 undone before (Attach number target deep view) h = put-back before number view (All-head (λ (a : Listed). box_of before a.no ≡ Ok a.view) (record { no = number; targets = record { node = target; deep = deep } ∷ []; view = view }) [] h)
 undone before _ h = refl
@@ -40,7 +40,7 @@ returned-after before s t c (Ok r) h x = refl
 returned-after before s t c (Err f) h x =
     ap (λ (back : Option View). option_map_or (with_box (taken before c)) (option_zip (brought_no c) back) (taken before c)) (refused-nothing s t c f x).1 ∙ undone before c h
 
--- what a form brings is in the pool
+-- the adapter that a form takes is in the pool
 pub bind-given : (s : Session) (f : Form) → IsGiven s.pool (bind s f)
 bind-given s (asks.Attach number target deep) =
     elim (box_of s.pool number) as (λ r. box_of s.pool number ≡ r → IsGiven s.pool (attach_request r number target deep)) [
@@ -50,10 +50,10 @@ bind-given s (asks.Attach number target deep) =
 bind-given s (asks.Seen number) = tt
 bind-given s _ = All-nil (λ (a : Listed). box_of s.pool a.no ≡ Ok a.view)
 
--- what is said of an added text may be said in another way
+-- a fact about an added text, in another form
 pub adds-run : {E : Type 0} (r : Result Turn E) (old new : List ℕ) (P Q : Printed → Type 0) → ((p : Printed) → P p → Q p) → IfOk r (λ t. Adds old new t P) → IfOk r (λ t. Adds old new t Q)
 adds-run r old new P Q so h = IfOk-weaker r (λ t. Adds old new t P) (λ t. Adds old new t Q) (λ t a. record { text = a.text; added = a.added; said = so _ a.said }) h
 
--- what is added to nothing is all that is there
+-- a text that is added to an empty output is the whole output
 pub said-alone : {E : Type 0} (r : Result Turn E) (new : List ℕ) (P : Printed → Type 0) → IfOk r (λ t. Adds [] new t P) → IfOk r (λ t. P (record { text = new; turn = t }))
 said-alone r new P h = IfOk-weaker r (λ t. Adds [] new t P) (λ t. P (record { text = new; turn = t })) (λ t a. subst (λ (x : List ℕ). P (record { text = x; turn = t })) (sym a.added) a.said) h

@@ -22,7 +22,7 @@ use Rattle.script_output.specs.Notified.{notice_text, released_text}
 use Rattle.script_output.specs.Printed.{class_text, features_text, holder_text, json_text, list_text, node_text, objects_text, refused_text, value_text}
 use Rattle.script_program.specs.declared.bind.TheConstants.{NOTHING}
 
--- the feature that a command names; one of no metamodel where it names none
+-- the feature that a command names; if it names none, a number that no feature has
 abbrev pub feature_of : Command View → FeatureNo
 feature_of (command.At e a) = e.feature
 feature_of (command.Read (read.At e q)) = e.feature
@@ -32,7 +32,7 @@ feature_of _ = record { 0 = NOTHING }
 abbrev pub resolved_text : ℕ → ℕ → List ℕ
 resolved_text done left = codes "resolved " ++ (decimal done ++ (codes " left " ++ decimal left))
 
--- an answer to a command that names the feature f
+-- the text of an answer to a command that names the feature f
 abbrev pub answer_text : Metamodel → FeatureNo → Answer → List ℕ
 answer_text m f answer.Done = codes "ok"
 answer_text m f (answer.Object o) = node_text (node.Object o)
@@ -69,7 +69,7 @@ all_released_text released = flat_map (λ b. released_text b.0 b.1.told (length 
 abbrev pub notified_text : Metamodel → List (AdapterNo × Notice) → List (AdapterNo × View) → List ℕ
 notified_text m told released = told_text m told ++ all_released_text released
 
--- a line that a refusal prints
+-- the line that a refusal prints
 abbrev pub refusal_line : Refused → List ℕ
 refusal_line r = refused_text r ++ NEWLINE ∷ []
 
@@ -78,7 +78,7 @@ abbrev pub outcome_text : Metamodel → FeatureNo → Outcome → List ℕ
 outcome_text m f (Ok r) = answer_line m f r.answer ++ notified_text m r.told r.released
 outcome_text m f (Err e) = refusal_line e.refused
 
--- the line that a command prints that notifies no adapter
+-- the line that a command prints if it notifies no adapter
 abbrev pub unheard_text : Metamodel → FeatureNo → Answer → List ℕ
 unheard_text m f a = outcome_text m f (Ok (record { answer = a; told = []; released = [] }))
 

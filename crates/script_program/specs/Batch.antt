@@ -1,4 +1,4 @@
--- What it is to run a script with output options.
+-- A run of a script with output options.
 use Rattle.std.specs.Prelude.{◌≡◌, ◌≤◌, ◌⊎◌, ℕ, true, List, [], ◌++◌, length, Option, IfSome}
 use Rattle.std.specs.Io.KnownBytes.{Appends}
 use Rattle.mm_types.specs.declared.limits.TheConstants.{INPUT_BYTES}
@@ -15,20 +15,20 @@ use Rattle.script_program.specs.declared.summary.Summary.{Summary}
 use Rattle.script_answers.specs.declared.turn.Turn.{Turn}
 use Rattle.script_streams.specs.Streams.{AppendsFront}
 
--- The first lines of a script were run, none of them after the end of the run, and the others were not.
+-- The first lines of a script were run, none of them after a line that ends the run; the other lines were not run.
 pub record RunsFirst (d : Dress) (s : Session) (bytes : List ℕ) (first rest : List (List ℕ)) (printed : List Printed) (t : Session) : Type 0 where
   pub lines_are : lines bytes ≡ first ++ rest
   pub ran : RunsLines s first printed t
   pub none_behind : kept d printed ≡ printed
 
--- A line was run, and what it prints was written, by the output options.
+-- A line was run, and its output was written by the output options.
 pub record AnswersLine (d : Dress) (number : ℕ) (line : List ℕ) (s : Session) (old new : Option (List ℕ)) (turn : Turn) (t : Session) : Type 0 where
   pub printed : Printed
   pub ran : RunsLine s (form line) printed t
   pub counted : printed.turn ≡ turn
   pub written : Appends old new (dressed_line d number line printed)
 
--- A line was run, a prefix of what it prints was written, and something holds of the session that is left.
+-- A line was run, a prefix of its output was written, and `Left` is true of the session that is left.
 pub record AnswersFront (d : Dress) (number : ℕ) (line : List ℕ) (s : Session) (Left : Session → Type 0) (old new : Option (List ℕ)) : Type 0 where
   pub printed : Printed
   pub after : Session
@@ -36,21 +36,21 @@ pub record AnswersFront (d : Dress) (number : ℕ) (line : List ℕ) (s : Sessio
   pub ran : RunsLine s (form line) printed after
   pub written : AppendsFront old new (dressed_line d number line printed)
 
--- All lines of a script were run, or those up to and including the first that ends the run.
+-- All lines of a script were run, or the lines up to and including the first line that ends the run.
 pub record RunsBatch (d : Dress) (s : Session) (bytes : List ℕ) (first : List (List ℕ)) (printed : List Printed) (t : Session) : Type 0 where
   pub rest : List (List ℕ)
   pub runs : RunsFirst d s bytes first rest printed t
   pub ends : (rest ≡ []) ⊎ (is_stopped d printed ≡ true)
 
--- a session ends in a repository of this state; and a session may end in any
+-- a session ends with a repository of this state; and `EndsAnywhere`: with a repository of any state
 abbrev pub EndsIn : State → Session → Type 0
 EndsIn q t = t.state ≡ q
 
 abbrev pub EndsAnywhere : Session → Type 0
 EndsAnywhere t = Unit {0}
 
--- A script was run to the end of its run, its answers were written by the output options, the counts are theirs, and something holds of the
--- session that is left.
+-- A script was run to the end of its run, its answers were written by the output options, the counts are those of the answers, and `Left`
+-- is true of the session that is left.
 pub record PrintsDressed (d : Dress) (s : Session) (Left : Session → Type 0) (old new : Option (List ℕ)) (bytes : List ℕ) (summary : Summary) : Type 0 where
   pub first : List (List ℕ)
   pub printed : List Printed
@@ -60,8 +60,8 @@ pub record PrintsDressed (d : Dress) (s : Session) (Left : Session → Type 0) (
   pub counted : summary_of printed ≡ summary
   pub written : Appends old new (dressed d first printed)
 
--- The first lines of a script were run, a prefix of their answers was written, by the output options, and something holds of the session
--- that is left.
+-- The first lines of a script were run, a prefix of their answers was written by the output options, and `Left` is true of the session that
+-- is left.
 pub record PrintsDressedFront (d : Dress) (s : Session) (Left : Session → Type 0) (old new : Option (List ℕ)) (bytes : List ℕ) : Type 0 where
   pub first : List (List ℕ)
   pub rest : List (List ℕ)
@@ -71,10 +71,10 @@ pub record PrintsDressedFront (d : Dress) (s : Session) (Left : Session → Type
   pub ran : RunsFirst d s bytes first rest printed after
   pub written : AppendsFront old new (dressed d first printed)
 
--- Known input is no longer than it may be, and it was run to the end of its run.
+-- If the input is known, it is within its limit, and was run to the end of its run.
 abbrev pub PrintsInputDressed : Dress → Option (List ℕ) → Session → (Session → Type 0) → Option (List ℕ) → Option (List ℕ) → Summary → Type 0
 PrintsInputDressed d input s Left old new summary = IfSome input (λ bytes. (length bytes ≤ INPUT_BYTES) × PrintsDressed d s Left old new bytes summary)
 
--- The first lines of known input were run.
+-- If the input is known, its first lines were run.
 abbrev pub PrintsInputDressedFront : Dress → Option (List ℕ) → Session → (Session → Type 0) → Option (List ℕ) → Option (List ℕ) → Type 0
 PrintsInputDressedFront d input s Left old new = IfSome input (λ bytes. PrintsDressedFront d s Left old new bytes)

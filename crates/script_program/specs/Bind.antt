@@ -1,4 +1,4 @@
--- What a form asks for: the names in it are looked up in the metamodel, and the adapter in the pool.
+-- The request of a form: its names are looked up in the metamodel, and its adapter in the pool.
 use Rattle.std.specs.Prelude.{ℕ, Bool, List, Option, option_and_then, unwrap_or, codes, Result, Ok, Err, if◌then◌else◌}
 use Rattle.std.specs.Str.{bytes_eq}
 use Rattle.mm_types.specs.Lookups as lookups
@@ -37,7 +37,7 @@ use Rattle.script_program.specs.declared.request.Request.TheVariants as request
 abbrev pub class_number : Metamodel → List ℕ → ClassNo
 class_number m name = unwrap_or (lookups.class_by_name m name) (record { 0 = NOTHING })
 
--- the feature of a name: of an object's class, or the one feature `contents` of a resource
+-- the feature with a name, of an object's class; a resource has only `contents`
 abbrev pub feature_number : State → Node → List ℕ → FeatureNo
 feature_number s (node.Object o) name =
     unwrap_or (option_and_then (λ c. lookups.feature_by_name s.model.metamodel c name) ((reads s).class o)) (record { 0 = NOTHING })
@@ -46,7 +46,7 @@ feature_number s (node.Resource r) name = if bytes_eq name (codes "contents") th
 abbrev pub literal_number : Metamodel → FeatureNo → List ℕ → ℕ
 literal_number m f name = unwrap_or (option_and_then (λ e. lookups.literal_by_name m e name) (enum_of m f)) NOTHING
 
--- the value of a feature that is written so
+-- the value of a written value, for a feature
 abbrev pub value_in : Metamodel → FeatureNo → WrittenValue → Value
 value_in m f written.Null = value.Null
 value_in m f (written.Bool b) = value.Bool b
@@ -55,7 +55,7 @@ value_in m f (written.Text t) = value.Text t
 value_in m f (written.Literal name) = value.Literal (literal_number m f name)
 value_in m f (written.Object o) = value.Object o
 
--- the value of the named feature of a node that is written so
+-- the value of a written value, for the named feature of a node
 abbrev pub named_value : State → Node → List ℕ → WrittenValue → Value
 named_value s n name v = value_in s.model.metamodel (feature_number s n name) v
 
@@ -75,7 +75,7 @@ add_command s n name v index = command.At (named_end s n name) (act.Add (named_v
 abbrev pub removevalue_command : {A : Type 0} → State → Node → List ℕ → WrittenValue → Command A
 removevalue_command s n name v = command.At (named_end s n name) (act.RemoveValue (named_value s n name v))
 
--- an adapter of the pool is attached; where it can't be, the repository isn't asked
+-- the request to attach an adapter of the pool; if the pool can't give it, the repository is not asked
 abbrev pub attach_request : Result View Refused → AdapterNo → Node → Bool → Request View
 attach_request (Ok v) number target deep = request.Execute (command.Attach number target deep v)
 attach_request (Err r) number target deep = request.Refuse r
@@ -109,13 +109,13 @@ bind s (asks.Save k) = request.Execute (commands.save k)
 bind s (asks.Class o) = request.Execute (commands.class o)
 bind s (asks.Seen number) = request.Seen number
 
--- the pool when what a request brings is out
+-- the pool without the adapter that a request takes
 abbrev pub pool_of : Pool → Request View → Pool
 pool_of pool (request.Execute c) = taken pool c
 pool_of pool (request.Seen number) = pool
 pool_of pool (request.Refuse r) = pool
 
--- the adapter of a request is in the pool
+-- the adapter that a request takes is in the pool
 abbrev pub IsGiven : Pool → Request View → Type 0
 IsGiven pool (request.Execute c) = IsBrought pool c
 IsGiven pool (request.Seen number) = Unit {0}

@@ -1,11 +1,10 @@
--- The lines that a journal keeps, and what they make when they are run again.
+-- The lines that a journal keeps, and the model that they make when they are run again.
 use Rattle.std.specs.Prelude.{◌≡◌, ◌⊎◌, ◌++◌, ℕ, Bool, true, false, List, [], ◌∷◌, Option, Some, None, Result, Ok, Err, IfSome, option_and_then, if◌then◌else◌}
 use Rattle.std.specs.Io.KnownBytes.{Appends}
 use Rattle.mm_types.specs.Resolved.{Metamodel}
 use Rattle.models.specs.Model.{Model}
 use Rattle.notice_chain.specs.View.{View}
-use Rattle.repository.specs.Reload.{bare}
-use Rattle.repository.specs.State.{empty_state}
+use Rattle.repository.specs.State.{bare, empty_state}
 use Rattle.repository.specs.Step.{step}
 use Rattle.repository.specs.Views.{Outcome}
 use Rattle.script_lines.specs.Forms.{form}
@@ -34,7 +33,7 @@ use Rattle.script_program.specs.declared.request.Request.TheVariants as request
 use Rattle.script_answers.specs.declared.turn.Turn.{Turn}
 use Rattle.script_answers.specs.declared.turn.Turn.TheVariants as turned
 
--- a form asks for a change of the model
+-- whether a form asks for a change of the model
 abbrev pub asks_change : Form → Bool
 asks_change (asks.New class) = true
 asks_change (asks.Set n feature v) = true
@@ -60,7 +59,7 @@ journal_turn asked turned.Done = if asked then journaled.Kept else journaled.Oth
 journal_turn asked turned.Lost = journaled.Lost
 journal_turn asked _ = journaled.Other
 
--- what a line printed, as a journal counts it
+-- the output of a line, as a journal counts it
 abbrev pub journal_printed : List ℕ → Printed → durable.Printed
 journal_printed l p = record { text = p.text; turn = journal_turn (line_asks (form l)) p.turn }
 
@@ -81,7 +80,7 @@ pub record RunsJournaled (s : Session) (l : List ℕ) (p : durable.Printed) (t :
   pub ran : RunsLine s (form l) printed t
   pub counted : p ≡ journal_printed l printed
 
--- those lines of some that are kept, by what they printed
+-- the lines that are kept, by the output of each
 abbrev pub kept_lines : List (List ℕ) → List Printed → List (List ℕ)
 kept_lines [] ps = []
 kept_lines (l ∷ ls) [] = []
@@ -91,7 +90,7 @@ abbrev pub model_if_done : Outcome → Model → Option Model
 model_if_done (Ok r) m = Some m
 model_if_done (Err f) m = None
 
--- the model that a command leaves of a repository without adapters, if it is done
+-- the model after a command on a repository without adapters, if the command is done
 abbrev pub model_after_request : Model → Request View → Option Model
 model_after_request m (request.Execute c) = let one = step (bare m) c in model_if_done one.outcome one.after.model
 model_after_request m _ = None
@@ -100,29 +99,29 @@ abbrev pub model_after_line : Model → Line → Option Model
 model_after_line m (line.Form f) = if asks_change f then model_after_request m (bind (session (bare m) []) f) else None
 model_after_line m _ = None
 
--- the model that lines leave, run in turn by a repository without adapters, if each asks for a change and is done
+-- the model after lines that are run in turn on a repository without adapters, if each line asks for a change and is done
 abbrev pub replayed : Model → List (List ℕ) → Option Model
 replayed m [] = Some m
 replayed m (l ∷ ls) = option_and_then (λ n. replayed n ls) (model_after_line m (form l))
 
--- the model that the lines of a journal leave, run from the empty repository on; its first line is its head
+-- the model after the lines of a journal, run from the empty repository on; the first line, its head, is not run
 abbrev pub model_of : Metamodel → List (List ℕ) → Option Model
 model_of m [] = None
 model_of m (head ∷ ls) = replayed (empty_state m).model ls
 
--- a file is a journal, whose lines leave this model
+-- a file is a journal whose lines leave this model
 abbrev pub Recalls : Metamodel → Model → List ℕ → Type 0
 Recalls m model file = model_of m (recovered file) ≡ Some model
 
--- A run came to its end: all lines were run and answered, and the journal leaves the model that they left.
+-- A run came to its end: all lines were run and answered, and the lines of the journal leave the model that the run left.
 pub record EndsJournaled (m : Metamodel) (s : Session) (ls : List (List ℕ)) (old new : Option (List ℕ)) (kept : List (List ℕ)) (t : Session) : Type 0 where
   pub printed : List Printed
   pub ran : RunsLines s ls printed t
   pub written : Appends old new (live_text printed)
   pub recalled : model_of m kept ≡ Some t.state.model
 
--- A run stopped for a fault. What is written are answers to the first lines. Whatever a crash leaves is a journal of the model that these
--- lines left, or of the one that lines after them left, which were run and not answered.
+-- A run stopped for a fault. Answers to the first lines were written; the next lines were run but not answered. A file that a crash leaves
+-- is a journal of the model after the first lines, or after the next lines too.
 pub record StopsJournaled (m : Metamodel) (fault : RunFault) (s : Session) (ls : List (List ℕ)) (old new : Option (List ℕ)) (may_leave : List ℕ → Type 0) : Type 0 where
   pub first : List (List ℕ)
   pub next : List (List ℕ)
@@ -160,7 +159,7 @@ pub record EndsKept (m : Metamodel) (head file : List ℕ) (ls : List (List ℕ)
   pub had : model_of m (begun head (recovered file)) ≡ Some start.state.model
   pub ends : EndsJournaled m start ls old new (recovered file_after) t
 
--- A run stopped for a fault, when the lines of the file had been run again.
+-- A run stopped for a fault after the lines of the file had been run again.
 pub record StopsKept (m : Metamodel) (fault : RunFault) (head file : List ℕ) (ls : List (List ℕ)) (old new : Option (List ℕ)) (may_leave : List ℕ → Type 0) : Type 0 where
   pub start : Session
   pub had : model_of m (begun head (recovered file)) ≡ Some start.state.model
@@ -172,7 +171,8 @@ pub record LeavesKept (m : Metamodel) (head file : List ℕ) (ls : List (List �
   pub had : model_of m (begun head (recovered file)) ≡ Some start.state.model
   pub leaves : LeavesJournaled m start ls left
 
--- what a crash leaves at any moment of such a run: the lines of the file, or a journal of the model that the first lines of a known input left
+-- what a crash at any moment of a run leaves: the lines of the file, or a journal of the model that the first lines of the input left, if
+-- the input is known
 abbrev pub LeavesKeptIn : Metamodel → List ℕ → List ℕ → Option (List ℕ) → List ℕ → Type 0
 LeavesKeptIn m head file input left = IsBegunOrNot head (recovered file) left ⊎ IfSome input (λ bytes. LeavesKept m head file (lines bytes) left)
 

@@ -19,15 +19,15 @@ abbrev pub len_printed : Result ℕ Refused → Printed
 len_printed (Ok n) = record { text = decimal n ++ NEWLINE ∷ []; turn = turned.Done }
 len_printed (Err r) = refused_printed r
 
--- a value prints as the read of a single feature does
+-- what is printed for one value of a list: the same as for a read of a single feature
 abbrev pub value_printed : Metamodel → FeatureNo → Result Value Refused → Printed
 value_printed m f (Ok v) = record { text = read_text m f v; turn = turned.Done }
 value_printed m f (Err r) = refused_printed r
 
--- how many values the list of a node has that has this name
+-- how many values the list of a named feature of a node has
 abbrev pub list_len_printed : State → Node → List ℕ → Printed
 list_len_printed s n name = len_printed (list_len (reads s) (named_end s n name))
 
--- the value at an index of that list
+-- the value at an index of the list of a named feature of a node
 abbrev pub list_value_printed : State → Node → List ℕ → ℕ → Printed
 list_value_printed s n name i = value_printed s.model.metamodel (feature_number s n name) (list_value (reads s) (named_end s n name) i)

@@ -1,4 +1,4 @@
--- What it is to run a script live: each line is answered before the next is read, and an empty line is after its answer.
+-- A live run of a script: each line is answered before the next is read, and each answer ends with an empty line.
 use Rattle.std.specs.Prelude.{◌≡◌, ℕ, List, [], ◌∷◌, ◌++◌, Option, IfSome}
 use Rattle.std.specs.List.{flat_map}
 use Rattle.std.specs.Io.KnownBytes.{Appends}
@@ -13,45 +13,45 @@ use Rattle.script_program.specs.declared.summary.Summary.{Summary}
 use Rattle.script_answers.specs.declared.turn.Turn.{Turn}
 use Rattle.script_streams.specs.Streams.{AppendsFront}
 
--- what is written for a line that prints this: the answer, and an empty line
+-- the text that is written for a line: the text that it prints, and an empty line
 abbrev pub live_answer : Printed → List ℕ
 live_answer p = p.text ++ NEWLINE ∷ []
 
--- a line that prints this prints an empty line after it too
+-- the output of a line, with an empty line after it
 abbrev pub with_empty_line : Printed → Printed
 with_empty_line p = record p { text = live_answer p }
 
--- what is written for lines that print this
+-- the text that is written for some lines
 abbrev pub live_text : List Printed → List ℕ
 live_text = flat_map live_answer
 
--- A line was run, and its answer was written with an empty line after.
+-- A line was run, and its answer was written, with an empty line after it.
 pub record AnswersLive (line : List ℕ) (s : Session) (old new : Option (List ℕ)) (turn : Turn) (t : Session) : Type 0 where
   pub printed : Printed
   pub ran : RunsLine s (form line) printed t
   pub counted : printed.turn ≡ turn
   pub written : Appends old new (live_answer printed)
 
--- A line was run, and a prefix of that was written.
+-- A line was run, and a prefix of its answer with the empty line was written.
 pub record AnswersLiveFront (line : List ℕ) (s : Session) (old new : Option (List ℕ)) : Type 0 where
   pub printed : Printed
   pub after : Session
   pub ran : RunsLine s (form line) printed after
   pub written : AppendsFront old new (live_answer printed)
 
--- All lines of a script were run, their answers were written, each with an empty line after, and the counts are theirs.
+-- All lines of a script were run, their answers were written, each with an empty line after it, and the counts are those of these lines.
 abbrev pub PrintsLive : Session → Option (List ℕ) → Option (List ℕ) → List ℕ → Summary → Type 0
 PrintsLive = PrintsAs live_text
 
--- The first lines of a script were run, and a prefix of what is written for them was written.
+-- The first lines of a script were run, and a prefix of the text for them was written.
 abbrev pub PrintsLiveFront : Session → Option (List ℕ) → Option (List ℕ) → List ℕ → Type 0
 PrintsLiveFront = PrintsFrontAs live_text
 
--- Known input was run to its end.
+-- If the input is known, it was run to its end.
 abbrev pub PrintsInputLive : Option (List ℕ) → Session → Option (List ℕ) → Option (List ℕ) → Summary → Type 0
 PrintsInputLive input s old new summary = IfSome input (λ bytes. PrintsLive s old new bytes summary)
 
--- The first lines of known input were run.
+-- If the input is known, its first lines were run.
 abbrev pub PrintsInputLiveFront : Option (List ℕ) → Session → Option (List ℕ) → Option (List ℕ) → Type 0
 PrintsInputLiveFront input s old new = IfSome input (λ bytes. PrintsLiveFront s old new bytes)
 

@@ -9,22 +9,22 @@ use Rattle.repository.specs.declared.command.Command.TheVariants.{CreateResource
 use Rattle.repository.specs.declared.reply.Answer.{Answer}
 use Rattle.repository.specs.declared.reply.Answer.TheVariants as answer
 
--- the resource that an answer names; that of a command which makes a resource always does
+-- the resource that an answer names; the answer of a command that makes a resource always names one
 abbrev pub made_resource : Answer → Option ResourceNo
 made_resource (answer.Resource k) = Some k
 made_resource _ = None
 
--- a document was loaded into a resource, if there is one
+-- a document was loaded into the resource; without a resource, the outcome is the refusal NoResource
 abbrev pub LoadsInto : Option ResourceNo → State → List ℕ → Outcome → State → Type 0
 LoadsInto (Some k) s document o t = Executed s (Load k document) o t
 LoadsInto None s document o t = (o ≡ change_outcome (Err NoResource)) × (t ≡ s)
 
--- a document was loaded if the resource was made, and otherwise the refusal is that of the first command
+-- a document was loaded if the resource was made; otherwise the outcome is that of the first command
 abbrev pub LoadsIfMade : Outcome → State → List ℕ → Outcome → State → Type 0
 LoadsIfMade (Ok r) s document o t = LoadsInto (made_resource r.answer) s document o t
 LoadsIfMade (Err f) s document o t = (o ≡ Err f) × (t ≡ s)
 
--- A resource was made of a URI, and a document was loaded into it: two commands, the second if the first was done.
+-- A resource was made of a URI, and a document was loaded into it, by two commands; the second was given only if the first was done.
 pub record MakesAndLoads (s : State) (uri document : List ℕ) (o : Outcome) (t : State) : Type 0 where
   pub made : Outcome
   pub between : State

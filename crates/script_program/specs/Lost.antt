@@ -1,5 +1,5 @@
--- What a script prints, as a function of its bytes and of the numbers of its lost lines: those whose commands are
--- answered out of memory.
+-- What a script prints, as a function of its bytes and of the numbers of its lost lines. A line is lost if its command
+-- fails with MEMORY.
 use Rattle.std.specs.Prelude.{◌==◌, ℕ, suc, Bool, true, false, IsTrue, List, [], ◌∷◌, slice_get, Err, if◌then◌else◌}
 use Rattle.std.specs.List.{All, list_any}
 use Rattle.std.specs.List.Sorted.{IsStrictlyIncreasing}
@@ -19,12 +19,12 @@ use Rattle.script_program.specs.declared.request.Request.{Request}
 use Rattle.script_program.specs.declared.request.Request.TheVariants as request
 use Rattle.script_answers.specs.Turns.{Printed, is_lost}
 
--- what a line prints, and the session after it
+-- the output of a line, and the session after it
 pub record LineRun : Type 0 where
   pub printed : Printed
   pub after : Session
 
--- a command does its step, or it is lost: answered out of memory, and nothing changes
+-- a command does its step, or it is lost: it fails with MEMORY, and nothing changes
 abbrev pub run_command : Bool → Session → Command View → LineRun
 run_command true s c = record { printed = command_printed s.state.model.metamodel c (Err (failure c Memory)); after = s }
 run_command false s c =
@@ -47,7 +47,7 @@ run_line lost s (line.Form f) = run_request lost s (bind s f)
 abbrev pub is_in : List ℕ → ℕ → Bool
 is_in m k = list_any (λ j. j == k) m
 
--- what the lines from number k on print, where the lines whose numbers are in m are lost
+-- the output of the lines from number k on, if the lines whose numbers are in m are lost
 unfoldable pub printed_from : List ℕ → ℕ → Session → List (List ℕ) → List Printed
 printed_from m k s [] = []
 printed_from m k s (l ∷ ls) = let one = run_line (is_in m k) s (form l) in one.printed ∷ printed_from m (suc k) one.after ls
@@ -56,7 +56,7 @@ printed_from m k s (l ∷ ls) = let one = run_line (is_in m k) s (form l) in one
 abbrev pub script : Session → List ℕ → List ℕ → List Printed
 script s bytes lost = printed_from lost 0 s (lines bytes)
 
--- the numbers of the lines that were lost, where the first of these lines has the number k
+-- the numbers of the lines that were lost; the first line of the list has the number k
 abbrev pub lost_from : ℕ → List Printed → List ℕ
 lost_from k [] = []
 lost_from k (p ∷ ps) = if is_lost p.turn then k ∷ lost_from (suc k) ps else lost_from (suc k) ps
@@ -69,11 +69,11 @@ is_form line.Blank = false
 is_form line.Bad = false
 is_form (line.Form f) = true
 
--- the line of a number asks for a command
+-- whether the line of a number has a form
 abbrev pub is_command_at : List (List ℕ) → ℕ → Bool
 is_command_at ls j = option_map_or (λ l. is_form (form l)) (slice_get ls j) false
 
--- numbers of lines that ask for commands, each number once
+-- the numbers are of lines that have a form, and rise
 pub record AreCommands (ls : List (List ℕ)) (numbers : List ℕ) : Type 0 where
   pub each_once : IsStrictlyIncreasing numbers
   pub commands : All (λ j. IsTrue (is_command_at ls j)) numbers

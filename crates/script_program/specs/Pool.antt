@@ -6,7 +6,7 @@ use Rattle.mm_types.specs.declared.refused.Refused.{Refused}
 use Rattle.mm_types.specs.declared.refused.Refused.TheVariants.{NoAdapter, AdapterTaken}
 use Rattle.notice_chain.specs.View.{View}
 
--- the n-th adapter, from 1 on, is An; None is in place of one that is out
+-- the n-th adapter, from 1 on, is An; `None` is in the place of an adapter that is attached
 abbrev pub Pool : Type 0
 Pool = List (Option View)
 
@@ -14,7 +14,7 @@ Pool = List (Option View)
 abbrev pub index : AdapterNo → Option ℕ
 index number = if nat_eq number.0 0 then None else Some (number.0 - 1)
 
--- an adapter, or why it can't be attached: there is none, or it is out
+-- an adapter of the pool, or why it can't be attached: no adapter has the number, or it is attached already
 abbrev pub box_in : Option (Option View) → Result View Refused
 box_in None = Err NoAdapter
 box_in (Some None) = Err AdapterTaken
@@ -23,11 +23,11 @@ box_in (Some (Some v)) = Ok v
 abbrev pub box_of : Pool → AdapterNo → Result View Refused
 box_of pool number = box_in (option_and_then (slice_get pool) (index number))
 
--- the pool with an adapter, or none, under a number
+-- the pool with an adapter, or `None`, under a number
 abbrev pub with_entry : Option View → Pool → AdapterNo → Pool
 with_entry o pool number = option_map_or (λ i. slice_set pool i o) (index number) pool
 
--- the pool when the adapter of a number is out, and when it is back
+-- the pool without the adapter of a number; and `with_box`, with the adapter back in it
 abbrev pub without : Pool → AdapterNo → Pool
 without pool number = with_entry None pool number
 

@@ -1,4 +1,4 @@
--- What it is to run a script: each line in turn, in the session that the one before it left.
+-- A run of a script: each line is run in turn, in the session that the line before it left.
 use Rattle.std.specs.Prelude.{◌≡◌, ◌≤◌, ◌⊎◌, ℕ, List, [], ◌∷◌, ◌++◌, length, Option, IfSome, codes}
 use Rattle.std.specs.Option.{option_map_or}
 use Rattle.std.specs.Io.KnownBytes.{Appends}
@@ -31,7 +31,7 @@ use Rattle.script_program.specs.declared.summary.Summary.{Summary}
 use Rattle.script_answers.specs.declared.turn.Turn.{Turn}
 use Rattle.script_answers.specs.declared.turn.Turn.TheVariants as turned
 
--- what a command with this outcome prints
+-- the output of a command with this outcome
 abbrev pub command_printed : Metamodel → Command View → Outcome → Printed
 command_printed m c o = record { text = outcome_text m (feature_of c) o; turn = outcome_turn o }
 
@@ -49,43 +49,44 @@ abbrev pub seen_printed : State → AdapterNo → Printed
 seen_printed s number =
     option_map_or (λ a. record { text = seen_text a.view.told (length a.view.kept) ++ NEWLINE ∷ []; turn = turned.Done }) (adapter number s.adapters) (refused_printed NoAdapter)
 
--- A line added a text to another; what is said of the text and of how the line is counted.
+-- A line appended a text to another text; `Said` is true of that text and of how the line is counted.
 pub record Adds (old new : List ℕ) (turn : Turn) (Said : Printed → Type 0) : Type 0 where
   pub text : List ℕ
   pub added : new ≡ old ++ text
   pub said : Said (record { text = text; turn = turn })
 
--- what is left of a repository where a line may have been run: it is as it was, or as the line leaves it
+-- the state of a repository after a line that may have been run: it is as it was, or as the line leaves it
 abbrev pub IsLeft : (Printed → Session → Type 0) → State → State → Type 0
 IsLeft Said old new = (new ≡ old) ⊎ ((p : Printed) × (t : Session) × Said p t × (t.state ≡ new))
 
--- a command was executed, what it brought and released left and joined the pool, and its outcome was printed
+-- a command was executed and its outcome was printed; the adapter that it attached left the pool, and the adapters that it released are in
+-- the pool again
 pub record RunsCommand (s : Session) (c : Command View) (p : Printed) (t : Session) : Type 0 where
   pub outcome : Outcome
   pub executed : Executed s.state c outcome t.state
   pub pool : t.pool ≡ pool_after s.pool c outcome
   pub printed : p ≡ command_printed s.state.model.metamodel c outcome
 
--- what a form asks for was done
+-- the request of a form was done
 abbrev pub RunsRequest : Session → Request View → Printed → Session → Type 0
 RunsRequest s (request.Execute c) p t = RunsCommand s c p t
 RunsRequest s (request.Seen number) p t = (p ≡ seen_printed s.state number) × (t ≡ s)
 RunsRequest s (request.Refuse r) p t = (p ≡ refused_printed r) × (t ≡ s)
 
--- a line was run: what it printed, and the session after it
+-- a line was run: its output, and the session after it
 abbrev pub RunsLine : Session → Line → Printed → Session → Type 0
 RunsLine s line.Blank p t = (p ≡ blank_printed) × (t ≡ s)
 RunsLine s line.Bad p t = (p ≡ bad_printed) × (t ≡ s)
 RunsLine s (line.Form f) p t = RunsRequest s (bind s f) p t
 
--- lines were run one after another: what each printed, and the session after the last
+-- lines were run one after another: the output of each, and the session after the last
 abbrev pub RunsLines : Session → List (List ℕ) → List Printed → Session → Type 0
 RunsLines s [] [] t = t ≡ s
 RunsLines s [] (p ∷ ps) t = ⊥
 RunsLines s (l ∷ ls) [] t = ⊥
 RunsLines s (l ∷ ls) (p ∷ ps) t = (u : Session) × RunsLine s (form l) p u × RunsLines u ls ps t
 
--- All lines of a script were run, `shown` of what they printed was written, and the counts are theirs.
+-- All lines of a script were run, `shown` of their output was written, and the counts are those of these lines.
 pub record PrintsAs (shown : List Printed → List ℕ) (s : Session) (old new : Option (List ℕ)) (bytes : List ℕ) (summary : Summary) : Type 0 where
   pub printed : List Printed
   pub after : Session
@@ -93,7 +94,7 @@ pub record PrintsAs (shown : List Printed → List ℕ) (s : Session) (old new :
   pub counted : summary_of printed ≡ summary
   pub written : Appends old new (shown printed)
 
--- The first lines of a script were run, and a prefix of `shown` of what they printed was written.
+-- The first lines of a script were run, and a prefix of `shown` of their output was written.
 pub record PrintsFrontAs (shown : List Printed → List ℕ) (s : Session) (old new : Option (List ℕ)) (bytes : List ℕ) : Type 0 where
   pub first : List (List ℕ)
   pub rest : List (List ℕ)
@@ -103,18 +104,18 @@ pub record PrintsFrontAs (shown : List Printed → List ℕ) (s : Session) (old 
   pub ran : RunsLines s first printed after
   pub written : AppendsFront old new (shown printed)
 
--- All lines of a script were run, what they printed was written, and the counts are theirs.
+-- All lines of a script were run, their output was written, and the counts are those of these lines.
 abbrev pub Prints : Session → Option (List ℕ) → Option (List ℕ) → List ℕ → Summary → Type 0
 Prints = PrintsAs texts
 
--- The first lines of a script were run, and a prefix of what they printed was written.
+-- The first lines of a script were run, and a prefix of their output was written.
 abbrev pub PrintsFront : Session → Option (List ℕ) → Option (List ℕ) → List ℕ → Type 0
 PrintsFront = PrintsFrontAs texts
 
--- Known input is no longer than it may be, and it was run to its end.
+-- If the input is known, it is within its limit, and was run to its end.
 abbrev pub PrintsInput : Option (List ℕ) → Session → Option (List ℕ) → Option (List ℕ) → Summary → Type 0
 PrintsInput input s old new summary = IfSome input (λ bytes. (length bytes ≤ INPUT_BYTES) × Prints s old new bytes summary)
 
--- The first lines of known input were run.
+-- If the input is known, its first lines were run.
 abbrev pub PrintsInputFront : Option (List ℕ) → Session → Option (List ℕ) → Option (List ℕ) → Type 0
 PrintsInputFront input s old new = IfSome input (λ bytes. PrintsFront s old new bytes)

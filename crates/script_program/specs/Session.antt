@@ -26,24 +26,24 @@ session_with heard s boxes = session s (map (λ a. Some (heard a)) boxes)
 abbrev pub first_session : {A : Type 0} → (A → View) → Metamodel → List A → Session
 first_session heard m boxes = session_with heard (empty_state m) boxes
 
--- what a command brings is in the pool
+-- the adapter that a command takes is in the pool
 abbrev pub IsBrought : Pool → Command View → Type 0
 IsBrought pool c = All (λ a. box_of pool a.no ≡ Ok a.view) (joins c)
 
--- the pool when it is out
+-- the pool without the adapter that a command takes
 abbrev pub taken : Pool → Command View → Pool
 taken pool c = fold without pool (map (λ a. a.no) (joins c))
 
--- the pool after a command: what was attached is out, and what was released is back
+-- the pool after a command: without the adapter that was attached, and with the adapters that were released
 abbrev pub pool_after : Pool → Command View → Outcome → Pool
 pool_after pool c (Ok r) = fold with_box (taken pool c) r.released
 pool_after pool c (Err f) = pool
 
--- the number of what a command brings
+-- the number of the adapter that a command takes
 abbrev pub brought_no : Command View → Option AdapterNo
 brought_no c = option_map (λ a. a.no) (slice_get (joins c) 0)
 
--- the pool when what comes back of an outcome is put in
+-- the pool after the adapters that an outcome gives back are put into it
 abbrev pub returned : Pool → Option AdapterNo → Outcome → Pool
 returned pool number (Ok r) = fold with_box pool r.released
 returned pool number (Err f) = option_map_or (with_box pool) (option_zip number f.given_back) pool

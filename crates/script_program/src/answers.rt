@@ -16,7 +16,7 @@ use repository::{Answer, Command, Failure, Read, Reply};
 use script_output::{Output, literal_name};
 use std::alloc::AllocError;
 
-/// The feature that a command names; one of no metamodel if it names none.
+/// The feature that a command names; if it names none, a number that no feature has.
 pub(crate) fn feature_of<A>(command: &Command<A>) -> FeatureNo
     ensures { (heard : A → View) → result ≡ a.feature_of (command_view heard command.now) }
 {
@@ -60,7 +60,7 @@ fn print_answer(
         Answer::Fragment(fragment) => output.json(fragment.as_str()),
         Answer::Document(text) => output.text(text.as_str()),
         Answer::Objects(objects) => output.objects(objects.as_slice()),
-        // No line of a script asks for one.
+        // No line of a script asks for a snapshot.
         Answer::Snapshot(snapshot) => {
             output.text("snapshot ")?;
             output.natural(snapshot.nodes().len() as u64)
@@ -110,7 +110,7 @@ fn print_value(
     output.line_end()
 }
 
-/// Adds the line of an answer to a command that names the feature.
+/// Adds the line of an answer to a command; `feature` is the feature that it names.
 fn print_answer_line(
     output: &mut Output,
     meta: &Meta,
@@ -158,7 +158,7 @@ fn print_released<A: Adapter>(
     Ok(())
 }
 
-/// Adds the lines of who was notified of what, and of who was released.
+/// Adds the lines that say which adapter was notified of what, and which adapters were released.
 fn print_notified<A: Adapter>(
     output: &mut Output,
     meta: &Meta,
@@ -171,7 +171,7 @@ fn print_notified<A: Adapter>(
     print_released(output, released)
 }
 
-/// Adds the lines that a command prints that is done; the feature is the one that it names.
+/// Adds the lines that a command prints when it is done; `feature` is the feature that it names.
 fn print_reply<A: Adapter>(
     output: &mut Output,
     meta: &Meta,
@@ -189,7 +189,7 @@ fn print_reply<A: Adapter>(
     )
 }
 
-/// Adds the lines that a command prints; the feature is the one that it names.
+/// Adds the lines that a command prints; `feature` is the feature that it names.
 pub(crate) fn print_outcome<A: Adapter>(
     output: &mut Output,
     meta: &Meta,

@@ -19,9 +19,8 @@ use script_output::enum_of;
 /// A number that no class, no feature and no literal has.
 pub(crate) const NOTHING: u32 = u32::MAX;
 
-/// What a form asks for: the names of classes, features and literals are looked up in the metamodel, and the adapter to be
-/// attached is taken out of the pool. A name that is not there gets the number `NOTHING`, so that the repository refuses the
-/// command. Takes no memory.
+/// The request of a form. The names of classes, features and literals are looked up in the metamodel, and the adapter to be attached is
+/// taken out of the pool. An unknown name gets the number `NOTHING`, so that the repository refuses the command. Takes no memory.
 pub(crate) fn bind<L: LinkStore, A: Adapter>(
     repository: &Repository<L, A>,
     pool: &mut Pool<A>,
@@ -104,7 +103,7 @@ pub(crate) fn bind<L: LinkStore, A: Adapter>(
     }
 }
 
-/// The request that a read is executed.
+/// The request to execute a read.
 fn read_request<A>(read: Read) -> Request<A>
     ensures { result ≡ request.Execute (command.Read read) }
 {

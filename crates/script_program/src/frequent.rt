@@ -1,5 +1,5 @@
-//! Lines of the most frequent forms are run. They call the repository themselves, and a change that notifies no adapter is printed without
-//! a reply: to bind a line to a command and to take its reply apart takes longer than the change.
+//! Lines of the most frequent forms are run. They call the repository directly, and the answer of a change that notifies no adapter is
+//! printed without a reply. Binding a line to a command and taking its reply apart would take longer than the change.
 ghost use Rattle.std.specs.Prelude.{◌≡◌, Err, IfOk, MatchOption, None, Ok, OnErr, Some};
 ghost use Rattle.mm_types.specs.Resolved.{Metamodel};
 ghost use Rattle.mm_types.specs.declared.numbers.Node.TheVariants as node;
@@ -32,7 +32,7 @@ use script_lines::{Frequent, Name, Word, WrittenValue, value_of};
 use script_output::Output;
 use std::alloc::{AllocError, Global};
 
-/// Prints the refusal of a change that brings no adapter. Errs only if memory is refused for what is printed.
+/// Prints the refusal of a change that takes no adapter. Errs only if memory is refused for the output.
 fn print_refused(output: &mut Output, refused: Refused) -> Result<Turn, AllocError>
     ensures { (m : Metamodel) (c : Command View) → IfOk result (λ t. Adds output.old output.new t (λ p. p ≡ command_printed m c (change_outcome (Err refused)))) }
 {
@@ -40,7 +40,7 @@ fn print_refused(output: &mut Output, refused: Refused) -> Result<Turn, AllocErr
     Ok(turn_of_refusal(refused))
 }
 
-/// Reads a feature of an object and prints its value. Errs only if memory is refused for what is printed.
+/// Reads a feature of an object and prints its value. Errs only if memory is refused for the output.
 fn run_read<L: LinkStore, A: Adapter>(
     repository: &mut Repository<L, A>,
     pool: &mut Pool<A>,
@@ -62,7 +62,7 @@ fn run_read<L: LinkStore, A: Adapter>(
     }
 }
 
-/// Prints an object that was created. Errs only if memory is refused for what is printed.
+/// Prints an object that was created. Errs only if memory is refused for the output.
 fn print_object(output: &mut Output, object: ObjectNo) -> Result<Turn, AllocError>
     ensures { (m : Metamodel) (c : Command View) → IfOk result (λ t. Adds output.old output.new t
         (λ p. p ≡ command_printed m c (read_outcome answer.Object (Ok object)))) }
@@ -72,7 +72,7 @@ fn print_object(output: &mut Output, object: ObjectNo) -> Result<Turn, AllocErro
     Ok(Turn::Done)
 }
 
-/// Creates an object of a class, and prints the answer. Errs only if memory is refused for what is printed.
+/// Creates an object of a class, and prints the answer. Errs only if memory is refused for the output.
 fn run_create<L: LinkStore, A: Adapter>(
     repository: &mut Repository<L, A>,
     output: &mut Output,
@@ -90,7 +90,7 @@ fn run_create<L: LinkStore, A: Adapter>(
     }
 }
 
-/// Reads which object contains an object, and prints it. Errs only if memory is refused for what is printed.
+/// Reads which object contains an object, and prints it. Errs only if memory is refused for the output.
 fn run_container<L: LinkStore, A: Adapter>(
     repository: &Repository<L, A>,
     output: &mut Output,
@@ -118,7 +118,7 @@ enum Edit {
     Add,
 }
 
-/// What a line asks for that gives a feature of an object a value.
+/// The request of a line that gives a feature of an object a value.
 #[derive(Drop)]
 struct Asked<'a> {
     edit: Edit,
@@ -127,8 +127,7 @@ struct Asked<'a> {
     value: WrittenValue<'a>,
 }
 
-/// What a line asks for that has these parts; `None` if its last word writes no value. Errs only if memory is refused for the text that the
-/// word writes.
+/// The request of a line of these parts; `None` if its last word is no value. Errs only if memory is refused for the text of the word.
 fn asked_of<'a>(
     alloc: Global,
     edit: Edit,
@@ -150,7 +149,7 @@ fn asked_of<'a>(
     }
 }
 
-/// The number of the feature that is asked for, and the value for it.
+/// The number of the feature of the line, and the value for it.
 #[inline(always)]
 fn bound<L: LinkStore, A: Adapter>(
     repository: &Repository<L, A>,
@@ -164,8 +163,8 @@ fn bound<L: LinkStore, A: Adapter>(
     (feature, value_in(repository.meta(), feature, asked.value))
 }
 
-/// Prints the outcome of a change that notified no adapter, whose answer prints as `done`. Errs only if memory is refused for what is
-/// printed.
+/// Prints the outcome of a change that notified no adapter; `done` is the text of its answer. Errs only if memory is refused for the
+/// output.
 #[inline(always)]
 fn print_change(
     output: &mut Output,
@@ -184,7 +183,7 @@ fn print_change(
     }
 }
 
-/// Gives a feature of an object a value, and prints the answer. Errs only if memory is refused for what is printed.
+/// Gives a feature of an object a value, and prints the answer. Errs only if memory is refused for the output.
 #[inline(always)]
 fn run_edit<L: LinkStore, A: Adapter>(
     repository: &mut Repository<L, A>,
@@ -218,10 +217,10 @@ fn run_edit<L: LinkStore, A: Adapter>(
     }
 }
 
-/// Runs a line of one of the most frequent forms, and prints the answer. It does what `run_text` does, and is shorter, since it knows which
+/// Runs a line of one of the most frequent forms, and prints the answer. It does what `run_text` does in fewer steps, since it knows which
 /// call of the repository the line asks for.
 ///
-/// Errs only if memory is refused for the text that the line writes as a value, or for what is printed.
+/// Errs only if memory is refused for a text that is the value of the line, or for the output.
 pub(crate) fn run_frequent<L: LinkStore, A: Adapter>(
     alloc: Global,
     repository: &mut Repository<L, A>,

@@ -18,7 +18,7 @@ use script_lines::Source;
 use script_output::Output;
 use std::alloc::{AllocError, Global};
 
-/// A repository and the adapters that its lines can attach, and what the last line printed.
+/// A repository, the adapters that its lines can attach, and the output of the last line.
 #[derive(Drop)]
 pub struct Interpreter<L: LinkStore, A: Adapter> {
     alloc: Global,
@@ -43,10 +43,10 @@ impl<L: LinkStore, A: Adapter> Interpreter<L, A> {
         })
     }
 
-    /// Runs a line, and says how it is counted. What it prints is the text from then on.
+    /// Runs a line, and returns how it is counted. From then on the text is its output.
     ///
-    /// Errs only if memory is refused to the run itself; nothing is said of the interpreter then. If memory is refused to the
-    /// repository, the line prints `refused 28 MEMORY`, and nothing has changed.
+    /// Errs only if memory is refused to the run itself; then no contract determines the state of the interpreter. If memory is refused to
+    /// the repository, the line prints `refused 28 MEMORY`, and nothing has changed.
     pub fn answer(&mut self, line: &[u8]) -> Result<Turn, AllocError>
         ensures { IfOk result (λ t. RunsLine (session self.old.repository self.old.pool) (forms.form line.now) (printed self.new.output t)
             (session self.new.repository self.new.pool)) }

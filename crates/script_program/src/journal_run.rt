@@ -21,8 +21,8 @@ use std::io::{BufReader, Read, Write};
 
 /// Runs a script live, as `run_live` does, and keeps each line that changes the model in a journal before it is answered.
 ///
-/// What was answered is kept: after a crash at any moment, the journal is that of the model of all lines that were answered, and perhaps
-/// of some that followed them and were not. Lines that come in together are kept together, all of them or none.
+/// Answered lines are kept: after a crash at any moment, the journal is that of the model of all lines that were answered, and perhaps of
+/// some further lines. Lines that come in together are kept together, all of them or none.
 ///
 /// Errs with `Read` if a read errs, with `TooLong` if a line has more than `INPUT_BYTES` bytes or the script more than
 /// `u64::MAX - 1` lines, with `Journal` if the disk fails or the journal is full, with `Write` if a write or a flush errs or a write
@@ -41,7 +41,8 @@ pub fn run_journal<R: Read, D: Disk, W: Write, L: LinkStore, A: Adapter, H: List
         (W.contents (writer_of outbox.old)) (W.contents (writer_of outbox.new)) (kept_by D.seen outbox.new) (session_of session.new))) }
     ensures end { OnOk result (OnSome (reader_remaining R.remaining reader.old) (IsAtEnd (reader_remaining R.remaining reader.new))) }
     ensures at_rest { OnOk result (IsAtRest D.seen D.may_leave outbox.new) }
-    // Whatever stops the run, and so also if each call fails because the machine does: what was answered is in each file that may be left.
+    // Whatever stops the run, each file that may be left has the lines that were answered. So it is also if each call fails because the
+    // machine fails.
     ensures stopped { (m : Metamodel) → model_of m (kept_by D.seen outbox.old) ≡ Some (session_of session.old).state.model
         → IfErr result (λ fault. IfSome (reader_remaining R.remaining reader.old) (λ input. StopsJournaled m fault (session_of session.old) (lines input)
         (W.contents (writer_of outbox.old)) (W.contents (writer_of outbox.new)) (D.may_leave (disk_under outbox.new)))) }

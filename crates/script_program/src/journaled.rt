@@ -15,7 +15,7 @@ use script_answers::Turn;
 use script_lines::{Form, Line, parse_line};
 use std::alloc::{AllocError, Global};
 
-/// An interpreter whose lines are counted by what a journal keeps of them: those that asked for a change of the model, which was done.
+/// An interpreter that tells for each line whether a journal has to keep it: whether it is a change of the model, and the change was done.
 #[derive(Drop)]
 pub struct Journaled<L: LinkStore, A: Adapter, H: Listener> {
     alloc: Global,
@@ -24,7 +24,7 @@ pub struct Journaled<L: LinkStore, A: Adapter, H: Listener> {
     listener: H,
     /// How many lines it has run.
     lines: u64,
-    /// Whether one of them was refused, or bad.
+    /// Whether one of these lines was refused, or bad.
     is_faulty: bool,
 }
 
@@ -49,7 +49,7 @@ fn is_change(form: &Form<'_>) -> bool
     }
 }
 
-/// Whether a line asks for a change of the model. Errs only if memory is refused for the text that the line writes as a value.
+/// Whether a line asks for a change of the model. Errs only if memory is refused for a text that is the value of the line.
 fn asks_for_change(alloc: Global, line: &[u8]) -> Result<bool, AllocError>
     ensures { IfOk result (λ b. b ≡ line_asks (form line.now)) }
 {
@@ -104,7 +104,7 @@ impl<L: LinkStore, A: Adapter, H: Listener> Journaled<L, A, H> {
         })
     }
 
-    /// Calls the listener when the lines of a journal were run, and those of a script begin.
+    /// Calls the listener when the lines of a journal were run, and the lines of a script begin.
     pub(crate) fn begin_script(&mut self)
         ensures { session_of self.new ≡ session_of self.old }
     {

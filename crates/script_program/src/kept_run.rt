@@ -1,4 +1,4 @@
-//! A script is run from the lines of a journal on.
+//! A script is run after the lines of a journal.
 ghost use Rattle.std.specs.Prelude.{◌≡◌, [], Err, Some, IfErr, IfOk, IfSome, OnOk, OnSome};
 ghost use Rattle.std.specs.Io.Buffered.{reader_remaining};
 ghost use Rattle.std.specs.Io.KnownBytes.{IsAtEnd};
@@ -34,14 +34,14 @@ pub enum KeptFault {
     Stopped(RunFault),
 }
 
-/// What a run with a journal leaves.
+/// The result of a run with a journal.
 #[derive(Drop)]
 pub struct KeptRun<D, W> {
     /// Whether it came to its end.
     pub outcome: Result<(), KeptFault>,
     /// The disk that has the journal.
     pub disk: D,
-    /// What the answers were written to.
+    /// The writer of the answers.
     pub writer: W,
 }
 
@@ -122,8 +122,8 @@ fn run_opened<R: Read, D: Disk, W: Write, L: LinkStore, A: Adapter, H: Listener>
 /// Runs the lines of a journal again, in a file that has these bytes, and then a script live whose changes the journal keeps. A file without
 /// lines gets the head first. The session is new: its repository is empty.
 ///
-/// What was answered is kept: whatever a crash leaves, in the recovery, between two calls or inside one, is a journal of the model of all
-/// lines that were answered, and perhaps of some that followed them and were not. A call that opens that file begins with that model.
+/// Answered lines are kept. A file that a crash leaves, in the recovery, between two calls or inside one, is a journal of the model of all
+/// lines that were answered, and perhaps of some further lines. A call that opens that file begins with that model.
 ///
 /// Stops as `run_again` and `open_journal` do before the script is read, and then as `run_journal` does.
 pub fn run_kept<R: Read, D: Disk + Drop, W: Write, L: LinkStore, A: Adapter, H: Listener>(
@@ -138,13 +138,14 @@ pub fn run_kept<R: Read, D: Disk + Drop, W: Write, L: LinkStore, A: Adapter, H: 
     requires head { IsLine head.now }
     requires bytes { D.seen disk ≡ bytes.items }
     requires durable { IsDurable (D.seen disk) (D.may_leave disk) }
-    // The lines of the file were run again, and then all lines of the script, which are answered. The file is a journal of the model that is left.
+    // The lines of the file were run again, and then all lines of the script, which were answered. The file is a journal of the model that
+    // is left.
     ensures ok { (m : Metamodel) → (session_of session.old).state ≡ empty_state m
         → OnOk result.outcome (IfSome (reader_remaining R.remaining reader.old) (λ input. EndsKept m head.now bytes.items (lines input)
         (W.contents writer) (W.contents result.writer) (D.seen result.disk) (session_of session.new))) }
     ensures end { OnOk result.outcome (OnSome (reader_remaining R.remaining reader.old) (IsAtEnd (reader_remaining R.remaining reader.new))) }
     ensures durable { OnOk result.outcome (IsDurable (D.seen result.disk) (D.may_leave result.disk)) }
-    // Whatever stops the script: what was answered is in each file that may be left.
+    // Whatever stops the script, each file that may be left has the lines that were answered.
     ensures stopped { (m : Metamodel) (fault : RunFault) → (session_of session.old).state ≡ empty_state m
         → result.outcome ≡ Err (KeptFault.Stopped fault)
         → IfSome (reader_remaining R.remaining reader.old) (λ input. StopsKept m fault head.now bytes.items (lines input)

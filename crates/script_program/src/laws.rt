@@ -13,9 +13,8 @@ ghost use Rattle.script_answers.specs.Turns.{Printed, texts};
 ghost use Rattle.script_program.specs.Summary.{summary_of};
 ghost use Rattle.script_answers.specs.declared.dress.Dress.{Dress};
 
-/// What the lines of a script print is the text that is defined for the numbers of its lost lines. Each of these numbers is there once and
-/// is that of a line that asks for a command, and there are as many as `no_memory` counts. What the first lines print is a prefix of such
-/// a text.
+/// What the lines of a script print is the text that is defined for the numbers of its lost lines. These numbers are all different, each is
+/// of a line that has a form, and there are as many as `no_memory` counts. The text of the first lines is a prefix of this text.
 pub fn what_lines_print_is_the_script()
     ensures whole { (s t : Session) (bytes : List ℕ) (printed : List Printed) → RunsLines s (lines bytes) printed t
         → script s bytes (lost_lines printed) ≡ printed }
@@ -27,28 +26,28 @@ pub fn what_lines_print_is_the_script()
     ensures as_many { (printed : List Printed) → length (lost_lines printed) ≡ (summary_of printed).no_memory }
 {}
 
-/// If no line is lost, what a script prints depends on its bytes alone.
+/// If no line is lost, the output of a script depends only on its bytes.
 pub fn with_no_line_lost_the_script_is_a_function()
     ensures { (s t : Session) (bytes : List ℕ) (printed : List Printed) → RunsLines s (lines bytes) printed t
         → (summary_of printed).no_memory ≡ 0 → printed ≡ script s bytes [] }
 {}
 
-/// What is written for a run is the script's text by the output options: that of all lines, whose texts are defined for the numbers of the
-/// lost ones.
+/// The output of a run is the text of all lines, written by the output options. The texts of the lines are those that are defined for the
+/// numbers of the lost lines.
 pub fn a_run_writes_the_dressed_script()
     ensures { (d : Dress) (s t : Session) (bytes : List ℕ) (first : List (List ℕ)) (printed : List Printed) → RunsBatch d s bytes first printed t
         → dressed d (lines bytes) (script s bytes (lost_lines printed)) ≡ dressed d first printed }
 {}
 
-/// What is written for a live run is made of the same answers as the text of the script: each has an empty line after it.
+/// The output of a live run has the same answers as the text of the script, each with an empty line after it.
 pub fn a_live_run_writes_the_script_with_empty_lines()
     ensures texts { (printed : List Printed) → live_text printed ≡ texts (map with_empty_line printed) }
     ensures script { (s t : Session) (bytes : List ℕ) (printed : List Printed) → RunsLines s (lines bytes) printed t
         → live_text (script s bytes (lost_lines printed)) ≡ live_text printed }
 {}
 
-/// What was kept comes back. The lines that a journal keeps of a run, run again without adapters from the model before it, are all done and
-/// leave the model that all lines of the run left. A session without adapters that has that model refuses none of them but for memory.
+/// What was kept comes back. If the lines that a journal keeps of a run are run again, without adapters, from the model before the run, all
+/// are done, and they leave the model that all lines of the run left. Only memory can make a session without adapters refuse one of them.
 pub fn what_was_kept_comes_back()
     ensures again { (s t : Session) (ls : List (List ℕ)) (printed : List Printed) → RunsLines s ls printed t
         → replayed s.state.model (kept_lines ls printed) ≡ Some t.state.model }

@@ -50,7 +50,7 @@ pub(crate) fn turn_of<A>(outcome: &Result<Reply<A>, Failure<A>>) -> Turn
     }
 }
 
-/// The number of the adapter that a command brings.
+/// The number of the adapter that a command takes.
 fn number_of<A>(command: &Command<A>) -> Option<AdapterNo>
     ensures { (heard : A → View) → result ≡ brought_no (command_view heard command.now) }
 {
@@ -60,7 +60,7 @@ fn number_of<A>(command: &Command<A>) -> Option<AdapterNo>
     }
 }
 
-/// Reads a feature of one value and prints it from where it is kept. Errs only if memory is refused for what is printed.
+/// Reads a single feature, and prints its value from the place in which it is kept. Errs only if memory is refused for the output.
 pub(crate) fn run_get<L: LinkStore, A: Adapter>(
     repository: &Repository<L, A>,
     output: &mut Output,
@@ -82,7 +82,7 @@ pub(crate) fn run_get<L: LinkStore, A: Adapter>(
     }
 }
 
-/// Prints how often an adapter was notified. Errs only if memory is refused for what is printed.
+/// Prints how often an adapter was notified. Errs only if memory is refused for the output.
 fn run_seen<L: LinkStore, A: Adapter>(
     repository: &Repository<L, A>,
     output: &mut Output,
@@ -104,8 +104,8 @@ fn run_seen<L: LinkStore, A: Adapter>(
     }
 }
 
-/// Executes a command, whose adapter is out of the pool, and prints its answer. What is released, or not attached, goes back to
-/// the pool. Errs only if memory is refused for what is printed; the command was executed then.
+/// Executes a command, whose adapter is out of the pool, and prints its answer. Adapters that are released, or not attached, go back to the
+/// pool. Errs only if memory is refused for the output; then the command was executed.
 pub(crate) fn run_command<L: LinkStore, A: Adapter>(
     repository: &mut Repository<L, A>,
     pool: &mut Pool<A>,
@@ -125,7 +125,7 @@ pub(crate) fn run_command<L: LinkStore, A: Adapter>(
     Ok(turn)
 }
 
-/// Does what a form asks for, and prints the answer. Errs only if memory is refused for what is printed.
+/// Runs the command of a form, and prints the answer. Errs only if memory is refused for the output.
 fn run_request<L: LinkStore, A: Adapter>(
     repository: &mut Repository<L, A>,
     pool: &mut Pool<A>,
@@ -146,7 +146,7 @@ fn run_request<L: LinkStore, A: Adapter>(
     }
 }
 
-/// Prints the refusal of a form that asks for nothing that can be done. Errs only if memory is refused for what is printed.
+/// Prints the refusal of a request that does not reach the repository. Errs only if memory is refused for the output.
 fn print_as_refused(output: &mut Output, refused: Refused) -> Result<Turn, AllocError>
     ensures { (s : Session) → IfOk result (λ t. Adds output.old output.new t (λ p. RunsRequest s (request.Refuse refused) p s)) }
 {
@@ -162,9 +162,9 @@ pub(crate) fn print_bad(output: &mut Output) -> Result<Turn, AllocError>
     Ok(Turn::Bad)
 }
 
-/// Runs a line that is a text: parses it, does what it asks for and prints the answer.
+/// Runs a line that is a text: parses it, runs its command and prints the answer.
 ///
-/// Errs only if memory is refused for the text that the line writes as a value, or for what is printed.
+/// Errs only if memory is refused for a text that is the value of the line, or for the output.
 #[inline(never)]
 fn run_text<L: LinkStore, A: Adapter>(
     alloc: Global,
@@ -205,10 +205,10 @@ fn run_text_line<L: LinkStore, A: Adapter>(
     }
 }
 
-/// Runs a line: parses it, does what it asks for and prints the answer.
+/// Runs a line: parses it, runs its command and prints the answer.
 ///
-/// Errs if memory is refused to the program itself: then the repository is as it was, or as the line leaves it. A command that the
-/// repository refuses for memory prints that refusal.
+/// Errs if memory is refused to the program itself; then the repository is as it was, or as the line leaves it. If memory is refused to the
+/// repository, the line prints that refusal.
 #[inline(always)]
 pub(crate) fn run_line<L: LinkStore, A: Adapter>(
     alloc: Global,

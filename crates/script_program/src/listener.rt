@@ -1,17 +1,17 @@
-//! The interface of what is called with the lines that were run.
+//! The interface of a listener, which is called with the lines that were run.
 use adapters::Adapter;
 use links::LinkStore;
 use repository::Repository;
 
-/// Is called with each line of a script after it was run, and may ask the repository, which it can't change.
+/// A listener is called with each line of a script after it was run. It can read the repository, but not change it.
 pub trait Listener: Drop {
-    /// Whether it has to be called. A run whose listener needs nothing takes no time for it.
+    /// Whether it has to be called. If not, a run takes no time for it.
     fn is_listening(&self) -> bool;
 
-    /// Takes note that the lines of a script begin. Those before were of a journal.
+    /// Takes note that the lines of a script begin. The lines before were those of a journal.
     fn script_begins(&mut self);
 
-    /// Takes note of a line, and of what it printed. The repository is as the line left it.
+    /// Takes note of a line and of its output. The repository is as the line left it.
     fn line_was_run<L: LinkStore, A: Adapter>(
         &mut self,
         repository: &Repository<L, A>,

@@ -21,10 +21,10 @@ use script_streams::{LineEnd, RunFault, read_line, write_all};
 use std::alloc::Global;
 use std::io::{BufReader, Read, Write};
 
-/// What comes after an answer.
+/// The bytes after an answer: an empty line.
 const BEHIND: &[u8] = b"\n";
 
-/// Runs a line, and writes what it prints with an empty line after it; the output is a buffer for that.
+/// Runs a line, and writes its output with an empty line after it; `output` is a buffer for that.
 ///
 /// Errs with `Memory` if memory is refused to the run itself, and with `Write` if a write errs or takes no byte.
 fn answer_live<W: Write, L: LinkStore, A: Adapter, H: Listener>(
@@ -98,7 +98,7 @@ fn answer_lines<R: Read, W: Write, L: LinkStore, A: Adapter, H: Listener>(
     Err(RunFault::TooLong)
 }
 
-/// Runs a script as `run_live` does, over a repository that its caller has, and goes on to have. The listener is called with each line.
+/// Runs a script as `run_live` does, over a repository that its caller lends. The listener is called with each line.
 ///
 /// Errs as `run_live` does.
 pub fn live_over<R: Read, W: Write, L: LinkStore, A: Adapter, H: Listener>(
@@ -109,10 +109,10 @@ pub fn live_over<R: Read, W: Write, L: LinkStore, A: Adapter, H: Listener>(
     boxes: Vec<A>,
     listener: &mut H,
 ) -> Result<Summary, RunFault>
-    // All the input was read, and what was written is what its lines print, with an empty line after each.
+    // All the input was read, and the answers of its lines were written, with an empty line after each.
     ensures ok { IfOk result (λ s. PrintsInputLive (reader_remaining R.remaining reader.old) (session_with A.heard repository.old boxes.items) (W.contents writer.old) (W.contents writer.new) s) }
     ensures end { OnOk result (OnSome (reader_remaining R.remaining reader.old) (IsAtEnd (reader_remaining R.remaining reader.new))) }
-    // Whatever stops the run, what was written is a prefix of what the first lines print.
+    // Whatever stops the run, a prefix of the output of the first lines was written.
     ensures stopped { OnErr result (PrintsInputLiveFront (reader_remaining R.remaining reader.old) (session_with A.heard repository.old boxes.items) (W.contents writer.old) (W.contents writer.new)) }
     // `TooLong` is returned only if a line is too long, or there are too many.
     ensures long { IsErrOf result RunFault.TooLong → IfSome (reader_remaining R.remaining reader.old) IsTooLong }
@@ -123,14 +123,13 @@ pub fn live_over<R: Read, W: Write, L: LinkStore, A: Adapter, H: Listener>(
     answer_lines(alloc, reader, writer, repository, &mut pool, listener)
 }
 
-/// Runs a script as `run` does, but answers each line before it reads the next: what a line prints is written with an empty
-/// line after it, and a line that is passed over has an empty line alone. If the next line may have to be waited for, the
-/// writer is flushed before.
+/// Runs a script as `run` does, but answers each line before it reads the next: the text that a line prints is written with an empty line
+/// after it, and for a line that is skipped only an empty line. Before a read that may wait, the writer is flushed.
 ///
 /// Errs with `Read` if a read errs, with `TooLong` if a line has more than `INPUT_BYTES` bytes or the script more than `u64::MAX - 1`
-/// lines, with `Write` if a write or a flush errs or a write takes no byte, and with `Memory` if memory is refused to the run itself:
-/// then what was written is a prefix of what the first lines print. If memory is refused to the repository, the line prints
-/// `refused 28 MEMORY`, and the run goes on.
+/// lines, with `Write` if a write or a flush errs or a write takes no byte, and with `Memory` if memory is refused to the run itself: then
+/// a prefix of the output of the first lines was written. If memory is refused to the repository, the line prints `refused 28 MEMORY`, and
+/// the run goes on.
 pub fn run_live<R: Read, W: Write, L: LinkStore, A: Adapter>(
     alloc: Global,
     reader: &mut BufReader<R>,
@@ -138,10 +137,10 @@ pub fn run_live<R: Read, W: Write, L: LinkStore, A: Adapter>(
     meta: Meta,
     boxes: Vec<A>,
 ) -> Result<Summary, RunFault>
-    // All the input was read, and what was written is what its lines print, with an empty line after each.
+    // All the input was read, and the answers of its lines were written, with an empty line after each.
     ensures ok { IfOk result (λ s. PrintsInputLive (reader_remaining R.remaining reader.old) (first_session A.heard meta boxes.items) (W.contents writer.old) (W.contents writer.new) s) }
     ensures end { OnOk result (OnSome (reader_remaining R.remaining reader.old) (IsAtEnd (reader_remaining R.remaining reader.new))) }
-    // Whatever stops the run, what was written is a prefix of what the first lines print.
+    // Whatever stops the run, a prefix of the output of the first lines was written.
     ensures stopped { OnErr result (PrintsInputLiveFront (reader_remaining R.remaining reader.old) (first_session A.heard meta boxes.items) (W.contents writer.old) (W.contents writer.new)) }
     // `TooLong` is returned only if a line is too long, or there are too many.
     ensures long { IsErrOf result RunFault.TooLong → IfSome (reader_remaining R.remaining reader.old) IsTooLong }

@@ -1,4 +1,4 @@
-//! A resource is made and loaded, as two lines of a script do it.
+//! A resource is made and loaded, as by two lines of a script.
 ghost use Rattle.std.specs.Prelude.{◌≡◌};
 ghost use Rattle.repository.specs.Run.{change_outcome};
 ghost use Rattle.repository.specs.Views.{changed_view};
@@ -33,10 +33,10 @@ fn load_into<L: LinkStore, A: Adapter>(
     }
 }
 
-/// Makes a resource of the URI that a text gives, and loads a document into it, as the lines `resource` and `load` do. The document has
-/// any length, and may have newlines. Returns the reply of the load.
+/// Makes a resource of the URI that a text gives, and loads a document into it, as the lines `resource` and `load` do. The document may
+/// have any length, and newlines. Returns the reply of the load.
 ///
-/// Refused as the first of the two calls that is refused: then, if it is the load, the resource was made, and is empty.
+/// Refused as the first of the two calls that is refused. If that is the load, the resource was made, and is empty.
 pub fn load_resource<L: LinkStore, A: Adapter>(
     repository: &mut Repository<L, A>,
     uri: &str,

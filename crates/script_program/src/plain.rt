@@ -1,4 +1,4 @@
-//! A script is run whose answers are written as they are, a block of them at a time.
+//! A script is run without output options; its answers are written in blocks.
 ghost use Rattle.std.specs.Prelude.{◌≡◌, ◌≤◌, [], IfErr, IfOk, OnErr, OnOk, length};
 ghost use Rattle.std.specs.Io.KnownBytes.{Appends};
 ghost use Rattle.mm_types.specs.declared.limits.TheConstants.{INPUT_BYTES};
@@ -35,8 +35,8 @@ fn write_block<W: Write>(writer: &mut W, block: &mut Output) -> Result<(), RunFa
     Ok(())
 }
 
-/// Runs the lines of a script in turn, and writes what they print. If memory is refused to the run, the answers that wait in the block are
-/// lost with it: a call that is refused memory may have added a part of its text to them.
+/// Runs the lines of a script in turn, and writes their output. If memory is refused to the run, the answers that wait in the block are not
+/// written, since the call that was refused may have added a part of its text to them.
 pub(crate) fn run_plain<W: Write, L: LinkStore, A: Adapter>(
     alloc: Global,
     writer: &mut W,

@@ -49,7 +49,7 @@ impl<A: Adapter> Pool<A> {
         Ok(Pool { boxes: slots })
     }
 
-    /// Puts an adapter, or none, where the adapter of a number is, and gives what was there; None if there is no such index.
+    /// Puts an adapter, or none, under a number, and returns the adapter that was there; None if there is no such place.
     fn replaced(&mut self, no: AdapterNo, entry: Option<A>) -> Option<Option<A>>
         ensures before { option_map (λ o. option_map A.heard o) result ≡ option_and_then (slice_get self.old) (p.index no) }
         ensures after { self.new ≡ p.with_entry (option_map A.heard entry) self.old no }
@@ -82,7 +82,7 @@ impl<A: Adapter> Pool<A> {
         let _ = self.replaced(no, Some(adapter));
     }
 
-    /// Puts back what comes back of an outcome: what was released, or the adapter of the number that was not attached.
+    /// Puts back the adapters of an outcome: those that were released, or the adapter of the number that was not attached.
     pub(crate) fn give_back(&mut self, no: Option<AdapterNo>, outcome: Result<Reply<A>, Failure<A>>)
         ensures { self.new ≡ returned self.old no (outcome_view A.heard outcome) }
     {

@@ -2,13 +2,13 @@
 use mm_types::{AdapterNo, Refused};
 use repository::Command;
 
-/// What a form asks for, when its names are looked up.
+/// The request of a form, after its names were looked up.
 #[derive(Drop)]
 pub(crate) enum Request<A> {
     /// A command of the repository.
     Execute(Command<A>),
     /// How often an adapter was notified, and how many notifications it keeps.
     Seen(AdapterNo),
-    /// Nothing: the adapter that is to be attached is not in the pool.
+    /// No call of the repository, since the adapter that is to be attached is not in the pool.
     Refuse(Refused),
 }

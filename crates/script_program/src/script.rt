@@ -36,8 +36,7 @@ fn tell<L: LinkStore, A: Adapter, H: Listener>(
     }
 }
 
-/// Runs a line of a script, writes what it prints by the output options, and calls the listener; the output is a buffer for what is
-/// printed.
+/// Runs a line of a script, writes its output by the output options, and calls the listener; `output` is a buffer for the output of lines.
 ///
 /// Errs with `Memory` if memory is refused to the run itself, and with `Write` if a write errs or takes no byte.
 pub(crate) fn answer_line<W: Write, L: LinkStore, A: Adapter, H: Listener>(
@@ -67,7 +66,7 @@ pub(crate) fn answer_line<W: Write, L: LinkStore, A: Adapter, H: Listener>(
     Ok(turn)
 }
 
-/// Runs the lines of a script in turn, and writes what each prints, by the output options.
+/// Runs the lines of a script in turn, and writes the output of each, by the output options.
 fn run_lines<W: Write, L: LinkStore, A: Adapter, H: Listener>(
     alloc: Global,
     writer: &mut W,
@@ -108,7 +107,7 @@ fn run_lines<W: Write, L: LinkStore, A: Adapter, H: Listener>(
     Ok(summary)
 }
 
-/// Runs a script over a repository, and writes what each line prints, by the output options.
+/// Runs a script over a repository, and writes the output of each line, by the output options.
 fn run_input<W: Write, L: LinkStore, A: Adapter, H: Listener>(
     alloc: Global,
     writer: &mut W,
@@ -132,7 +131,7 @@ fn run_input<W: Write, L: LinkStore, A: Adapter, H: Listener>(
     run_lines(alloc, writer, repository, &mut pool, listener, dress, input)
 }
 
-/// Runs a script as `run_dressed` does, over a repository that its caller has, and goes on to have. The listener is called with each line.
+/// Runs a script as `run_dressed` does, over a repository that its caller lends. The listener is called with each line.
 ///
 /// Errs as `run` does. The script is read to its end before its first line is run, even if the run ends earlier.
 pub fn run_over<R: Read, W: Write, L: LinkStore, A: Adapter, H: Listener>(
@@ -144,11 +143,11 @@ pub fn run_over<R: Read, W: Write, L: LinkStore, A: Adapter, H: Listener>(
     listener: &mut H,
     dress: Dress,
 ) -> Result<Summary, RunFault>
-    // All the input was read, what was written is what its lines print, by the output options, and the repository is left as they leave it.
+    // All the input was read, the output of its lines was written, by the output options, and the repository is as the lines left it.
     ensures ok { IfOk result (PrintsInputDressed dress (R.remaining reader.old) (session_with A.heard repository.old boxes.items) (EndsIn repository.new) (W.contents writer.old) (W.contents writer.new)) }
     ensures end { OnOk result (IsAtEnd (R.remaining reader.new)) }
-    // If a write fails or the run is out of memory, what was written is a prefix of what the first lines print, and the repository is left
-    // as they leave it.
+    // If a write fails or the run is out of memory, a prefix of the output of the first lines was written, and the repository is as these
+    // lines left it.
     ensures stopped { IfErr result (λ e. IsWriteOrMemory e
         → PrintsInputDressedFront dress (R.remaining reader.old) (session_with A.heard repository.old boxes.items) (EndsIn repository.new)
         (W.contents writer.old) (W.contents writer.new)) }
@@ -172,8 +171,8 @@ pub fn run_over<R: Read, W: Write, L: LinkStore, A: Adapter, H: Listener>(
     }
 }
 
-/// Runs a script as `run` does, and writes what its lines print, by the output options; if they say so, the run ends after the first line
-/// that is refused or bad.
+/// Runs a script as `run` does, and writes the output of its lines, by the output options. With the option `stop`, the run ends after the
+/// first line that is refused or bad.
 ///
 /// Errs as `run` does. The script is read to its end before its first line is run, even if the run ends earlier.
 pub fn run_dressed<R: Read, W: Write, L: LinkStore, A: Adapter>(
@@ -184,10 +183,10 @@ pub fn run_dressed<R: Read, W: Write, L: LinkStore, A: Adapter>(
     boxes: Vec<A>,
     dress: Dress,
 ) -> Result<Summary, RunFault>
-    // All the input was read, and what was written is what its lines print, by the output options.
+    // All the input was read, and the output of its lines was written, by the output options.
     ensures ok { IfOk result (PrintsInputDressed dress (R.remaining reader.old) (first_session A.heard meta boxes.items) EndsAnywhere (W.contents writer.old) (W.contents writer.new)) }
     ensures end { OnOk result (IsAtEnd (R.remaining reader.new)) }
-    // If a write fails or the run is out of memory, what was written is a prefix of what the first lines print.
+    // If a write fails or the run is out of memory, a prefix of the output of the first lines was written.
     ensures stopped { IfErr result (λ e. IsWriteOrMemory e
         → PrintsInputDressedFront dress (R.remaining reader.old) (first_session A.heard meta boxes.items) EndsAnywhere (W.contents writer.old) (W.contents writer.new)) }
     // After a fault in reading nothing was written.
@@ -209,13 +208,13 @@ pub fn run_dressed<R: Read, W: Write, L: LinkStore, A: Adapter>(
     outcome
 }
 
-/// Reads a whole script, runs it over an empty repository of a metamodel, and writes what its lines print. The n-th of the adapters, from 1
-/// on, is An. The repository keeps its links in a store of the kind `L`. At the end the repository is closed, and nothing is printed for
-/// that.
+/// Reads a whole script, runs it over an empty repository of a metamodel, and writes the output of its lines. The n-th of the adapters,
+/// from 1 on, is An. The repository keeps its links in a store of the type `L`. At the end the repository is closed, and nothing is printed
+/// for that.
 ///
 /// Errs with `Read` if a read errs and with `TooLong` if the script has more than `INPUT_BYTES` bytes: then no line was run. Errs with
-/// `Write` if a write errs or takes no byte, and with `Memory` if memory is refused to the run itself: then what was written is a prefix of
-/// what the first lines print. If memory is refused to the repository, the line prints `refused 28 MEMORY`, and the run goes on.
+/// `Write` if a write errs or takes no byte, and with `Memory` if memory is refused to the run itself: then a prefix of the output of the
+/// first lines was written. If memory is refused to the repository, the line prints `refused 28 MEMORY`, and the run goes on.
 pub fn run<R: Read, W: Write, L: LinkStore, A: Adapter>(
     alloc: Global,
     reader: &mut R,
@@ -223,10 +222,10 @@ pub fn run<R: Read, W: Write, L: LinkStore, A: Adapter>(
     meta: Meta,
     boxes: Vec<A>,
 ) -> Result<Summary, RunFault>
-    // All the input was read, and what was written is what its lines print.
+    // All the input was read, and the output of its lines was written.
     ensures ok { IfOk result (PrintsInput (R.remaining reader.old) (first_session A.heard meta boxes.items) (W.contents writer.old) (W.contents writer.new)) }
     ensures end { OnOk result (IsAtEnd (R.remaining reader.new)) }
-    // If a write fails or the run is out of memory, what was written is a prefix of what the first lines print.
+    // If a write fails or the run is out of memory, a prefix of the output of the first lines was written.
     ensures stopped { IfErr result (λ e. IsWriteOrMemory e
         → PrintsInputFront (R.remaining reader.old) (first_session A.heard meta boxes.items) (W.contents writer.old) (W.contents writer.new)) }
     // After a fault in reading nothing was written.

@@ -1,4 +1,4 @@
--- Why a line is not read for a caller that has something to do before each wait.
+-- Why a line is not read, for a caller that does something before each wait.
 use Rattle.std.specs.Prelude.{◌≡◌, ◌⊎◌, ℕ, List, Option, IfSome}
 use Rattle.script_streams.specs.Faults.{IsReadOrMemory}
 use Rattle.script_streams.specs.Line.{BeginsTooLong}
@@ -6,14 +6,14 @@ use Rattle.script_streams.specs.declared.run_fault.RunFault.{RunFault}
 use Rattle.script_streams.specs.declared.run_fault.RunFault.TheVariants.{Read, Write, TooLong, Memory, Journal}
 
 module _ {X : Type 0} (can_wait is_ready : X → Type 0) (becomes : X → X → Type 0) (fails : X → RunFault → X → Type 0) where
-  -- Some calls before waits succeeded, and the next failed.
+  -- Some of the caller's calls before waits succeeded, and the next call failed.
   pub record FailsToWait (old : X) (fault : RunFault) (new : X) : Type 0 where
     pub before : X
     pub became : becomes old before
     pub may : can_wait before
     pub failed : fails before fault new
 
-  -- A read failed when nothing was left to do, or memory was refused.
+  -- A read failed when the caller had nothing left to do, or memory was refused.
   pub record FailsToRead (old : X) (fault : RunFault) (new : X) : Type 0 where
     pub became : becomes old new
     pub may : can_wait new

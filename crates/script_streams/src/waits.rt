@@ -1,4 +1,4 @@
-//! A line is read for a caller that has something to do before each wait.
+//! A line is read for a caller that does something before each wait.
 ghost use Rattle.std.specs.Prelude.{◌≡◌, ◌≤◌, ◌⊎◌, IfErr, IfOk, OnOk, length};
 ghost use Rattle.std.specs.Io.Buffered.{reader_inner, reader_remaining};
 ghost use Rattle.script_streams.specs.Line.{ReadsLine, ReadsPiece};
@@ -9,7 +9,7 @@ use crate::run_fault::RunFault;
 use mm_types::limits::INPUT_BYTES;
 use std::io::{BufRead, BufReader, Read};
 
-/// Has something to do before it waits for input: it gives the answers that it holds back, for one.
+/// A caller that does something before it waits for input; for example, it gives the answers that it holds back.
 pub trait Waits {
     ghost use Rattle.script_streams.specs.declared.run_fault.RunFault.{RunFault};
 
@@ -19,13 +19,13 @@ pub trait Waits {
     /// It has nothing left to do before a wait.
     ghost is_ready: { Self → Type 0 };
 
-    /// What is left after any number of calls that succeeded, none among them.
+    /// The state after any number of calls that succeeded, or after none.
     ghost becomes: { Self → Self → Type 0 };
 
-    /// What is left after a call that failed with a fault.
+    /// The state after a call that failed with a fault.
     ghost fails: { Self → RunFault → Self → Type 0 };
 
-    /// Does what is to be done before a wait.
+    /// Does the work before a wait.
     fn before_wait(&mut self) -> Result<(), RunFault>
         requires { can_wait self.old }
         ensures ok { OnOk result (becomes self.old self.new) }
@@ -76,9 +76,9 @@ pub fn read_line_waiting<R: Read, X: Waits>(
     ensures bound { OnOk result (length line.new.items ≤ INPUT_BYTES) }
     ensures waited { OnOk result (X.becomes waits.old waits.new) }
     ensures again { OnOk result (X.can_wait waits.new) }
-    // The stream under the reader's buffer is read only when nothing is left to do.
+    // The stream under the reader's buffer is read only when nothing is left to do before a wait.
     ensures ready { OnOk result ((reader_inner reader.new ≡ reader_inner reader.old) ⊎ X.is_ready waits.new) }
-    // A wait fails, or a read when nothing is left to do, or the line is too long, or memory is refused.
+    // It errs if `before_wait` fails, if a read fails when nothing is left to do, if the line is too long, or if memory is refused.
     ensures stopped { IfErr result (λ fault. StopsLine X.can_wait X.is_ready X.becomes X.fails (reader_remaining R.remaining reader.old)
         waits.old fault waits.new) }
 {

@@ -1,4 +1,4 @@
--- How far a free slot has come on its way through a row of pieces.
+-- A free slot that moves through a row of pieces.
 use Rattle.std.proofs.Common.{◌≡◌, ℕ, ◌+◌, ◌<◌, ◌≢◌, inl, inr, List, [], ◌∷◌, ◌++◌, length, get_or, set, sym, ◌∙◌, ap, subst, arith, add-one, length-set}
 use Rattle.std.proofs.lemmas.List.{get_or-set_same, get_or-set_other, get_or_default, length_push}
 use Rattle.std.proofs.lemmas.Bool.{cases_eq}
@@ -10,7 +10,7 @@ pub record HoleAt {T : Type 0} (n h : ℕ) (old cs : List (List T)) : Type 0 whe
   pub values : joined cs ≡ joined old
   pub hole : HasHole n h cs
 
--- the i-th piece has one more, and the j-th one less
+-- the i-th piece has one value more, and the j-th piece one value less
 pub hole-moved : {T : Type 0} (n i j : ℕ) (cs : List (List T)) (ps qs : List T) → i ≢ j → i < length cs → j < length cs → HasHole n i cs → length ps ≡ length (get_or cs i []) + 1 → length qs + 1 ≡ length (get_or cs j []) → HasHole n j (set (set cs j qs) i ps)
 hole-moved {T} n i j cs ps qs ne li lj m lp lq =
     let nej : j ≢ i = λ e. ne (sym e) in
@@ -49,7 +49,7 @@ hole-lowered {T} n h old cs d e y ys ps lt m eq is =
       hole = hole-moved n (h + 1) h cs ps ys ne lt in_h m.hole (ap length here ∙ sym (add-one (length (get_or cs (h + 1) [])))) (sym (length_push ys y) ∙ sym (ap length before));
     }
 
--- the same, if the free slot is named by itself
+-- the same, if the index of the free slot has a name of its own
 pub hole-lowered_from : {T : Type 0} (n h k : ℕ) (old cs : List (List T)) (d e : List T) (y : T) (ys ps : List T) → h + 1 ≡ k → k < length cs → HoleAt n k old cs → get_or cs h d ≡ ys ++ y ∷ [] → ps ≡ y ∷ get_or (set cs h ys) k e → HoleAt n h old (set (set cs h ys) k ps)
 hole-lowered_from {T} n h k old cs d e y ys ps at lt m eq is =
     let P : ℕ → Type 0 = λ j. j < length cs → HoleAt n j old cs → ps ≡ y ∷ get_or (set cs h ys) j e → HoleAt n h old (set (set cs h ys) j ps) in

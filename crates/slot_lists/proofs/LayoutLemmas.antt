@@ -1,4 +1,4 @@
--- What an edit of a list makes of its pieces.
+-- The pieces of a list after an edit.
 use Rattle.std.proofs.Common.{◌≡◌, ℕ, ◌+◌, ◌-◌, ◌*◌, ◌/◌, ◌%◌, ◌<◌, ◌≤◌, ◌≢◌, inl, inr, List, [], length, get_or, set, sym, ◌∙◌, ap, subst, arith, length-set}
 use Rattle.std.proofs.lemmas.List.{get_or-set_same, get_or-set_other, get_or_default}
 use Rattle.std.proofs.lemmas.List.Edits.{length-insert, length-remove}
@@ -9,7 +9,7 @@ use Rattle.slot_lists.specs.Pieces.{joined, IsFilled, HasHole}
 use Rattle.slot_lists.specs.Layout.{places_in, IsLaidOut}
 use Rattle.slot_lists.proofs.PieceLemmas.{FullBefore, joined-insert, joined-remove, joined-get, length-joined}
 
--- what the view says of the fields
+-- the fields, by the view
 pub len-view : {T : Type 0} (cs : List (List T)) (n : ℕ) (v : Places T) → IsLaidOut cs n → places_in cs n ≡ v → length v.items ≡ n
 len-view cs n v l e = sym (ap (λ w. length w.items) e) ∙ length-joined n cs l.filled l.in_range
 
@@ -92,7 +92,7 @@ put {T} n p cs x v m le lt is =
       count = length-set cs k _;
     })
 
--- what a read at p is of all the values
+-- a read at p in the pieces is a read in the list of all values
 pub read_at : {T : Type 0} (n p : ℕ) (cs : List (List T)) (x : List T) (v : Places T) → IsLaidOut cs n → places_in cs n ≡ v → p < n → x ≡ get_or cs (p / 1024) x → slice_get x (p % 1024) ≡ slice_get v.items p
 read_at n p cs x v l e lt is =
     let at = in_piece n p cs l.filled l.in_range lt in
@@ -105,21 +105,21 @@ long_at {T} n p cs x l lt is =
     let same : x ≡ get_or cs (p / 1024) [] = is ∙ get_or_default cs (p / 1024) x [] at.piece in
     subst (λ (q : List T). p % 1024 < length q) (sym same) at.place
 
--- one value more is to come after the last
+-- there is a free slot for one more value after the last
 pub opened : {T : Type 0} (n : ℕ) (cs : List (List T)) → IsFilled n cs → HasHole (n + 1) (n / 1024) cs
 opened n cs f = record {
   hole = let here = f (n / 1024) in omega arith;
   others = λ j ne. let there = f j in omega arith;
 }
 
--- the last value has gone
+-- the last value is taken out
 pub closed : {T : Type 0} (n m : ℕ) (cs : List (List T)) → n ≡ m + 1 → HasHole n (m / 1024) cs → IsFilled m cs
 closed n m cs e h = λ j. elim (cases_eq j (m / 1024)) [
   | inl at ↦ let here = h.hole in rw at (omega arith)
   | inr ne ↦ let there = h.others j ne in omega arith
 ]
 
--- the same edits, where the piece that was written has a name
+-- the same edits, if the piece that was written has a name
 pub taken_as : {T : Type 0} (n p : ℕ) (cs : List (List T)) (x ps : List T) → IsLaidOut cs n → p < n → x ≡ get_or cs (p / 1024) x → ps ≡ remove x (p % 1024) → Taken n p cs (set cs (p / 1024) ps)
 taken_as {T} n p cs x ps l lt is e = subst (λ (q : List T). Taken n p cs (set cs (p / 1024) q)) (sym e) (taken n p cs x l.filled l.in_range lt is)
 

@@ -1,4 +1,4 @@
--- What a move makes of a list, if the index that it moves to is cut at the end.
+-- A list after a move, if the new index is cut at the end of the list.
 use Rattle.std.proofs.Common.{◌≡◌, ℕ, zero, suc, ◌-◌, ◌<◌, ◌≤◌, min, List, [], length, Option, Some, None, refl, sym, ap, ◌∙◌, arith, unwrap_or, inl, inr}
 use Rattle.std.specs.Option.{option_map}
 use Rattle.std.specs.List.{insert, remove, slice_get}
@@ -7,11 +7,11 @@ use Rattle.std.proofs.lemmas.List.{take_all, drop_all}
 use Rattle.std.proofs.lemmas.Bool.{cases_lt}
 use Rattle.slot_lists.specs.Moved.{moved}
 
--- past the end a value is put last
+-- an insert past the end puts the value last
 insert_past : {X : Type 0} (xs : List X) (i : ℕ) (x : X) → length xs ≤ i → insert xs i x ≡ insert xs (length xs) x
 insert_past xs i x le = rw (take_all i xs le, drop_all i xs le, take_all (length xs) xs (omega arith), drop_all (length xs) xs (omega arith)) refl
 
--- and so an index may be cut at the end
+-- so the index of an insert may be cut at the end
 insert_min : {X : Type 0} (xs : List X) (i n : ℕ) (x : X) → length xs ≡ n → insert xs (min i n) x ≡ insert xs i x
 insert_min xs i n x long = elim (cases_lt i n) [
   | inl within ↦ let cut : min i n ≡ i = omega arith in ap (λ k. insert xs k x) cut
@@ -27,7 +27,8 @@ taken_back : {X : Type 0} (back : Option X → List X) (xs : List X) (to from : 
 taken_back back xs to from None lt none some = sym none
 taken_back back xs to from (Some x) lt none some = to_last xs to from x lt ∙ sym (some x)
 
--- `back` says what a list becomes as a value of it is put back at `to`, or at the end if `to` is past it: a move that is cut at the end does that
+-- `back` puts a value that was taken out of a list back at `to`, or at the end if `to` is past it: a move that is cut at the end does the
+-- same
 pub moved-back : {X : Type 0} (back : Option X → List X) (xs : List X) (to from : ℕ) → from < length xs → back None ≡ xs → ((x : X) → back (Some x) ≡ insert (remove xs from) to x) → moved xs (min to (length xs - 1)) from ≡ back (slice_get xs from)
 moved-back back xs to from = taken_back back xs to from (slice_get xs from)
 

@@ -1,4 +1,4 @@
--- What an edit of one piece, or of two neighbours, makes of the values of all.
+-- The values of all pieces after an edit of one piece, or of two neighbours.
 use Rattle.std.proofs.Common.{◌≡◌, ℕ, ◌+◌, ◌-◌, ◌*◌, ◌<◌, ◌≤◌, min, zero, suc, List, [], ◌∷◌, ◌++◌, length, get_or, set, refl, sym, ◌∙◌, ap, append_assoc, length-append, arith}
 use Rattle.std.proofs.lemmas.List.Edits.{insert-append_left, insert-append_right, remove-append_left, remove-append_right}
 use Rattle.std.specs.List.{insert, remove, slice_get}
@@ -67,7 +67,7 @@ joined-get (a ∷ cs) (suc k) at p h full le e =
     let long : length a ≡ 1024 = full zero (omega arith) in
     joined-get cs k at (p - 1024) (omega arith) (tail-full k a cs full) le (omega arith) ∙ sym (slice_get-append_right a (joined cs) p (p - 1024) (omega arith))
 
--- as many values as fill them
+-- the number of values in full pieces
 pub length-joined : {T : Type 0} (n : ℕ) (cs : List (List T)) → IsFilled n cs → n ≤ 1024 * length cs → length (joined cs) ≡ n
 length-joined n [] f le = omega arith
 length-joined n (a ∷ cs) f le =

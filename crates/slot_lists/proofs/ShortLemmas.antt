@@ -1,4 +1,4 @@
--- Lists of one value at most.
+-- Lists of at most one value.
 use Rattle.std.proofs.Common.{◌≡◌, ℕ, zero, suc, ◌<◌, List, [], ◌∷◌, length, Box, Global, refl, ap, ◌∙◌, arith}
 use Rattle.slot_lists.specs.declared.short_list.Layout.{Layout}
 use Rattle.slot_lists.specs.declared.short_list.Layout.TheVariants.{Empty, One, Many}
@@ -6,7 +6,7 @@ use Rattle.slot_lists.specs.declared.slot_list.SlotList.{SlotList}
 use Rattle.slot_lists.specs.Moved.{moved}
 use Rattle.slot_lists.specs.ShortList.{short_places}
 
--- a value that is alone has no other index
+-- the only value of a list has no other index
 moved_one : {T : Type 0} (v : T) (to from : ℕ) → to < 1 → from < 1 → v ∷ [] ≡ moved (v ∷ []) to from
 moved_one v zero zero to_lt from_lt = refl
 moved_one v zero (suc from) to_lt from_lt = absurd (omega (arith, from_lt))

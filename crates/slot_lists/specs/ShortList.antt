@@ -4,7 +4,7 @@ use Rattle.slot_lists.specs.declared.short_list.Layout.{Layout}
 use Rattle.slot_lists.specs.declared.short_list.Layout.TheVariants.{Empty, One, Many}
 use Rattle.slot_lists.specs.Places.{Places}
 
--- the one value that a list may have in itself has a position without a block
+-- an empty list can take one value without a block
 abbrev pub short_places : {T : Type 0} → Layout T → Places T
 short_places Empty = record { items = []; spare = 1 }
 short_places (One v) = record { items = v ∷ []; spare = 0 }

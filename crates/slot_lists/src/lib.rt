@@ -1,6 +1,6 @@
 //! Lists that stay fast at their front when they are long, and small when they are short.
 //!
-//! A list has capacity for more values. `SlotList::reserve` makes them, and so many inserts then take no memory.
+//! `SlotList::reserve` reserves capacity for more values; so many inserts then take no memory.
 #![tactic(auto)]
 
 mod hole;

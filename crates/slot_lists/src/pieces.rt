@@ -1,4 +1,4 @@
-//! A long list, in pieces that are full but for the last.
+//! A long list, in pieces that are full except the last.
 ghost use Rattle.std.specs.Prelude.{◌≡◌, ◌+◌, ◌<◌, ◌≤◌, [], ◌++◌, length, Some, slice_get, position, IsOk, OnOk, OnErr, vec_len};
 ghost use Rattle.std.specs.List.{insert, remove};
 ghost use Rattle.slot_lists.specs.Moved.{moved};
@@ -11,7 +11,7 @@ use std::marker::Model;
 /// No list has more pieces than this.
 const MOST_PIECES: usize = 1 << 32;
 
-/// The values in order, a piece after the other. The pieces after the last that holds any are empty.
+/// The values in order, one piece after the other. After the last piece that holds values, all pieces are empty.
 #[derive(Drop)]
 pub(crate) struct Pieces<T> {
     pieces: Vec<Piece<T>>,
@@ -95,7 +95,7 @@ impl<T: Drop> Pieces<T> {
         }
     }
 
-    /// Puts a value before the one at an index, or last, for which there is capacity. Takes no memory.
+    /// Puts a value before the value at an index, or last, for which there is capacity. Takes no memory.
     pub fn insert(&mut self, index: usize, value: T)
         requires room { 0 < self.old.spare }
         requires in_range { index ≤ length self.old.items }

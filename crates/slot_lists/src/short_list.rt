@@ -8,7 +8,7 @@ use std::alloc::{AllocError, Global};
 use std::marker::Model;
 use std::mem;
 
-/// How a list lies in memory. More than one value are in a `Box`, so that a list of none or one is small.
+/// How a list lies in memory. If it has more than one value, the values are in a `Box`, so that a list of none or one is small.
 #[derive(Drop)]
 enum Layout<T> {
     Empty,
@@ -117,7 +117,7 @@ impl<T: Drop> ShortList<T> {
         }
     }
 
-    /// Inserts a value before the one at an index, or at the end, for which there is capacity. Takes no memory.
+    /// Inserts a value before the value at an index, or at the end, for which there is capacity. Takes no memory.
     pub fn insert(&mut self, index: usize, value: T)
         requires room { 0 < self.old.spare }
         requires in_range { index ≤ length self.old.items }
@@ -156,7 +156,7 @@ impl<T: Drop> ShortList<T> {
         ensures spare { self.new.spare ≡ self.old.spare }
     {
         let Layout::Many(list) = &mut self.layout else {
-            // A value that is alone has no other position.
+            // The only value of a list has no other position.
             return;
         };
         list.move_to(to, from);

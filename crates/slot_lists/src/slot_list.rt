@@ -16,8 +16,8 @@ enum Layout<T> {
     Long(Box<Pieces<T>>),
 }
 
-/// A list, and capacity for more values. An insert or a removal anywhere takes at most about as many steps as a
-/// piece can hold values, and one for each piece that the list has.
+/// A list, and capacity for more values. An insert or a removal anywhere takes at most about as many steps as a piece
+/// can hold values, and one step for each piece of the list.
 #[derive(Drop)]
 pub struct SlotList<T> {
     layout: Layout<T>,
@@ -104,8 +104,8 @@ impl<T: Drop> SlotList<T> {
         }
     }
 
-    /// Reserves capacity for more values, and puts a list into pieces that is longer than a piece. Errs only if memory is
-    /// refused, and then the values stay and no capacity is lost.
+    /// Reserves capacity for more values, and moves a list that is longer than a piece into pieces. Errs only if memory is refused, and
+    /// then the values stay and no capacity is lost.
     pub fn reserve(&mut self, additional: usize) -> Result<(), AllocError>
         ensures items { self.new.items ≡ self.old.items }
         ensures ok { OnOk result (additional ≤ self.new.spare) }
@@ -125,7 +125,7 @@ impl<T: Drop> SlotList<T> {
         }
     }
 
-    /// Inserts a value before the one at an index, or at the end. If memory is refused, the value comes back and
+    /// Inserts a value before the value at an index, or at the end. If memory is refused, the value is given back and
     /// nothing has changed.
     pub fn insert(&mut self, index: usize, value: T) -> Result<(), AllocFailed<T>>
         requires { index ≤ length self.old.items }
@@ -211,7 +211,7 @@ impl<T: Drop> SlotList<T> {
     }
 }
 
-/// Reserves capacity in the block of a short list, by a half more at least.
+/// Reserves capacity in the block of a short list. If the block grows, it grows by at least a half.
 fn reserve_in_block<T: Drop>(values: &mut Vec<T>, additional: usize) -> Result<(), AllocError>
     requires { vec_len values.old + additional ≤ 1024 }
     ensures items { values.new.items ≡ values.old.items }

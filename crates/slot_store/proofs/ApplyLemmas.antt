@@ -1,4 +1,4 @@
--- What the rows say once an edit of a plan is made.
+-- The rows after an edit of a plan.
 use Rattle.std.proofs.Common.{◌≡◌, ◌∙◌, ◌+◌, Bool, true, false, List, ◌∷◌, [], if◌then◌else◌, is_ok, OnOk, Result, Ok, Err, sym, ap, subst, arith}
 use Rattle.std.proofs.Math.Logic.{∥∥₁_elim, ∥∥₁_map}
 use Rattle.std.proofs.lemmas.List.Sums.{sum_by-append}
@@ -83,7 +83,7 @@ module _ (t u : NodeSlots) (kept : ∥ IsStore t ∥₁) (x : Edit) (xs : List E
   pub edit_rest : applied (store_links u) xs ≡ applied (store_links t) (x ∷ xs)
   edit_rest = ap (λ (s : Links). applied s xs) edit_links
 
--- a plan of the kinds keeps the kinds
+-- a plan that agrees with the kinds keeps rows that agree with them
 pub kinds_applied : (t u : NodeSlots) (plan : List Edit) → store_links u ≡ applied (store_links t) plan → (m : Kinds) → IsStoreOfKind t m → IsPlanOfKind m plan → IsStoreOfKind u m
 kinds_applied t u plan is m of kind = (of.0, subst (λ (s : Links). AreOfKind m s) (sym is) (plan_keeps_kinds m of.0 (store_links t) plan of.1 kind))
 

@@ -1,10 +1,8 @@
 -- What each part of an edit makes of the cells: of the values of an end, of what is known of its feature, of the holders and of what holds
 -- a node.
-use Rattle.std.proofs.Common.{◌≡◌, ◌≢◌, ℕ, Bool, true, false, ◌&&◌, Option, Some, None, if◌then◌else◌, refl, sym, ap, ◌∙◌, subst, inl, inr}
-use Rattle.std.specs.Prelude.{◌⊎◌}
+use Rattle.std.proofs.Common.{◌≡◌, ◌≢◌, ℕ, Bool, true, false, ◌&&◌, Option, Some, None, if◌then◌else◌, refl, ap, ◌∙◌, subst}
 use Rattle.std.specs.List.{position, remove}
 use Rattle.std.specs.Option.{option_map_or}
-use Rattle.std.proofs.lemmas.Bool.{cases_Bool, true≢false}
 use Rattle.mm_types.specs.Same.{same_end, same_feature, same_node}
 use Rattle.mm_types.specs.declared.numbers.Node.{Node}
 use Rattle.mm_types.specs.declared.numbers.Node.TheVariants as node
@@ -24,21 +22,15 @@ two_tests false b y z = refl
 
 ---------------------------------------------------------------- ends
 
--- a change at the end d is seen there
+-- a change at the end d has an effect there
 pub here : {X : Type 0} (d x : End) (y z : X) → d ≡ x → (if same_node d.node x.node then (if same_feature d.feature x.feature then y else z) else z) ≡ y
 here d x y z is = two_tests _ _ y z ∙ ap (λ (b : Bool). if b then y else z) (subst (λ (e : End). same_end d e ≡ true) is (same_end-self d))
 
--- and nowhere else
+-- a change at the end d has no effect elsewhere
 pub there : {X : Type 0} (d x : End) (y z : X) → d ≢ x → (if same_node d.node x.node then (if same_feature d.feature x.feature then y else z) else z) ≡ z
 there d x y z ne = two_tests _ _ y z ∙ ap (λ (b : Bool). if b then y else z) (ne-same_end d x ne)
 
 ---------------------------------------------------------------- nodes
-
-pub cases_node : (m n : Node) → (m ≡ n) ⊎ (m ≢ n)
-cases_node m n = elim (cases_Bool (same_node m n)) [
-  | inl h ↦ inl (same_node-true m n h)
-  | inr h ↦ inr (λ same. true≢false (sym (same_node_if m n same) ∙ h))
-]
 
 no_node : (n m : Node) → n ≢ m → same_node n m ≡ false
 no_node n m ne = elim (same_node n m) as (λ b. same_node n m ≡ b → b ≡ false) [
@@ -93,7 +85,7 @@ module _ (e : End) (o : ObjectNo) (c : Cells) where
   pub entry_out-hold : (m : Node) → (without_entry e o c).hold m ≡ c.hold m
   entry_out-hold m = elim (position (same_end e) (c.entered (node.Object o))) as (λ p. (left p).hold m ≡ c.hold m) [ None ↦ refl | Some i ↦ same_twice (same_node (node.Object o) m) (c.hold m) ]
 
-  -- of the object itself
+  -- the entries of the object itself
   entry_out : (without_entry e o c).entered (node.Object o) ≡ without_end e (c.entered (node.Object o))
   entry_out =
       let ds = c.entered (node.Object o) in

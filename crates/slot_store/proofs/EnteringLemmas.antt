@@ -1,4 +1,4 @@
--- What is read of an object's own lists and entries is which ends have it.
+-- The lists and entries of an object give the ends that have it.
 use Rattle.std.proofs.Common.{◌≡◌, ℕ, zero, suc, ◌+◌, ◌<◌, ◌≤◌, true, false, List, [], ◌∷◌, ◌++◌, drop, length, add-one, append-nil, append_assoc, Option, Some, None, if◌then◌else◌, MatchOption, map, refl, sym, ap, ◌∙◌, subst, inl, inr, arith}
 use Rattle.std.specs.List.{position, slice_get}
 use Rattle.std.specs.Option.{option_and_then, option_to_list}
@@ -38,7 +38,7 @@ far_ends_suc f [] i lt = absurd (omega (arith, lt))
 far_ends_suc f (v ∷ vs) zero lt = refl
 far_ends_suc f (v ∷ vs) (suc i) lt = far_ends_suc f vs i (omega (arith, lt))
 
--- one more of the values that are left
+-- one more of the values that are left to read
 pub next_far : (f : FeatureNo) (vs : List Value) (i : ℕ) (o : Option ObjectNo) (out now all : List End) → i < length vs → o ≡ option_and_then object_of (slice_get vs i) → now ≡ out ++ far_of f o → out ++ far_ends f (drop i vs) ≡ all → now ++ far_ends f (drop (i + 1) vs) ≡ all
 next_far f vs i o out now all lt at is rest =
     let left = far_ends f (drop (i + 1) vs) in
@@ -60,7 +60,7 @@ drop_end [] i lt = absurd (omega (arith, lt))
 drop_end (d ∷ ds) zero lt = refl
 drop_end (d ∷ ds) (suc i) lt = drop_end ds i (omega (arith, lt))
 
--- one more of the ends that are left
+-- one more of the ends that are left to read
 pub next_end : (ds : List End) (i : ℕ) (o : Option End) (out now all : List End) → i < length ds → o ≡ slice_get ds i → now ≡ out ++ option_to_list o → out ++ drop i ds ≡ all → now ++ drop (i + 1) ds ≡ all
 next_end ds i o out now all lt at is rest =
     let left = drop (i + 1) ds in
@@ -160,7 +160,7 @@ module _ (t : NodeSlots) (kept : ∥ IsStore t ∥₁) (o : ObjectNo) where
     λ has. ∥∥₁_elim kept (Coded-set coded_bool _ _) (λ ok. is_entered ok x.node x.feature (has.0, sym (ap (λ (vs : List Value). slice_get vs has.0) (ends_kept t kept x)) ∙ has.1) ((cells t).pairing x).opposite refl),
   )
 
-  -- what a search of an end finds is where the object is
+  -- a search of an end finds the position of the object
   search_law : (e : End) → MatchOption (found_in (cells t) (value.Object o) e) (Lacks (store_links t) e (value.Object o)) (λ k. slice_get (end (store_links t) e) k ≡ Some (value.Object o))
   search_law e = by (found_in (cells t) (value.Object o) e) refl
     where

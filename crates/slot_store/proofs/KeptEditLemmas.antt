@@ -32,7 +32,7 @@ use Rattle.slot_store.proofs.LinkLemmas.{end-lists, lists_placed}
 use Rattle.slot_store.proofs.RebuiltLemmas.{rebuilt, rebuilt_links}
 use Rattle.slot_store.proofs.TellingLemmas.{IsTold, told_cut, told_lists, told_proxy, told_put, told_shift, told_without}
 
--- if an object is at an end, what is known of its feature is the metamodel's
+-- if an object is at an end, the pairing of the feature is that of the metamodel
 module _ (m : Kinds) (c : Cells) (told : IsTold m c) (o : ObjectNo) (x : End) where
   opposite_told : Stands (c.vals x) (value.Object o) → (c.pairing x).opposite ≡ m.opposite x.feature
   opposite_told at = λ i. (told x at.0 (value.Object o) at.1 i).opposite
@@ -47,7 +47,7 @@ far_two : (s : Links) (e : End) (o : ObjectNo) (g : Option FeatureNo) → FarFit
 far_two s e o None fits = tt
 far_two s e o (Some g) fits = fits.apart
 
--- the cells whose lists are the ends of a legal set are kept, and stand for it
+-- cells whose lists are the ends of a legal set satisfy the invariant, and stand for the set
 module _ (m : Kinds) (meta : AreKinds m) (s : Links) (legal : IsLegalSet s) (of : AreOfKind m s) (d : Cells) (fs : List End) (keys : HasKeys d fs) (told : IsTold m d) (same : (x : End) → end s x ≡ d.vals x) where
   kept_from : ((n : Node) → d.hold n ≡ holder s n) → AreEntered m d → AreOnce d → IsKept d fs × (cell_links d fs ≡ s)
   kept_from holds entered once =
@@ -84,7 +84,7 @@ module _ (m : Kinds) (meta : AreKinds m) (c : Cells) (es : List End) (ok : IsKep
   within : (e : End) (i : ℕ) → i ≤ length (end was e) → i ≤ length (c.vals e)
   within e i = subst (λ (xs : List Value). i ≤ length xs) (ends e)
 
-  -- the holders once a link is cut
+  -- the holders after a link is cut
   cut_holder : (e : End) (k : ℕ) (v : Value) → slice_get (c.vals e) k ≡ Some v → (n : Node) → unheld (holding (link_from c e k v) n) (holder was n) ≡ holder (cut_value was e v) n
   cut_holder e k v at n =
       sym (ap (λ (s : Links). holder s n) (cut_is c es ok.lists e k v at) ∙ holder-cut was legal.placed ok.held (link_from c e k v) (link_within c es ok.lists e k v at) n)

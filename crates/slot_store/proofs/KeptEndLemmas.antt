@@ -36,14 +36,14 @@ use Rattle.slot_store.proofs.PositionLemmas.{position_is}
 
 ---------------------------------------------------------------- parts
 
--- of two changes of one list that are not both made, either may be looked for first
+-- if at most one of two changes of a list is made, either may be tested first
 either_first : (a b : Bool) (y z : List Value) (w : Value) → (a ≡ true → b ≡ true → ⊥) → (if b then (if a then y else z) ++ w ∷ [] else (if a then y else z)) ≡ (if a then y else if b then z ++ w ∷ [] else z)
 either_first true true y z w apart = absurd (apart refl refl)
 either_first true false y z w apart = refl
 either_first false true y z w apart = refl
 either_first false false y z w apart = refl
 
--- if the list is known to have the value, the value is taken out of its position
+-- if the list has the value, the value is taken out of its position
 pub without_is : (c : Cells) (e : End) (v : Value) (k : ℕ) (xs : List Value) → IsDistinct xs → slice_get xs k ≡ Some v → c.vals e ≡ xs → without_value e v c ≡ cell_edit e.node (Change e.feature (Remove k)) c
 without_is c e v k xs distinct at same =
     ap (λ (o : Option ℕ). option_map_or (λ (i : ℕ). cell_edit e.node (Change e.feature (Remove i)) c) o c) (ap (position (same_value v)) same ∙ position_is xs v k distinct at)
@@ -61,7 +61,7 @@ module _ (c : Cells) (es : List End) (ok : AreLists c es) where
     abbrev near : Cells
     near = put_near e i (value.Object o) (Some (record { opposite = g; container = h })) c
 
-    -- the near list, and the far list over what the near one is
+    -- the near list, and the far list after the near one
     put_far_end : (k : Option FeatureNo) (x : End) → (same_end e x ≡ true → is_far o k x ≡ true → ⊥) → (put_far e o k h near).vals x ≡ (if same_end e x then insert (c.vals x) i (value.Object o) else if is_far o k x then c.vals x ++ node_value e.node ∷ [] else c.vals x)
     put_far_end None x apart = same_twice (same_node (node.Object o) x.node) (near.vals x) ∙ two_tests (same_node e.node x.node) (same_feature e.feature x.feature) (insert (c.vals x) i (value.Object o)) (c.vals x)
     put_far_end (Some k) x apart =
@@ -111,7 +111,7 @@ module _ (c : Cells) (es : List End) (ok : AreLists c es) where
     cut_end : (x : End) → end (cut_value was e v) x ≡ without (c.vals x) (indexed the_link x)
     cut_end x = ap (λ (s : Links). end s x) cut_is ∙ end-cut was (lists_placed c es ok) the_link link_within x ∙ ap (λ (xs : List Value). without xs (indexed the_link x)) (ends x)
 
-    -- near, over any cells that have the same list there
+    -- the near end, for any cells that have the same list there
     without_here : (d : Cells) (x : End) → d.vals e ≡ c.vals e → d.vals x ≡ c.vals x → e ≡ x → (without_value e v d).vals x ≡ without (c.vals x) (indexed the_link x)
     without_here d x same_e same_x is =
         ap (λ (u : Cells). u.vals x) (without_is d e v k (c.vals e) (ok.distinct e) at same_e)
@@ -135,7 +135,7 @@ module _ (c : Cells) (es : List End) (ok : AreLists c es) where
     abbrev v : Value
     v = value.Object o
 
-    -- the far side of the cut, if the feature has an opposite
+    -- the far end of the cut, if the feature has an opposite
     module _ (g : FeatureNo) (q : (c.pairing e).opposite ≡ Some g) where
       abbrev y : End
       y = far_end o g

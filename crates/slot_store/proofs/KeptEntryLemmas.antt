@@ -1,4 +1,4 @@
--- The ends that hold an object with no opposite, after each edit.
+-- The ends without an opposite that have an object, after each edit.
 use Rattle.std.proofs.Common.{◌≡◌, ◌≢◌, ℕ, ◌<◌, ◌≤◌, true, false, List, [], ◌∷◌, ◌++◌, length, Option, Some, None, if◌then◌else◌, refl, sym, ap, ◌∙◌, subst, inl, inr}
 use Rattle.std.specs.Prelude.{◌↔◌}
 use Rattle.std.specs.List.{insert, position, remove, slice_get}
@@ -21,12 +21,13 @@ use Rattle.links.proofs.EntriesLemmas.{has_end_left}
 use Rattle.links.proofs.ListLemmas.{distinct_remove, removed_absent}
 use Rattle.links.proofs.PlaceLemmas.{not_proxy, same_node_value}
 use Rattle.links.proofs.PutLemmas.{cases_end}
+use Rattle.links.proofs.ForestLemmas.{cases_node}
 use Rattle.node_slots.specs.declared.row.RowEdit.TheVariants.{Change}
 use Rattle.node_slots.specs.declared.slot.SlotEdit.TheVariants.{Move, Remove}
 use Rattle.node_slots.specs.Cells.{Cells, cell_edit}
 use Rattle.slot_store.specs.CellLinks.{IsOnce, Stands}
 use Rattle.slot_store.specs.EditedCells.{cut_cells, cut_far, held, put_cells, put_far, put_near, without_value}
-use Rattle.slot_store.proofs.CellEditLemmas.{cases_node, else_node, entry_out-vals, entry_out_here, entry_out_there, here, holds-entered, holds-vals, if_node, released-entered, released-vals, same_twice, there}
+use Rattle.slot_store.proofs.CellEditLemmas.{else_node, entry_out-vals, entry_out_here, entry_out_there, here, holds-entered, holds-vals, if_node, released-entered, released-vals, same_twice, there}
 use Rattle.slot_store.proofs.KeptEndLemmas.{without_is}
 use Rattle.slot_store.proofs.StandLemmas.{Stands-insert, Stands-remove, Stands-shifted, Stands_insert_new, Stands_insert_old, Stands_remove, Stands_shifted, has_end-push, has_end_new}
 use Rattle.slot_store.proofs.OnceLemmas.{has_end-without, has_end_without, once-push, once-without, without_end}
@@ -35,11 +36,11 @@ use Rattle.slot_store.proofs.OnceLemmas.{has_end-without, has_end_without, once-
 abbrev pub EntersAlone : Kinds → Cells → ObjectNo → End → Type 0
 EntersAlone m c o x = (m.opposite x.feature ≡ None) × Stands (c.vals x) (value.Object o)
 
--- the ends that are kept of each object are those that have it alone
+-- the entries of each object are the ends without an opposite that have it
 abbrev pub AreEntered : Kinds → Cells → Type 0
 AreEntered m c = (o : ObjectNo) (x : End) → (has_end (c.entered (node.Object o)) x ≡ true) ↔ EntersAlone m c o x
 
--- each of them once
+-- each object has each of its entries once
 abbrev pub AreOnce : Cells → Type 0
 AreOnce c = (o : ObjectNo) → IsOnce (c.entered (node.Object o))
 
@@ -68,7 +69,7 @@ cut_far-other : (e : End) (o : ObjectNo) (g : Option FeatureNo) (c : Cells) (x :
 cut_far-other e o None c x out = entry_out-vals e o c x
 cut_far-other e o (Some g) c x out = without-other (far_end o g) (node_value e.node) c x out
 
--- a cut at the far side leaves lists that repeat nothing
+-- after a cut at the far end no list has a value twice
 pub cut_far-distinct : (e : End) (o : ObjectNo) (g : Option FeatureNo) (c : Cells) → ((x : End) → IsDistinct (c.vals x)) → (x : End) → IsDistinct ((cut_far e o g c).vals x)
 cut_far-distinct e o None c once x = subst IsDistinct (sym (entry_out-vals e o c x)) (once x)
 cut_far-distinct e o (Some g) c once x =
@@ -82,7 +83,7 @@ cut_far-distinct e o (Some g) c once x =
     ]
 
 module _ (m : Kinds) (meta : AreKinds m) (c : Cells) (entered : AreEntered m c) where
-  -- if lists with no opposite keep their objects, and the entries stay
+  -- if the lists without an opposite keep their objects, and the entries stay
   carry : (d : Cells) → ((n : Node) → d.entered n ≡ c.entered n) → ((x : End) (o : ObjectNo) → m.opposite x.feature ≡ None → Stands (c.vals x) (value.Object o) → Stands (d.vals x) (value.Object o)) → ((x : End) (o : ObjectNo) → m.opposite x.feature ≡ None → Stands (d.vals x) (value.Object o) → Stands (c.vals x) (value.Object o)) → AreEntered m d
   carry d same to from o x = (
     λ h. (let old = (entered o x).0 (sym (ap (λ (ds : List End). has_end ds x) (same (node.Object o))) ∙ h) in (old.0, to x o old.0 old.1)),
@@ -115,7 +116,7 @@ module _ (m : Kinds) (meta : AreKinds m) (c : Cells) (entered : AreEntered m c) 
     put_there : (g : Option FeatureNo) (x : End) → (IsFar n g x → ⊥) → e ≢ x → (put_cells e i n g h c).vals x ≡ c.vals x
     put_there g x out ne = holds-vals (held e n g h) (put_far e n g h (near g)) x ∙ put_far-other e n g h (near g) x out ∙ there e x (insert (c.vals x) i (value.Object n)) (c.vals x) ne
 
-    -- with an opposite the entries stay
+    -- if the feature has an opposite, the entries stay
     entries_put : (g : FeatureNo) (k : Node) → (put_cells e i n (Some g) h c).entered k ≡ c.entered k
     entries_put g k = holds-entered (held e n (Some g) h) (put_far e n (Some g) h (near (Some g))) k ∙ same_twice (same_node (node.Object n) k) ((near (Some g)).entered k) ∙ same_twice (same_node e.node k) (c.entered k)
 
@@ -177,7 +178,7 @@ module _ (m : Kinds) (meta : AreKinds m) (c : Cells) (entered : AreEntered m c) 
         | inr ne ↦ pushed ((entered o x).1 (now.0, stood d x o (put_there None x (λ f. f) ne) now.1))
       ]
 
-    -- a put of what is not there enters the object once
+    -- a put of an object that is not in the list adds one entry
     pub once_put : (g : Option FeatureNo) → m.opposite e.feature ≡ g → i ≤ length (c.vals e) → (Stands (c.vals e) (value.Object n) → ⊥) → AreOnce c → AreOnce (put_cells e i n g h c)
     once_put None q le absent single o = subst IsOnce (sym (base q le o e)) (
         let ds = c.entered (node.Object o) in

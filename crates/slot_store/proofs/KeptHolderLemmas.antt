@@ -23,12 +23,12 @@ use Rattle.slot_store.specs.CellLinks.{link_to}
 use Rattle.slot_store.specs.EditedCells.{cut_cells, cut_far, held, held_far, holds, put_cells, put_far, put_near, released, without_value}
 use Rattle.slot_store.proofs.CellEditLemmas.{entry_out-hold, same_twice}
 
--- what the pair says of m
+-- the holder of m by a pair of a node and its holder
 abbrev pub pair_holding : Option (Node × End) → Node → Option End
 pair_holding None m = None
 pair_holding (Some p) m = if same_node p.0 m then Some p.1 else None
 
--- the two features of a link are two
+-- the two features of a link are different
 abbrev pub AreTwo : End → Option FeatureNo → Type 0
 AreTwo e None = Unit {0}
 AreTwo e (Some g) = (g.0 ≡ e.feature.0) → ⊥
@@ -69,12 +69,12 @@ module _ (e : End) (k : ℕ) (o : ObjectNo) (g : FeatureNo) (j : ℕ) (m : Node)
         | false ↦ far_first h ne
       ]
 
--- the link that a put makes holds whom the pair says
+-- the link that a put makes has the contained node and the holder of the pair
 pub new_holding : (s : Links) (e : End) (i : ℕ) (o : ObjectNo) (g h : Option FeatureNo) → AreTwo e g → (m : Node) → holding (new_link s e i o g h) m ≡ pair_holding (held e o g h) m
 new_holding s e i o None h two m = alone_holding h e i o m
 new_holding s e i o (Some g) h two m = joined_holding e i o g (length (end s (far_end o g))) m h two
 
--- and so does the link of a position
+-- the same for the link of a position
 pub link_holding : (c : Cells) (e : End) (k : ℕ) (o : ObjectNo) (g : Option FeatureNo) → AreTwo e g → (m : Node) → holding (link_to c e k o g) m ≡ pair_holding (held e o g (c.pairing e).container) m
 link_holding c e k o None two m = alone_holding (c.pairing e).container e k o m
 link_holding c e k o (Some g) two m = joined_holding e k o g (index_in (c.vals (far_end o g)) (node_value e.node)) m (c.pairing e).container two

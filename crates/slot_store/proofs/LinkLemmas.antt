@@ -27,7 +27,7 @@ use Rattle.links.proofs.PutLemmas.{cases_end, indexed-joined_far, indexed-joined
 use Rattle.node_slots.specs.Cells.{Cells}
 use Rattle.slot_store.specs.CellLinks.{AreLists, all_links, cell_links, link_from, link_to, links_from}
 
--- the index that is found has the value
+-- the value is at the index that is found
 pub slice_get-index_in : (xs : List Value) (v : Value) (j : ℕ) → slice_get xs j ≡ Some v → slice_get xs (index_in xs v) ≡ Some v
 slice_get-index_in [] v j h = absurd (none-some v h)
 slice_get-index_in (x ∷ xs) v zero h = let same = same_value-self v in let x_is = same_Some x v h in rw x_is (rw same refl)
@@ -101,13 +101,13 @@ module _ (c : Cells) where
   ]
 
   module _ (es : List End) (ok : AreLists c es) where
-    -- an end and the far end of a link are two
+    -- an end and the far end of its link are different
     apart : (e : End) (k : ℕ) (o : ObjectNo) (g : FeatureNo) → (c.pairing e).opposite ≡ Some g → slice_get (c.vals e) k ≡ Some (value.Object o) → e ≢ far_end o g
     apart e k o g q h s = (ok.mutual_ e k o g h q).apart (λ i. (sym s i).feature.0)
 
     ---------------------------------------------------------------- positions
 
-    -- the link of a position is there
+    -- the link of a position is in the set
     place_to : (e : End) (k : ℕ) (o : ObjectNo) (g : Option FeatureNo) → (c.pairing e).opposite ≡ g → slice_get (c.vals e) k ≡ Some (value.Object o) → indexed (link_to c e k o g) e ≡ Some (k, value.Object o)
     place_to e k o None q h = rw (same_end-self e) refl
     place_to e k o (Some g) q h = indexed-joined_near e k (far_end o g) (index_in (c.vals (far_end o g)) (node_value e.node)) (c.pairing e).container (apart e k o g q h)
@@ -141,7 +141,7 @@ module _ (c : Cells) where
           ∙ (λ i. joined far back d (sym there_again i) (sym m.container i))
           ∙ ap (λ (x : Option FeatureNo). link_to c far back p x) (sym m.opposite)
 
-    -- and a link that is at a position is the link of that position
+    -- a link that is at a position is the link of that position
     object_far : (p : ObjectNo) (f : FeatureNo) (k : ℕ) (o : ObjectNo) (g : FeatureNo) → (c.pairing (far_end p f)).opposite ≡ Some g → slice_get (c.vals (far_end p f)) k ≡ Some (value.Object o) → (e : End) (i : ℕ) (v : Value) → far_end p f ≢ e → indexed (link_to c (far_end p f) k o (Some g)) e ≡ Some (i, v) → (slice_get (c.vals e) i ≡ Some v) × (link_to c (far_end p f) k o (Some g) ≡ link_from c e i v)
     object_far p f k o g q h e i v ne at =
         let d = far_end p f in
@@ -221,6 +221,6 @@ module _ (c : Cells) where
         let b = all_back es l ((from_list_HasLinks (all_links c es)).has l h) in
         subst (λ (m : Link). HasTwoSides m.end m.far) (sym b.4) (sides_from b.0 b.1 b.2 b.3))
 
-    -- what an end has is its list
+    -- the values of an end are its list
     pub end-lists : (e : End) → end (cell_links c es) e ≡ c.vals e
     end-lists e = end_is (cell_links c es) e (c.vals e) (IsEnd-lists e)

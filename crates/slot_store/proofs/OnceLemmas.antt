@@ -1,4 +1,4 @@
--- Lists of ends that repeat nothing: what one more end, or one less, makes of them.
+-- Lists in which no end is twice, with one end more or one end less.
 use Rattle.std.proofs.Common.{◌≡◌, ◌≢◌, ℕ, zero, suc, ◌<◌, true, List, [], ◌∷◌, ◌++◌, length, Some, None, refl, sym, ap, ◌∙◌, subst, inl, inr, arith}
 use Rattle.std.specs.Prelude.{◌⊎◌}
 use Rattle.std.specs.List.{position, remove, slice_get}
@@ -28,7 +28,7 @@ at_has_end (x ∷ ds) d (suc k) h = or_right (same_end x d) _ (at_has_end ds d k
 
 ---------------------------------------------------------------- one less
 
--- what is left of a list was in the whole list
+-- the rest of a list was in the whole list
 removed_from : (ds : List End) (i j : ℕ) → slice_get (remove ds i) j ≡ slice_get ds (raise i j)
 removed_from ds i j = elim (cases_lt j i) [
   | inl lt ↦ slice_get-remove_below ds i j lt ∙ ap (λ (k : ℕ). slice_get ds k) (sym (raise_below i j lt))

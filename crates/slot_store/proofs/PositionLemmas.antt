@@ -1,9 +1,7 @@
 -- The position of a value, or of an end, that a search looks for.
-use Rattle.std.proofs.Common.{◌≡◌, ℕ, ◌<◌, ◌≤◌, Bool, true, List, length, get_or, Option, Some, None, is_some, not, refl, sym, ap, ◌∙◌, subst, arith}
-use Rattle.std.specs.List.{position, position_or_len, slice_get}
+use Rattle.std.proofs.Common.{◌≡◌, ℕ, ◌<◌, Bool, true, List, length, get_or, Option, Some, None, is_some, not, refl, sym, ap, ◌∙◌, subst, arith}
+use Rattle.std.specs.List.{position, slice_get}
 use Rattle.std.proofs.lemmas.Bool.{true≢false}
-use Rattle.std.proofs.lemmas.Bool.Decides.{nat_tests}
-use Rattle.std.proofs.lemmas.Grind.{common_steps}
 use Rattle.std.proofs.lemmas.List.Quantifiers.{position-Some}
 use Rattle.std.proofs.lemmas.List.Sums.{fails_before_first}
 use Rattle.std.proofs.lemmas.Option.{same_Some, slice_get-get_or, slice_get_within}
@@ -14,10 +12,8 @@ use Rattle.mm_types.specs.declared.end.End.{End}
 use Rattle.mm_types.specs.declared.value.Value.{Value}
 use Rattle.links.specs.LegalSets.{IsDistinct}
 use Rattle.node_slots.specs.Targets.{is_value}
+use Rattle.node_slots.proofs.SlotLemmas.{past_all}
 use Rattle.slot_store.specs.CellLinks.{IsOnce}
-
-past_all : {X : Type 0} (p : X → Bool) (xs : List X) → position p xs ≡ None → length xs ≤ position_or_len p xs
-past_all p xs e = grind (arith, common_steps, nat_tests)
 
 -- a search by a test that finds equals
 module _ {X : Type 0} (same : X → X → Bool) (self : (x : X) → same x x ≡ true) (equal : (x y : X) → same x y ≡ true → x ≡ y) where
@@ -45,7 +41,7 @@ position_at = item_at same_value same_value-self same_value-true
 pub position_lacks : (xs : List Value) (v : Value) (k : ℕ) → position (same_value v) xs ≡ None → slice_get xs k ≡ Some v → ⊥
 position_lacks = item_lacks same_value same_value-self same_value-true
 
--- a value that is found at an index is there
+-- a value that is found at an index is in the list
 pub value_at : (v : Value) (xs : List Value) (i : ℕ) → is_value v (slice_get xs i) ≡ true → slice_get xs i ≡ Some v
 value_at v xs i = at (slice_get xs i)
   where
@@ -53,7 +49,7 @@ value_at v xs i = at (slice_get xs i)
     at None h = absurd (true≢false (sym h))
     at (Some w) h = ap Some (sym (same_value-true v w h))
 
--- a list that repeats nothing has a value at the index that is found
+-- in a list without repetitions the value is at the index that is found
 pub position_is : (xs : List Value) (v : Value) (k : ℕ) → IsDistinct xs → slice_get xs k ≡ Some v → position (same_value v) xs ≡ Some k
 position_is = item_is same_value same_value-self same_value-true
 
@@ -63,11 +59,11 @@ end_at = item_at same_end same_end-self same_end-true
 pub end_lacks : (ds : List End) (e : End) (k : ℕ) → position (same_end e) ds ≡ None → slice_get ds k ≡ Some e → ⊥
 end_lacks = item_lacks same_end same_end-self same_end-true
 
--- and an end
+-- the same for an end
 pub end_is : (ds : List End) (e : End) (k : ℕ) → IsOnce ds → slice_get ds k ≡ Some e → position (same_end e) ds ≡ Some k
 end_is = item_is same_end same_end-self same_end-true
 
--- what is said not to be there is nothing
+-- an option that is said to be None is None
 pub none_of : (o : Option ℕ) (b : Bool) → is_some o ≡ not b → b ≡ true → o ≡ None
 none_of None b is h = refl
 none_of (Some i) b is h = absurd (true≢false (is ∙ ap not h))

@@ -1,4 +1,4 @@
--- What has capacity for a put has the rows that the put names.
+-- A store with capacity for a put has the rows that the put names.
 use Rattle.std.proofs.Common.{◌≡◌, ℕ, Bool, true, false, IfSome, List, [], ◌∷◌, Option, Some, None, if◌then◌else◌, sym, ap, subst, arith}
 use Rattle.mm_types.specs.Same.{node_value, same_end, same_feature}
 use Rattle.mm_types.specs.declared.numbers.FeatureNo.{FeatureNo}
@@ -21,12 +21,12 @@ use Rattle.node_slots.specs.Growth.{HasRoom, far_gain, lone_entry, one_if}
 use Rattle.node_slots.proofs.KeyLemmas.{known_entries, known_places}
 use Rattle.slot_store.specs.EditedCells.{HasHeldRow, PutsObject, held, held_far, held_row_index}
 
--- an end can have an object's node, also if it can have objects alone
+-- an end can have an object, even if it can have only objects
 pub can_have_node : (mixed : Bool) (n : Node) (v : Value) → IsObject n → v ≡ node_value n → CanHave mixed v
 can_have_node mixed (node.Object o) v is same = subst (CanHave mixed) (sym same) tt
 can_have_node mixed (node.Resource r) v is same = absurd is
 
--- what fits puts no resource into an end
+-- an edit that fits puts no resource into an end
 pub fits_object : (s : Links) (x : Edit) → EditFits s x → PutsObject x
 fits_object s (edit.Cut e o) fits = tt
 fits_object s (edit.Put e i o None h) fits = tt
@@ -35,19 +35,19 @@ fits_object s (edit.Shift e to from) fits = tt
 fits_object s (edit.PutProxy e i t) fits = tt
 fits_object s (edit.CutProxy e t) fits = tt
 
--- the end that is put into has a row
+-- the end into which a value is put has a row
 pub near_row : (t : NodeSlots) (e : End) (i : ℕ) (o : ObjectNo) (g h : Option FeatureNo) → HasRoom (room t) (edit.Put e i o g h ∷ []) → (room t).rows e.node ≡ true
 near_row t e i o g h has =
     let one : one_if (same_end e e) ≡ 1 = ap one_if (same_end-self e) in
     known_places t e (omega (arith, has.places e, one))
 
--- so has an end that a proxy is put into
+-- an end into which a proxy is put has a row too
 pub proxy_row : (t : NodeSlots) (e : End) (i : ℕ) (text : List ℕ) → HasRoom (room t) (edit.PutProxy e i text ∷ []) → (room t).rows e.node ≡ true
 proxy_row t e i text has =
     let one : one_if (same_end e e) ≡ 1 = ap one_if (same_end-self e) in
     known_places t e (omega (arith, has.places e, one))
 
--- and so has the object
+-- the object has a row too
 pub far_row : (t : NodeSlots) (e : End) (i : ℕ) (o : ObjectNo) (g h : Option FeatureNo) → HasRoom (room t) (edit.Put e i o g h ∷ []) → (room t).rows (node.Object o) ≡ true
 far_row t e i o None h has =
     let one : lone_entry o None (node.Object o) ≡ 1 = ap one_if (same_node-self (node.Object o)) in
@@ -73,7 +73,7 @@ held_row t x e i o g h is has = row h (subst (λ (y : Edit). HasRoom (room t) (y
       | false ↦ row_far g f has
     ]
 
--- what is contained has its row at the index that is looked up
+-- the contained node has its row at the index that was looked up
 pub held_at : (t : NodeSlots) (p : PutPlaces) (e : End) (o : ObjectNo) (g h : Option FeatureNo) → row_index_of t e.node ≡ Some p.near → row_index_of t (node.Object o) ≡ Some p.far → IfSome {T = Node × End} (held e o g h) (λ q. row_index_of t q.0 ≡ Some (held_row_index p e h))
 held_at t p e o g None near far = tt
 held_at t p e o g (Some f) near far = elim (same_feature e.feature f) as (λ b. IfSome {T = Node × End} (if b then Some (node.Object o, e) else held_far e o g f) (λ q. row_index_of t q.0 ≡ Some (if b then p.far else p.near))) [

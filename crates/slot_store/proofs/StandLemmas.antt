@@ -1,4 +1,4 @@
--- Which lists have a value after an edit, and which ends are among those that hold a node.
+-- Which lists have a value after an edit, and which ends are among the ends that have a node.
 use Rattle.std.proofs.Common.{◌≡◌, ◌≢◌, ℕ, zero, suc, ◌<◌, ◌≤◌, true, false, List, [], ◌∷◌, ◌++◌, length, Option, Some, sym, ap, ◌∙◌, subst, inl, inr, arith}
 use Rattle.std.specs.Prelude.{◌⊎◌}
 use Rattle.std.specs.List.{slice_get, insert, remove}
@@ -59,7 +59,7 @@ module _ (xs : List Value) (i : ℕ) where
   pub Stands_remove : (v w : Value) → slice_get xs i ≡ Some w → v ≢ w → Stands xs v → Stands (remove xs i) v
   Stands_remove v w at ne (k, h) = Stands_remove_at v k (λ same. ne (same_Some v w (sym h ∙ ap (λ (j : ℕ). slice_get xs j) same ∙ at))) h
 
--- a shift keeps what is in the list
+-- a shift keeps the values of the list
 module _ (xs : List Value) (to from : ℕ) (w : Value) (at : slice_get xs from ≡ Some w) (lt : to < length xs) where
   fits : to ≤ length (remove xs from)
   fits = omega (arith, lt, length_remove xs from (slice_get_within xs from w at))

@@ -1,4 +1,4 @@
--- What the rows of a store say of its links, where its invariant is known by the truncation alone.
+-- The links of a store by its rows, if its invariant is known only under a truncation.
 use Rattle.std.proofs.Common.{◌≡◌, List, [], Option, Some, None, sym, ap, ◌∙◌, subst, arith}
 use Rattle.std.proofs.Math.Logic.{∥∥₁_elim, ∥∥₁_map}
 use Rattle.std.specs.Coded.{Coded, Coded-set, coded_ℕ, codes, le_prop}
@@ -32,7 +32,7 @@ use Rattle.slot_store.proofs.LinkLemmas.{all_back, all_there, end-lists}
 
 ---------------------------------------------------------------- growth
 
--- the links depend on the lists alone, and not on which ends have a slot
+-- the links depend only on the lists, and not on which ends have a slot
 within : (c : Cells) (es fs : List End) → HasKeys c fs → (l : Link) → In l (cell_links c es) → In l (cell_links c fs)
 within c es fs keys l h =
     let b = all_back c es l ((from_list_HasLinks (all_links c es)).has l h) in
@@ -77,7 +77,7 @@ module _ (t : NodeSlots) (kept : ∥ IsStore t ∥₁) where
   unfolding store_links
   ends_kept e = ∥∥₁_elim kept (Coded-set coded_values _ _) (λ ok. end-lists (cells t) (ends_of t) ok.lists e)
 
-  -- and the holders are those of the rows
+  -- the holders are those of the rows
   pub holder_kept : (n : Node) → (cells t).hold n ≡ holder (store_links t) n
   unfolding store_links
   holder_kept n = ∥∥₁_elim kept (Coded-set coded_holder _ _) (λ ok. ok.holds n)
@@ -93,13 +93,13 @@ module _ (t : NodeSlots) (kept : ∥ IsStore t ∥₁) where
     entries = λ o j k d a b. ∥∥₁_elim kept (Coded-set coded_ℕ j k) (λ ok. ok.once o j k d a b);
   }
 
-  -- a value that is not among the entries is not in an end with no opposite
+  -- an object is in no end without an opposite that is not among its entries
   pub alone_absent : (e : End) (o : ObjectNo) → ((cells t).pairing e).opposite ≡ None → position (same_end e) ((cells t).entered (node.Object o)) ≡ None → Stands ((cells t).vals e) (value.Object o) → ⊥
   alone_absent e o q none at = ∥∥₁_elim kept (λ x y. absurd x) (λ ok.
       let b = has_end_at ((cells t).entered (node.Object o)) e ((ok.entered o e).1 (q, at)) in
       end_lacks ((cells t).entered (node.Object o)) e b.0 none b.1)
 
-  -- a value whose own end lacks the node is not in an end
+  -- if the opposite end of an object lacks the node, the object is not in the end
   pub far_absent : (e : End) (o : ObjectNo) (g : FeatureNo) → ((cells t).pairing e).opposite ≡ Some g → position (same_value (node_value e.node)) ((cells t).vals (far_end o g)) ≡ None → Stands ((cells t).vals e) (value.Object o) → ⊥
   far_absent e o g q none at = ∥∥₁_elim kept (λ x y. absurd x) (λ ok.
       let b = (ok.lists.mutual_ e at.0 o g at.1 q).back in

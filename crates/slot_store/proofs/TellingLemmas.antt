@@ -1,4 +1,4 @@
--- What is known of each feature is what a metamodel says of it, before and after each part of an edit.
+-- The pairing of each feature is that of the metamodel, before and after each part of an edit.
 use Rattle.std.proofs.Common.{◌≡◌, ℕ, ◌<◌, ◌≤◌, true, false, ltb, List, length, Option, Some, None, if◌then◌else◌, refl, sym, ap, ◌∙◌, subst, inl, inr}
 use Rattle.std.specs.List.{position, slice_get}
 use Rattle.std.specs.Option.{option_map_or}
@@ -30,7 +30,7 @@ use Rattle.slot_store.proofs.StandLemmas.{Stands-insert, Stands-push, Stands-rem
 abbrev pub kind_pairing : Kinds → FeatureNo → Pairing
 kind_pairing m f = record { opposite = m.opposite f; container = m.container f }
 
--- of an object the pairing is the metamodel's; of a proxy nothing is contained
+-- for an object the pairing is that of the metamodel; for a proxy the feature is no containment
 abbrev pub ToldAs : Kinds → FeatureNo → Pairing → Value → Type 0
 ToldAs m f p (value.Object o) = p ≡ kind_pairing m f
 ToldAs m f p (value.Proxy t) = m.container f ≡ None
@@ -42,7 +42,7 @@ IsTold m c = (e : End) (k : ℕ) (v : Value) → slice_get (c.vals e) k ≡ Some
 ---------------------------------------------------------------- of links
 
 module _ (m : Kinds) (meta : AreKinds m) where
-  -- what a link of the kinds says of its feature, from either side
+  -- the pairing of a feature by a link that agrees with the kinds, from either side
   joined_told : (e : End) (k : ℕ) (o : ObjectNo) (g : FeatureNo) (j : ℕ) (h : Option FeatureNo) → IsOfKind m (joined e k (far_end o g) j h) → (m.opposite e.feature ≡ Some g) × (h ≡ m.container e.feature)
   joined_told e k o g j h =
       elim (ltb e.feature.0 g.0) as (λ b. IsOfKind m (if b then record { end = e; index = k; far = At (far_end o g) j; container = h } else record { end = far_end o g; index = j; far = At e k; container = h }) → (m.opposite e.feature ≡ Some g) × (h ≡ m.container e.feature)) [
@@ -64,7 +64,7 @@ module _ (m : Kinds) (meta : AreKinds m) where
 
 ---------------------------------------------------------------- parts of edits
 
--- a pairing that is the metamodel's covers all that is there
+-- a pairing that is the metamodel's is right for all values of an end
 told_of : (m : Kinds) (f : FeatureNo) (p q : Pairing) → q ≡ kind_pairing m f → (w : Value) → ToldAs m f p w → ToldAs m f q w
 told_of m f p q is (value.Object o) h = is
 told_of m f p q is (value.Proxy t) h = h
@@ -127,7 +127,7 @@ module _ (m : Kinds) (meta : AreKinds m) (c : Cells) (told : IsTold m c) (e : En
       let u = without_value e (value.Object o) d in
       told_same m u (told_without m d (told_cut_far g) e (value.Object o)) (cut_cells e o g h c) (released-vals (held e o g h) u) (released-pairing (held e o g h) u)
 
-  -- a resource is in no list, but as no reference
+  -- a pairing that is the metamodel's is right for a node; for a resource nothing is required
   told_node : (n : Node) (f : FeatureNo) (p : Pairing) → p ≡ kind_pairing m f → ToldAs m f p (node_value n)
   told_node (node.Object x) f p is = is
   told_node (node.Resource r) f p is = tt

@@ -1,4 +1,4 @@
--- The links that lists at both ends stand for, and when lists, holders and entries agree.
+-- The links that the lists at their ends stand for, and when lists, holders and entries agree.
 use Rattle.std.specs.Prelude.{◌≡◌, ◌↔◌, ℕ, zero, suc, ◌≤◌, true, List, [], ◌∷◌, ◌++◌, length, slice_get, Option, Some, None}
 use Rattle.std.specs.FinSet as set
 use Rattle.mm_types.specs.Ends.{index_in}
@@ -21,7 +21,7 @@ use Rattle.node_slots.specs.Cells.{Cells, HasKeys, cells, ends_of}
 
 ---------------------------------------------------------------- links
 
--- the link of an object at k in e, where g is the opposite: its far position is where the far list has e's node
+-- the link of an object at k in e, where g is the opposite; at the far end its position is the index of e's node
 abbrev pub link_to : Cells → End → ℕ → ObjectNo → Option FeatureNo → Link
 link_to c e k o None = record { end = e; index = k; far = Alone o; container = (c.pairing e).container }
 link_to c e k o (Some g) = joined e k (far_end o g) (index_in (c.vals (far_end o g)) (node_value e.node)) (c.pairing e).container
@@ -54,7 +54,7 @@ IsReference (value.Object o) = Unit {0}
 IsReference (value.Proxy t) = Unit {0}
 IsReference _ = ⊥
 
--- the far end of e's link to an object has e's node, and says of the pair what e says
+-- the far end of e's link to an object has e's node, and the two ends agree on their opposites and their containment
 pub record IsMutual (c : Cells) (e : End) (o : ObjectNo) (g : FeatureNo) : Type 0 where
   pub apart : (g.0 ≡ e.feature.0) → ⊥
   pub object : IsObject e.node
@@ -62,7 +62,7 @@ pub record IsMutual (c : Cells) (e : End) (o : ObjectNo) (g : FeatureNo) : Type 
   pub opposite : (c.pairing (far_end o g)).opposite ≡ Some e.feature
   pub container : (c.pairing (far_end o g)).container ≡ (c.pairing e).container
 
--- lists of objects and proxies, each object of a paired feature at both ends
+-- the ends are lists of objects and proxies without repeats; for a feature with an opposite, each link is in the lists of both ends
 pub record AreLists (c : Cells) (es : List End) : Type 0 where
   pub keys : HasKeys c es
   pub references : (e : End) (k : ℕ) (v : Value) → slice_get (c.vals e) k ≡ Some v → IsReference v
@@ -78,12 +78,12 @@ StandsAlone c o e = ((c.pairing e).opposite ≡ None) × Stands (c.vals e) (valu
 abbrev pub IsOnce : List End → Type 0
 IsOnce ds = (j k : ℕ) (d : End) → slice_get ds j ≡ Some d → slice_get ds k ≡ Some d → j ≡ k
 
--- no end repeats a value, and no end is kept twice of an object
+-- no end repeats a value, and no object is entered twice by one end
 pub record RepeatNothing (c : Cells) : Type 0 where
   pub values : (e : End) → IsDistinct (c.vals e)
   pub entries : (o : ObjectNo) → IsOnce (c.entered (node.Object o))
 
--- lists, the holders that the links give, and for each object the ends with no opposite that have it
+-- the lists agree, the holders are those that the links give, and each object has as entries exactly the ends without opposite that have it
 pub record IsKept (c : Cells) (es : List End) : Type 0 where
   pub lists : AreLists c es
   pub held : IsHeldOnce (cell_links c es)
@@ -100,6 +100,6 @@ IsStore t = IsKept (cells t) (ends_of t)
 unfoldable pub store_links : NodeSlots → Links
 store_links t = cell_links (cells t) (ends_of t)
 
--- the links are of the kinds that a metamodel's features have
+-- the links agree with the kinds of a metamodel's features
 abbrev pub IsStoreOfKind : NodeSlots → Kinds → Type 0
 IsStoreOfKind t m = AreKinds m × AreOfKind m (store_links t)

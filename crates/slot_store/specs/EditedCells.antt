@@ -1,4 +1,4 @@
--- What each edit of links makes of the cells.
+-- The cells after each edit of links.
 use Rattle.std.specs.Prelude.{◌≡◌, ℕ, ◌+◌, ◌≤◌, true, position, Option, Some, None, if◌then◌else◌}
 use Rattle.std.specs.Option.{option_map_or}
 use Rattle.mm_types.specs.Same.{node_value, same_end, same_feature, same_value}
@@ -19,17 +19,18 @@ use Rattle.node_slots.specs.declared.slot.SlotEdit.TheVariants.{Insert, Push, Re
 use Rattle.node_slots.specs.declared.row.RowEdit.TheVariants.{Change, Hold, Enter, Leave}
 use Rattle.node_slots.specs.Cells.{Cells, Room, cell_edit}
 
--- the far end of a link from e to an object, where its feature g is the containing one, h: it contains e's node
+-- if the opposite g is the containing feature h, the link's far end contains e's node
 abbrev pub held_far : End → ObjectNo → Option FeatureNo → FeatureNo → Option (Node × End)
 held_far e o None h = None
 held_far e o (Some g) h = if same_feature g h then Some (e.node, far_end o g) else None
 
--- what a link from e to an object contains, and by which end, where g is the opposite and h the containing feature of the pair
+-- the node that a link from e to an object contains, with the end that contains it; g is the opposite, and h the containing feature of the
+-- pair
 abbrev pub held : End → ObjectNo → Option FeatureNo → Option FeatureNo → Option (Node × End)
 held e o g None = None
 held e o g (Some h) = if same_feature e.feature h then Some (node.Object o, e) else held_far e o g h
 
--- the index of the row of what a link contains, by the indexes of the rows of both nodes
+-- the index of the row of the node that a link contains, chosen from the indexes of both nodes
 abbrev pub held_row_index : PutPlaces → End → Option FeatureNo → ℕ
 held_row_index p e None = p.near
 held_row_index p e (Some h) = if same_feature e.feature h then p.far else p.near
@@ -44,7 +45,7 @@ released (Some p) c = cell_edit p.0 (Hold None) c
 
 ---------------------------------------------------------------- puts
 
--- the far side of a put: the opposite end gains last, or the object is entered
+-- the far side of a put: the far end gains the value last; without an opposite, e is entered at the object
 abbrev pub put_far : End → ObjectNo → Option FeatureNo → Option FeatureNo → Cells → Cells
 put_far e o None h c = cell_edit (node.Object o) (Enter e) c
 put_far e o (Some g) h c = cell_edit (node.Object o) (Change g (Push (node_value e.node) (record { opposite = Some e.feature; container = h }))) c
@@ -57,11 +58,11 @@ put_cells e i o g h c = holds (held e o g h) (put_far e o g h (put_near e i (val
 
 ---------------------------------------------------------------- cuts
 
--- the first of a value is taken out of an end, if it is there
+-- the first occurrence of a value is taken out of an end, if there is one
 abbrev pub without_value : End → Value → Cells → Cells
 without_value e v c = option_map_or (λ (i : ℕ). cell_edit e.node (Change e.feature (Remove i)) c) (position (same_value v) (c.vals e)) c
 
--- the end is taken out of those that hold the object, if it is there
+-- the end is taken out of the entries of the object, if it is among them
 abbrev pub without_entry : End → ObjectNo → Cells → Cells
 without_entry e o c = option_map_or (λ (i : ℕ). cell_edit (node.Object o) (Leave i) c) (position (same_end e) (c.entered (node.Object o))) c
 
@@ -81,14 +82,14 @@ cells_after (edit.Shift e to from) c = cell_edit e.node (Change e.feature (Move 
 cells_after (edit.PutProxy e i t) c = put_near e i (value.Proxy t) None c
 cells_after (edit.CutProxy e t) c = without_value e (value.Proxy t) c
 
--- no capacity is lost but so much for values, and so much for ends that hold a node
+-- at most so much capacity is taken for the values of each end, and for the ends that hold each node
 pub record TakesAtMost (values : End → ℕ) (ends : Node → ℕ) (old new : Room) : Type 0 where
   pub places : (e : End) → old.places e ≤ new.places e + values e
   pub mixed : (e : End) → new.mixed e ≡ old.mixed e
   pub entries : (n : Node) → old.entries n ≤ new.entries n + ends n
   pub rows : (n : Node) → new.rows n ≡ old.rows n
 
--- the opposite of an object's feature alone is put into
+-- if the feature of an end has an opposite, the end's node is an object
 abbrev pub PairsObject : End → Option FeatureNo → Type 0
 PairsObject e None = Unit {0}
 PairsObject e (Some g) = IsObject e.node
@@ -105,7 +106,7 @@ abbrev pub FarHasRoom : ObjectNo → Option FeatureNo → Room → Type 0
 FarHasRoom o None r = 1 ≤ r.entries (node.Object o)
 FarHasRoom o (Some g) r = 1 ≤ r.places (far_end o g)
 
--- what becomes contained has a row
+-- the node that becomes contained, if there is one, has a row
 abbrev pub HasHeldRow : Option (Node × End) → Room → Type 0
 HasHeldRow None r = Unit {0}
 HasHeldRow (Some p) r = r.rows p.0 ≡ true

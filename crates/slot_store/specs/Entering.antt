@@ -1,4 +1,4 @@
--- The ends that have an object, as its own lists and the entries give them, and where it is in each.
+-- The ends that have an object, found from the object's own lists and its entries; and the object's position in each.
 use Rattle.std.specs.Prelude.{ℕ, ◌≤◌, List, [], ◌∷◌, ◌++◌, length, position, Option, Some, None}
 use Rattle.mm_types.specs.Same.{same_value}
 use Rattle.mm_types.specs.declared.numbers.FeatureNo.{FeatureNo}
@@ -41,6 +41,6 @@ entering_ends c o ss = paired_ends c o ss ++ c.entered (node.Object o)
 abbrev pub found_in : Cells → Value → End → Option ℕ
 found_in c v e = position (same_value v) (c.vals e)
 
--- each list has so few values that an index fits a position
+-- each list has at most as many values as an end may have
 abbrev pub AreFew : Cells → Type 0
 AreFew c = (e : End) → length (c.vals e) ≤ most

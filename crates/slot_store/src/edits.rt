@@ -18,7 +18,7 @@ use mm_types::{End, FeatureNo, Node, ObjectNo, Value};
 use node_slots::{NodeSlots, Pairing, PutPlaces, RowEdit, SlotEdit};
 use std::alloc::AllocError;
 
-/// A node as a value: no end has a resource.
+/// A node as a value; null for a resource, which no end has.
 pub(crate) fn value_of(node: Node) -> Value
     ensures { result ≡ node_value node }
 {
@@ -48,7 +48,7 @@ fn held_by_far(
     Some((end.node, far))
 }
 
-/// What a link from an end to an object contains, and by which end.
+/// The node that a link from an end to an object contains, and the end that contains it.
 fn held_by(end: End, object: ObjectNo, pairing: Pairing) -> Option<(Node, End)>
     ensures { result ≡ held end object pairing.opposite pairing.container }
 {
@@ -73,7 +73,7 @@ fn take_out(rows: &mut NodeSlots, end: End, value: &Value)
     }
 }
 
-/// Takes an end out of those with no opposite that hold an object, if it is there.
+/// Takes an end out of the ends with no opposite that hold an object, if it is among them.
 fn take_out_entry(rows: &mut NodeSlots, end: End, object: ObjectNo, guess: usize)
     requires { IsOnce ((cells rows.old).entered (node.Object object)) }
     ensures cells { cells rows.new ≡ without_entry end object (cells rows.old) }
@@ -113,7 +113,7 @@ fn release(rows: &mut NodeSlots, pair: Option<(Node, End)>)
     }
 }
 
-/// Cuts the link of an object in an end: what is at the far side goes first, since it is found by the end.
+/// Cuts the link of an object in an end. Its far side is removed first, since it is found by the end.
 fn cut(rows: &mut NodeSlots, end: End, object: ObjectNo, guess: usize)
     requires { RepeatNothing (cells rows.old) }
     ensures cells { cells rows.new ≡ cells_after (edit.Cut end object) (cells rows.old) }
@@ -125,7 +125,7 @@ fn cut(rows: &mut NodeSlots, end: End, object: ObjectNo, guess: usize)
     release(rows, held_by(end, object, pairing));
 }
 
-/// The index of the row of what a link contains, by the indexes of the rows of both nodes.
+/// The index of the row of the node that a link contains, chosen from the indexes of both nodes.
 fn held_row_index(places: PutPlaces, end: End, container: Option<FeatureNo>) -> usize
     ensures { result ≡ held_row_index places end container }
 {
@@ -174,8 +174,8 @@ fn put_in_far(rows: &mut NodeSlots, row_index: usize, link: NewLink)
     }
 }
 
-/// Puts a value in at `index` of an end; `row_index` is the index of the row of the end's node. Of an object `pairing` has the feature's
-/// opposite, and which of the two contains.
+/// Puts a value in at `index` of an end; `row_index` is the index of the row of the end's node. With an object, `pairing` has the opposite
+/// and the containing feature of the end's feature.
 fn put_in(
     rows: &mut NodeSlots,
     row_index: usize,
@@ -253,7 +253,7 @@ pub(crate) fn put_with_room(rows: &mut NodeSlots, link: NewLink) -> Result<(), A
     Ok(())
 }
 
-/// Moves what is at an index of an end.
+/// Moves the value at an index of an end.
 fn shift(rows: &mut NodeSlots, end: End, to: u32, from: u32)
     ensures cells { cells rows.new ≡ cells_after (edit.Shift end to from) (cells rows.old) }
     ensures room { TakesAtMost no_values no_ends (room rows.old) (room rows.new) }
@@ -265,8 +265,8 @@ fn shift(rows: &mut NodeSlots, end: End, to: u32, from: u32)
     rows.edit(end.node, RowEdit::Change(end.feature, edit));
 }
 
-/// Makes one edit, for which there is capacity. An end that it takes out of those that hold an object is looked for at a guess first. Takes
-/// no memory.
+/// Makes one edit, for which there is capacity. If it takes an end out of the ends that hold an object, that end is looked for at `guess`
+/// first. Takes no memory.
 pub(crate) fn edit_rows(rows: &mut NodeSlots, edit: Edit, guess: usize)
     requires object { PutsObject edit }
     requires room { HasRoom (room rows.old) (edit ∷ []) }

@@ -1,4 +1,4 @@
-//! The entries of an object, read off its own lists and the ends that are kept of it.
+//! The entries of an object, read from its own lists and from the ends that are kept for it.
 ghost use Rattle.std.specs.Prelude.{◌≡◌, ◌++◌, IfOk, OnOk};
 ghost use Rattle.std.specs.Option.{option_copied, option_to_list};
 ghost use Rattle.mm_types.specs.declared.numbers.Node.TheVariants as node;
@@ -111,7 +111,7 @@ pub(crate) fn entering(
     Ok(out)
 }
 
-/// Adds the position of a value in an end, if it has it.
+/// Adds the position of a value in an end, if the value is there.
 fn push_place(
     rows: &NodeSlots,
     end: End,
@@ -132,7 +132,7 @@ fn push_place(
     Ok(())
 }
 
-/// The position of a value in each of some ends that has it.
+/// The position of a value in each of the ends that have it.
 pub(crate) fn places_of(
     alloc: Global,
     rows: &NodeSlots,

@@ -1,4 +1,4 @@
-//! A store of links with a list of values for each end, so that what an end has is read where it is.
+//! A store of links with a list of values for each end, so that the values of an end are read without a search.
 #![tactic(auto)]
 
 mod edits;

@@ -1,8 +1,8 @@
-//! The position of a value in an end, and of an end among those that hold an object.
+//! The position of a value in an end, and of an end among the ends that hold an object.
 //!
-//! Most lists are made in the order of the numbers of their objects. So a position is guessed as if the list were, the two ends
-//! before the middle, and only if it is elsewhere is the list gone through. The ends that hold an object may be in any order, so
-//! they are put in that of their ranks if an end that is cut is not at its guess: the next ones then are.
+//! Most lists are made in the order of their objects' numbers. So a position is guessed as if the list were in that order; the last and the
+//! first position are tried first. The list is searched only if the guess is wrong. The ends that hold an object may be in any order. If an
+//! end that is cut is not at its guess, they are put in the order of their ranks, so that the next guesses are right.
 ghost use Rattle.std.specs.Prelude.{◌≡◌, position};
 ghost use Rattle.mm_types.specs.Same.{same_end};
 ghost use Rattle.mm_types.specs.declared.numbers.Node.TheVariants as node;
@@ -14,7 +14,7 @@ ghost use Rattle.slot_store.specs.Entering.{found_in};
 use mm_types::{End, Node, ObjectNo, Value};
 use node_slots::{NodeSlots, entry_rank};
 
-/// The position of a rank among so many, if it is the first or the last, or they rise or fall. Among others it is any position.
+/// The position of a rank among `len` ranks, if it is the first or the last, or if the ranks rise or fall. Otherwise any position.
 fn guess<F: Fn(usize) -> Option<u64>>(len: usize, rank: u64, rank_at: F) -> usize
     requires { F.IsAlwaysCallable rank_at }
 {
@@ -44,14 +44,14 @@ fn object_rank(rows: &NodeSlots, end: End, index: usize) -> Option<u64> {
     rows.object_at(end, index).map(|object| u64::from(object.0))
 }
 
-/// Whether two ends are one.
+/// Whether two ends are the same.
 pub(crate) fn is_same(a: End, b: End) -> bool
     ensures { result ≡ same_end a b }
 {
     a == b
 }
 
-/// The index of the first text of an end, if its objects come before its texts. Else it is any index.
+/// The index of the first text of an end, if its objects come before its texts. Otherwise any index.
 fn first_text(rows: &NodeSlots, end: End) -> usize {
     let mut low = 0;
     let mut high = rows.len(end);
@@ -66,7 +66,7 @@ fn first_text(rows: &NodeSlots, end: End) -> usize {
     low
 }
 
-/// The position that a value may have in an end. Proxies that are resolved in the order of their list leave a text after the
+/// A guess at the position of a value in an end. If proxies are resolved in the order of their list, the texts that are left come after the
 /// objects.
 fn value_guess(rows: &NodeSlots, end: End, value: &Value) -> usize {
     match value {
@@ -77,7 +77,7 @@ fn value_guess(rows: &NodeSlots, end: End, value: &Value) -> usize {
     }
 }
 
-/// The index of a value in an end that repeats nothing; `None` if it is not there. It is looked for at a guess first.
+/// The index of a value in an end that repeats nothing; `None` if it is not there. It is searched at a guessed index first.
 pub(crate) fn found(rows: &NodeSlots, end: End, value: &Value) -> Option<usize>
     requires { IsDistinct ((cells rows.now).vals end) }
     ensures { result ≡ found_in (cells rows.now) value.now end }
@@ -89,7 +89,7 @@ pub(crate) fn found(rows: &NodeSlots, end: End, value: &Value) -> Option<usize>
     rows.position(end, value)
 }
 
-/// The position of an end among those with no opposite that hold an object, if they are in order.
+/// The position of an end among the ends with no opposite that hold an object, if they are in order. Otherwise any position.
 fn entry_guess(rows: &NodeSlots, object: ObjectNo, end: End) -> usize {
     let node = Node::Object(object);
     guess(rows.entered_len(node), entry_rank(end), |index| {
@@ -97,8 +97,8 @@ fn entry_guess(rows: &NodeSlots, object: ObjectNo, end: End) -> usize {
     })
 }
 
-/// The index of an end among those with no opposite that hold an object, each of them once; `None` if it is not there. It is
-/// looked for at a guess first.
+/// The index of an end among the ends with no opposite that hold an object, in which no end comes twice; `None` if it is not there. It is
+/// searched at a guessed index first.
 pub(crate) fn entry_from(
     rows: &NodeSlots,
     object: ObjectNo,
@@ -115,7 +115,7 @@ pub(crate) fn entry_from(
     }
 }
 
-/// The same, with no guess.
+/// As `entry_from`, but without a guess.
 pub(crate) fn entry_found(rows: &NodeSlots, object: ObjectNo, end: End) -> Option<usize>
     requires { IsOnce ((cells rows.now).entered (node.Object object)) }
     ensures { result ≡ position (same_end end) ((cells rows.now).entered (node.Object object)) }
@@ -123,7 +123,7 @@ pub(crate) fn entry_found(rows: &NodeSlots, object: ObjectNo, end: End) -> Optio
     entry_from(rows, object, end, entry_guess(rows, object, end))
 }
 
-/// A guess at the position of an end among those with no opposite that hold an object. If the end is not there, these ends are put in
+/// A guess at the position of an end among the ends with no opposite that hold an object. If that end is not there, the ends are put in
 /// order, and the position is guessed again. Each end is moved once, so many cuts together take no longer than a sort. Takes no memory.
 pub(crate) fn ordered_guess(rows: &mut NodeSlots, object: ObjectNo, end: End) -> usize
     ensures cells { AreReordered (cells rows.old) (cells rows.new) }

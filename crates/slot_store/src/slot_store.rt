@@ -14,8 +14,8 @@ use mm_types::{End, Node, ObjectNo, Value};
 use node_slots::NodeSlots;
 use std::alloc::{AllocError, Global};
 
-/// Links as lists at both their ends, with the end that contains each node. What an end has, and what contains a node, is read
-/// where it is, however many links there are.
+/// Links as lists at both their ends, with the end that contains each node. The values of an end and the container of a node are read
+/// without a search, however many links there are.
 #[derive(Drop)]
 pub struct SlotStore {
     rows: NodeSlots,
@@ -105,8 +105,8 @@ fn far_lacks(rows: &NodeSlots, end: End, object: ObjectNo) -> bool
     }
 }
 
-/// A guess at the position of an end among those that hold an object, if an edit takes it out of them. They may be put in order for
-/// it.
+/// A guess at the position of the end that an edit takes out of the ends that hold an object, if it takes one out. These ends may be put in
+/// order for it.
 fn make_guess(rows: &mut NodeSlots, edit: &Edit) -> usize
     requires kept { ∥ IsStore rows.old ∥₁ }
     ensures kept { ∥ IsStore rows.new ∥₁ }

@@ -1,4 +1,4 @@
--- A snapshot has each node that is there, at its target or below.
+-- A snapshot has each existing node that is its target or below it.
 use Rattle.std.proofs.Common.{◌≡◌, ◌≤◌, ◌<◌, ◌+◌, ◌&&◌, ◌||◌, ℕ, zero, suc, Bool, true, false, IsTrue, nat_eq, List, [], ◌∷◌, ◌++◌, map, filter, length, Some, if◌then◌else◌, refl, ap, ◌∙◌, arith}
 use Rattle.std.specs.List.{list_any, range_with_len}
 use Rattle.std.proofs.lemmas.Bool.{and_parts, ltb-true}
@@ -13,7 +13,7 @@ use Rattle.models.specs.Reading.{Reading, is_live, is_node_live, is_resource_the
 use Rattle.snapshots.specs.Replayed.{state_at}
 use Rattle.snapshots.specs.Snapshots.{is_taken, node_state, nodes, object_node, resource_node, snapshot_of}
 
--- a node is there
+-- a node exists
 abbrev pub IsThere : Model → Node → Type 0
 IsThere s n = IsTrue (is_node_live (reading s) n && is_resource_there (reading s) n)
 

@@ -1,4 +1,4 @@
--- What is collected of a node and of the objects below it is the snapshot of the node.
+-- The states that are collected of a node and of the objects below it are the snapshot of the node.
 use Rattle.std.proofs.Common.{◌≡◌, ◌<◌, ◌≤◌, ◌+◌, ◌&&◌, ◌||◌, ℕ, zero, suc, Bool, true, false, nat_eq, nat_lt, length, List, [], ◌∷◌, ◌++◌, map, filter, drop, append_assoc, if◌then◌else◌, refl, sym, ap, ◌∙◌, subst, arith}
 use Rattle.std.specs.Prelude.{slice_index_or}
 use Rattle.std.specs.List.{AllByRecursion, IsDistinct, list_any, range_with_len}
@@ -24,10 +24,11 @@ use Rattle.models.specs.Model.{Model, reading}
 use Rattle.models.specs.Reading.{Reading, has_resource, is_live, is_node_live, is_within}
 use Rattle.snapshots.specs.declared.snapshot.NodeState.{NodeState}
 use Rattle.snapshots.specs.Snapshots.{AreAscending, AreBelow, is_taken, live_states, node_state, nodes, object_node, objects_as_nodes, own_resource, resource_node, snapshot_of}
+use Rattle.mm_meta.proofs.OwnerLemmas.{nat_eq-turned}
 
 ---------------------------------------------------------------- sorted, and each once
 
--- objects by number, none twice, ascend
+-- objects that are sorted by number, none twice, are ascending
 pub ascending : (os : List ObjectNo) → IsNonDecreasingBy (λ (o : ObjectNo). o.0) os → IsDistinct same_object os → AreAscending os
 unfolding IsDistinct
 ascending [] up apart = tt
@@ -88,7 +89,7 @@ module _ (r : Reading) (t : Node) where
       off true = refl
       off false = refl
 
-  -- the live ones of the objects that are below a node, from a number on, are those of the numbers from there on
+  -- the live objects below a node whose numbers are at least n are those that are found among the numbers from n on
   collected : (n a : ℕ) (os : List ObjectNo) → AreAscending os → AreFrom a os → AreMade (a + n) → ((o : ObjectNo) → a ≤ o.0 → list_any (same_object o) os ≡ is_within r t (node.Object o))
       → filter (is_node_live r) (objects_as_nodes os) ≡ filter (is_taken r t) (map object_node (range_with_len a n))
   collected zero a os up from made below = none-live a os from (λ o q. (let low = made o q in omega (arith, low)))
@@ -207,12 +208,9 @@ module _ (s : Model) (legal : IsLegal s) where
 
 ---------------------------------------------------------------- what a sort makes of all objects of a node
 
-flipped-nat : (m n : ℕ) → nat_eq m n ≡ nat_eq n m
-flipped-nat m n = grind (arith, nat_tests)
-
 pub is-below : (s : Model) → IsLegal s → (t : Node) (os sorted : List ObjectNo) → os ≡ node_subtree (reading s) t → IsNonDecreasingBy (λ (o : ObjectNo). o.0) sorted → IsPermutation os sorted → AreBelow (reading s) t sorted
 is-below s legal t os sorted is up moved =
-    let apart = IsDistinct-IsPermutation same_object (λ x y. flipped-nat x.0 y.0) os sorted moved (subst (IsDistinct same_object) (sym is) (node-distinct s legal t)) in
+    let apart = IsDistinct-IsPermutation same_object (λ x y. nat_eq-turned x.0 y.0) os sorted moved (subst (IsDistinct same_object) (sym is) (node-distinct s legal t)) in
     record {
       ascending = ascending sorted up apart;
       below = λ o. sym (list_any-IsPermutation (same_object o) os sorted moved) ∙ ap (list_any (same_object o)) is ∙ objects-below s legal t o;

@@ -11,7 +11,7 @@ use Rattle.models.specs.Reading.{Reading, all_features_of, at_end, has_resource,
 use Rattle.snapshots.specs.declared.snapshot.FeatureState.{FeatureState}
 use Rattle.snapshots.specs.declared.snapshot.NodeState.{NodeState}
 
--- the set flag of an unsettable feature; another has none
+-- the set flag of an unsettable feature; none for other features
 abbrev pub flag_of : Bool → Bool → Option Bool
 flag_of unsettable flag = if unsettable then Some flag else None
 
@@ -19,7 +19,7 @@ abbrev pub feature_state : Reading → Node → FeatureNo → FeatureState
 feature_state r n f =
     let d = at_end n f in record { feature = f; values = (held_at r d).values; flag = flag_of (shape_at r d).is_unsettable (r.flag d) }
 
--- a resource has no class
+-- the class of a node; none for a resource
 abbrev pub class_at : Reading → Node → Option ClassNo
 class_at r (node.Object o) = r.class o
 class_at r (node.Resource k) = None
@@ -33,11 +33,11 @@ object_node k = node.Object (record { 0 = k })
 abbrev pub resource_node : ℕ → Node
 resource_node k = node.Resource (record { 0 = k })
 
--- every node that may be there: the resources by number, and then the objects that were made
+-- all nodes that could be in a snapshot: the resources by number, and then the objects that were made
 abbrev pub nodes : Reading → List Node
 nodes r = map resource_node (range_with_len 0 (length r.uris)) ++ map object_node (range_with_len 0 r.next)
 
--- a node lives, and is the target or below it
+-- whether a node is in the snapshot of a target: it lives, and is the target or below it
 abbrev pub is_taken : Reading → Node → Node → Bool
 is_taken r target n = is_node_live r n && is_within r target n
 
@@ -55,7 +55,7 @@ own_resource r (node.Resource k) = if has_resource r k then node.Resource k ∷ 
 abbrev pub objects_as_nodes : List ObjectNo → List Node
 objects_as_nodes os = map node.Object os
 
--- what is collected of some objects
+-- the states of the live objects among some objects
 abbrev pub live_states : Reading → List ObjectNo → List NodeState
 live_states r os = map (node_state r) (filter (is_node_live r) (objects_as_nodes os))
 

@@ -1,8 +1,8 @@
-//! Snapshots of nodes, and what notifications make of them.
+//! Snapshots of nodes, and replaying notifications on them.
 //!
-//! Whoever has a snapshot of a node, and every later notification of that node and of the nodes below it, can replay the notifications and
-//! has what a new snapshot would hold. `specs/Snapshots.antt` says what a snapshot of a model is, `specs/Replayed.antt` what replaying
-//! makes of it.
+//! A caller that has a snapshot of a node, and every later notification of that node and of the nodes below it, can replay the
+//! notifications, and then has what a new snapshot would hold. `specs/Snapshots.antt` says what a snapshot of a model is, and
+//! `specs/Replayed.antt` how replaying changes it.
 #![tactic(auto)]
 
 mod edits;

@@ -14,8 +14,8 @@ use models::{ModelRef, copied_list};
 use std::alloc::{AllocError, Global};
 
 impl Snapshot {
-    /// The snapshot of a node: what it has, and what each node below it has. Of a node that is not there it is empty. Takes time in
-    /// proportion to what it holds, and sorts the objects. Errs only if memory is refused.
+    /// The snapshot of a node: its state, and the state of each node below it. It is empty for a node that is not there. Takes time in
+    /// proportion to its size, and sorts the objects. Errs only if memory is refused.
     pub fn of<L: LinkStore>(
         alloc: Global,
         model: &ModelRef<L>,
@@ -44,7 +44,7 @@ fn objects_below<L: LinkStore>(
     Ok(objects)
 }
 
-/// The state of a target that is a resource, and then those of the live ones of some objects.
+/// The state of the target if it is a resource, and then the states of the live objects among some objects.
 fn states_of<L: LinkStore>(
     alloc: Global,
     model: &ModelRef<L>,

@@ -4,6 +4,7 @@ use Rattle.std.specs.Option.{option_map, is_some, IfSome}
 use Rattle.std.specs.List.{insert, remove, slice_get, list_any, position, position_or_len, sum_by, count_by}
 use Rattle.std.proofs.lemmas.List.Sums.{sum_by-cons, sum_by-insert, sum_by-remove, sum_by_more, count_by-le-length}
 use Rattle.std.proofs.lemmas.Bool.Decides.{nat_tests}
+use Rattle.std.proofs.Math.Bool.{or-true}
 use Rattle.slot_lists.specs.Moved.{moved}
 use Rattle.mm_types.specs.Same.{same_value}
 use Rattle.mm_types.specs.SameValues.{same_value-true}
@@ -44,7 +45,7 @@ moved_sum f vs to from (Some v) lt is =
 pub counts-moved : (t : HashCounts) (vs : List Value) (to from : ℕ) → Counts t vs → from < length vs → Counts t (moved vs to from)
 counts-moved t vs to from counts lt h = counts h ∙ sym (moved_sum (one_of h) vs to from (slice_get vs from) lt refl)
 
--- a hash that no value has is no value's
+-- if no value has a hash, no value with this hash is in the list
 none_same : (w x : Value) (b : Bool) → same_value w x ≡ b → one_of (hash_of w) x ≡ 0 → b ≡ false
 none_same w x true same none =
     let has : one_of (hash_of w) x ≡ 1 = ap (λ (z : Value). one_of (hash_of w) z) (sym (same_value-true w x same)) ∙ ap (λ b. cond b 1 0) (eq-eqb (hash_of w) (hash_of w) refl) in
@@ -73,15 +74,11 @@ counts_more t t' vs i k lt is counts added h =
     let same : cond (eqb k h) 1 0 ≡ one_of h (get_or vs i d) = ap (λ n. cond (eqb n h) 1 0) (hash_here vs i k d lt is) in
     omega (arith, new, old, same, sum_by_more (one_of h) vs i d lt)
 
--- a hash that is not counted is no value's
+-- if a hash is not counted, no value with this hash is in the list
 pub not_counted : (t : HashCounts) (vs : List Value) (w : Value) (k : ℕ) → Counts t vs → k ≡ hash_of w → 0 ≡ count_in t k → list_any (same_value w) vs ≡ false
 not_counted t vs w k counts is none =
     let here : count_by (has_hash (hash_of w)) vs ≡ 0 = sym (counts (hash_of w)) ∙ ap (count_in t) (sym is) ∙ sym none in
     no_hash w vs here
-
-or-true : (b : Bool) → (b || true) ≡ true
-or-true true = refl
-or-true false = refl
 
 -- what is at an index is there
 pub any-slice_get : (p : Value → Bool) (vs : List Value) (i : ℕ) (v : Value) → Some v ≡ slice_get vs i → p v ≡ true → list_any p vs ≡ true
@@ -94,7 +91,7 @@ any-slice_get p (x ∷ vs) (suc i) v is same = ap (λ b. p x || b) (any-slice_ge
 pub count_fits : (t : HashCounts) (vs : List Value) (k n : ℕ) → Counts t vs → length vs + 1 ≤ n → count_in t k + 1 ≤ n
 count_fits t vs k n counts le = omega (arith, counts k, count_by-le-length (has_hash k) vs)
 
--- a value has an index if it is there
+-- a value in the list has an index
 position_before : (p : Value → Bool) (vs : List Value) → nat_lt (position_or_len p vs) (length vs) ≡ list_any p vs
 position_before p [] = refl
 position_before p (x ∷ vs) = elim (p x) as (λ b. nat_lt (cond (not b) (1 + position_or_len p vs) 0) (length (x ∷ vs)) ≡ (b || list_any p vs)) [

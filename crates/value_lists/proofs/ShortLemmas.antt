@@ -1,9 +1,9 @@
--- Lists of one value at most.
+-- Lists of at most one value.
 use Rattle.std.proofs.Common.{◌≡◌, ℕ, zero, suc, ◌<◌, [], ◌∷◌, refl, arith}
 use Rattle.slot_lists.specs.Moved.{moved}
 use Rattle.mm_types.specs.declared.value.Value.{Value}
 
--- a value that is alone has no other place
+-- the only value of a list has no other index
 pub moved_one : (v : Value) (to from : ℕ) → to < 1 → from < 1 → v ∷ [] ≡ moved (v ∷ []) to from
 moved_one v zero zero to_lt from_lt = refl
 moved_one v zero (suc from) to_lt from_lt = absurd (omega (arith, from_lt))

@@ -9,7 +9,7 @@ use Rattle.mm_types.specs.declared.value.Value.TheVariants as value
 use Rattle.value_lists.specs.declared.hash_counts.Counted.{Counted}
 use Rattle.value_lists.specs.declared.hash_counts.HashCounts.{HashCounts}
 
--- what is hashed of a value: its kind, and what it holds
+-- the part of a value that is hashed: its kind and its content
 abbrev pub fed_by : Value → fed.HashWrites
 fed_by value.Null = fed.u8 0
 fed_by (value.Bool b) = fed.u8 1 ++ fed.bool b
@@ -30,7 +30,7 @@ abbrev pub count_of : Option Counted → ℕ
 count_of None = 0
 count_of (Some c) = c.count
 
--- how many a table has of a hash
+-- how many values a table counts for a hash
 abbrev pub count_in : HashCounts → ℕ → ℕ
 count_in t h = count_of (get nat_eq t.counts h)
 
@@ -42,6 +42,6 @@ Counts t vs = (h : ℕ) → count_in t h ≡ count_by (has_hash h) vs
 abbrev pub ValuePlaces : Type 0
 ValuePlaces = Places Value
 
--- what a contract sees of a list and its table: each insert needs capacity in both
+-- the view of a list and its table: each insert needs capacity in both
 abbrev pub places_in_both : ValuePlaces → HashCounts → ValuePlaces
 places_in_both p t = record { items = p.items; spare = min p.spare (spare t.counts) }

@@ -48,7 +48,7 @@ impl CountedList {
     }
 
     /// Moves a list into a `Box`, with its hashes counted. Errs only if memory is refused, and then the list stays where it is: the `Box`
-    /// and the table are there before it is moved.
+    /// and the table are made before the list is moved.
     pub fn of(alloc: Global, list: &mut SlotList<Value>) -> Result<Box<CountedList>, AllocError>
         ensures items { IfOk result (λ c. c.value.items ≡ list.old.items) }
         ensures spare { IfOk result (λ c. list.old.spare ≤ c.value.spare) }
@@ -84,8 +84,8 @@ impl CountedList {
         self.list.position(value)
     }
 
-    /// Whether a value is there. Nothing is looked through for a value whose hash no other has, and for one that is still where it was put
-    /// in, counted from the front or from the end.
+    /// Whether a value is there. The list is not searched if no value has its hash, or if the value is still where the last value of its
+    /// hash was put in, counted from the front or from the end.
     pub fn has(&self, value: &Value) -> bool
         ensures { result ≡ list_any (same_value value.now) self.now.items }
     {
@@ -98,7 +98,8 @@ impl CountedList {
         self.list.position(value).is_some()
     }
 
-    /// Whether a value is where one of its hash was put in, counted from the front or from the end. If it is not, it may be elsewhere.
+    /// Whether a value is where the last value of its hash was put in, counted from the front or from the end. If it is not, it may be
+    /// elsewhere.
     fn has_near(&self, counted: &Counted, value: &Value) -> bool
         ensures { result ≡ true → list_any (same_value value.now) self.now.items ≡ true }
     {
@@ -132,7 +133,7 @@ impl CountedList {
         self.hashes.reserve(additional)
     }
 
-    /// Inserts a value before the one at an index, or at the end, for which there is capacity. Takes no memory.
+    /// Inserts a value before the value at an index, or at the end, for which there is capacity. Takes no memory.
     pub fn insert(&mut self, index: usize, value: Value)
         requires room { 0 < self.old.spare }
         requires in_range { index ≤ length self.old.items }
@@ -144,7 +145,7 @@ impl CountedList {
             Ok(()) => {}
             Err(_) => unreachable!(),
         }
-        // The length is a usize, so there is a number for each count.
+        // The length is a usize, so no count overflows.
         let len = self.list.len();
         self.hashes.add(hash, index, len.saturating_sub(index));
     }

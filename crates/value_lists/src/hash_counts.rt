@@ -9,7 +9,7 @@ use mm_types::Value;
 use std::alloc::{AllocError, Global};
 use std::hash::{DefaultHasher, Hash, Hasher};
 
-/// How many values have a hash, and the index of the one that was put in last, as it was then.
+/// How many values have a hash, and where the last of them was put in.
 #[derive(Clone, Copy)]
 pub(crate) struct Counted {
     pub count: usize,
@@ -71,7 +71,7 @@ impl HashCounts {
         self.counts.reserve(additional)
     }
 
-    /// Counts one value more, which is there from the front and from the end. Takes no memory.
+    /// Counts one more value, which was put in so far from the front and from the end. Takes no memory.
     pub fn add(&mut self, hash: u64, from_front: usize, from_end: usize)
         requires room { 0 < spare self.old.counts }
         requires fits { count_in self.old hash + 1 < 2 ^ 64 }
@@ -115,7 +115,7 @@ pub(crate) fn hash_of(value: &Value) -> u64
     hasher.finish()
 }
 
-/// Feeds a hasher the kind of a value and what it holds.
+/// Feeds a hasher the kind and the content of a value.
 fn feed(value: &Value, hasher: &mut DefaultHasher)
     ensures { hasher.new ≡ fold sip.write hasher.old (fed_by value.now) }
 {

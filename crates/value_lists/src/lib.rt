@@ -1,7 +1,7 @@
 //! Lists of values. A long list that is looked up by value finds fast whether it has a value.
 //!
-//! A list counts how many of its values have each hash, so that a new value is looked up and not looked for. The table takes no copy of a
-//! value.
+//! It counts how many of its values have each hash, so that a look-up finds that a value is new, without a search. The table has no copies
+//! of values.
 #![tactic(auto)]
 
 mod counted_list;

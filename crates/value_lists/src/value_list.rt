@@ -15,8 +15,8 @@ use std::{mem, slice};
 /// A list of more values than this has its hashes counted, if it is looked up by value.
 const SHORT: usize = 64;
 
-/// A list has a table of its hashes if it is long and is looked up by value. It then is in a `Box` with its table, so that a list without
-/// one needs no bytes for it. Most lists are those of single features: one value is in the list itself, and takes no block of memory.
+/// A list has a table of its hashes if it is long and is looked up by value. It is then in a `Box` with its table, so that a list without a
+/// table needs no bytes for it. Most lists are of single features: their one value is in the list itself, and takes no block of memory.
 #[derive(Drop)]
 enum Layout {
     Empty,
@@ -111,8 +111,8 @@ impl ValueList {
         }
     }
 
-    /// Whether a value is there. If the hashes are counted, nothing is looked through for a value whose hash no other has, and for one that
-    /// is still where it was put in, counted from the front or from the end.
+    /// Whether a value is there. If the hashes are counted, the list is not searched if no value has its hash, or if the value is still
+    /// where the last value of its hash was put in, counted from the front or from the end.
     pub fn has(&self, value: &Value) -> bool
         ensures { result ≡ list_any (same_value value.now) self.now.items }
     {
@@ -124,7 +124,7 @@ impl ValueList {
         }
     }
 
-    /// Reserves capacity for more values of a list. The list may be one that is looked up by value, or not. Errs only if memory is refused,
+    /// Reserves capacity for more values of a list. `is_asked` says whether the list is looked up by value. Errs only if memory is refused,
     /// and then the values stay and no capacity is lost.
     pub fn reserve(
         &mut self,
@@ -166,7 +166,7 @@ impl ValueList {
         Ok(())
     }
 
-    /// Inserts a value before the one at an index, or at the end, for which there is capacity. Takes no memory.
+    /// Inserts a value before the value at an index, or at the end, for which there is capacity. Takes no memory.
     pub fn insert(&mut self, index: usize, value: Value)
         requires room { 0 < self.old.spare }
         requires in_range { index ≤ length self.old.items }
@@ -263,7 +263,7 @@ fn layout_of(mut values: Vec<Value>) -> Layout
     }
 }
 
-/// One value instead of those of a list, which keeps its block if that has capacity for more.
+/// Replaces the values of a list by one value; the list keeps its block if that has capacity for more.
 fn layout_of_one(alloc: Global, mut list: SlotList<Value>, value: Value) -> Layout
     ensures items { (places_of result).items ≡ value ∷ [] }
     ensures spare { list.spare ≤ (places_of result).spare + 1 }

@@ -1,4 +1,4 @@
--- A URI as joining gives it, `#` and a fragment are the text of a proxy.
+-- A URI that joining gives, `#` and a fragment are the text of a proxy.
 use Rattle.std.proofs.Common.{◌≡◌, ◌∙◌, ◌∷◌, Bool, true, false, cond, List, Option, Some, None, ℕ, ap, refl, subst, sym}
 use Rattle.std.specs.Prelude.{◌||◌, is_some, option_and_then}
 use Rattle.std.specs.List.{list_any}
@@ -20,7 +20,7 @@ unmarked_text false c x t marks known = cc
 web_text-unmarked : (o : Option Parts) (t : List ℕ) → option_and_then web_text o ≡ Some t → has_mark t ≡ false
 web_text-unmarked o t known = option_and_then_some web_text o t known (λ u is text. unmarked_text (is_web u) (list_any is_mark (serialize u)) (serialize u) t refl text)
 
--- a URI as joining gives it has no `#`
+-- a URI that joining gives has no `#`
 pub joined_unmarked : (uri : List ℕ) → IsJoined uri → has_mark uri ≡ false
 unfolding joined
 joined_unmarked uri is = web_text-unmarked (parts_of is.base is.reference) uri is.gives
@@ -41,7 +41,7 @@ proxy_text uri rest p is parsed =
     let read : is_some (parse (fragment_part (address_text uri rest))) ≡ true = ap (λ t. is_some (parse t)) after ∙ ap is_some parsed in
     record { mark = marked; uri = subst IsJoined (sym (uri-of_address uri rest is)) is; fragment = read }
 
--- and joining leaves the URI in it as it is, if it leaves the URI
+-- if joining leaves a URI as it is, it leaves the URI of the address as it is
 pub steady_proxy : (uri rest : List ℕ) (p : Path) → IsWebUri uri → parse rest ≡ Some p → IsSteadyProxy (address_text uri rest)
 steady_proxy uri rest p web parsed =
     let is = web_joined uri web in

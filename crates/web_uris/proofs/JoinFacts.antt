@@ -1,4 +1,4 @@
--- A URI as joining gives it is what joining it with any base gives; and what a valid URL of the web writes is one.
+-- Joining a URI that joining gave with any base gives it again, and the text of a valid URL of http or https is a URI of this kind.
 use Rattle.std.proofs.Common.{◌≡◌, ℕ, Bool, true, false, cond, List, [], Option, Some, None, Ok, Err, ap, bytes_eq, refl, string_bytes, subst, ◌∙◌, sym}
 use Rattle.std.specs.Prelude.{◌||◌, IfOk, Result, String, codes, is_some, option_and_then}
 use Rattle.std.specs.List.{list_any}
@@ -15,7 +15,7 @@ use Rattle.url.specs.declared.scheme.SchemeType.TheVariants.{SpecialNotFile}
 use Rattle.url.proofs.Theorems.{parse_url-serialize_special}
 use Rattle.web_uris.specs.Joined.{GivesText, IsJoined, IsWebUri, if_parsed, is_mark, is_web, joined, web_text}
 
--- what parses by itself is not joined
+-- a text that parses by itself is not joined with a base
 first_of : (a b : Option Parts) (u : List ℕ) → option_and_then web_text a ≡ Some u → option_and_then web_text (option_or a b) ≡ Some u
 first_of None b u known = absurd (true≢false (sym (ap is_some known)))
 first_of (Some p) b u known = known
@@ -25,7 +25,7 @@ unfolding joined
 joined-web base u known =
     first_of (if_parsed (parse_url None u)) (option_and_then (λ b. if_parsed (parse_url (Some b) u)) (if_parsed (parse_url None base))) u known
 
--- so it is what joining gives of it
+-- so joining gives the URI itself
 pub web_joined : (u : List ℕ) → IsWebUri u → IsJoined u
 web_joined u web = record { base = []; reference = u; gives = joined-web [] u web }
 
@@ -56,7 +56,7 @@ no_text true true x t h = cc
 no_text true false x t h = (refl, same_Some x t h)
 no_text false c x t h = cc
 
--- so what a valid URL gives as the text of one of the web is a URI as joining gives it
+-- so the text of a valid URL of http or https is a URI that joining gives
 pub web-text : (u : Parts) (t : List ℕ) → IsValid u → web_text u ≡ Some t → IsWebUri t
 web-text u t valid known =
     let (web, same) = no_text (is_web u) (list_any is_mark (serialize u)) (serialize u) t known in

@@ -1,4 +1,4 @@
--- What is read as a path is a text that writes that path.
+-- A text that is read as a path is one of the texts that are written for this path.
 use Rattle.std.proofs.Common.{◌≡◌, ◌∙◌, ◌≤◌, ◌<◌, ◌&&◌, ◌||◌, Bool, true, false, List, [], ◌∷◌, ◌++◌, Option, Some, None, ℕ, ap, arith, cond, inl, inr, length, nat_le, nat_lt, option_map, refl, sym}
 use Rattle.std.specs.Prelude.{◌==◌, decimal, flat_map, not, option_and_then, slice_index}
 use Rattle.std.specs.Char.{is_ascii_digit}
@@ -10,12 +10,14 @@ use Rattle.std.proofs.lemmas.Fmt.{decimal-digits_value}
 use Rattle.std.proofs.lemmas.List.Splits.{join_with_byte-slice_split}
 use Rattle.std.proofs.lemmas.Option.{same_Some}
 use Rattle.std.proofs.lemmas.Str.Parse.{digits_value_short}
+use Rattle.std.proofs.lemmas.List.{append-nil}
 use Rattle.mm_types.specs.Integers.{is_decimal}
 use Rattle.mm_types.specs.Names.{is_name}
+use Rattle.mm_types.proofs.IntegerLemmas.{digits_model}
 use Rattle.web_uris.specs.Paths.{AreWritten, IsWritten, Writes, index_of, index_text, is_dot, is_slash, new_path, new_step, parse, path_of_segments, step_of, step_of_parts, step_text, steps_of}
 use Rattle.web_uris.specs.declared.path.Path.{Path}
 use Rattle.web_uris.specs.declared.path.Step.{Step}
-use Rattle.web_uris.proofs.PathFacts.{digits_model, segment}
+use Rattle.web_uris.proofs.PathFacts.{segment}
 
 ---------------------------------------------------------------- what an answer came from
 
@@ -40,7 +42,7 @@ led_from f (Some x) y h = (x, refl, h)
 one_digit : (n c : ℕ) → (n == 1 || (nat_lt 1 n && not (c == 48))) ≡ true → (0 < n) × (c ≡ 48 → n ≡ 1)
 one_digit n c h = (grind (arith, nat_tests), λ e. grind (arith, nat_tests))
 
--- an index is the number that its digits write, of seven digits at most
+-- an index is the number of its digits, which are at most seven
 pub index_only : (w : List ℕ) (i : ℕ) → index_of w ≡ Some i → (w ≡ decimal i) × (i < 10000000)
 index_only w i h =
     let (tests, value) = chosen_from (is_decimal w && nat_le (length w) 7) (digits_value 10 w) i h in
@@ -53,10 +55,6 @@ index_only w i h =
 
 ---------------------------------------------------------------- steps
 
-append_nothing : (w : List ℕ) → w ++ [] ≡ w
-append_nothing [] = refl
-append_nothing (c ∷ cs) = ap (λ xs. c ∷ xs) (append_nothing cs)
-
 abbrev IsStepOf : List ℕ → Step → Type 0
 IsStepOf w s = (w ≡ s.name ++ index_text s.index) × IsWritten s
 
@@ -64,7 +62,7 @@ parts_only : (ws : List (List ℕ)) (s : Step) → step_of_parts ws ≡ Some s �
 parts_only [] s h = cc
 parts_only (name ∷ []) s h =
     let (named, is) = chosen_from (is_name name) (new_step name None) s h in
-    rw (← is) (sym (append_nothing name), (named, tt))
+    rw (← is) (sym (append-nil name), (named, tt))
 parts_only (name ∷ digits ∷ []) s h =
     let (named, rest) = kept_from (is_name name) (option_map (λ i. new_step name (Some i)) (index_of digits)) s h in
     let (i, found, is) = mapped_from (λ i. new_step name (Some i)) (index_of digits) s rest in
@@ -80,7 +78,7 @@ step_only (c ∷ cs) s h =
     (ap (λ x. x ∷ cs) ((Decides-eqb c 64).0 at) ∙ ap (λ xs. 64 ∷ xs) (sym (join_with_byte-slice_split 46 cs) ∙ same), can)
 
 pub steps_only : (w : List ℕ) (ws : List (List ℕ)) (ss : List Step) → steps_of ws ≡ Some ss → (join_with_byte 47 (w ∷ ws) ≡ w ++ flat_map step_text ss) × AreWritten ss
-steps_only w [] ss h = let e = same_Some [] ss h in rw (← e) (sym (append_nothing w), tt)
+steps_only w [] ss h = let e = same_Some [] ss h in rw (← e) (sym (append-nil w), tt)
 steps_only w (x ∷ xs) ss h =
     let (s, read, rest) = led_from (λ s. option_map (λ ts. s ∷ ts) (steps_of xs)) (step_of x) ss h in
     let (ts, others, is) = mapped_from (λ ts. s ∷ ts) (steps_of xs) ss rest in

@@ -1,19 +1,20 @@
 -- A text that writes a path is split into its segments: the first step to reading it back.
-use Rattle.std.proofs.Common.{◌≡◌, ℕ, zero, suc, ◌<◌, ◌≤◌, inl, inr, Bool, true, false, not, ◌&&◌, ◌||◌, ◌==◌, List, [], ◌∷◌, ◌++◌, Option, Some, None, map, refl, ap, sym, ◌∙◌, arith, rules, length, nat_lt, nat_le, slice_index}
+use Rattle.std.proofs.Common.{◌≡◌, ℕ, zero, suc, ◌<◌, ◌≤◌, inl, inr, Bool, true, false, not, ◌&&◌, ◌||◌, ◌==◌, List, [], ◌∷◌, ◌++◌, Option, Some, None, map, refl, ap, sym, ◌∙◌, arith, length, nat_lt, nat_le, slice_index}
 use Rattle.std.specs.Prelude.{IfSome, option_and_then, option_map, flat_map, if◌then◌else◌, decimal}
 use Rattle.std.specs.List.{list_all, onto_first, slice_split}
 use Rattle.std.specs.Char.{is_ascii_digit}
 use Rattle.std.specs.Str.Parse.{digits_value}
-use Rattle.std.proofs.lemmas.Bool.{cond-true, cond-false}
+use Rattle.std.proofs.lemmas.Bool.{and_parts, cond-true, cond-false}
 use Rattle.std.proofs.lemmas.Bool.Decides.{nat_tests}
 use Rattle.std.proofs.lemmas.Fmt.{decimal_digit, decimal_nonempty, digits_decimal, digits_value-decimal, first_decimal, length-decimal-le}
-use Rattle.std.proofs.lemmas.Str.Parse.{IsDigitsTest, IsNumeralModel, numerals_by_value}
+use Rattle.std.proofs.lemmas.List.{append-nil}
 use Rattle.mm_types.specs.Names.{is_name, is_name_byte}
+use Rattle.mm_types.proofs.IntegerLemmas.{digits_model}
 use Rattle.web_uris.specs.Paths.{AreWritten, IsWritten, Writes, is_dot, is_slash, index_of, index_text, new_path, new_step, parse, path_of_segments, path_text, root_of, step_of, step_of_parts, step_text, steps_of}
 use Rattle.web_uris.specs.declared.path.Path.{Path}
 use Rattle.web_uris.specs.declared.path.Step.{Step}
 
--- no byte of a word passes
+-- no byte of a word passes the test
 abbrev pub Lacks : (ℕ → Bool) → List ℕ → Type 0
 Lacks p [] = Unit {0}
 Lacks p (c ∷ cs) = (p c ≡ false) × Lacks p cs
@@ -34,28 +35,18 @@ abbrev pub AreSegments : List Step → Type 0
 AreSegments [] = Unit {0}
 AreSegments (s ∷ ss) = Lacks is_slash (segment s) × AreSegments ss
 
-append_none : (w : List ℕ) → w ++ [] ≡ w
-append_none [] = refl
-append_none (c ∷ cs) = ap (λ xs. c ∷ xs) (append_none cs)
-
 pub split_steps : (w : List ℕ) (ss : List Step) → Lacks is_slash w → AreSegments ss → slice_split is_slash (w ++ flat_map step_text ss) ≡ w ∷ map segment ss
-split_steps w [] none all = ap (slice_split is_slash) (append_none w) ∙ split_alone is_slash w none
+split_steps w [] none all = ap (slice_split is_slash) (append-nil w) ∙ split_alone is_slash w none
 split_steps w (s ∷ ss) none (this, others) =
     split_first is_slash w 47 (segment s ++ flat_map step_text ss) none refl ∙ ap (λ ws. w ∷ ws) (split_steps (segment s) ss this others)
 
--- the segments of a path's text: nothing, the root's, and the steps'
+-- the segments of a path's text: an empty one, the segment of the root, and the segments of the steps
 pub split_path : (empty : Bool) (p : Path) → Lacks is_slash (if empty then [] else decimal p.root) → AreSegments p.steps
     → slice_split is_slash (path_text empty p) ≡ [] ∷ (if empty then [] else decimal p.root) ∷ map segment p.steps
 split_path empty p root steps =
     split_first is_slash [] 47 ((if empty then [] else decimal p.root) ++ flat_map step_text p.steps) tt refl ∙ ap (λ ws. [] ∷ ws) (split_steps (if empty then [] else decimal p.root) p.steps root steps)
 
 ---------------------------------------------------------------- indices
-
-tells : IsDigitsTest (λ ds. list_all is_ascii_digit ds ≡ true)
-tells = search rules
-
-pub digits_model : IsNumeralModel (λ ds. list_all is_ascii_digit ds ≡ true) (digits_value 10)
-digits_model = numerals_by_value _ tells
 
 is_index : (digits : Bool) (n first : ℕ) → digits ≡ true → 0 < n → n ≤ 7 → 48 < first → ((digits && (n == 1 || (nat_lt 1 n && not (first == 48)))) && nat_le n 7) ≡ true
 is_index digits n first all some few above = grind (arith, nat_tests)
@@ -73,17 +64,13 @@ index_of-decimal (suc m) small =
 
 ---------------------------------------------------------------- which bytes words lack
 
-first_true : (a b : Bool) → (a && b) ≡ true → a ≡ true
-first_true true b h = refl
-first_true false b h = h
-
 second_true : (a b : Bool) → (a && b) ≡ true → b ≡ true
 second_true true b h = h
 second_true false b h = cc
 
 lacks_other : (q p : ℕ → Bool) → ((c : ℕ) → q c ≡ true → p c ≡ false) → (w : List ℕ) → list_all q w ≡ true → Lacks p w
 lacks_other q p apart [] all = tt
-lacks_other q p apart (c ∷ cs) all = (apart c (first_true (q c) (list_all q cs) all), lacks_other q p apart cs (second_true (q c) (list_all q cs) all))
+lacks_other q p apart (c ∷ cs) all = (apart c (and_parts (q c) (list_all q cs) all).0, lacks_other q p apart cs (second_true (q c) (list_all q cs) all))
 
 lacks_append : (p : ℕ → Bool) (v w : List ℕ) → Lacks p v → Lacks p w → Lacks p (v ++ w)
 lacks_append p [] w left right = right
@@ -105,7 +92,7 @@ digits_of : (n : ℕ) → n < 10000000 → list_all is_ascii_digit (decimal n) �
 digits_of n small = digits_decimal digits_model n (omega (arith, small))
 
 name_bytes : (w : List ℕ) → is_name w ≡ true → list_all is_name_byte w ≡ true
-name_bytes w name = first_true (list_all is_name_byte w) (not (is_ascii_digit (slice_index w 0))) (second_true (nat_lt 0 (length w)) (list_all is_name_byte w && not (is_ascii_digit (slice_index w 0))) name)
+name_bytes w name = (and_parts (list_all is_name_byte w) (not (is_ascii_digit (slice_index w 0))) (second_true (nat_lt 0 (length w)) (list_all is_name_byte w && not (is_ascii_digit (slice_index w 0))) name)).0
 
 ---------------------------------------------------------------- steps
 
@@ -124,7 +111,7 @@ segments_lack (s ∷ ss) (this, others) = (segment_lacks s this, segments_lack s
 parts_of_index : (name : List ℕ) (index : Option ℕ) → is_name name ≡ true → IfSome index (λ i. i < 10000000)
     → step_of_parts (slice_split is_dot (name ++ index_text index)) ≡ Some (new_step name index)
 parts_of_index name None ok small =
-    ap (λ w. step_of_parts (slice_split is_dot w)) (append_none name)
+    ap (λ w. step_of_parts (slice_split is_dot w)) (append-nil name)
     ∙ ap step_of_parts (split_alone is_dot name (lacks_other is_name_byte is_dot name_no_dot name (name_bytes name ok)))
     ∙ cond-true _ _ _ ok
 parts_of_index name (Some i) ok small =
@@ -148,7 +135,7 @@ root_of_word : (w : List ℕ) → 0 < length w → root_of w ≡ index_of w
 root_of_word [] some = absurd (omega (arith, some))
 root_of_word (c ∷ cs) some = refl
 
--- a text that writes a path by its root's index is read as that path
+-- the text of a path with the index of its root is read as that path
 pub parse-path_text : (p : Path) → p.root < 10000000 → AreWritten p.steps → parse (path_text false p) ≡ Some p
 parse-path_text p small steps =
     ap path_of_segments (split_path false p (lacks_other is_ascii_digit is_slash digit_no_slash (decimal p.root) (digits_of p.root small)) (segments_lack p.steps steps))
@@ -156,14 +143,14 @@ parse-path_text p small steps =
     (root_of_word (decimal p.root) (decimal_nonempty p.root (omega (arith, small))) ∙ index_of-decimal p.root small)
     ∙ ap (option_map (new_path p.root)) (steps_of-segments p.steps steps)
 
--- and one with an empty segment as the path from root 0
+-- a text with an empty segment for the root is read as the path from root 0
 pub parse-path_text_alone : (p : Path) → p.root ≡ 0 → AreWritten p.steps → parse (path_text true p) ≡ Some p
 parse-path_text_alone p zero_root steps =
     ap path_of_segments (split_path true p tt (segments_lack p.steps steps))
     ∙ ap (option_map (new_path 0)) (steps_of-segments p.steps steps)
     ∙ ap (λ n. Some (new_path n p.steps)) (sym zero_root)
 
--- so parsing finds the path that a text writes
+-- so parsing gives the path for which a text was written
 pub parse-Writes : (t : List ℕ) (p : Path) → Writes t p → parse t ≡ Some p
 parse-Writes t p (can, inl e) = ap parse e ∙ parse-path_text p can.root can.steps
 parse-Writes t p (can, inr (e, zero_root)) = ap parse e ∙ parse-path_text_alone p zero_root can.steps

@@ -4,7 +4,7 @@ use Rattle.std.specs.Prelude.{◌⊎◌, ◌==◌, not, option_and_then, ◌^◌
 use Rattle.std.specs.Char.{is_ascii_digit}
 use Rattle.std.specs.List.{after_first, before_first, list_all, list_any, onto_first, position_or_len, slice_split}
 use Rattle.std.specs.Str.Parse.{digits_value}
-use Rattle.std.proofs.lemmas.Bool.{and_parts}
+use Rattle.std.proofs.lemmas.Bool.{and_parts, false_from_ne_true}
 use Rattle.std.proofs.lemmas.Bool.Decides.{Decides-eqb, nat_tests}
 use Rattle.std.proofs.lemmas.List.Splits.{length-slice_split, slice_split_first}
 use Rattle.std.proofs.lemmas.List.Sums.{prefix_len-le-length}
@@ -12,14 +12,10 @@ use Rattle.std.proofs.Math.Nat.{eq-or-lt_of_le}
 use Rattle.std.proofs.lemmas.Str.Parse.{digits_value_short}
 use Rattle.mm_types.specs.Integers.{is_decimal, natural}
 use Rattle.mm_types.specs.Names.{is_name}
+use Rattle.mm_types.proofs.IntegerLemmas.{digits_model}
 use Rattle.web_uris.specs.Paths.{index_of, is_dot, is_slash, parse, path_of_segments, segments, step_of, step_of_parts, steps_of}
 use Rattle.web_uris.specs.declared.path.Step.{Step}
 use Rattle.web_uris.proofs.CutLemmas.{one_passes, split_whole}
-use Rattle.web_uris.proofs.PathFacts.{digits_model}
-
-false_unless : (b : Bool) → (b ≡ true → ⊥) → b ≡ false
-false_unless true h = absurd (h refl)
-false_unless false h = refl
 
 ---------------------------------------------------------------- an index
 
@@ -32,7 +28,7 @@ small_value w short h =
     let v = digits_value_short digits_model w 7 (and_parts (list_all is_ascii_digit w) _ h).0 short in
     grind (arith, nat_tests, v)
 
--- a number of seven digits at most has 32 bits
+-- a number of at most seven digits fits in 32 bits
 pub natural-short : (w : List ℕ) → length w ≤ 7 → natural w ≡ index_of w
 natural-short w short = both_tests (is_decimal w) (nat_le (length w) 7) (nat_lt (digits_value 10 w) (2 ^ 32)) (digits_value 10 w) (grind (arith, nat_tests)) (small_value w short)
 
@@ -86,14 +82,14 @@ by_first_dot name w (inr below) =
     ∙ no_third name (before_first is_dot w) (slice_split is_dot (after_first is_dot w)) (some_parts (after_first is_dot w))
     ∙ sym (unread name w (no_index w (one_passes is_dot w below)))
 
--- digits with a dot among them are no index, so what is after the first dot is taken whole
+-- digits with a dot among them are no index, so all that is after the first dot is one word
 pub one_dot : (name w : List ℕ) → step_of_parts (name ∷ slice_split is_dot w) ≡ step_of_parts (name ∷ w ∷ [])
 one_dot name w = by_first_dot name w (eq-or-lt_of_le (prefix_len-le-length (λ c. not (is_dot c)) w))
 
 not_byte : (x c : ℕ) (cs : List ℕ) → ((rest : List ℕ) → c ∷ cs ≡ x ∷ rest → ⊥) → c == x ≡ false
-not_byte x c cs h = false_unless (c == x) (λ same. h cs (ap (λ b. b ∷ cs) ((Decides-eqb c x).0 same)))
+not_byte x c cs h = false_from_ne_true (c == x) (λ same. h cs (ap (λ b. b ∷ cs) ((Decides-eqb c x).0 same)))
 
--- what does not begin with `@` is no step
+-- a text that does not begin with `@` is no step
 pub no_step : (t : List ℕ) → ((rest : List ℕ) → t ≡ 64 ∷ rest → ⊥) → step_of t ≡ None
 no_step [] h = refl
 no_step (c ∷ cs) h = let e = not_byte 64 c cs h in rw e refl
@@ -102,14 +98,14 @@ no_root : (c : ℕ) (ws : List (List ℕ)) → path_of_segments (onto_first c ws
 no_root c [] = refl
 no_root c (w ∷ ws) = refl
 
--- what does not begin with `/` is no fragment
+-- a text that does not begin with `/` is no fragment
 pub no_path : (t : List ℕ) → ((rest : List ℕ) → t ≡ 47 ∷ rest → ⊥) → parse t ≡ None
 no_path [] h = refl
 no_path (c ∷ cs) h = let e = not_byte 47 c cs h in rw e (no_root c (slice_split is_slash cs))
 
 ---------------------------------------------------------------- steps
 
--- the steps read yet, and after them what is still to be read
+-- the steps that were read, and after them the steps that are still to be read
 abbrev pub with_front : List Step → Option (List Step) → Option (List Step)
 with_front front rest = option_map (λ ss. front ++ ss) rest
 
@@ -123,7 +119,7 @@ one_more front w ws s is = front_more front s (steps_of ws) ∙ ap (λ o. with_f
 pub none_more : (front : List Step) (w : List ℕ) (ws : List (List ℕ)) → step_of w ≡ None → with_front front (steps_of (w ∷ ws)) ≡ None
 none_more front w ws is = ap (λ o. with_front front (option_and_then (λ t. option_map (λ ss. t ∷ ss) (steps_of ws)) o)) is
 
--- one more step is read, of the first segment
+-- one more step is read, from the first segment
 pub next_step : (front new : List Step) (rest behind : Option (List ℕ)) (t w : List ℕ) (s : Step) (all : Option (List Step)) → rest ≡ Some t → slice_split is_slash t ≡ w ∷ segments behind
     → step_of w ≡ Some s → new ≡ front ++ s ∷ [] → with_front front (steps_of (segments rest)) ≡ all → with_front new (steps_of (segments behind)) ≡ all
 next_step front new rest behind t w s all is cut read more before =

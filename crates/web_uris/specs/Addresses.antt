@@ -8,7 +8,7 @@ use Rattle.web_uris.specs.Paths.{parse}
 abbrev pub has_mark : List ℕ → Bool
 has_mark t = list_any is_mark t
 
--- what is before the first `#`, and after it
+-- the text before the first `#`, and the text after it
 abbrev pub uri_part : List ℕ → List ℕ
 uri_part t = before_first is_mark t
 
@@ -18,13 +18,13 @@ fragment_part t = after_first is_mark t
 abbrev pub address_text : List ℕ → List ℕ → List ℕ
 address_text uri fragment = uri ++ 35 ∷ fragment
 
--- the text of a proxy: a URI as joining gives it, `#`, and a fragment
+-- the text of a proxy: a URI that is a result of joining, `#`, and a fragment
 pub record IsProxyText (t : List ℕ) : Type 0 where
   pub mark : IsTrue (has_mark t)
   pub uri : IsJoined (uri_part t)
   pub fragment : IsTrue (is_some (parse (fragment_part t)))
 
--- the text of a proxy whose URI joining leaves as it is
+-- the text of a proxy with a normalised URI
 pub record IsSteadyProxy (t : List ℕ) : Type 0 where
   pub text : IsProxyText t
   pub steady : IsWebUri (uri_part t)

@@ -1,4 +1,4 @@
--- A reference joined with the URI that it is in (RFC 3986, section 5, as the URL Standard has it).
+-- A reference joined with its base URI (RFC 3986, section 5, as the URL Standard has it).
 use Rattle.std.specs.Prelude.{◌≡◌, ℕ, ◌||◌, ◌==◌, Bool, List, bytes_eq, codes, Option, Some, None, Result, Ok, Err, option_and_then, String, string_bytes, if◌then◌else◌}
 use Rattle.std.specs.declared.alloc.Global.{Global}
 use Rattle.std.specs.List.{list_any}
@@ -12,11 +12,11 @@ abbrev pub if_parsed : Parsed Parts → Option Parts
 if_parsed (Ok u) = Some u
 if_parsed (Err e) = None
 
--- the reference, if there is a URI
+-- the reference read against the base; none if one of them can't be read
 abbrev pub based : List ℕ → List ℕ → Option Parts
 based base reference = option_and_then (λ b. if_parsed (parse_url (Some b) reference)) (if_parsed (parse_url None base))
 
--- the reference by itself, else joined with the base
+-- the reference read by itself; if it can't be read by itself, read against the base
 abbrev pub parts_of : List ℕ → List ℕ → Option Parts
 parts_of base reference = option_or (if_parsed (parse_url None reference)) (based base reference)
 
@@ -27,34 +27,34 @@ is_web u = bytes_eq u.scheme (codes "http") || bytes_eq u.scheme (codes "https")
 abbrev pub is_mark : ℕ → Bool
 is_mark c = c == 35
 
--- its text, if the scheme is http or https and there is no fragment
+-- the text of a URL, if its scheme is http or https and it has no fragment
 abbrev pub web_text : Parts → Option (List ℕ)
 web_text u = if is_web u then (if list_any is_mark (serialize u) then None else Some (serialize u)) else None
 
--- what a text is by itself
+-- the text of a URL that is read by itself
 abbrev pub own_text : List ℕ → Option (List ℕ)
 own_text u = option_and_then web_text (if_parsed (parse_url None u))
 
--- joining leaves a URI as it is: written as `url` writes it, so that joining it with any base gives it again
+-- a URI is normalised: it is written as `url` writes it, so joining it with any base gives it back
 abbrev pub IsWebUri : List ℕ → Type 0
 IsWebUri u = own_text u ≡ Some u
 
--- none, if there is no such URI
+-- the URI of a reference joined with a base; none if they give no URI of http or https without a fragment
 unfoldable pub joined : List ℕ → List ℕ → Option (List ℕ)
 joined base reference = option_and_then web_text (parts_of base reference)
 
--- a URI as joining gives it, of some reference with some base
+-- a URI is a result of joining: of some reference with some base
 pub record IsJoined (u : List ℕ) : Type 0 where
   pub base : List ℕ
   pub reference : List ℕ
   pub gives : joined base reference ≡ Some u
 
--- what was answered is the text that there is, or that there is none, unless memory was refused
+-- the result is the text, or `Bad` if there is none; or `Memory`
 abbrev pub GivesText : Result (String Global) UriFault → Option (List ℕ) → Type 0
 GivesText (Ok t) text = text ≡ Some (string_bytes t)
 GivesText (Err Bad) text = text ≡ None
 GivesText (Err Memory) text = Unit {0}
 
--- what joining gives: the URI, that there is none, or that memory was refused
+-- the result of joining is the URI, or `Bad` if there is none; or `Memory`
 abbrev pub Joins : Result (String Global) UriFault → List ℕ → List ℕ → Type 0
 Joins result base reference = GivesText result (joined base reference)

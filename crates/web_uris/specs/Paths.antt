@@ -15,7 +15,7 @@ new_step name index = record { name = name; index = index }
 abbrev pub new_path : ℕ → List Step → Path
 new_path root steps = record { root = root; steps = steps }
 
--- the path, one step further
+-- a path with one more step
 abbrev pub with_step : Path → Step → Path
 with_step p s = record p { steps = p.steps ++ s ∷ [] }
 
@@ -50,7 +50,7 @@ abbrev pub root_of : List ℕ → Option ℕ
 root_of [] = Some 0
 root_of (c ∷ cs) = index_of (c ∷ cs)
 
--- what is before the dot and after it
+-- a step from the parts that dots separate: a name, or a name and an index
 abbrev pub step_of_parts : List (List ℕ) → Option Step
 step_of_parts (name ∷ []) = if is_name name then Some (new_step name None) else None
 step_of_parts (name ∷ digits ∷ []) = if is_name name then option_map (λ i. new_step name (Some i)) (index_of digits) else None
@@ -65,17 +65,17 @@ abbrev pub steps_of : List (List ℕ) → Option (List Step)
 steps_of [] = Some []
 steps_of (w ∷ ws) = option_and_then (λ s. option_map (λ ss. s ∷ ss) (steps_of ws)) (step_of w)
 
--- nothing before the first `/`, the root's segment, and steps
+-- the path of a text's segments: an empty one before the first `/`, the root's segment, and the steps
 abbrev pub path_of_segments : List (List ℕ) → Option Path
 path_of_segments ([] ∷ root ∷ steps) = option_and_then (λ i. option_map (new_path i) (steps_of steps)) (root_of root)
 path_of_segments _ = None
 
--- the segments of a text after a slash, or none if there is no such slash
+-- the segments of the text after a slash; no segments without a slash
 abbrev pub segments : Option (List ℕ) → List (List ℕ)
 segments None = []
 segments (Some text) = slice_split is_slash text
 
--- any other text is no fragment
+-- the path of a text; none if the text is no fragment
 abbrev pub parse : List ℕ → Option Path
 parse text = path_of_segments (slice_split is_slash text)
 
@@ -108,6 +108,6 @@ pub record IsWritable (p : Path) : Type 0 where
   pub root : p.root < 10000000
   pub steps : AreWritten p.steps
 
--- a text writes a path: by its root's index, or by an empty segment for root 0
+-- a text is written for a path: by its root's index, or by an empty segment for root 0
 abbrev pub Writes : List ℕ → Path → Type 0
 Writes t p = IsWritable p × ((t ≡ path_text false p) ⊎ ((t ≡ path_text true p) × (p.root ≡ 0)))

@@ -11,7 +11,7 @@ pub(crate) fn has_mark(text: &str) -> bool
     text.as_bytes().iter().any(|byte| *byte == b'#')
 }
 
-/// What comes before the first `#` of a text and what comes after it, or nothing if there is none. Takes no memory.
+/// The text before the first `#` and the text after it; `None` if there is no `#`. Takes no memory.
 pub fn split_address(text: &str) -> Option<(&str, &str)>
     ensures { MatchOption result (has_a_mark text.now ≡ false)
         (λ parts. (has_a_mark text.now ≡ true) × (parts.0.now ≡ uri_part text.now) × (parts.1.now ≡ fragment_part text.now)) }

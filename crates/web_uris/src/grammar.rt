@@ -9,7 +9,7 @@ use crate::step::{root_of, step_of};
 use mm_types::Seq;
 use std::alloc::{AllocError, Global};
 
-/// The steps that a text writes, if it writes steps: none if there is no text.
+/// The steps of a text; `None` if it is no sequence of steps. Without a text, the list of steps is empty.
 fn steps_of(alloc: Global, text: Option<&str>) -> Result<Option<Seq<Step>>, AllocError>
     ensures { IfOk result (λ steps. steps ≡ steps_meant (segments (option_copied text.entry))) }
 {
@@ -26,7 +26,7 @@ fn steps_of(alloc: Global, text: Option<&str>) -> Result<Option<Seq<Step>>, Allo
     Ok(Some(steps))
 }
 
-/// The path after the first slash of a text.
+/// The path of a text after a leading slash.
 fn path_behind(alloc: Global, text: &str) -> Result<Option<Path>, AllocError>
     ensures { IfOk result (λ path. path ≡ path_of_segments ([] ∷ slice_split is_slash text.now)) }
 {
@@ -40,9 +40,9 @@ fn path_behind(alloc: Global, text: &str) -> Result<Option<Path>, AllocError>
     }
 }
 
-/// The path that a text writes, or none if it is no fragment: `/`, the root's segment, which is empty or an index,
-/// and any number of steps, `/@NAME` or `/@NAME.INDEX`. An index is `0`, or a digit 1 to 9 and at most six further
-/// digits. Errs only if memory is refused.
+/// The path of a text, or none if it is no fragment: `/`, the root's segment, which is empty or an index, and any
+/// number of steps, `/@NAME` or `/@NAME.INDEX`. An index is `0`, or a digit 1 to 9 and at most six further digits. Errs
+/// only if memory is refused.
 pub fn parse(alloc: Global, text: &str) -> Result<Option<Path>, AllocError>
     ensures { IfOk result (λ path. path ≡ parsed text.now) }
 {

@@ -17,7 +17,7 @@ pub enum UriFault {
     Memory,
 }
 
-/// The URL that a text is by itself, if it is one.
+/// The URL of a text that is read without a base, if it is one.
 fn own_url(alloc: Global, text: &str) -> Result<Option<Url>, UriFault>
     ensures { MatchResult result (λ u. u ≡ if_parsed (parse_url None text.now)) (λ e. e ≡ Memory) }
 {
@@ -63,7 +63,7 @@ fn is_web(url: &Url) -> bool
     url.scheme() == "http" || url.scheme() == "https"
 }
 
-/// A copy of a URL's text, if it is one of the web without a fragment.
+/// A copy of a URL's text, if its scheme is http or https and it has no fragment.
 fn text_of(alloc: Global, url: &Url) -> Result<String, UriFault>
     ensures text { GivesText result (web_text url.now) }
     ensures web { IfOk result (λ t. IsWebUri (string_bytes t)) }
@@ -74,7 +74,7 @@ fn text_of(alloc: Global, url: &Url) -> Result<String, UriFault>
     String::from_str(alloc, url.as_str()).map_err(|_| UriFault::Memory)
 }
 
-/// The URI that a reference is by itself, as `url` writes it, or else joined with a base.
+/// The URI of a reference, as `url` writes it: of the reference by itself if that is a URI, else joined with a base.
 ///
 /// `Bad` if it is no URI either way, if the URI's scheme is neither http nor https, or if it has a `#`. `Memory`
 /// if memory is refused, or the URI would be longer than URIs can be.

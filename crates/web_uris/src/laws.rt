@@ -7,23 +7,23 @@ ghost use Rattle.web_uris.specs.Joined.{IsWebUri, joined, web_text};
 ghost use Rattle.web_uris.specs.Paths.{Writes, parse};
 ghost use Rattle.web_uris.specs.declared.path.Path.{Path};
 
-/// A URI that is written as `url` writes it is what joining it with any base gives again.
+/// A URI that is written as `url` writes it is normalised: joining it with any base gives it back.
 pub fn web_uris_join_to_themselves()
     ensures { (base uri : List ℕ) → IsWebUri uri → joined base uri ≡ Some uri }
 {}
 
-/// What a valid URL of the web without a fragment is written as, `url` reads and writes as it was.
+/// The text of a valid URL of http or https without a fragment is normalised: `url` reads it, and writes it as it was.
 pub fn urls_of_the_web_are_web_uris()
     ensures { (url : Parts) → IsValid url → kind_of url ≡ SpecialNotFile → web_text url ≡ Some (serialize url) → IsWebUri (serialize url) }
 {}
 
-/// A fragment is read as the grammar says: reading finds the path that a text writes, and only that one.
+/// A fragment is read as the grammar says: reading finds the path for which a text was written, and no other path.
 pub fn fragments_are_read_as_written()
     ensures finds { (text : List ℕ) (path : Path) → Writes text path → parse text ≡ Some path }
     ensures only { (text : List ℕ) (path : Path) → parse text ≡ Some path → Writes text path }
 {}
 
-/// The URI and the fragment of an address are found in it again, if the URI has no `#`.
+/// The URI and the fragment of an address can be read back from it, if the URI has no `#`.
 pub fn addresses_are_their_parts()
     ensures uri { (uri fragment : List ℕ) → has_mark uri ≡ false → uri_part (address_text uri fragment) ≡ uri }
     ensures fragment { (uri fragment : List ℕ) → has_mark uri ≡ false → fragment_part (address_text uri fragment) ≡ fragment }

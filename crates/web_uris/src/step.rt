@@ -10,10 +10,10 @@ use mm_types::integers::natural_of;
 use mm_types::names::is_name;
 use std::alloc::{AllocError, Global};
 
-/// How many digits an index has at most.
+/// The greatest number of digits of an index.
 const INDEX_DIGITS: usize = 7;
 
-/// The index that digits write, below 10,000,000 and without a zero in front.
+/// The index of some digits, below 10,000,000 and without a zero in front.
 fn index_of(digits: &str) -> Option<u32>
     ensures { result ≡ index_meant digits.now }
 {
@@ -33,7 +33,7 @@ pub(crate) fn root_of(segment: &str) -> Option<u32>
     index_of(segment)
 }
 
-/// A name and an index, if the name is one.
+/// A name and an index, if the name is formed as names must be.
 fn named(name: &str, index: Option<u32>) -> Option<(&str, Option<u32>)>
     ensures { option_map (λ s. new_step s.0.now s.1) result ≡ (if is_a_name name.now then Some (new_step name.now index) else None) }
 {
@@ -52,7 +52,7 @@ fn numbered<'a>(name: &'a str, digits: &str) -> Option<(&'a str, Option<u32>)>
     }
 }
 
-/// The step after its `@`.
+/// The name and the index of a step, from the text after its `@`.
 fn parts_of(text: &str) -> Option<(&str, Option<u32>)>
     ensures { option_map (λ s. new_step s.0.now s.1) result ≡ step_of_parts (slice_split is_dot text.now) }
 {

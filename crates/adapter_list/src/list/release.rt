@@ -18,9 +18,9 @@ use std::collections::VecDeque;
 use std::mem;
 
 impl<A: Adapter> AdapterList<A> {
-    /// Takes one target from an adapter: it is notified of that, its last notification from there, and no longer has it. Gives that
-    /// notification, and the adapter if that was its last target; `None`, and nothing changes, its capacity included, if the node is no
-    /// target of it. Takes no memory (EMF: `eAdapters().remove`).
+    /// Takes one target from an adapter. The adapter gets its last notification from that target, and then no longer has the target. Gives
+    /// the notification, and the adapter if that was its last target. If the node is no target of it, `None`, and nothing changes, its
+    /// capacity included. Takes no memory (EMF: `eAdapters().remove`).
     pub fn detach(&mut self, no: AdapterNo, target: Node) -> Option<Detached<A>>
         ensures some { is_some result ≡ is_target no target self.old.0 }
         ensures none { result ≡ None → self.new ≡ self.old }
@@ -38,9 +38,9 @@ impl<A: Adapter> AdapterList<A> {
         detached
     }
 
-    /// Releases targets, one after another: the adapter of each is notified of that, its last notification from that target, and no longer
-    /// has it when the next one is released. What is no target is passed over. The adapters whose last target has gone are then handed out,
-    /// in attach order. Gives who was notified of what, and the adapters that are handed out. Takes no memory.
+    /// Releases targets, one after another: the adapter of a target gets its last notification from the target, and then no longer has the
+    /// target. A node that is no target is skipped. Then the adapters whose last target was taken away are given back, in attach order.
+    /// Returns which adapter was notified of what, and the adapters that are given back. Takes no memory.
     pub fn release(
         &mut self,
         release: Release<A>,
@@ -56,7 +56,7 @@ impl<A: Adapter> AdapterList<A> {
         (told, released)
     }
 
-    /// The parts of the list, which is empty until they are put back, and its capacity for handing out all of its adapters.
+    /// The parts of the list, which is empty until they are put back, and its capacity for giving back all of its adapters.
     fn take_apart(&mut self) -> (Going<A>, Vec<(AdapterNo, A)>)
         ensures now { result.0 ≡ self.old.0 }
         ensures some { HaveTargets self.old.0 }
@@ -66,8 +66,8 @@ impl<A: Adapter> AdapterList<A> {
         Going::of(mem::replace(self, empty))
     }
 
-    /// Gives every adapter back, in attach order: each is notified of that from each of its targets, in the order in which it got
-    /// them, and is gone before the next one is notified. Takes no memory.
+    /// Gives every adapter back, in attach order. Each is notified of its release from each of its targets, in the order in which it got
+    /// them, and is gone before the next adapter is notified. Takes no memory.
     pub fn close(self) -> Vec<(AdapterNo, A)>
         ensures { views_of A.heard result.items ≡ all_released self.0 }
     {
@@ -93,7 +93,7 @@ impl<A: Adapter> AdapterList<A> {
     }
 }
 
-/// Notifies an adapter of its release from each of its targets. Nobody else has them any more.
+/// Notifies an adapter of its release from each of its targets, which no other adapter has any more.
 fn tell_all_last<A: Adapter>(adapter: &mut A, no: AdapterNo, targets: &VecDeque<Target>)
     requires reserve { length targets.now.items ≤ A.places adapter.old }
     ensures { A.heard adapter.new ≡ hear_all (A.heard adapter.old) (map (λ t. removing no t.node 0) targets.now.items) }

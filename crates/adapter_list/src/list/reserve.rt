@@ -1,4 +1,4 @@
-//! What the adapters reserve for the copies of a round.
+//! The capacity that the adapters reserve for the copies of a round.
 ghost use Rattle.std.specs.Prelude.{◌≡◌, None, true, ◌≤◌, ◌<◌, ◌+◌, ◌^◌, ◌↔◌, ℕ, map, length, slice_index, OnOk, IfErr, IsErrOf};
 ghost use Rattle.std.specs.List.{AllByRecursion};
 ghost use Rattle.adapter_list.specs.Counts.{IsFirstFull, IsReadyFor, ascends, copies_len, ordinals, told_at_ordinal};
@@ -10,8 +10,8 @@ use adapters::{Adapter, NoRoom};
 use notice_chain::Notice;
 
 impl<A: Adapter> AdapterList<A> {
-    /// Makes sure that each adapter has capacity for the copies that it gets, and for one more for each of its targets. Each that gets
-    /// some is asked once, in attach order, and the first that refuses decides. None loses capacity.
+    /// Makes sure that each adapter has capacity for the copies that it gets, and for one more for each of its targets. Each adapter that
+    /// gets copies is asked once, in attach order, and the first refusal is returned. No adapter loses capacity.
     pub(super) fn reserve_places(&mut self, copies: &[(usize, Notice)]) -> Result<(), NoRoom>
         requires within { AllByRecursion (λ c. c.0 < length self.old.1) copies.now }
         ensures kept { self.new.0 ≡ self.old.0 }

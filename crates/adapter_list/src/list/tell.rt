@@ -20,8 +20,8 @@ use notice_chain::{Chain, Notice};
 use std::alloc::AllocError;
 
 impl<A: Adapter> AdapterList<A> {
-    /// The numbers of the adapters that get a notification, in attach order, by the containers that `store` has now. Errs only if memory is
-    /// refused.
+    /// The numbers of the adapters that get a notification, in attach order. The containers that `store` has now decide which do. Errs only
+    /// if memory is refused.
     pub fn audience<L: LinkStore>(
         &self,
         store: &L,
@@ -39,13 +39,12 @@ impl<A: Adapter> AdapterList<A> {
         Ok(numbers)
     }
 
-    /// Reserves all that a chain needs: for each adapter capacity for the notifications of it that it gets, and for one more for each of
-    /// its targets; and the copies of the notifications. Which adapters get them is decided by the containers that `store` has now, so it
-    /// is called before the change. Whatever it returns, what the adapters were notified of and keep is as before, and none has less
-    /// capacity: a round that fitted them still does.
+    /// Reserves all that a chain needs: for each adapter capacity for its notifications, and for one more for each of its targets; and the
+    /// copies of the notifications. The containers that `store` has now decide which adapters get them, so it is called before the change.
+    /// Whatever it returns, the adapters were notified of nothing and none has less capacity, so a round that fitted them still does.
     ///
     /// Refused with AdapterFull if an adapter can't count the notifications that it gets, or with Memory if memory is refused. The first
-    /// that refuses decides, in attach order: with AdapterFull each one before it has the capacity that it needs.
+    /// adapter that refuses, in attach order, decides; with AdapterFull, each adapter before it has the capacity that it needs.
     pub fn reserve_all<L: LinkStore>(&mut self, store: &L, chain: &Chain) -> Result<Round, Refused>
         requires legal { IsLegalSet (L.links store.now) }
         requires no_cycle { HasNoCycle (L.links store.now) }
@@ -62,7 +61,7 @@ impl<A: Adapter> AdapterList<A> {
     }
 
     /// Reserves for each adapter capacity for the copies of a round that it gets, and for one more for each of its targets. The round is
-    /// that of a chain (`round`), and nothing is allocated but what the adapters reserve, in attach order. Refused as `reserve_all`.
+    /// that of a chain (`round`). Only the adapters allocate, in attach order. Refused as `reserve_all`.
     pub fn reserve_round(&mut self, round: &Round) -> Result<(), Refused>
         requires round { (up : Above) × (chain : List Notice) × (round.now ≡ round_of up chain self.old.0) }
         ensures { (up : Above) (chain : List Notice) → round.now ≡ round_of up chain self.old.0 → IsReserved up chain self.old self.new (reserved_round round.now result) }
@@ -74,10 +73,10 @@ impl<A: Adapter> AdapterList<A> {
         }
     }
 
-    /// Notifies the adapters of a round that fits them, each of its own notifications in turn, and gives the list of which adapter was
-    /// notified of what: the notifications in the order of the chain, each with its adapters in attach order. It takes no memory.
+    /// Notifies the adapters of a round that fits them, each of its own notifications in turn. Returns which adapter was notified of what:
+    /// the notifications in the order of the chain, each with its adapters in attach order. It takes no memory.
     ///
-    /// A round fits the adapters for which it was reserved. After an adapter was attached or detached it need not fit: it names the
+    /// A round fits the adapters for which it was reserved. After an adapter was attached or detached it need not fit, since it names the
     /// adapters by number and by index in attach order.
     pub fn deliver(&mut self, round: Round) -> Vec<(AdapterNo, Notice)>
         requires reserved { RoundFits self.old.0 self.old.1 round }
@@ -103,9 +102,9 @@ impl<A: Adapter> AdapterList<A> {
         one.adapter.notify_changed(notice);
     }
 
-    /// The copies of the notifications of a chain for the adapters that get them. The adapters of successive notifications of one notifier
-    /// are found once, and those of the node in `hearers` are not looked for again. `hearers` then has the adapters of the node of the last
-    /// notification. Errs only if memory is refused.
+    /// The copies of the notifications of a chain for the adapters that get them. If successive notifications have one notifier, its
+    /// adapters are found once; the adapters of the node in `hearers` are not looked for again. Afterwards `hearers` has the adapters of
+    /// the node of the last notification. Errs only if memory is refused.
     pub fn round<L: LinkStore>(
         &self,
         store: &L,
@@ -137,6 +136,7 @@ impl<A: Adapter> AdapterList<A> {
         ensures copies { OnOk result (round.new.copies ≡ round.old.copies ++ copies_at ordinals.now notice.now) }
         ensures told { OnOk result (round.new.told ≡ round.old.told ++ told_by (copies_at ordinals.now notice.now) self.now.0) }
     {
+        round.reserve(ordinals.len())?;
         for ordinal in ordinals {
             round.add(*ordinal, self.attached[*ordinal].no, notice)?;
         }

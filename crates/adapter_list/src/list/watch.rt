@@ -16,12 +16,12 @@ use notice_chain::Target;
 use std::alloc::AllocError;
 
 impl<A: Adapter> AdapterList<A> {
-    /// Gives an adapter a target, the last of its targets, and reserves capacity for its last notification from it. False, and nothing
-    /// changes, if the node is a target of it; whether that target is deep stays as it is.
+    /// Gives an adapter one more target, the last in order, and reserves capacity for its last notification from that target. If the node
+    /// is a target of it already, returns false, and nothing changes, not even whether that target is deep.
     ///
     /// Refused, in this order, with Limit if there are 100,000 targets, NoAdapter if the number is not attached and AdapterFull if the
-    /// adapter can't count a last notification from each target; or with Memory if memory is refused. After a refusal what the adapters
-    /// were notified of and keep is as before, and no adapter has less capacity.
+    /// adapter can't count a last notification from each target; or with Memory if memory is refused. After a refusal the adapters were
+    /// notified of nothing, and no adapter has less capacity.
     pub fn watch(&mut self, no: AdapterNo, node: Node, deep: bool) -> Result<bool, Refused>
         ensures added { IfOk result (λ added. added ≡ not (is_target no node self.old.0)) }
         ensures ok { OnOk result (self.new.0 ≡ (if is_target no node self.old.0 then self.old.0 else watched no (record { node = node; deep = deep }) self.old.0)) }
@@ -45,14 +45,14 @@ impl<A: Adapter> AdapterList<A> {
         Ok(true)
     }
 
-    /// Whether the adapter of a number has a node as a target. Only the adapters that have it are looked at. Takes no memory.
+    /// Whether the adapter of a number has a node as a target. Only the adapters of that node are looked at. Takes no memory.
     pub fn is_target(&self, no: AdapterNo, node: Node) -> bool
         ensures { result ≡ is_target no node self.now.0 }
     {
         self.by_target.index_of(node, no).is_some()
     }
 
-    /// Gives the adapter at `ordinal`, which has the number `no`, a target that it has not.
+    /// Gives the adapter at `ordinal`, which has the number `no`, a target that it lacks.
     fn add_target(
         &mut self,
         ordinal: usize,
@@ -82,7 +82,7 @@ impl<A: Adapter> AdapterList<A> {
         Ok(())
     }
 
-    /// Gives the adapter at `ordinal`, which has the number `no` and capacity reserved for it, a target that it has not.
+    /// Gives the adapter at `ordinal`, which has the number `no` and capacity reserved for it, a target that it lacks.
     fn put_target(
         &mut self,
         ordinal: usize,
@@ -110,7 +110,7 @@ impl<A: Adapter> AdapterList<A> {
         Ok(())
     }
 
-    /// How many of the adapters before `ordinal` have a node as a target. Only those that have it are looked at.
+    /// How many of the adapters before `ordinal` have a node as a target. Only the adapters of that node are looked at.
     fn index_before(&self, ordinal: usize, node: Node) -> usize
         ensures { result ≡ length (entries node (take ordinal self.now.0)) }
     {

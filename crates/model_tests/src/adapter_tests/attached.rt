@@ -18,7 +18,7 @@ fn told_of_three<A: Adapter>(list: &AdapterList<A>) -> [Option<u64>; 3] {
     ]
 }
 
-/// Why three notifications are not delivered to a list of three adapters at object 1, and how many each got then.
+/// Why three notifications are not delivered to a list of three adapters at object 1, and how many each adapter got.
 fn refused_to_three<A: Adapter>(
     alloc: Global,
     first: A,
@@ -32,7 +32,7 @@ fn refused_to_three<A: Adapter>(
     Ok((refused, told_of_three(&*list)))
 }
 
-/// Three adapters of which some can't be notified of a chain, and why it is refused: the first of them decides.
+/// Three adapters, some of which can't be notified of a chain, and why the chain is refused: the first adapter that refuses decides.
 const REFUSED: [(Kind, Kind, Kind, Refused); 3] = [
     (
         Kind::Recorder,
@@ -54,7 +54,7 @@ const REFUSED: [(Kind, Kind, Kind, Refused); 3] = [
     ),
 ];
 
-/// That no adapter was notified.
+/// The counts if no adapter was notified.
 const NONE_TOLD: [Option<u64>; 3] = [Some(0), Some(NEARLY_FULL), Some(0)];
 
 #[test]

@@ -1,4 +1,4 @@
-//! An adapter that is refused when it is attached once more: its `Box` comes back, with what it was notified of.
+//! An adapter that is refused when it is attached once more. Its `Box` is given back, with the notifications that it got.
 use crate::fixtures::books::{NAME, RowRepository, attach, object, one_book, text};
 use crate::fixtures::counted::{Drops, NO_DROPS, counted_box};
 use crate::fixtures::replies::{failure_text, made};
@@ -10,13 +10,13 @@ use std::cell::Cell;
 use std::rc::Rc;
 use std::test::Fail;
 
-/// A case in which an adapter can't be attached that was at a book, and got notifications of a change and of its own leaving. The number 6
-/// is taken.
+/// A case in which an adapter can't be attached. It was at a book before, and got the notifications of a change and of its release. The
+/// number 6 is taken.
 struct Again {
     kind: Kind,
     no: u32,
     target: Node,
-    /// The refusal, and what the adapter that comes back was notified of.
+    /// The refusal, and the notifications of the adapter that is given back.
     wanted: &'static str,
 }
 
@@ -39,14 +39,14 @@ const AGAIN: [Again; 5] = [
         target: Node::Object(ObjectNo(0)),
         wanted: "refused 26, back, 2 told, SET -1, REMOVING_ADAPTER 0",
     },
-    // It could get two more.
+    // The adapter could get two more notifications.
     Again {
         kind: Kind::NearlyFull,
         no: 5,
         target: Node::Object(ObjectNo(0)),
         wanted: "refused 27, back, 18446744073709551615 told",
     },
-    // It found memory when it was attached first, and for the change.
+    // The adapter found memory when it was first attached, and for the change.
     Again {
         kind: Kind::PoorRecorder,
         no: 5,
@@ -64,7 +64,7 @@ fn released<A: Adapter>(repository: &mut RowRepository<A>) -> Result<A, Fail> {
     }
 }
 
-/// An adapter that was at a book, and was notified that the book was named.
+/// An adapter that was at a book, and was notified when the book was named.
 fn heard<A: Adapter>(
     alloc: Global,
     repository: &mut RowRepository<A>,
@@ -76,8 +76,8 @@ fn heard<A: Adapter>(
     released(repository)
 }
 
-/// Attaches an adapter, which has to be refused. Shows the refusal, what the adapter that comes back was notified of, and how many were
-/// dropped by then.
+/// Attaches an adapter, which has to be refused. Shows the refusal, the notifications of the adapter that is given back, and how many
+/// adapters were dropped by then.
 fn refused<A: Adapter>(
     alloc: Global,
     repository: &mut RowRepository<A>,
@@ -91,7 +91,7 @@ fn refused<A: Adapter>(
     }
 }
 
-/// What that gives in a repository of one book, with another adapter of the number 6 at the book.
+/// What `refused` shows in a repository of one book, with another adapter of the number 6 at the book.
 fn refused_at_a_book<A: Adapter>(
     alloc: Global,
     again: &Again,
@@ -114,7 +114,7 @@ fn an_adapter_that_is_refused_comes_back_as_it_was(rt: HostRuntime) -> Result<()
         let other = counted_box(alloc, &drops, Kind::Counter)?;
         let (found, dropped) = refused_at_a_book(alloc, again, adapter, other, &drops)?;
         assert_eq!(rt; found.as_str(), again.wanted);
-        // The `Box` that came back is not dropped before its refusal is, and the other with its repository.
+        // The `Box` that came back is dropped with its refusal, and the other adapter with its repository.
         assert_eq!(rt; dropped, 0);
         assert_eq!(rt; drops.get().all, 2);
     }

@@ -56,7 +56,7 @@ fn calls<A: Adapter>(
     Ok(format!(in alloc; "{attached}\n{counted}\n{detached}")?)
 }
 
-/// What these calls give over a book of their own.
+/// What `calls` gives in a new repository of one book.
 fn calls_at_a_book<A: Adapter>(alloc: Global, adapter: A) -> Result<String, Fail> {
     let mut repository = one_book(alloc)?;
     calls(alloc, &mut repository, adapter)
@@ -73,7 +73,7 @@ fn an_adapter_is_attached_counted_and_detached(rt: HostRuntime) -> Result<(), Fa
     Ok(())
 }
 
-/// What the calls give that concern one target of an adapter, which is at a book and gets another.
+/// What the calls for one target of an adapter give; the adapter is at a book and gets a second one.
 fn calls_of_targets<A: Adapter>(
     alloc: Global,
     repository: &mut RowRepository<A>,
@@ -89,7 +89,7 @@ fn calls_of_targets<A: Adapter>(
     Ok(format!(in alloc; "{attached}\n{watched}\n{again}\n{first}\n{none}\n{last}")?)
 }
 
-/// What these calls give over books of their own.
+/// What `calls_of_targets` gives in a new repository of books.
 fn targets_at_a_book<A: Adapter>(alloc: Global, adapter: A) -> Result<String, Fail> {
     let mut repository = one_book(alloc)?;
     calls_of_targets(alloc, &mut repository, adapter)
@@ -159,7 +159,7 @@ fn executed<A: Adapter>(
     Ok(text)
 }
 
-/// What the same calls give as commands.
+/// What the same calls give if they are made as commands.
 fn called_by_commands<A: Adapter>(alloc: Global, adapter: A) -> Result<String, Fail> {
     let mut repository = one_book(alloc)?;
     let commands = commands(alloc, adapter)?;

@@ -5,7 +5,7 @@ use adapters::Adapter;
 use std::alloc::Global;
 use std::test::Fail;
 
-/// The adapters that come back when a repository is closed that has two at one book.
+/// The adapters that are given back when a repository with two adapters at one book is closed.
 fn closed_with_two<A: Adapter>(alloc: Global, first: A, second: A) -> Result<String, Fail> {
     let mut repository: Box<RowRepository<A>> = one_book(alloc)?;
     attach(&mut repository, 6, first)?;
@@ -13,7 +13,7 @@ fn closed_with_two<A: Adapter>(alloc: Global, first: A, second: A) -> Result<Str
     Ok(closed(alloc, repository)?)
 }
 
-/// In attach order, and each at the head of those that are left.
+/// In attach order; each has index 0 among the adapters that are left.
 const CLOSED: &str = "; A6 back, 1 told, REMOVING_ADAPTER 0; A5 back, 1 told, REMOVING_ADAPTER 0";
 
 #[test]

@@ -1,4 +1,4 @@
-//! Which of two adapters decides why a chain is refused of which neither can be notified.
+//! Which of two adapters decides why a chain is refused, if neither can be notified of it.
 use crate::fixtures::no_links::without_links;
 use crate::fixtures::notices::added;
 use crate::fixtures::telling::{Kind, adapter, attach, tell};

@@ -1,5 +1,5 @@
-//! Each adapter is dropped once: after it was detached, after its target was destroyed, after its owner was closed, and with its owner,
-//! which is a list or a repository.
+//! Each adapter is dropped once: after it was detached, after its target was destroyed, after its owner was closed, or with its owner. The
+//! owner is a list or a repository.
 use crate::fixtures::books::{object, watched};
 use crate::fixtures::counted::{Counted, Drops, NO_DROPS, counted_box};
 use crate::fixtures::telling::{Kind, three};
@@ -38,8 +38,8 @@ fn each_part_is_dropped_once(rt: HostRuntime) -> Result<(), Fail> {
     Ok(())
 }
 
-/// How many parts are dropped when one of a repository's three adapters is detached, when what came back is dropped, when
-/// the repository is closed, and at the end.
+/// How many parts are dropped when one of a repository's three adapters is detached, when the adapter that came back is dropped, when the
+/// repository is closed, and at the end.
 fn drops_of_a_repository<A: Adapter>(
     alloc: Global,
     first: A,
@@ -70,8 +70,8 @@ fn each_part_of_a_repository_is_dropped_once(rt: HostRuntime) -> Result<(), Fail
     Ok(())
 }
 
-/// How many parts are dropped when a book with three adapters is destroyed, when what came back is dropped, and with the
-/// repository.
+/// How many parts are dropped when a book with three adapters is destroyed, when the adapters that were given back are dropped, and when
+/// the repository is dropped.
 fn drops_of_a_deletion<A: Adapter>(
     alloc: Global,
     first: A,
@@ -130,7 +130,7 @@ fn a_dropped_repository_drops_its_adapters(rt: HostRuntime) -> Result<(), Fail> 
     Ok(())
 }
 
-/// The command that attaches an adapter to the first object and all below it.
+/// The command that attaches a deep adapter to the first object.
 fn attach<A: Adapter>(no: u32, adapter: A) -> Command<A> {
     Command::Attach {
         no: AdapterNo(no),

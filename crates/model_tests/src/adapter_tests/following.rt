@@ -1,4 +1,4 @@
-//! A view of a library that never asks again, as docs/ADAPTERS.md shows it.
+//! A view of a library that reads the model only once, as docs/ADAPTERS.md shows it.
 use crate::fixtures::books::metamodel;
 use crate::fixtures::library::LIBRARY;
 use adapters::Counter;
@@ -39,7 +39,7 @@ fn after(
     Ok(Box::new(alloc, view)?)
 }
 
-/// Follows a library that is named and gets a book: asks for a snapshot once, and is then notified of every change.
+/// Follows a library that is named and gets a book: takes one snapshot, and is then notified of every change.
 fn follow<L: LinkStore>(
     alloc: Global,
     repository: &mut Repository<L, Counter>,
@@ -57,7 +57,7 @@ fn follow<L: LinkStore>(
     Ok(view)
 }
 
-/// Whether the view of a library that is followed has what a new snapshot has of the library.
+/// Whether the view of a library that is followed equals a new snapshot of the library.
 fn session(alloc: Global, meta: Meta) -> Result<bool, Fail> {
     let mut repository = Box::new(alloc, Repository::<RowStore, Counter>::new(alloc, meta))?;
     repository.create(ClassNo(1))?;

@@ -27,17 +27,18 @@ fn state<A: Adapter>(alloc: Global, repository: &RowRepository<A>) -> Result<Str
     format!(in alloc; "{counts:?} {name:?}")
 }
 
-/// A book that no adapter was notified of, and whose name is null.
+/// The state before: no adapter was notified, and the book's name is null.
 const BEFORE: &str = "(Ok((0, 0)), Ok((0, 0)), Ok((0, 0))) Ok(One(Null))";
 
 /// What the second call gives.
 const TOLD: &str =
     "Done; A5 SET Null Text(\"Emma\") -1 false; A6 SET Null Text(\"Emma\") -1 false; A7 SET Null Text(\"Emma\") -1 false";
 
-/// A book with three adapters of which one is refused memory when it is named, in attach order.
+/// Three adapters of a book, in attach order. One of them is refused memory when the book is named.
 struct Watched {
     kinds: [Kind; 3],
-    /// What the adapters were notified of, and the book's name, after the second call: the poor one keeps none.
+    /// What the adapters were notified of, and the book's name, after the second call. The adapter that was refused memory keeps no
+    /// notification.
     after: &'static str,
     /// What the adapters were notified of when the repository is closed.
     closed: &'static str,
@@ -61,7 +62,7 @@ const WATCHED: [Watched; 3] = [
     },
 ];
 
-/// Why the book is not named, and what the adapters were notified of and the book has before and after.
+/// Why the book is not named, and the state before and after.
 fn refusal<A: Adapter>(alloc: Global, repository: &mut RowRepository<A>) -> Result<String, Fail> {
     let before = state(alloc, repository)?;
     let refused = made(name_book(alloc, repository, 0)?).err();
@@ -69,13 +70,13 @@ fn refusal<A: Adapter>(alloc: Global, repository: &mut RowRepository<A>) -> Resu
     Ok(format!(in alloc; "{before}; {refused:?}; {after}")?)
 }
 
-/// What it gives to name the book.
+/// What naming the book gives.
 fn named<A: Adapter>(alloc: Global, repository: &mut RowRepository<A>) -> Result<String, Fail> {
     given(alloc, name_book(alloc, repository, 0)?)
 }
 
-/// Names a book with three adapters, twice. Shows why it is refused first, what it gives then, and what the adapters were
-/// notified of and the book has before, between and after.
+/// Names a book with three adapters, twice. Shows the refusal of the first call, the outcome of the second, and the state before, between
+/// and after.
 fn named_twice<A: Adapter>(
     alloc: Global,
     repository: &mut RowRepository<A>,
@@ -86,7 +87,7 @@ fn named_twice<A: Adapter>(
     Ok([refused, told, after])
 }
 
-/// What that gives over a book of its own, and what the adapters were notified of when its repository is closed.
+/// What `named_twice` shows in a new repository of one book, and what the adapters were notified of when the repository is closed.
 fn twice_at_a_book<A: Adapter>(
     alloc: Global,
     first: A,
@@ -99,7 +100,7 @@ fn twice_at_a_book<A: Adapter>(
     Ok((found, closed))
 }
 
-/// What that gives with three adapters in a `Box` each, whose parts are counted.
+/// What `twice_at_a_book` shows with three adapters in a `Box` each, whose parts are counted.
 fn twice_by(
     alloc: Global,
     drops: &Rc<Cell<Drops>>,

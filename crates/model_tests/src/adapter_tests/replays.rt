@@ -14,7 +14,7 @@ use notice_chain::Notice;
 use std::alloc::{AllocError, Global};
 use std::test::Fail;
 
-/// Each of these tests counts the nodes that its views had all along, after every step, over both stores of links.
+/// Each of these tests counts, after every step and over both stores of links, the nodes that its views had from their beginning on.
 fn is_followed(alloc: Global, steps: &[Step<'_>], least: usize) -> Result<bool, Fail> {
     let rows = compared::<RowStore>(alloc, steps)?;
     let slots = compared::<SlotStore>(alloc, steps)?;
@@ -32,7 +32,7 @@ fn a_stolen_end_is_followed(rt: HostRuntime) -> Result<(), Fail> {
         Step::Set(2, NEXT, 3),
         Step::Set(0, NEXT, 3),
     ];
-    // Four books follow themselves over the last three steps, and those before them from when they were made.
+    // Each book is followed by a view of its own from its making on; all four are over the last three steps.
     assert!(rt; is_followed(rt.alloc(), &steps, 12)?);
     Ok(())
 }
@@ -121,7 +121,7 @@ fn many_books<'a>(alloc: Global) -> Result<Vec<Step<'a>>, AllocError> {
 #[test]
 fn a_thousand_adapters_keep_what_they_are_told(rt: HostRuntime) -> Result<(), Fail> {
     let steps = many_books(rt.alloc())?;
-    // Each follows itself: 0 to 999 of them while they are made, all of them over 100 steps, and 949 after the last.
+    // Each object has a view of its own: 0 to 999 of them while they are made, all of them over 100 steps, and 949 after the last step.
     assert!(rt; is_followed(rt.alloc(), steps.as_slice(), 499_500 + 100_000 + 949)?);
     Ok(())
 }
@@ -187,8 +187,8 @@ fn flags_and_values_are_followed(rt: HostRuntime) -> Result<(), Fail> {
     Ok(())
 }
 
-/// A book comes to a library and goes again: the library's snapshot from before it came, with the three notifications of it, is the one
-/// from after it went.
+/// A book is put into a library and taken out again. The library's snapshot from before, after a replay of the three notifications, is the
+/// snapshot from afterwards.
 fn come_and_go(alloc: Global) -> Result<bool, Fail> {
     let mut repository: Box<Store<RowStore>> = empty(alloc, metamodel(alloc, LIBRARY)?)?;
     let mut told = Vec::new(alloc);

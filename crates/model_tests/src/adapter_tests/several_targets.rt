@@ -38,8 +38,8 @@ fn state<A: Adapter>(alloc: Global, repository: &RowRepository<A>) -> Result<Str
     format!(in alloc; "{told:?} {name:?}")
 }
 
-/// Why the second book is not named, and the state after it; and then, line by line, what it gives to name it again, to take the
-/// first book from adapter 6, and to destroy the second book.
+/// Why the second book is not named, and the state after the refusal; and then, line by line, what these calls give: name it again, take
+/// the first book from adapter 6, and destroy the second book.
 fn calls<A: Adapter>(alloc: Global, repository: &mut RowRepository<A>) -> Result<String, Fail> {
     let refused = made(name_book(alloc, repository, 1)?).err();
     let state = state(alloc, repository)?;
@@ -54,7 +54,7 @@ fn calls<A: Adapter>(alloc: Global, repository: &mut RowRepository<A>) -> Result
     )?)
 }
 
-/// The same over three adapters with two targets each, and what comes back when the repository is closed.
+/// What `calls` shows with three adapters of two targets each, and the adapters that are given back when the repository is closed.
 fn calls_by<A: Adapter>(
     alloc: Global,
     first: A,
@@ -70,14 +70,14 @@ fn calls_by<A: Adapter>(
     Ok((found, closed))
 }
 
-/// What the calls give, wherever the adapter is that is refused memory. Once the first book is taken from adapter 6, the second one is its
-/// last target.
+/// What the calls give, whichever adapter is refused memory. After the first book is taken from adapter 6, the second one is its last
+/// target.
 const CALLS: &str = "Some(Memory) [Ok(0), Ok(0), Ok(0)] Ok(One(Null))
 Done; A5 SET Null Text(\"Emma\") -1 false; A6 SET Null Text(\"Emma\") -1 false; A7 SET Null Text(\"Emma\") -1 false
 Flag(true); A6 REMOVING_ADAPTER Adapter(AdapterNo(6)) Null 1 false
 Destroyed(1); A5 REMOVING_ADAPTER Adapter(AdapterNo(5)) Null 0 false; A6 REMOVING_ADAPTER Adapter(AdapterNo(6)) Null 0 false; A7 REMOVING_ADAPTER Adapter(AdapterNo(7)) Null 0 false; A6 back, 3 told, SET -1, REMOVING_ADAPTER 1, REMOVING_ADAPTER 0";
 
-/// What comes back at the end: each adapter was taken from the second book, and then from the first.
+/// The adapters that are given back at the end: each adapter was taken from the second book, and then from the first.
 const CLOSED: &str =
     "; A5 back, 3 told, SET -1, REMOVING_ADAPTER 0, REMOVING_ADAPTER 0; A7 back, 3 told, SET -1, REMOVING_ADAPTER 0, REMOVING_ADAPTER 0";
 
@@ -100,8 +100,7 @@ fn a_set_that_one_of_three_cannot_hear_at_its_second_target_notifies_none(
     Ok(())
 }
 
-/// Why the adapter 5 doesn't get the second book as a target, what it gives to name that one, and why the adapter doesn't get it when it is
-/// asked again.
+/// Why adapter 5 doesn't get the second book as a target, what naming that book gives, and why the adapter doesn't get it at a second try.
 fn named_between_refusals<A: Adapter>(
     alloc: Global,
     repository: &mut RowRepository<A>,
@@ -112,7 +111,7 @@ fn named_between_refusals<A: Adapter>(
     Ok(format!(in alloc; "{first:?} {named} {second:?}")?)
 }
 
-/// What that gives of an adapter at the first book, and what comes back at the end.
+/// What `named_between_refusals` shows for an adapter at the first book, and the adapter that is given back at the end.
 fn refused_twice<A: Adapter>(alloc: Global, adapter: A) -> Result<String, Fail> {
     let mut repository = two_books(alloc)?;
     attach(&mut repository, 5, adapter)?;
@@ -160,7 +159,7 @@ fn refused_to_two<A: Adapter>(
 #[test]
 fn the_first_adapter_that_refuses_decides(rt: HostRuntime) -> Result<(), Fail> {
     let alloc = rt.alloc();
-    // A nearly full counter can get the last notifications of its two targets, and so none before them.
+    // A nearly full counter can get only the last notifications of its two targets, and no other before them.
     let cases = [
         (false, Kind::LastAlone, Kind::Poor, Refused::AdapterFull),
         (false, Kind::Poor, Kind::LastAlone, Refused::Memory),
@@ -183,7 +182,7 @@ fn the_first_adapter_that_refuses_decides(rt: HostRuntime) -> Result<(), Fail> {
     Ok(())
 }
 
-/// What it gives to take a target from the second adapter of a list, as `REMOVING_ADAPTER 1`, and `, back` with its last one.
+/// What taking a target from the second adapter of a list gives, as `REMOVING_ADAPTER 1`, with `, back` if it was its last one.
 fn detached<A: Adapter>(
     alloc: Global,
     list: &mut AdapterList<A>,
@@ -203,7 +202,7 @@ fn detached<A: Adapter>(
     }
 }
 
-/// What that gives for an object that is no target, and for each of two targets; and how many adapters are left.
+/// What `detached` shows for an object that is no target, and for each of two targets; and how many adapters are left.
 fn detached_in_turn<A: Adapter>(
     alloc: Global,
     first: A,

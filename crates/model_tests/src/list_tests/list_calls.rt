@@ -1,4 +1,4 @@
-//! What no script names is put in no list, and a list is not one value.
+//! Values that no script can name are put into no list, and a list is not a single value.
 use crate::fixtures::books::{RowRepository, object, text};
 use crate::fixtures::boxes::{LIKES, MARKS, PARTS, boxes};
 use crate::fixtures::replies::made;
@@ -24,7 +24,7 @@ fn proxy(alloc: Global) -> Result<Value, AllocError> {
     Ok(Value::Proxy(Text::from_str(alloc, "a.xmi#/")?))
 }
 
-/// Why a proxy, a literal and an adapter are in no list of a box.
+/// Why a proxy, a literal and an adapter are refused for the lists of a box.
 fn refusals_of_type<A: Adapter>(
     alloc: Global,
     repository: &mut RowRepository<A>,
@@ -65,7 +65,7 @@ fn numbers_past_the_last_name_nothing(rt: HostRuntime) -> Result<(), Fail> {
     Ok(())
 }
 
-/// Why a list of one number is not read as one value, and not set to one.
+/// Why a list of one number can't be read or set as a single value.
 fn refused_as_one<A: Adapter>(
     alloc: Global,
     repository: &mut RowRepository<A>,

@@ -1,4 +1,4 @@
-//! An edit of a list of which one of its adapters can't be notified: no link is cut, and nobody is notified.
+//! An edit of a list is refused since one of its adapters can't be notified: no link is cut, and no adapter is notified.
 use crate::fixtures::books::{RowRepository, object};
 use crate::fixtures::boxes::{PARTS, boxes};
 use crate::fixtures::replies::{given, made, made_attached};
@@ -9,7 +9,7 @@ use repository::Reply;
 use std::alloc::{AllocError, Global};
 use std::test::Fail;
 
-/// Attaches an adapter to a box, whose number it has; a refused adapter is dropped.
+/// Attaches an adapter to a box, under the number of the box; a refused adapter is dropped.
 fn attach<A: Adapter>(
     repository: &mut RowRepository<A>,
     at: u32,
@@ -18,7 +18,7 @@ fn attach<A: Adapter>(
     made_attached(repository.attach(AdapterNo(at), object(at), false, adapter))
 }
 
-/// What is in the first box and in the last, and how many notifications the adapters of the first and the second got.
+/// The contents of the first box and of the last, and how many notifications the adapters of the first two boxes got.
 fn state<A: Adapter>(alloc: Global, repository: &RowRepository<A>) -> Result<String, AllocError> {
     let first = repository.e_get(object(0), PARTS);
     let last = repository.e_get(object(3), PARTS);
@@ -43,7 +43,7 @@ fn packed<A: Adapter>(alloc: Global, first: A, second: A) -> Result<Box<RowRepos
     Ok(repository)
 }
 
-/// Why the second box is not put into the last one, what it gives then, and what reads say before, between and after.
+/// Why the second box is not put into the last one at first, what the second try gives, and the state before, between and after.
 fn put_twice<A: Adapter>(alloc: Global, repository: &mut RowRepository<A>) -> Result<String, Fail> {
     let before = state(alloc, repository)?;
     let refused = made(put(repository, 3)).err();
@@ -53,7 +53,7 @@ fn put_twice<A: Adapter>(alloc: Global, repository: &mut RowRepository<A>) -> Re
     Ok(format!(in alloc; "{before}\n{refused:?}\n{between}\n{told}\n{after}")?)
 }
 
-/// What that gives over boxes of its own.
+/// What `put_twice` shows in a new repository of boxes.
 fn put_twice_at_boxes<A: Adapter>(alloc: Global, first: A, second: A) -> Result<String, Fail> {
     let mut repository = packed(alloc, first, second)?;
     put_twice(alloc, &mut repository)

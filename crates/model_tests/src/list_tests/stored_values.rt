@@ -1,4 +1,4 @@
-//! Plans and what is seen after them, by hand.
+//! Plans, and the expected state after them, written by hand.
 use crate::fixtures::values::{empty, put_many, remove, shift};
 use mm_types::{ClassNo, FeatureNo, ObjectNo, ResourceNo, Seq, Text, Value};
 use mm_values::{NewValues, ValueEdit, ValuePlan, Values};
@@ -73,8 +73,8 @@ fn held(
     format!(in alloc; "{class:?} {lists:?} {flags:?}\n")
 }
 
-/// How many resources there are, their URIs, and which has a URI; how many objects were made, and what the first three
-/// numbers hold under two features.
+/// How many resources there are, their URIs, and which resource has a URI; how many objects were made, and what the
+/// first three objects hold under two features.
 fn seen(alloc: Global, values: &Values, features: [u32; 2]) -> Result<String, AllocError> {
     let uris = (values.uri(ResourceNo(0)), values.uri(ResourceNo(1)));
     let found = (values.resource_of("a.xmi"), values.resource_of("b.xmi"));
@@ -87,7 +87,7 @@ fn seen(alloc: Global, values: &Values, features: [u32; 2]) -> Result<String, Al
     Ok(seen)
 }
 
-/// What is seen after a plan and another one.
+/// The state after two plans.
 fn seen_after(
     alloc: Global,
     first: ValuePlan,
@@ -188,7 +188,7 @@ fn insert(object: u32, feature: u32, index: u32, number: i64) -> ValueEdit {
     }
 }
 
-/// Edits of two lists of one object, some of them past the end, and of one of an object that was never made.
+/// Edits of two lists of one object, some of them past the end, and of a list of an object that was never made.
 fn list_edits(alloc: Global) -> Result<ValuePlan, AllocError> {
     Ok(planned(vec![in alloc;
         insert(0, 3, 0, 1),

@@ -1,4 +1,4 @@
-//! Whether a list has a value: a short list, one of the length from which its values are counted, and a long one.
+//! Whether a list has a value: a short list, a list of the length from which hashes are counted, and a long list.
 use crate::fixtures::values::{empty, put_many, remove, shift};
 use mm_types::{AdapterNo, ClassNo, FeatureNo, ObjectNo, Text, Value};
 use mm_values::{ValueEdit, ValuePlan, Values};
@@ -9,10 +9,10 @@ const OBJECT: ObjectNo = ObjectNo(0);
 
 const FEATURE: FeatureNo = FeatureNo(3);
 
-/// Short, the last length at which values are looked for one by one, the first at which they are not, and longer.
+/// A short length, the last length at which values are looked for one by one, the first length at which they are not, and longer ones.
 const LENGTHS: [u32; 5] = [10, 64, 65, 200, 10_000];
 
-/// Puts a value into a list that is asked for its values.
+/// Puts a value into a list that is looked up by value.
 fn insert(index: u32, value: Value) -> ValueEdit {
     ValueEdit::InsertValue {
         object: OBJECT,
@@ -27,7 +27,7 @@ fn number(number: u32) -> Value {
     Value::Int(i64::from(number))
 }
 
-/// Makes an edit; if memory is refused, it is asked for once more.
+/// Makes an edit; if memory is refused, tries once more.
 fn run(values: &mut Values, edit: ValueEdit) -> Result<(), AllocError> {
     let plan = ValuePlan::one(edit);
     if values.reserve_for(&plan).is_err() {
@@ -45,7 +45,7 @@ fn fill(values: &mut Values, count: u32) -> Result<(), AllocError> {
     Ok(())
 }
 
-/// No object; if memory is refused, it is asked for once more.
+/// No object; if memory is refused, tries once more.
 fn no_values(alloc: Global) -> Result<Box<Values>, Fail> {
     match Box::new(alloc, Values::new(alloc)) {
         Ok(values) => Ok(values),
@@ -53,7 +53,7 @@ fn no_values(alloc: Global) -> Result<Box<Values>, Fail> {
     }
 }
 
-/// An object whose list has the numbers from 0 on. If memory is refused, it is asked for once more.
+/// An object whose list has the numbers from 0 on. If memory is refused, tries once more.
 fn filled(alloc: Global, count: u32) -> Result<Box<Values>, Fail> {
     let mut values = no_values(alloc)?;
     run(&mut values, ValueEdit::NewObject(ClassNo(1)))?;
@@ -61,7 +61,7 @@ fn filled(alloc: Global, count: u32) -> Result<Box<Values>, Fail> {
     Ok(values)
 }
 
-/// Fails unless the list has a number exactly if it is one from the first to before the second.
+/// Fails unless the list has the number `at` exactly if it is at least `first` and below `before`.
 fn check_number(values: &Values, at: u32, first: u32, before: u32) -> Result<(), Fail> {
     let has = values.has(OBJECT, FEATURE, &number(at));
     if has == Some(first <= at && at < before) {
@@ -70,7 +70,7 @@ fn check_number(values: &Values, at: u32, first: u32, before: u32) -> Result<(),
     Err(Fail::new(format_args!("{at}, of {first} to {before}: {has:?}")))
 }
 
-/// Checks the numbers at both edges.
+/// Checks the numbers at both ends of the range.
 fn check_edges(values: &Values, first: u32, before: u32) -> Result<(), Fail> {
     let edges = [
         first.saturating_sub(1),
@@ -84,7 +84,7 @@ fn check_edges(values: &Values, first: u32, before: u32) -> Result<(), Fail> {
     Ok(())
 }
 
-/// Fails unless the list has the numbers from the first to before the second, and no other. Of a long list, not every number is looked for.
+/// Fails unless the list has exactly the numbers from `first` on and below `before`. In a long list, not every number is looked for.
 fn check(values: &Values, first: u32, before: u32) -> Result<(), Fail> {
     check_edges(values, first, before)?;
     for at in 0..before.saturating_add(20) {
@@ -108,7 +108,7 @@ fn check_edits(values: &mut Values, count: u32) -> Result<(), Fail> {
     check(values, 1, count)
 }
 
-/// Replaces a list by a short one, and by one of the numbers from 0 on, and adds one more each time.
+/// Replaces a list by a short list, and then by a list of the numbers from 0 on; adds one more value each time.
 fn check_replaced(alloc: Global, values: &mut Values, count: u32) -> Result<(), Fail> {
     run(values, put_many(alloc, 3)?)?;
     check(values, 0, 3)?;
@@ -158,7 +158,7 @@ fn kinds(alloc: Global) -> Result<Vec<Value>, AllocError> {
     ]?)
 }
 
-/// Values of the same kinds, and with what others of them hold.
+/// Other values of the same kinds, some of which hold the same as a value of another kind.
 fn others(alloc: Global) -> Result<Vec<Value>, AllocError> {
     Ok(vec![in alloc;
         Value::Bool(false),
@@ -179,7 +179,7 @@ fn insert_all(values: &mut Values, more: Vec<Value>) -> Result<(), AllocError> {
     Ok(())
 }
 
-/// How many of some values a list has.
+/// How many of the given values a list has.
 fn count_there(values: &Values, some: &[Value]) -> usize {
     some.iter()
         .filter(|value| values.has(OBJECT, FEATURE, *value) == Some(true))

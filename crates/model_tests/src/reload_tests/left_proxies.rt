@@ -1,4 +1,4 @@
-//! Proxies that can't be resolved are left, and notify nobody.
+//! Proxies that can't be resolved are left, and notify no adapter.
 use crate::fixtures::books::object;
 use crate::fixtures::network::{Network, Order, SEES, network, reload, resource, snapshots};
 use crate::fixtures::replies::{given, made, made_attached};
@@ -8,10 +8,10 @@ use mm_types::{AdapterNo, Node, ObjectNo, Refused, Text, Value};
 use std::alloc::{AllocError, Global};
 use std::test::Fail;
 
-/// What the first root of the first resource refers to, and how many proxies are left if all are to be resolved: one is in the second
-/// resource.
+/// The references of the first root of the first resource, and how many proxies are left after all are to be resolved; one of them is in
+/// the second resource.
 const LEFT: [(&str, u64); 8] = [
-    // Nothing is at the fragment.
+    // No object is at the fragment.
     (r#""sees":["1#/7"]"#, 2),
     // No resource has the URI.
     (r#""top":"9#/""#, 2),
@@ -20,7 +20,7 @@ const LEFT: [(&str, u64); 8] = [
     (r#""next":"1#/1""#, 2),
     // The list has the object already.
     (r#""sees":["1#/0"]"#, 2),
-    // No proxy is at the opposite end, or one that leads to a different object.
+    // No proxy at the opposite end leads back.
     (r#""likes":["1#/0"]"#, 2),
     (r#""likes":["1#/2"]"#, 2),
     // All of these cases together.
@@ -34,7 +34,7 @@ const LEFT: [(&str, u64); 8] = [
 const SECOND: &str =
     r#"{"format":2,"roots":[{"class":"Item","features":{}},{"class":"Mark","features":{}},{"class":"Item","features":{"fans":["0#/1"]}}]}"#;
 
-/// Two items, the first of which has some features.
+/// Two documents; the first item of the first one has the given features.
 fn documents(alloc: Global, features: &str) -> Result<Vec<Text>, AllocError> {
     let first = format!(in alloc;
         r#"{{"format":2,"roots":[{{"class":"Item","features":{{{features}}}}},{{"class":"Item","features":{{}}}}]}}"#
@@ -77,7 +77,7 @@ fn fill<L: LinkStore>(
     Ok(())
 }
 
-/// What it gives to resolve all proxies: the answer, and which adapter was notified of what. Fails unless all is as it was.
+/// What resolving all proxies gives: the answer, and which adapter was notified of what. Fails unless all else is as it was.
 fn resolved<L: LinkStore>(alloc: Global, repository: &mut Network<L>) -> Result<String, Fail> {
     let before = snapshots(alloc, repository, 2)?;
     let found = given(alloc, repository.resolve_all())?;
@@ -93,7 +93,7 @@ fn resolved_of<L: LinkStore>(alloc: Global, features: &str) -> Result<String, Fa
     resolved(alloc, &mut repository)
 }
 
-/// Fails unless no proxy is resolved, so many are left, and nobody is notified of anything.
+/// Fails unless no proxy is resolved, so many are left, and no adapter is notified.
 fn check_left<L: LinkStore>(alloc: Global, features: &str, left: u64) -> Result<(), Fail> {
     let found = resolved_of::<L>(alloc, features)?;
     let wanted = format!(in alloc; "Resolved {{ done: 0, left: {left} }}")?;

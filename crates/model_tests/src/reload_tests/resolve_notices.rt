@@ -1,4 +1,4 @@
-//! Which adapters are notified that all proxies are resolved, and an adapter that can't be.
+//! Which adapters are notified when all proxies are resolved, and an adapter that can't be notified.
 use crate::fixtures::network::{
     Network, Order, check_resolved, check_saved, network, reload, resource, snapshots,
 };
@@ -25,8 +25,8 @@ fn attach<L: LinkStore>(
     made_attached(repository.attach(AdapterNo(no), target, deep, counter))
 }
 
-/// Each node that is loaded, with how many notifications an adapter there gets, and how many one that is deep there: a proxy gives one
-/// notification at its own end, and that of a link with an opposite another one at the other end.
+/// Each loaded node, with how many notifications a flat adapter and a deep adapter there get. A proxy gives one notification at its own
+/// end; if its reference has an opposite, it gives another one at the other end.
 const HEARD: [(Node, u64, u64); 11] = [
     (Node::Object(ObjectNo(0)), 5, 6),
     (Node::Object(ObjectNo(1)), 1, 1),
@@ -41,12 +41,12 @@ const HEARD: [(Node, u64, u64); 11] = [
     (Node::Resource(ResourceNo(2)), 0, 5),
 ];
 
-/// The number of the deep adapter beside another one.
+/// The number of the deep adapter at the node of a flat one.
 fn deep_beside(no: u32) -> u32 {
     no.wrapping_add(100)
 }
 
-/// Attaches two adapters to each node, the second one deep.
+/// Attaches two adapters to each node; the second one is deep.
 fn attach_to_each<L: LinkStore>(repository: &mut Network<L>) -> Result<(), Refused> {
     let mut no = 0;
     for (node, _, _) in &HEARD {
@@ -96,19 +96,19 @@ fn each_end_that_is_resolved_is_told_once(rt: HostRuntime) -> Result<(), Fail> {
     Ok(())
 }
 
-/// How many notifications a counter got that can get so many more.
+/// How many notifications a counter has got that can get `room` more.
 fn with_room(room: u64) -> u64 {
     u64::MAX - room
 }
 
-/// Attaches a counter to the second resource, and one with some capacity to the first, each deep.
+/// Attaches a counter to the second resource, and a counter that can get so many more to the first one; both are deep.
 fn attach_two<L: LinkStore>(repository: &mut Network<L>, room: u64) -> Result<(), Refused> {
     attach(repository, 1, resource(1), true, Counter::new())?;
     let counter = Counter::starting_at(with_room(room));
     attach(repository, 0, resource(0), true, counter)
 }
 
-/// Fails unless the adapters got as many notifications as when they were attached.
+/// Fails unless the adapters got no notification since they were attached.
 fn check_untold<L: LinkStore>(repository: &Network<L>, room: u64) -> Result<(), Fail> {
     let told = (
         repository.adapter_told(AdapterNo(0)),
@@ -120,7 +120,7 @@ fn check_untold<L: LinkStore>(repository: &Network<L>, room: u64) -> Result<(), 
     Err(Fail::new(format_args!("{told:?} with room for {room}")))
 }
 
-/// Fails unless all is refused for lack of capacity, and nothing changes and nobody is notified.
+/// Fails unless the command is refused for lack of capacity, nothing changes, and no adapter is notified.
 fn check_refused<L: LinkStore>(
     alloc: Global,
     repository: &mut Network<L>,
@@ -138,7 +138,7 @@ fn check_refused<L: LinkStore>(
     Ok(())
 }
 
-/// Six notifications are of the first resource, and one more is the last notification: with less capacity all is refused.
+/// The first resource has six notifications, and the last notification is one more. With capacity for fewer, the command is refused.
 fn check_rooms<L: LinkStore>(alloc: Global, repository: &mut Network<L>) -> Result<(), Fail> {
     let texts = documents(alloc)?;
     reload(alloc, repository, texts.as_slice(), IN_ORDER)?;

@@ -1,4 +1,4 @@
-//! Models that look random are saved, and loaded in orders that look random.
+//! Pseudo-random models are saved, and loaded in pseudo-random orders.
 use crate::fixtures::network::{
     Network, Order, SEES, TOP, check_resolved, check_saved, network, reload, resource,
 };
@@ -81,7 +81,7 @@ fn sites<L: LinkStore>(alloc: Global, repository: &Network<L>) -> Result<Vec<Sit
     Ok(sites)
 }
 
-/// How many links some proxies stand for: one of a reference with an opposite has a proxy at each end.
+/// How many links some proxies stand for; a link of a reference with an opposite has a proxy at each end.
 fn count_links(sites: &[Site]) -> u64 {
     let ends = sites
         .iter()
@@ -131,7 +131,7 @@ fn check_at_once<L: LinkStore>(
     check_saved(repository, texts, order)
 }
 
-/// Whether the proxy at a location is resolved: it's gone already if it was the other end of an earlier one.
+/// Whether the proxy at a location is resolved. It is gone already if it was the other end of a link that was resolved before.
 fn is_resolved<L: LinkStore>(repository: &mut Network<L>, site: Site) -> Result<bool, Refused> {
     match made(repository.resolve(site.object, site.feature, site.index)) {
         Ok(()) => Ok(true),
@@ -173,12 +173,12 @@ fn check_one_by_one<L: LinkStore>(
     check_saved(repository, texts, order)
 }
 
-/// How many items a model has. Over the store whose rows are scanned there are fewer.
+/// How many items a model has. Over the store of scanned rows, models have fewer.
 const MANY: u32 = 300;
 
 const FEW: u32 = 60;
 
-/// What is saved of the model of so many items that a seed gives.
+/// The saved texts of the model of so many items that a seed gives.
 fn texts_of<L: LinkStore>(alloc: Global, items: u32, seed: u32) -> Result<Vec<Text>, Fail> {
     let mut repository = network::<L>(alloc)?;
     fill(alloc, &mut repository, items, seed)?;
@@ -215,7 +215,7 @@ fn models_of_three_seeds_are_had_again(rt: HostRuntime) -> Result<(), Fail> {
     Ok(())
 }
 
-/// Saves the model that a seed gives, and loads it; each proxy is resolved for itself.
+/// Saves the model that a seed gives, and loads it; the proxies are resolved one by one.
 fn check_seed_one_by_one<L: LinkStore>(alloc: Global, items: u32, seed: u32) -> Result<(), Fail> {
     let texts = texts_of::<L>(alloc, items, seed)?;
     let order = Order {

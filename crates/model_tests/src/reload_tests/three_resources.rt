@@ -9,8 +9,8 @@ use std::test::Fail;
 /// The numbers of the resources, the last one that is made first.
 const LAST_FIRST: [u32; 3] = [2, 1, 0];
 
-/// The documents in the order in which their resources are made, and how many proxies are resolved and left after each load. The documents
-/// are loaded in the opposite order: in the first case the first, the second and the third.
+/// The order in which the resources are made, and how many proxies are resolved and left after each load. The documents are loaded in the
+/// opposite order, in the first case the first, the second and the third.
 const LOADS: [([u32; 3], [(u64, u64); 3]); 6] = [
     ([2, 1, 0], [(0, 6), (3, 6), (7, 0)]),
     ([1, 2, 0], [(0, 6), (4, 5), (6, 0)]),

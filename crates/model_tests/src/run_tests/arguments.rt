@@ -1,4 +1,4 @@
-//! Command lines that the program takes, and others.
+//! Command lines that the program accepts, and others.
 use clap::error::ErrorKind;
 use command_line::{meta_file, options_of};
 use std::alloc::Global;

@@ -21,10 +21,10 @@ fn run_books<R: Read + Drop, W: Write>(
     Ok(run_live::<_, _, RowStore, _>(alloc, &mut reader, writer, Box::into_inner(meta), boxes))
 }
 
-/// A script with a blank line, a bad line, a refused one, and no newline at its end.
+/// A script with a blank line, a bad line and a refused line, and without a newline at its end.
 const SCRIPT: &str = "new Book\n\nattach A1 #0 flat\nset #0 pages 7\nfrob\nnew Nope\nget #0 pages";
 
-/// What it prints live.
+/// What the script prints in a live run.
 const PRINTED: &str =
     "#0\n\n\nok\n\nok\ntold A1 SET #0.pages 100 7 -1\n\nbad line\n\nrefused 3 NO_CLASS\n\n7\n\n";
 
@@ -38,7 +38,7 @@ fn a_live_run_at_a_byte_at_a_time_answers_each_line(rt: HostRuntime) -> Result<(
     Ok(())
 }
 
-/// How many bytes of the answers belong to the first lines of the script, so many bytes long.
+/// How many bytes of the answers belong to the lines in the first so many bytes of the script.
 fn answered(bytes: usize) -> usize {
     match bytes {
         0..=8 => 0,

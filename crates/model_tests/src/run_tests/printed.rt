@@ -1,11 +1,11 @@
-//! Texts that no script makes a repository print, and the names of faults.
+//! Texts that no script can cause to be printed, and the names of faults.
 use mm_types::{AdapterNo, DocFault, Node, ObjectNo, Refused, ResourceNo, Text, Value};
 use script_output::Output;
 use script_streams::RunFault;
 use std::alloc::{AllocError, Global};
 use std::test::Fail;
 
-/// Whether a value is printed as a text, after a text that is there already.
+/// Whether a value is printed as a given text, after a text that is there already.
 fn is_value(alloc: Global, value: &Value, text: &str) -> Result<bool, AllocError> {
     let mut output = Output::new(alloc);
     output.text("= ")?;

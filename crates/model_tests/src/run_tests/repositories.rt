@@ -7,7 +7,7 @@ use repository::{Act, Command, EndRead, Read};
 use std::alloc::{AllocError, Global};
 use std::test::Fail;
 
-/// A book is made, named and read.
+/// Commands that make, name and read a book.
 fn commands<A: Adapter>(alloc: Global) -> Result<Vec<Command<A>>, AllocError> {
     let end = End {
         node: object(0),
@@ -20,7 +20,7 @@ fn commands<A: Adapter>(alloc: Global) -> Result<Vec<Command<A>>, AllocError> {
     Ok(commands)
 }
 
-/// What these commands give: nobody is notified, and no adapter comes back.
+/// What these commands give: no adapter is notified, and none is given back.
 const OUTCOMES: &str = "Object(ObjectNo(0))\nDone\nValue(Text(\"Emma\"))\n";
 
 /// What these commands give in an empty repository.

@@ -33,7 +33,7 @@ frob
 save r0
 delete #0"#;
 
-/// What it prints.
+/// What the script prints.
 const PRINTED: &str = r#"r0
 ok
 refused 18 DOCUMENT 1 SYNTAX
@@ -52,7 +52,7 @@ told A2 REMOVING_ADAPTER #0 A2 null 0
 released A2 told 2 kept 2
 "#;
 
-/// Runs the script a byte at a time with a store of links.
+/// Runs the script with a store of links; each read and write moves one byte.
 fn check_narrow<L: LinkStore, H: Abort>(rt: &H, alloc: Global) -> Result<(), Fail> {
     let mut reader = OneByte::new(SCRIPT, SCRIPT.len() + 1);
     let mut writer = Narrow::new(alloc, PRINTED.len(), true);

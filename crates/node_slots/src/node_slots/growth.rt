@@ -24,7 +24,7 @@ pub struct PutPlaces {
 }
 
 impl NodeSlots {
-    /// How many values more of an end come with no memory taken.
+    /// How many more values an end can take without memory.
     #[tactic(auto, unfolding(crate::specs::Cells::room))]
     fn places(&self, end: End) -> usize
         ensures { result ≡ (room self.now).places end }
@@ -35,7 +35,7 @@ impl NodeSlots {
         }
     }
 
-    /// How many ends more that hold a node come with no memory taken.
+    /// How many more ends that hold a node can be kept without memory.
     #[tactic(auto, unfolding(crate::specs::Cells::room))]
     fn entries(&self, node: Node) -> usize
         ensures { result ≡ (room self.now).entries node }
@@ -196,8 +196,8 @@ impl NodeSlots {
         }
     }
 
-    /// Reserves capacity for a plan, in place of what was reserved for an earlier one at the same ends. Errs only if memory is
-    /// refused; no value changes.
+    /// Reserves capacity for a plan, in place of the capacity that was reserved for an earlier plan at the same ends. Errs only if memory
+    /// is refused; no value changes.
     pub fn reserve_for(&mut self, plan: &Plan) -> Result<(), AllocError>
         ensures cells { cells self.new ≡ cells self.old }
         ensures ok { OnOk result (HasRoom (room self.new) plan.now) }
@@ -210,8 +210,8 @@ impl NodeSlots {
         Ok(())
     }
 
-    /// Reserves capacity for one link, beside what was reserved before, and returns the indexes of the rows of both nodes. Errs only if
-    /// memory is refused; no value changes.
+    /// Reserves capacity for one link, in addition to the capacity that was reserved before, and returns the indexes of the rows of both
+    /// nodes. Errs only if memory is refused; no value changes.
     pub fn reserve_put(&mut self, link: NewLink) -> Result<PutPlaces, AllocError>
         ensures cells { cells self.new ≡ cells self.old }
         ensures near { IfOk result (λ p. row_index_of self.new link.end.node ≡ Some p.near) }

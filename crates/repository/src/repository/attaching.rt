@@ -22,11 +22,11 @@ use models::node_refusal;
 use std::mem;
 
 impl<L: LinkStore, A: Adapter> Repository<L, A> {
-    /// Attaches an adapter to a node, its first target, last in attach order (EMF: Notifier.eAdapters().add). A deep one is also
-    /// notified of what happens below the node.
+    /// Attaches an adapter to a node, which is its first target, last in attach order (EMF: Notifier.eAdapters().add). A deep adapter is
+    /// also notified of changes below the node.
     ///
     /// Refused, the first that applies: `NoObject`, `NoResource`, `Limit` if there are 100,000 targets, `AdapterTaken` if the number is
-    /// attached, `AdapterFull` if it can't count its last notification, `Memory`. A refused adapter comes back as it was.
+    /// attached, `AdapterFull` if it can't count its last notification, `Memory`. A refused adapter is given back as it was.
     pub fn attach(
         &mut self,
         no: AdapterNo,
@@ -49,13 +49,13 @@ impl<L: LinkStore, A: Adapter> Repository<L, A> {
         Ok(reply(self.alloc, Answer::Done))
     }
 
-    /// Gives an adapter one target more, flat or deep (EMF: Notifier.eAdapters().add of an adapter that is attached elsewhere). However
-    /// many of its targets bring a notification in, it gets it once. Returns false, and nothing changes, if the node is a target of it
-    /// already; whether that one is deep stays as it is.
+    /// Gives an adapter one more target, flat or deep (EMF: Notifier.eAdapters().add of an adapter that is attached elsewhere). It gets a
+    /// notification once, however many of its targets bring the notification in. If the node is a target of it already, returns false and
+    /// nothing changes; a flat target stays flat, and a deep one deep.
     ///
     /// Refused, the first that applies: `NoObject`, `NoResource`, `Limit` if there are 100,000 targets, `NoAdapter` if the number is not
-    /// attached, `AdapterFull` if it can't count a last notification from each target, `Memory`. At a node that is a target of it only the
-    /// first two apply.
+    /// attached, `AdapterFull` if it can't count a last notification from each target, `Memory`. If the node is a target of it already,
+    /// only the first two apply.
     pub fn watch(&mut self, no: AdapterNo, target: Node, deep: bool) -> Result<Reply<A>, Refused>
         ensures { Executed self.old (Watch no target deep) (change_outcome (changed_view A.heard result)) self.new }
     {
@@ -70,8 +70,8 @@ impl<L: LinkStore, A: Adapter> Repository<L, A> {
         Ok(reply(self.alloc, Answer::Flag(added)))
     }
 
-    /// Takes one target from an adapter: it is notified of REMOVING_ADAPTER, its last notification from there, and comes back if that was
-    /// its last target (EMF: Notifier.eAdapters().remove). Returns false, and nobody is notified, if the node is no target of it.
+    /// Takes one target from an adapter: it is notified with REMOVING_ADAPTER, its last notification from there, and is given back if that
+    /// was its last target (EMF: Notifier.eAdapters().remove). If the node is no target of it, returns false and no adapter is notified.
     ///
     /// Refused, the first that applies: `NoObject`, `NoResource`, `NoAdapter` if the number is not attached, `Memory`.
     pub fn unwatch(&mut self, no: AdapterNo, target: Node) -> Result<Reply<A>, Refused>
@@ -90,8 +90,8 @@ impl<L: LinkStore, A: Adapter> Repository<L, A> {
         self.release(spots, answer)
     }
 
-    /// Detaches an adapter from all its targets, in the order in which it got them: it is notified of REMOVING_ADAPTER from each, and
-    /// comes back (EMF: Notifier.eAdapters().remove).
+    /// Detaches an adapter from all its targets, in the order in which it got them: it is notified with REMOVING_ADAPTER from each, and is
+    /// given back (EMF: Notifier.eAdapters().remove).
     ///
     /// Refused with `NoAdapter` if the number is not attached, or `Memory`.
     pub fn detach(&mut self, no: AdapterNo) -> Result<Reply<A>, Refused>
@@ -106,7 +106,7 @@ impl<L: LinkStore, A: Adapter> Repository<L, A> {
         self.release(spots, Answer::Done)
     }
 
-    /// Releases targets, and gives this answer. Refused with `Memory` alone.
+    /// Releases targets, and gives this answer. Only `Memory` refuses it.
     fn release(
         &mut self,
         spots: Vec<(AdapterNo, Node)>,
@@ -150,8 +150,8 @@ impl<L: LinkStore, A: Adapter> Repository<L, A> {
         }
     }
 
-    /// Gives every adapter back, in attach order: each is notified of REMOVING_ADAPTER from each of its targets, and is gone before
-    /// the next one is notified. Takes no memory.
+    /// Gives every adapter back, in attach order: each is notified with REMOVING_ADAPTER from each of its targets, and is gone before the
+    /// next adapter is notified. Takes no memory.
     pub fn close(self) -> Vec<(AdapterNo, A)>
         ensures { map (λ b. (b.0, A.heard b.1)) result.items ≡ closed self }
     {
@@ -159,8 +159,8 @@ impl<L: LinkStore, A: Adapter> Repository<L, A> {
         adapters.close()
     }
 
-    /// Gives every adapter back as `close` does, in a process that ends next: the memory of objects, values and links is left to the end of
-    /// the process. To give it back block by block takes about as long as to get it. Takes no memory.
+    /// Gives every adapter back as `close` does, for a process that is about to end. The memory of objects, values and links is not freed,
+    /// since freeing it block by block takes about as long as allocating it. Takes no memory.
     pub fn close_at_exit(self) -> Vec<(AdapterNo, A)>
         ensures { map (λ b. (b.0, A.heard b.1)) result.items ≡ closed self }
     {
@@ -176,7 +176,7 @@ impl<L: LinkStore, A: Adapter> Repository<L, A> {
     }
 }
 
-/// A refused adapter, as the failure of the command that brought it.
+/// A refused adapter, as the failure of the command that was given it.
 fn failure<A>(refused: AttachRefused<A>) -> Failure<A>
     ensures { result ≡ record { refused = refused.reason; given_back = Some refused.adapter } }
 {

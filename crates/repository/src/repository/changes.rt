@@ -3,7 +3,7 @@ ghost use Rattle.std.specs.Prelude.{◌≡◌, ℕ, List, [], None, Some, false,
 ghost use Rattle.mm_types.specs.Shapes.{shape};
 ghost use Rattle.adapter_list.specs.Hearing.{IsUnheard};
 ghost use Rattle.handshake.specs.FeatureChanges.{chain};
-ghost use Rattle.handshake.specs.Changes.{edits_values_alone};
+ghost use Rattle.handshake.specs.Changes.{edits_links_alone, edits_values_alone};
 ghost use Rattle.handshake.specs.declared.change.Change.{Change};
 ghost use Rattle.handshake.specs.Refusals.{early_refusal as early_refusal_of};
 ghost use Rattle.repository.specs.Run.{Executed, change_outcome};
@@ -12,22 +12,21 @@ ghost use Rattle.repository.specs.Views.{changed_view, command_of};
 ghost use Rattle.repository.specs.Commands as commands;
 ghost use Rattle.repository.specs.declared.command.Command.TheVariants.{At, Create, Delete};
 ghost use Rattle.handshake.specs.declared.act.Act.TheVariants.{Set};
-ghost use Rattle.repository.specs.Prepared.{IsPrepared};
 ghost use Rattle.repository.specs.Proper.{IsProper};
 
 use super::Repository;
-use crate::leaving::notify;
-use crate::preparing::{Prepared, prepare, prepare_values, reserve};
-use crate::remembered::forget_touched;
+use crate::preparing::{Prepared, prepare, prepare_links, prepare_values};
 use crate::replies::{replied_done, replied_object, reply};
-use crate::reply::Reply;
+use crate::reply::{Answer, Reply};
 use adapters::Adapter;
+use change_plans::{attribute_refusal, plan_set};
 use handshake::{Act, Change, early_refusal};
 use links::LinkStore;
-use mm_types::{ClassNo, End, FeatureNo, Node, ObjectNo, Refused, Seq, Value};
+use mm_types::{ClassNo, End, FeatureNo, Node, ObjectNo, Refused, Value};
+use mm_values::ValuePlan;
 
 impl<L: LinkStore, A: Adapter> Repository<L, A> {
-    /// Makes an object of a class, each of whose attributes has its default (EMF: EFactory.create). Notifies nobody.
+    /// Makes an object of a class; each of its attributes has its default (EMF: EFactory.create). Notifies no adapter.
     ///
     /// Refused, the first that applies: `NoClass`, `Abstract`, `Limit` if 1,000,000 objects were made, `Memory`.
     pub fn create(&mut self, class: ClassNo) -> Result<Reply<A>, Refused>
@@ -36,14 +35,14 @@ impl<L: LinkStore, A: Adapter> Repository<L, A> {
         replied_object(self.alloc, self.create_object(class))
     }
 
-    /// Sets a single feature of an object (EMF: EObject.eSet). A reference's opposite follows, what the new link displaces is cut at both
-    /// ends, and an object that is put into a container leaves the one that it was in. Notifies the adapters at each end that changes, and
-    /// the deep ones above it: of the displaced links' losses, of the opposite's gain, and of the feature itself with SET, even if the
-    /// value is the one that it had.
+    /// Sets a single feature of an object (EMF: EObject.eSet). A reference's opposite follows. Links that the new link displaces are cut at
+    /// both ends, and an object that is put into a container leaves its former container. Notifies the adapters at each end that changes,
+    /// and the deep adapters above it: of the losses of displaced links, of the gain at the opposite, and of the feature itself with SET,
+    /// even if it had the value already.
     ///
     /// Refused, the first that applies: `NoObject` if the node or the value is an object that does not live, `NoResource`, `NoFeature`,
-    /// `NotSingle` if the feature has a list, `WrongType`, `TextLength` above 65,535 bytes, `Bound` if the opposite list has as many values
-    /// as its upper bound, `Recursive` if an object would contain itself, through however many others, `Limit` if the opposite list has
+    /// `NotSingle` if the feature is many-valued, `WrongType`, `TextLength` above 65,535 bytes, `Bound` if the opposite list has as many
+    /// values as its upper bound, `Recursive` if an object would contain itself, directly or not, `Limit` if the opposite list has
     /// 1,000,000 values, `AdapterFull` if an adapter can't count its notifications and its last one, `Memory`.
     pub fn e_set(
         &mut self,
@@ -60,12 +59,12 @@ impl<L: LinkStore, A: Adapter> Repository<L, A> {
         if !self.is_heard(node) {
             return replied_done(self.alloc, self.set_value(end, value));
         }
-        self.change(Change::At(end, Act::Set(value)))
+        self.set_heard(end, value)
     }
 
-    /// Takes a feature of an object back to its default (EMF: EObject.eUnset), a reference to null, and its opposite with it; a list is
-    /// emptied. Notifies the adapters at each opposite, and those at the feature with UNSET, whether it was set or not, or
-    /// with one REMOVE for each value of a list, from the last to the first.
+    /// Unsets a feature of an object (EMF: EObject.eUnset): a single attribute gets its default, a single reference becomes null, a list
+    /// becomes empty, and the opposites follow. Notifies the adapters at each opposite. Then it notifies the adapters at the feature: of a
+    /// single feature with UNSET, whether it was set or not; of a list with one REMOVE for each value, from the last to the first.
     ///
     /// Refused, the first that applies: `NoObject`, `NoResource`, `NoFeature`, `AdapterFull`, `Memory`.
     pub fn e_unset(&mut self, node: Node, feature: FeatureNo) -> Result<Reply<A>, Refused>
@@ -74,10 +73,10 @@ impl<L: LinkStore, A: Adapter> Repository<L, A> {
         self.change(Change::At(End { node, feature }, Act::Unset))
     }
 
-    /// Destroys an object and all that is below it, and takes them out of every end that holds them (EMF: EcoreUtil.delete, recursively).
-    /// Their numbers are given to no other object. Notifies the adapters at each end of another node that loses something, by feature
-    /// number, then by node, then by position, and last at the end that contained the object. Then the targets that are destroyed go: each
-    /// adapter is notified of that, and handed out if it has no other target. Returns how many objects were destroyed.
+    /// Destroys an object and all objects below it, and takes them out of every end that holds them (EMF: EcoreUtil.delete, recursively).
+    /// No other object ever gets their numbers. Notifies the adapters at each end of another node that loses a value, by feature number,
+    /// then by node, then by position, and last at the end that contained the object. Then the targets that are destroyed are taken away:
+    /// each of their adapters is notified of that, and given back if it has no other target. Returns how many objects were destroyed.
     ///
     /// Refused, the first that applies: `NoObject`, `AdapterFull`, `Memory`.
     pub fn delete(&mut self, object: ObjectNo) -> Result<Reply<A>, Refused>
@@ -86,7 +85,7 @@ impl<L: LinkStore, A: Adapter> Repository<L, A> {
         self.change(Change::Delete(object))
     }
 
-    /// Carries out a change without a document, unless a condition refuses it that needs no memory.
+    /// Carries out a change without a document, unless a condition that is checked without memory refuses it.
     pub(super) fn change(&mut self, change: Change) -> Result<Reply<A>, Refused>
         requires proper { IsProper (reads self.old) [] change }
         ensures { Executed self.old (command_of [] change) (change_outcome (changed_view A.heard result)) self.new }
@@ -97,11 +96,14 @@ impl<L: LinkStore, A: Adapter> Repository<L, A> {
         if change.edits_values_alone(&self.meta) {
             return self.change_values(change);
         }
+        if change.edits_links_alone(&self.meta) {
+            return self.change_links(change);
+        }
         self.carry_out(change)
     }
 
-    /// A change that edits values alone. Attributes are what most commands change: if it notifies no adapter, the edits are made as their
-    /// memory is taken, and no reply is prepared.
+    /// A change that edits only values. Most commands change attributes, so there is a short way: if the change notifies no adapter, the
+    /// edits are made as their memory is taken, and no reply is prepared.
     fn change_values(&mut self, change: Change) -> Result<Reply<A>, Refused>
         requires proper { IsProper (reads self.old) [] change }
         requires asked { early_refusal_of (reads self.old) change ≡ None }
@@ -115,8 +117,7 @@ impl<L: LinkStore, A: Adapter> Repository<L, A> {
             Err(refused) => return Err(refused),
         };
         if is_heard {
-            let prepared = prepared.into_prepared(self.alloc);
-            return self.finish(prepared);
+            return self.tell_values(prepared.answer, prepared.values, prepared.chain);
         }
         match self.values.try_apply(prepared.values) {
             Ok(()) => {}
@@ -125,7 +126,22 @@ impl<L: LinkStore, A: Adapter> Repository<L, A> {
         Ok(reply(self.alloc, prepared.answer))
     }
 
-    /// Whether an adapter is notified of a change that edits values alone: a new object notifies none.
+    /// A set of an attribute that may notify an adapter.
+    fn set_heard(&mut self, end: End, value: Value) -> Result<Reply<A>, Refused>
+        requires attribute { (shape self.old.model.metamodel end.feature).is_reference ≡ false }
+        ensures { Executed self.old (At end (Set value)) (change_outcome (changed_view A.heard result)) self.new }
+    {
+        let model = self.model();
+        if let Some(refused) = attribute_refusal(&model, end, &value) {
+            return Err(refused);
+        }
+        match plan_set(self.alloc, &model, end, value) {
+            Ok((values, chain)) => self.tell_values(Answer::Done, values, chain),
+            Err(_) => Err(Refused::Memory),
+        }
+    }
+
+    /// Whether an adapter is notified of a change that edits only values: a new object notifies none.
     fn hears_values(&self, change: &Change) -> bool
         requires values { edits_values_alone self.now.model.metamodel change.now ≡ true }
         ensures { result ≡ false → IsUnheard (reads self.now).above (chain (reads self.now) change.now) self.now.adapters }
@@ -138,16 +154,41 @@ impl<L: LinkStore, A: Adapter> Repository<L, A> {
 
     /// A set of a reference.
     fn set_link(&mut self, end: End, value: Value) -> Result<Reply<A>, Refused>
+        requires reference { (shape self.old.model.metamodel end.feature).is_reference ≡ true }
         ensures { Executed self.old (At end (Set value)) (change_outcome (changed_view A.heard result)) self.new }
     {
         match self.set_lone_link(end, &value) {
             Some(outcome) => replied_done(self.alloc, outcome),
-            None => self.carry_out(Change::At(end, Act::Set(value))),
+            None => self.change_links(Change::At(end, Act::Set(value))),
         }
     }
 
-    /// Plans a change, and makes it. A change that loads a document is done as `load` of each text that is read as this document. It is
-    /// never inlined into `change`, which would then zero its large stack frame for each change of attributes.
+    /// A change that edits only links: a reference of one node. It destroys nothing, so no target is taken away.
+    #[inline(never)]
+    pub(super) fn change_links(&mut self, change: Change) -> Result<Reply<A>, Refused>
+        requires proper { IsProper (reads self.old) [] change }
+        requires asked { early_refusal_of (reads self.old) change ≡ None }
+        requires links { edits_links_alone self.old.model.metamodel change ≡ true }
+        ensures { Executed self.old (command_of [] change) (change_outcome (changed_view A.heard result)) self.new }
+    {
+        let model = self.model();
+        let prepared = match prepare_links(self.alloc, &model, &self.adapters, &change) {
+            Ok(prepared) => prepared,
+            Err(refused) => return Err(refused),
+        };
+        let values = ValuePlan::none(self.alloc);
+        let spots = Vec::new(self.alloc);
+        self.finish(
+            prepared.answer,
+            prepared.edits,
+            values,
+            prepared.chain,
+            spots,
+        )
+    }
+
+    /// Plans a change, and makes it. For a change that loads a document, it does what `load` does for each text that is read as this
+    /// document. It is never inlined into `change`, which would then zero its large stack frame for each change of attributes.
     #[inline(never)]
     pub(super) fn carry_out(&mut self, change: Change) -> Result<Reply<A>, Refused>
         requires proper { (text : List ℕ) × IsProper (reads self.old) text change }
@@ -159,48 +200,11 @@ impl<L: LinkStore, A: Adapter> Repository<L, A> {
             Ok(prepared) => prepared,
             Err(refused) => return Err(refused),
         };
-        self.finish(prepared)
-    }
-
-    /// Makes a change that is ready: takes all memory, and all capacity at adapters, that it needs, and then edits and notifies, which
-    /// can't fail.
-    fn finish(&mut self, prepared: Prepared) -> Result<Reply<A>, Refused>
-        requires ready { (text : List ℕ) × (change : Change) × IsPrepared self.old text change prepared }
-        ensures { (text : List ℕ) (change : Change) → IsPrepared self.old text change prepared → Executed self.old (command_of text change) (change_outcome (changed_view A.heard result)) self.new }
-    {
         let Prepared {
             answer,
             spots,
             planned,
         } = prepared;
-        let (round, leaving) = match reserve(
-            self.alloc,
-            &mut self.store,
-            &mut self.values,
-            &mut self.adapters,
-            &planned,
-            spots,
-            &mut self.hearers,
-        ) {
-            Ok(reserved) => reserved,
-            Err(refused) => return Err(refused),
-        };
-        forget_touched(
-            &mut self.paths,
-            &mut self.hearers,
-            &self.meta,
-            &planned.edits,
-            leaving.is_some(),
-        );
-        // The edits.
-        self.store.apply(planned.edits);
-        self.values.apply(planned.values);
-        // The notifications, and then the last ones from the targets that go.
-        let (told, released) = notify(self.alloc, &mut self.adapters, round, leaving);
-        Ok(Reply {
-            answer,
-            told: Seq::from_vec(told),
-            released: Seq::from_vec(released),
-        })
+        self.finish(answer, planned.edits, planned.values, planned.chain, spots)
     }
 }

@@ -23,6 +23,18 @@ impl<L: LinkStore, A: Adapter> Repository<L, A> {
     {
         match command {
             Command::At(end, act) => outcome(self.act(end, act)),
+            command => self.execute_other(command),
+        }
+    }
+
+    /// `execute` of a command of any kind. It is a function of its own, since its stack frame has a part for each kind of command, and is
+    /// zeroed at each call.
+    #[inline(never)]
+    fn execute_other(&mut self, command: Command<A>) -> Result<Reply<A>, Failure<A>>
+        ensures { Executed self.old (command_view A.heard command) (outcome_view A.heard result) self.new }
+    {
+        match command {
+            Command::At(end, act) => outcome(self.act(end, act)),
             Command::Create(class) => outcome(self.create(class)),
             Command::Delete(object) => outcome(self.delete(object)),
             Command::CreateResource(text) => outcome(self.create_resource(text.as_str())),
@@ -46,7 +58,7 @@ impl<L: LinkStore, A: Adapter> Repository<L, A> {
         }
     }
 
-    /// Changes what a feature of a node has, as the call of the act's name does: `e_set`, `e_unset`, `add`, `remove`, `remove_value`,
+    /// Changes the values of a feature of a node, as the call for the act does: `e_set`, `e_unset`, `add`, `remove`, `remove_value`,
     /// `move_to` or `resolve`. Refused as that call is.
     pub fn act(&mut self, end: End, act: Act) -> Result<Reply<A>, Refused>
         ensures { Executed self.old (At end act) (change_outcome (changed_view A.heard result)) self.new }
@@ -58,8 +70,8 @@ impl<L: LinkStore, A: Adapter> Repository<L, A> {
         }
     }
 
-    /// Answers what is asked, as the call of its name does: `e_get`, `e_is_set`, `e_class`, `e_container`, `e_resource`, `validate`,
-    /// `fragment`, `e_contents`, `snapshot`, `save`, `object_at`, `adapter_told` or `adapter_kept`. Refused as that call is.
+    /// Answers a read, as the call for it does: `e_get`, `e_is_set`, `e_class`, `e_container`, `e_resource`, `validate`, `fragment`,
+    /// `e_contents`, `snapshot`, `save`, `object_at`, `adapter_told` or `adapter_kept`. Refused as that call is.
     pub fn read(&self, read: Read) -> Result<Answer, Refused>
         ensures { Executed self.now (command.Read read) (answered_outcome result) self.now }
     {
@@ -98,8 +110,8 @@ impl<L: LinkStore, A: Adapter> Repository<L, A> {
         }
     }
 
-    /// Does commands one after another, refused ones among them. If there is no memory for their outcomes, the
-    /// commands come back, and none was done.
+    /// Does commands one after another, and goes on after a refused one. If there is no memory for their outcomes, the
+    /// commands are given back, and none was done.
     pub fn run_all(
         &mut self,
         commands: Vec<Command<A>>,

@@ -22,17 +22,17 @@ use std::alloc::AllocError;
 use web_uris::split_address;
 
 impl<L: LinkStore, A: Adapter> Repository<L, A> {
-    /// The fragment of an object in its resource (EMF: Resource.getURIFragment), as `//@books.0`: the way to it from a root, whose position
-    /// is left out if the resource has one root.
+    /// The fragment of an object in its resource (EMF: Resource.getURIFragment), as `//@books.0`: the path to it from a root. The root's
+    /// position is left out if the resource has one root.
     ///
-    /// Refused, the first that applies: `NoObject` if none lives, `Dangling` if the object is in no resource, `Memory`.
+    /// Refused, the first that applies: `NoObject` if no live object has the number, `Dangling` if the object is in no resource, `Memory`.
     pub fn fragment(&self, object: ObjectNo) -> Result<Text, Refused>
         ensures { Executed self.now (commands.fragment object) (read_outcome answer.Fragment result) self.now }
     {
         self.fragment_now(object)
     }
 
-    /// The same, and that what is returned is the fragment.
+    /// The same as `fragment`; its contract also says that the text is the fragment.
     #[tactic(auto, using(crate::proofs::DocumentLemmas::fragment_read))]
     fn fragment_now(&self, object: ObjectNo) -> Result<Text, Refused>
         ensures executed { Executed self.now (commands.fragment object) (read_outcome answer.Fragment result) self.now }
@@ -60,8 +60,7 @@ impl<L: LinkStore, A: Adapter> Repository<L, A> {
         }
     }
 
-    /// The same as `fragment`. Besides, the answer is remembered while no containing link changes, for up to 1,024 objects, so that it need
-    /// not be computed again.
+    /// The same as `fragment`, but the answer is remembered until a containing link changes, for up to 1,024 objects.
     fn remembered_fragment(&mut self, object: ObjectNo) -> Result<Text, Refused>
         ensures { Executed self.old (commands.fragment object) (read_outcome answer.Fragment result) self.new }
     {
@@ -72,7 +71,7 @@ impl<L: LinkStore, A: Adapter> Repository<L, A> {
         Ok(fragment)
     }
 
-    /// What `remembered_fragment` answers, as a reply.
+    /// The result of `remembered_fragment`, as a reply.
     pub(super) fn fragment_reply(&mut self, object: ObjectNo) -> Result<Reply<A>, Refused>
         ensures { Executed self.old (commands.fragment object) (change_outcome (changed_view A.heard result)) self.new }
     {
@@ -81,7 +80,7 @@ impl<L: LinkStore, A: Adapter> Repository<L, A> {
     }
 
     /// The object at an address, the URI of a resource, `#` and a fragment (EMF: ResourceSet.getEObject, without loading); `None` if no
-    /// resource has the URI, or nothing is there.
+    /// resource has the URI, or no object is at that address.
     ///
     /// Refused, the first that applies: `TextLength` above 65,535 bytes, `BadUri` if the text has no `#`, `Memory`.
     #[tactic(auto, using(crate::proofs::DocumentLemmas::object_found))]
@@ -106,7 +105,7 @@ impl<L: LinkStore, A: Adapter> Repository<L, A> {
     #[tactic(auto, using(crate::proofs::QuietLemmas::save_done))]
     pub fn save(&self, resource: ResourceNo) -> Result<Text, Refused>
         ensures executed { Executed self.now (commands.save resource) (read_outcome answer.Document result) self.now }
-        // The text is read back as the document: the premise of what is proved of reloading.
+        // The text is read back as the document; the laws of reloading have this as a premise.
         ensures reads { IfOk result (λ t. IsReadAs (reads self.now) resource t) }
         ensures utf8 { IfOk result (λ t. is_utf8 t ≡ true) }
     {

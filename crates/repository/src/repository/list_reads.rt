@@ -14,7 +14,7 @@ use models::{Found, end_refusal};
 impl<L: LinkStore, A: Adapter> Repository<L, A> {
     /// How many values a list has (EMF: EList.size). Takes no memory.
     ///
-    /// Refused, the first that applies: `NoObject`, `NoResource`, `NoFeature`, `NotMany` if the feature has one value.
+    /// Refused, the first that applies: `NoObject`, `NoResource`, `NoFeature`, `NotMany` if the feature is single.
     pub fn list_len(&self, node: Node, feature: FeatureNo) -> Result<u32, Refused>
         ensures { result ≡ l.list_len (reads self.now) (at_end node feature) }
     {
@@ -27,8 +27,8 @@ impl<L: LinkStore, A: Adapter> Repository<L, A> {
 
     /// The value at an index of a list (EMF: EList.get), borrowed from where it is kept. Takes no memory.
     ///
-    /// Refused, the first that applies: `NoObject`, `NoResource`, `NoFeature`, `NotMany` if the feature has one value, `Index` if nothing
-    /// is there.
+    /// Refused, the first that applies: `NoObject`, `NoResource`, `NoFeature`, `NotMany` if the feature is single, `Index` if there is no
+    /// such value.
     pub fn list_value(
         &self,
         node: Node,
@@ -48,7 +48,7 @@ impl<L: LinkStore, A: Adapter> Repository<L, A> {
         }
     }
 
-    /// Why there is no list at an end: what is named is not there, or the feature has one value.
+    /// Why there is no list at an end: something that is named is not there, or the feature is single.
     fn list_refusal(&self, end: End) -> Option<Refused>
         ensures { MatchOption result (l.list_at (reads self.now) end ≡ Ok ((reads self.now).values end)) (λ r. l.list_at (reads self.now) end ≡ Err r) }
     {

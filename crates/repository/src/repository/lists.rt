@@ -1,4 +1,6 @@
 //! Changes of the lists of objects.
+ghost use Rattle.std.specs.Prelude.{◌≡◌, true};
+ghost use Rattle.mm_types.specs.Shapes.{shape};
 ghost use Rattle.repository.specs.Run.{Executed, change_outcome};
 ghost use Rattle.repository.specs.Views.{changed_view};
 ghost use Rattle.handshake.specs.declared.act.Act.TheVariants.{Add};
@@ -14,14 +16,14 @@ use links::LinkStore;
 use mm_types::{End, FeatureNo, Node, Refused, Value};
 
 impl<L: LinkStore, A: Adapter> Repository<L, A> {
-    /// Adds a value to a list, before the one at an index, or at the end (EMF: EList.add). A reference's opposite follows, what the new
-    /// link displaces is cut at both ends, and an object that is put into a container leaves the one that it was in. Returns whether the
-    /// list changed: adding a value at the end that a unique list has already changes nothing and notifies nobody. Notifies as `e_set`
-    /// does, at the feature itself with ADD.
+    /// Adds a value to a list, before the value at an index, or at the end (EMF: EList.add). A reference's opposite follows. Links that the
+    /// new link displaces are cut at both ends, and an object that is put into a container leaves its former container. Returns whether the
+    /// list changed: if a unique list has the value already, adding it at the end changes nothing and notifies no adapter. Notifies as
+    /// `e_set` does, at the feature itself with ADD.
     ///
     /// Refused, the first that applies: `NoObject` if the node or the value is an object that does not live, `NoResource`, `NoFeature`,
-    /// `NotMany` if the feature has one value, `WrongType`, `TextLength` above 65,535 bytes, `Index` above the length, `Duplicate` if a
-    /// unique list has the value that is to be at an index, `Bound` if the list, or the opposite one, has as many values as its upper
+    /// `NotMany` if the feature is single, `WrongType`, `TextLength` above 65,535 bytes, `Index` above the length, `Duplicate` if a unique
+    /// list already has the value that is added at an index, `Bound` if the list, or the opposite one, has as many values as its upper
     /// bound, `Recursive` if an object would contain itself, `Limit` if one of the two has 1,000,000 values, `AdapterFull`, `Memory`.
     pub fn add(
         &mut self,
@@ -42,7 +44,7 @@ impl<L: LinkStore, A: Adapter> Repository<L, A> {
     /// Takes the value at an index out of a list, and returns it (EMF: EList.remove). A link is cut at both ends. Notifies the adapters at
     /// the opposite, and those at the list with REMOVE.
     ///
-    /// Refused, the first that applies: `NoObject`, `NoResource`, `NoFeature`, `NotMany`, `Index` if nothing is there, `AdapterFull`,
+    /// Refused, the first that applies: `NoObject`, `NoResource`, `NoFeature`, `NotMany`, `Index` if there is no such value, `AdapterFull`,
     /// `Memory`.
     pub fn remove(
         &mut self,
@@ -56,7 +58,7 @@ impl<L: LinkStore, A: Adapter> Repository<L, A> {
     }
 
     /// Takes the first occurrence of a value out of a list, and returns whether there was one (EMF: EList.remove). If there was none,
-    /// nothing changes and nobody is notified. Notifies as `remove` does.
+    /// nothing changes and no adapter is notified. Notifies as `remove` does.
     ///
     /// Refused, the first that applies: `NoObject` if the node or the value is an object that does not live, `NoResource`, `NoFeature`,
     /// `NotMany`, `WrongType`, `TextLength`, `AdapterFull`, `Memory`.
@@ -74,8 +76,8 @@ impl<L: LinkStore, A: Adapter> Repository<L, A> {
     /// Moves the value at `from` of a list, so that it is then at `to`, and returns it (EMF: EList.move). Notifies the adapters at the list
     /// with MOVE, even if both indexes are the same; the opposite ends stay as they are.
     ///
-    /// Refused, the first that applies: `NoObject`, `NoResource`, `NoFeature`, `NotMany`, `Index` if nothing is at one of the two indexes,
-    /// `AdapterFull`, `Memory`.
+    /// Refused, the first that applies: `NoObject`, `NoResource`, `NoFeature`, `NotMany`, `Index` if one of the two indexes is past the
+    /// last value, `AdapterFull`, `Memory`.
     pub fn move_to(
         &mut self,
         node: Node,
@@ -90,11 +92,12 @@ impl<L: LinkStore, A: Adapter> Repository<L, A> {
 
     /// An addition to a reference.
     fn add_link(&mut self, end: End, value: Value, index: Option<u32>) -> Result<Reply<A>, Refused>
+        requires reference { (shape self.old.model.metamodel end.feature).is_reference ≡ true }
         ensures { Executed self.old (At end (Add value index)) (change_outcome (changed_view A.heard result)) self.new }
     {
         match self.add_lone_link(end, &value, index) {
             Some(outcome) => replied_added(self.alloc, outcome),
-            None => self.carry_out(Change::At(end, Act::Add(value, index))),
+            None => self.change_links(Change::At(end, Act::Add(value, index))),
         }
     }
 }

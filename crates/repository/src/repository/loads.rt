@@ -16,10 +16,10 @@ use models::{ModelRef, contents_end};
 use resource_docs::read_doc;
 
 impl<L: LinkStore, A: Adapter> Repository<L, A> {
-    /// Makes what a document says in an empty resource (EMF: Resource.load), `bytes` as JSON: its objects with their values, links and
-    /// proxies, or nothing. The objects get the next numbers, root by root, each before what it contains, by feature in the order of all
-    /// features of its class, then by position. Both ends of a pair take the order that the document gives. Returns how many objects were
-    /// made. Notifies the adapters at the resource with one ADD on `contents` for each root.
+    /// Loads a document, `bytes` as JSON, into an empty resource (EMF: Resource.load): all its objects with their values, links and
+    /// proxies, or none. The objects get the next numbers, root by root, each before its contents, by feature in the order of all features
+    /// of its class, then by position. At both ends of a pair the links have the order that the document gives. Returns how many objects
+    /// were made. Notifies the adapters at the resource with one ADD on `contents` for each root.
     ///
     /// Refused, the first that applies: `NoResource`; `Limit` if the document has no fault and more objects than can be made; `NotEmpty` if
     /// the resource has roots; `Document` with the cause for which the document can't be read; `AdapterFull`, `Memory`.
@@ -38,7 +38,7 @@ impl<L: LinkStore, A: Adapter> Repository<L, A> {
     }
 }
 
-/// What is returned if a document has a fault: it comes last.
+/// The refusal if a document has a fault; the fault comes last.
 fn fault_refusal<L: LinkStore>(
     model: &ModelRef<L>,
     resource: ResourceNo,

@@ -21,8 +21,8 @@ use models::{Found, copied, copied_list, end_refusal, node_refusal, object_refus
 use snapshots::Snapshot;
 
 impl<L: LinkStore, A: Adapter> Repository<L, A> {
-    /// What a feature of an object has (EMF: EObject.eGet): one value, which was set, or the default, or the object of a reference; or the
-    /// values of a list.
+    /// What a feature of an object holds (EMF: EObject.eGet): for a single attribute the value that was set or the default, for a single
+    /// reference its object, and for a many-valued feature its list.
     ///
     /// Refused, the first that applies: `NoObject`, `NoResource`, `NoFeature`, `Memory`.
     #[tactic(auto, using(crate::proofs::QuietLemmas::get_done))]
@@ -42,9 +42,10 @@ impl<L: LinkStore, A: Adapter> Repository<L, A> {
         Ok(FeatureValue::Many(values))
     }
 
-    /// The value that `e_get` returns of a feature of one value, borrowed from where it is kept; `None` stands for null. Takes no memory.
+    /// The value that `e_get` returns for a single feature, borrowed from the place in which it is kept; `None` stands for null. Takes no
+    /// memory.
     ///
-    /// Refused, the first that applies: `NoObject`, `NoResource`, `NoFeature`, `NotSingle` if the feature has a list.
+    /// Refused, the first that applies: `NoObject`, `NoResource`, `NoFeature`, `NotSingle` if the feature is many-valued.
     #[tactic(auto, using(crate::proofs::QuietLemmas::get_done))]
     pub fn value(&self, node: Node, feature: FeatureNo) -> Result<Option<Found<'_>>, Refused>
         ensures ok { IfOk result (λ v. Executed self.now (commands.get node feature) (read_outcome answer.Value (Ok (unwrap_or (option_map found_value v) Null))) self.now) }
@@ -62,7 +63,7 @@ impl<L: LinkStore, A: Adapter> Repository<L, A> {
     }
 
     /// Whether a feature of an object is set (EMF: EObject.eIsSet): a list if it has values, an unsettable feature if `e_set` was the last
-    /// to change it, any other if its value differs from its default. Takes no memory.
+    /// call that changed it, any other feature if its value differs from its default. Takes no memory.
     ///
     /// Refused, the first that applies: `NoObject`, `NoResource`, `NoFeature`.
     #[tactic(auto, using(crate::proofs::QuietLemmas::is_set_done))]
@@ -78,8 +79,8 @@ impl<L: LinkStore, A: Adapter> Repository<L, A> {
         Ok(model.is_set(end))
     }
 
-    /// The object that contains an object (EMF: EObject.eContainer); `None` if none does. Takes no memory. Refused with `NoObject` if none
-    /// lives.
+    /// The object that contains an object (EMF: EObject.eContainer); `None` if none does. Takes no memory. Refused with `NoObject` if no
+    /// live object has the number.
     #[tactic(auto, using(crate::proofs::QuietLemmas::container_done))]
     pub fn e_container(&self, object: ObjectNo) -> Result<Option<ObjectNo>, Refused>
         ensures read { Executed self.now (commands.container object) (read_outcome answer.Container result) self.now }
@@ -92,8 +93,8 @@ impl<L: LinkStore, A: Adapter> Repository<L, A> {
         Ok(container(&model, object))
     }
 
-    /// The resource that an object is in, through however many objects (EMF: EObject.eResource); `None` if it is in none. Takes no memory.
-    /// Refused with `NoObject` if none lives.
+    /// The resource that an object is in, directly or below other objects (EMF: EObject.eResource); `None` if it is in none. Takes no
+    /// memory. Refused with `NoObject` if no live object has the number.
     #[tactic(auto, using(crate::proofs::QuietLemmas::resource_done))]
     pub fn e_resource(&self, object: ObjectNo) -> Result<Option<ResourceNo>, Refused>
         ensures read { Executed self.now (commands.resource object) (read_outcome answer.Within result) self.now }
@@ -123,7 +124,7 @@ impl<L: LinkStore, A: Adapter> Repository<L, A> {
     }
 
     /// What a node and each node below it have: the class, the values of each feature, and the set flag of each unsettable one. Takes time
-    /// in proportion to what it returns.
+    /// in proportion to the size of its result.
     ///
     /// Refused, the first that applies: `NoObject`, `NoResource`, `Memory`.
     #[tactic(auto, using(crate::proofs::QuietLemmas::snapshot_done))]
@@ -138,7 +139,7 @@ impl<L: LinkStore, A: Adapter> Repository<L, A> {
         Ok(snapshot)
     }
 
-    /// The class of an object (EMF: EObject.eClass). Takes no memory. Refused with `NoObject` if none lives.
+    /// The class of an object (EMF: EObject.eClass). Takes no memory. Refused with `NoObject` if no live object has the number.
     #[tactic(auto, using(crate::proofs::QuietLemmas::class_done))]
     pub fn e_class(&self, object: ObjectNo) -> Result<ClassNo, Refused>
         ensures read { Executed self.now (commands.class object) (read_outcome answer.Class result) self.now }

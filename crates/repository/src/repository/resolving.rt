@@ -12,14 +12,14 @@ use links::LinkStore;
 use mm_types::{End, FeatureNo, Node, ObjectNo, Refused};
 
 impl<L: LinkStore, A: Adapter> Repository<L, A> {
-    /// Puts an object instead of the proxy at an index of a reference, 0 in a single one: the object at the proxy's address (EMF:
-    /// EcoreUtil.resolve). In a reference with an opposite the object that refers replaces the first proxy at the opposite end
-    /// that has its address. Returns the object. Notifies the adapters with RESOLVE, at the opposite end first.
+    /// Replaces the proxy at an index of a reference, 0 for a single one, by the object at its address (EMF: EcoreUtil.resolve). If the
+    /// reference has an opposite, the referring object replaces the first proxy at the opposite end that has its address. Returns the
+    /// object. Notifies the adapters with RESOLVE, at the opposite end first.
     ///
     /// Refused, the first that applies: `NoObject`, `NoFeature`, `WrongType` if the feature is an attribute or doesn't take the object at
-    /// the proxy's address, `Index` if nothing is there, `Duplicate` if the list has the object already, `NotProxy` if an object is there,
-    /// `Unloaded` if no resource has the URI in the proxy's text, `Unresolved` if nothing is at its address, `Unmatched` if no proxy at the
-    /// opposite end has the address of the object that refers, `AdapterFull`, `Memory`.
+    /// the proxy's address, `Index` if there is no such value, `Duplicate` if the list has the object already, `NotProxy` if an object is
+    /// there, `Unloaded` if no resource has the URI in the proxy's text, `Unresolved` if no object is at its address, `Unmatched` if no
+    /// proxy at the opposite end has the address of the referring object, `AdapterFull`, `Memory`.
     pub fn resolve(
         &mut self,
         object: ObjectNo,
@@ -33,9 +33,9 @@ impl<L: LinkStore, A: Adapter> Repository<L, A> {
     }
 
     /// Resolves all proxies, one after another, by object number, by feature in the order of all features, and by index (EMF:
-    /// EcoreUtil.resolveAll). Each is resolved as by `resolve`, in what the earlier ones left, and passed over if that would refuse it.
-    /// Returns how many were resolved, counting two at the ends of one link as one, and how many proxies are left. Notifies the adapters
-    /// with RESOLVE of each that is resolved, at the opposite end first.
+    /// EcoreUtil.resolveAll). Each is resolved as by `resolve`, in the state that the earlier ones left, and skipped if `resolve` would
+    /// refuse it. Returns how many proxies were resolved, counting two at the ends of one link as one, and how many are left. Notifies the
+    /// adapters with RESOLVE for each proxy that is resolved, at the opposite end first.
     ///
     /// Refused, the first that applies: `AdapterFull`, `Memory`.
     pub fn resolve_all(&mut self) -> Result<Reply<A>, Refused>

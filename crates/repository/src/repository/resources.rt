@@ -14,10 +14,10 @@ use models::is_short_text;
 use web_uris::{UriFault, joined};
 
 impl<L: LinkStore, A: Adapter> Repository<L, A> {
-    /// Makes an empty resource (EMF: ResourceSet.createResource). Its URI is what the text is as a URI of http or https, written as the URL
-    /// Standard has it. Notifies nobody.
+    /// Makes an empty resource (EMF: ResourceSet.createResource). Its URI is the text, read as a URI of http or https and written as the
+    /// URL Standard has it. Notifies no adapter.
     ///
-    /// Refused, the first that applies: `TextLength` if the text, or the URI that it gives, is above 65,535 bytes, `Limit` if 100,000
+    /// Refused, the first that applies: `TextLength` if the text, or the URI that it gives, has more than 65,535 bytes, `Limit` if 100,000
     /// resources were made, `BadUri` if the text gives no http or https URI, or one with a fragment, `ResourceExists` if a resource has the
     /// URI, `Memory`.
     pub fn create_resource(&mut self, text: &str) -> Result<Reply<A>, Refused>

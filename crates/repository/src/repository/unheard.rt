@@ -1,5 +1,5 @@
-//! Changes that notify no adapter. Most commands of a script are such changes, and to make a reply with lists of who was notified takes
-//! longer than the change itself. Each call here does what the call of its name does that has a reply.
+//! Changes that notify no adapter. Most commands of a script are such changes, and a reply with lists of notified adapters takes longer to
+//! make than the change itself. Each call here does what a call with a reply does, which its docstring names.
 ghost use Rattle.std.specs.Prelude.{◌≡◌, ◌&&◌, ◌||◌, [], None, false, true, IfErr, IfOk, MatchOption, is_some};
 ghost use Rattle.mm_types.specs.Shapes.{shape};
 ghost use Rattle.handshake.specs.Refusals.{early_refusal as early_refusal_of};
@@ -26,7 +26,7 @@ use links::{LinkStore, NewLink};
 use mm_types::{ClassNo, End, FeatureNo, Node, ObjectNo, Refused, Value};
 
 impl<L: LinkStore, A: Adapter> Repository<L, A> {
-    /// Makes an object as `create` does, which notifies no adapter, and returns it, or the refusal.
+    /// Makes an object as `create` does, and returns it, or the refusal.
     #[inline(always)]
     pub fn create_object(&mut self, class: ClassNo) -> Result<ObjectNo, Refused>
         ensures { Executed self.old (Create class) (read_outcome answer.Object result) self.new }
@@ -43,8 +43,8 @@ impl<L: LinkStore, A: Adapter> Repository<L, A> {
         Ok(object)
     }
 
-    /// Sets a single feature as `e_set` does, or returns the refusal. Gives the value back if an adapter is notified, or if the new link
-    /// displaces another; then nothing was done, and `e_set` is to be called.
+    /// Sets a single feature as `e_set` does, or returns the refusal. If an adapter has to be notified, or the new link displaces another,
+    /// it gives the value back and has done nothing; then `e_set` is to be called.
     #[inline(always)]
     pub fn set_unheard(
         &mut self,
@@ -68,9 +68,9 @@ impl<L: LinkStore, A: Adapter> Repository<L, A> {
         }
     }
 
-    /// Adds an object to a list as `add` does, which then returns that the list changed, or returns the refusal. Gives the value back if an
-    /// adapter is notified, if the new link displaces another, if the list has the object, or if the feature is an attribute; then nothing
-    /// was done, and `add` is to be called.
+    /// Adds an object to a list as an `add` that changes the list does, or returns the refusal. If an adapter has to be notified, the new
+    /// link displaces another, the list has the object, or the feature is an attribute, it gives the value back and has done nothing; then
+    /// `add` is to be called.
     #[inline(always)]
     pub fn add_unheard(
         &mut self,
@@ -130,8 +130,8 @@ impl<L: LinkStore, A: Adapter> Repository<L, A> {
         Ok(())
     }
 
-    /// `e_set` of a reference, if that is to put one link and notifies no adapter. `None` if it is more; then nothing was done, and no
-    /// refusal applies that needs no memory.
+    /// `e_set` of a reference, if it only puts one link and notifies no adapter. `None` if it does more; then nothing was done, and no
+    /// refusal that is found without memory applies.
     #[inline(always)]
     pub(super) fn set_lone_link(&mut self, end: End, value: &Value) -> Option<Result<(), Refused>>
         ensures { MatchOption result
@@ -149,8 +149,8 @@ impl<L: LinkStore, A: Adapter> Repository<L, A> {
         Some(self.put_alone(put))
     }
 
-    /// `add` to a reference, if that is to put one link and notifies no adapter. `None` if it is more; then nothing was done, and no
-    /// refusal applies that needs no memory.
+    /// `add` to a reference, if it only puts one link and notifies no adapter. `None` if it does more; then nothing was done, and no
+    /// refusal that is found without memory applies.
     #[inline(always)]
     pub(super) fn add_lone_link(
         &mut self,
@@ -173,8 +173,8 @@ impl<L: LinkStore, A: Adapter> Repository<L, A> {
         Some(self.put_alone(put))
     }
 
-    /// A change whose plan is one put, and that notifies no adapter: the store takes the memory and puts the link in one step, and no plan
-    /// is made. Most links that are made displace none.
+    /// A change whose plan is one put, and that notifies no adapter. The store takes the memory and puts the link in one step, and no plan
+    /// is made. Most new links displace none, so most are made here.
     #[inline(always)]
     fn put_alone(&mut self, put: NewLink) -> Result<(), Refused>
         requires alone { (c : Change) × (a : Answer) × IsPutAlone self.old c put a }

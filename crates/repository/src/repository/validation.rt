@@ -20,10 +20,10 @@ use std::alloc::{AllocError, Global};
 
 impl<L: LinkStore, A: Adapter> Repository<L, A> {
     /// The features of an object that have fewer values than their lower bounds, in the order of all features of its class (EMF:
-    /// Diagnostician.validate, of multiplicities; MOF 2.5.1: MultiplicityElement.lower). A feature of one value whose lower bound is 1 has
-    /// too few if its value is null, or if it is unsettable and not set.
+    /// Diagnostician.validate, of multiplicities; MOF 2.5.1: MultiplicityElement.lower). A single feature whose lower bound is 1 has too
+    /// few if its value is null, or if it is unsettable and not set.
     ///
-    /// Refused, the first that applies: `NoObject` if none lives, `Memory`.
+    /// Refused, the first that applies: `NoObject` if no live object has the number, `Memory`.
     #[tactic(auto, using(crate::proofs::QuietLemmas::validate_done))]
     pub fn validate(&self, object: ObjectNo) -> Result<Seq<FeatureNo>, Refused>
         ensures { Executed self.now (commands.validate object) (read_outcome answer.Features result) self.now }
@@ -71,7 +71,7 @@ fn is_too_few<L: LinkStore>(model: &ModelRef<L>, end: End) -> bool
     i64::from(model.len(end)) < i64::from(lower)
 }
 
-/// How many values a feature should have at least.
+/// The lower bound of a feature.
 fn lower_bound(meta: &Meta, feature: FeatureNo) -> i32
     ensures { result ≡ (shape meta.now feature).lower }
 {

@@ -1,4 +1,4 @@
-//! What is printed of adapters: their notifications, and how many.
+//! What is printed of adapters: their notifications, and the counts of these.
 ghost use Rattle.std.specs.Prelude.{◌≡◌, ◌++◌, ◌∷◌, [], OnOk};
 ghost use Rattle.script_lines.specs.declared.grammar.TheConstants.{NEWLINE};
 ghost use Rattle.script_output.specs.Notified.{change_text, counts_text, notice_text, end_text, released_text, report_text, seen_text, told_value_text, values_text};

@@ -1,4 +1,4 @@
-//! Calls that no line of a script makes: reads of lists that fetch no list, and documents of any length.
+//! Calls that no line of a script makes: reads of lists that do not fetch the list, and loads of documents of any length.
 ghost use Rattle.std.specs.Prelude.{◌≡◌, IfOk};
 ghost use Rattle.notice_chain.specs.View.{View};
 ghost use Rattle.repository.specs.Run.{change_outcome};
@@ -20,7 +20,7 @@ use repository::{Failure, Reply};
 use script_answers::Turn;
 use std::alloc::AllocError;
 
-/// What becomes of a command that brings no adapter.
+/// The outcome of a command that takes no adapter.
 fn outcome_of<A>(reply: Result<Reply<A>, Refused>) -> Result<Reply<A>, Failure<A>>
     ensures { (heard : A → View) → outcome_view heard result ≡ change_outcome (changed_view heard reply) }
 {
@@ -34,7 +34,7 @@ fn outcome_of<A>(reply: Result<Reply<A>, Refused>) -> Result<Reply<A>, Failure<A
 }
 
 impl<L: LinkStore, A: Adapter> Interpreter<L, A> {
-    /// Reads how many values a list has, and says how the read is counted. The number, or the refusal, is the text from then on.
+    /// Reads how many values a list has, and returns how the read is counted. From then on the text is the number, or the refusal.
     ///
     /// Errs only if memory is refused for the text.
     pub fn list_len(&mut self, node: Node, feature: &str) -> Result<Turn, AllocError>
@@ -56,8 +56,8 @@ impl<L: LinkStore, A: Adapter> Interpreter<L, A> {
         }
     }
 
-    /// Reads the value at an index of a list, and says how the read is counted. The value, as `get` prints one, or the refusal, is the text
-    /// from then on.
+    /// Reads the value at an index of a list, and returns how the read is counted. From then on the text is the value, as `get` prints one,
+    /// or the refusal.
     ///
     /// Errs only if memory is refused for the text.
     pub fn list_value(&mut self, node: Node, feature: &str, index: u32) -> Result<Turn, AllocError>
@@ -83,10 +83,10 @@ impl<L: LinkStore, A: Adapter> Interpreter<L, A> {
         }
     }
 
-    /// Loads a document into a resource, as a line with `load` does, but from bytes of any length, newlines among them. What it prints is
-    /// the text from then on.
+    /// Loads a document into a resource, as a line with `load` does, but from bytes of any length, newlines among them. From then on the
+    /// text is its output.
     ///
-    /// Errs only if memory is refused for the text; nothing is said of the interpreter then.
+    /// Errs only if memory is refused for the text; then no contract determines the state of the interpreter.
     pub fn load(&mut self, resource: ResourceNo, document: &[u8]) -> Result<Turn, AllocError>
         ensures { IfOk result (λ t. RunsCommand (session self.old.repository self.old.pool) (Load resource document.now) (printed self.new.output t)
             (session self.new.repository self.new.pool)) }

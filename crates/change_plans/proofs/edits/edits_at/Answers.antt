@@ -11,7 +11,7 @@ use Rattle.handshake.specs.declared.act.Act.TheVariants.{Resolve}
 use Rattle.handshake.specs.declared.change.Change.TheVariants.{At}
 use Rattle.change_plans.proofs.edits.edits_at.Goals as goal
 
--- an act at an attribute makes this of it, and an act at a reference nothing
+-- an act at an attribute makes these edits of values, and an act at a reference none
 edits-made : (r : Reading) (e : End) (a : Act) → if_attribute r e (act_edits r e a) ≡ value_edits r (At e a)
 edits-made r e (Resolve i) = elim (shape r.metamodel e.feature).is_reference as (λ b. (let xs : List ValueEdit = if b then [] else [] in xs) ≡ []) [ true ↦ refl | false ↦ refl ]
 edits-made r e a = refl

@@ -5,7 +5,7 @@ use Rattle.handshake.proofs.KnownLemmas.{none-else_by, none-unless}
 use Rattle.change_plans.proofs.LonePutLemmas.{found-planned}
 use Rattle.change_plans.proofs.link_planning.lone_set.Goals as goal
 
--- what is set is single
+-- a feature that is set is single
 pub put_of_set-requires : goal.put_of_set-requires
 put_of_set-requires g c = record { single = none-unless NotSingle _ (none-else_by _ _ c.requires.asked).1 }
 

@@ -13,7 +13,7 @@ use Rattle.proxies.specs.Proxies.{end_of}
 use Rattle.change_plans.specs.declared.joining.Joint.{Joint}
 use Rattle.change_plans.proofs.resolving_all.push_edits.Goals as goal
 
--- the cuts, and then what is put
+-- the cuts, and then the puts
 pushed : (r : Reading) (j : Joint) (e : End) → e ≡ end_of j.site → (old mid : List Edit) (none ts us : List LinkEnd) (v : Option Value) → none ≡ [] → v ≡ slice_get (r.values e) j.site.index
     → ts ≡ none ++ option_to_list (option_map (link_end e) v) → us ≡ ts ++ counter_link_end r j.target → mid ≡ old ++ map cut_of us
     → mid ++ joining r e j.site.index j.target ≡ old ++ edits_by r j

@@ -8,7 +8,7 @@ use Rattle.containment.specs.Waiting.{waiting_objects}
 use Rattle.std.specs.Prelude.{flat_map}
 use Rattle.containment.proofs.below.is_object_above.Given as goal
 
--- on both ways, what is left to look at says whether the object is above the node
+-- in both searches, the nodes that are left to look at decide whether the object is above the node
 abbrev pub invariant-loop-next : goal.invariant-loop-next
 invariant-loop-next g l =
     let over = list_any (same_node (node.Object l.fn.object)) in

@@ -6,7 +6,7 @@ use Rattle.fragment_paths.specs.Located.{located}
 use Rattle.fragment_paths.proofs.UpLemmas.{further}
 use Rattle.fragment_paths.proofs.paths.locate.Given as goal
 
--- the way so far, from where the object now reached is
+-- the steps so far, and the location of the object that is reached now
 abbrev pub invariant-up : goal.invariant-up
 invariant-up g l = option_map (further l.steps.items) (located (reading l.positions) l.at) ≡ located (reading l.positions) l.fn.object
 

@@ -5,7 +5,7 @@ use Rattle.proxies.specs.Leads.{lead}
 use Rattle.proxies.specs.Proxies.{sites_of}
 use Rattle.proxies.proofs.lead.leads.Given as goal
 
--- those of the objects so far
+-- the leads of the objects so far
 abbrev pub invariant-objects : goal.invariant-objects
 invariant-objects g l =
     let r = reading l.model in

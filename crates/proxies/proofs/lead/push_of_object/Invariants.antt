@@ -4,7 +4,7 @@ use Rattle.proxies.specs.Leads.{lead}
 use Rattle.proxies.specs.Proxies.{sites_under}
 use Rattle.proxies.proofs.lead.push_of_object.Given as goal
 
--- and of the features so far
+-- the earlier leads, and those of the features so far
 abbrev pub invariant-features : goal.invariant-features
 invariant-features g l =
     let r = reading l.model in

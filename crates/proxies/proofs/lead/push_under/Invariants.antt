@@ -5,7 +5,7 @@ use Rattle.proxies.specs.Leads.{lead}
 use Rattle.proxies.specs.Proxies.{is_proxy_site, site}
 use Rattle.proxies.proofs.lead.push_under.Given as goal
 
--- and of the indices so far
+-- the earlier leads, and those of the indices so far
 abbrev pub invariant-indices : goal.invariant-indices
 invariant-indices g l =
     let r = reading l.model in

@@ -5,7 +5,7 @@ use Rattle.std.proofs.lemmas.List.{take_all}
 use Rattle.web_uris.specs.Joined.{is_mark}
 use Rattle.proxies.proofs.resolving.uri_of.Goals as goal
 
--- if nothing passes, the first position that does is past the list
+-- if no byte passes, the first position is past the list
 past-none : (p : ℕ → Bool) (xs : List ℕ) → list_any p xs ≡ false → length xs ≤ position_or_len p xs
 past-none p [] none = omega arith
 past-none p (x ∷ xs) none =

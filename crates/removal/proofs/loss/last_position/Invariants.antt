@@ -4,7 +4,7 @@ use Rattle.removal.specs.Losses.{is_lost}
 use Rattle.removal.proofs.LossLemmas.{place_left}
 use Rattle.removal.proofs.loss.last_position.Given as goal
 
--- no more values stay than there were; they are before those that are left
+-- no more values stay than there were; they are before the values that are left to read
 abbrev pub invariant-loop-index : goal.invariant-loop-index
 invariant-loop-index g l =
     let r = reading l.model in

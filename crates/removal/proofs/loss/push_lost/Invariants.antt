@@ -3,7 +3,7 @@ use Rattle.models.specs.Model.{reading}
 use Rattle.removal.specs.Losses.{is_lost, lost_at, lost_from}
 use Rattle.removal.proofs.loss.push_lost.Given as goal
 
--- no more values stay than there were; what is added, and then what is left to add
+-- no more values stay than there were; the losses that were added, and then the losses that are left to add
 abbrev pub invariant-loop-index : goal.invariant-loop-index
 invariant-loop-index g l =
     let r = reading l.model in

@@ -7,7 +7,7 @@ use Rattle.repository.specs.Leaving.{spots_in}
 use Rattle.repository.specs.declared.leaving.Leaving.{Leaving}
 use Rattle.repository.proofs.leaving.notify.Goals as goal
 
--- the targets that go, if there is capacity for them, and if there is none
+-- the targets that are removed, if there is capacity for them, and if there is none
 some : {A : Type 0} (q : Option (Leaving A)) (x : Leaving A) → q ≡ Some x → x.release ≡ spots_in q
 some q x is = ap spots_in (sym is)
 

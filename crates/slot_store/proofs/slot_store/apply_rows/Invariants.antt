@@ -6,7 +6,7 @@ use Rattle.node_slots.specs.Growth.{HasRoom}
 use Rattle.slot_store.specs.CellLinks.{IsStore, IsStoreOfKind, store_links}
 use Rattle.slot_store.proofs.slot_store.apply_rows.Given as goal
 
--- the edits that are left fit, have capacity, and make what all make
+-- the edits that are left fit, have capacity, and lead to the same links as all edits
 abbrev pub invariant-loop-edit : goal.invariant-loop-edit
 invariant-loop-edit l = record {
   can : (goal.iterator-loop-edit).can_next l.edit-iterator;

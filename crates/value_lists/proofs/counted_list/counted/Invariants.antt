@@ -1,4 +1,4 @@
--- The values so far are counted, and there is capacity for the others.
+-- The values up to here are counted, and there is capacity for the others.
 use Rattle.std.proofs.Common.{◌≡◌, ℕ, ◌+◌, ◌≤◌, length, take}
 use Rattle.std.specs.List.{count_by}
 use Rattle.indexmap.specs.IndexMap.{spare}

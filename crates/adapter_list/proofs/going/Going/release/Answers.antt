@@ -36,7 +36,7 @@ loop-spot-preserved g c =
       ];
     }
 
--- the adapters once all have gone
+-- the adapters after all targets are removed
 pub hand_out-requires : goal.hand_out-requires
 hand_out-requires g c =
     let ss = c.args.spots.now in

@@ -6,7 +6,7 @@ use Rattle.notice_chain.specs.Released.{Spot, last_notice, leaving, losing, rele
 use Rattle.notice_chain.specs.View.{View}
 use Rattle.adapter_list.proofs.list.AdapterList.detach.Goals as goal
 
--- what is no target goes from nobody
+-- a node that is no target is taken from no adapter
 same : (s : Spot) (rs : List Listed) → is_target s.0 s.1 rs ≡ false → without s rs ≡ rs
 same s rs none = ap (λ b. if b then with_changed s.0 (losing s.1 (last_notice s rs)) rs else rs) none
 

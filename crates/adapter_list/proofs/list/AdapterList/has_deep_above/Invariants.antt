@@ -4,7 +4,7 @@ use Rattle.links.specs.Holders.{above}
 use Rattle.adapter_list.specs.Targets.{is_attached}
 use Rattle.adapter_list.proofs.list.AdapterList.has_deep_above.Given as goal
 
--- what is above the last node that was looked at
+-- the nodes above the last node that was looked at
 abbrev pub invariant-loop-next : goal.invariant-loop-next
 invariant-loop-next g l = list_any (λ x. list_any (is_attached x true) l.self.0) (above (g.L.LinkStore.links l.store) l.at) ≡ list_any (λ x. list_any (is_attached x true) l.fn.self.0) (above (g.L.LinkStore.links l.store) l.fn.node)
 

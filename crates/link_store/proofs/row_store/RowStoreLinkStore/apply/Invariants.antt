@@ -5,7 +5,7 @@ use Rattle.links.specs.Plans.{PlanFits, applied}
 use Rattle.link_store.proofs.RowLemmas.{of_rows}
 use Rattle.link_store.proofs.row_store.RowStoreLinkStore.apply.Given as goal
 
--- the edits that are left fit, have capacity, and make what all make
+-- the edits that are left fit, have capacity, and lead to the same links as all edits
 abbrev pub invariant-loop-edit : goal.invariant-loop-edit
 invariant-loop-edit l = record {
   can : (goal.iterator-loop-edit).can_next l.edit-iterator;

@@ -3,6 +3,6 @@ use Rattle.proxies.specs.Leads.{first_index, index_at}
 use Rattle.proxies.specs.declared.keys.Key.{Key}
 use Rattle.proxies.proofs.lead.FirstLeads.of.Given as goal
 
--- those of the leads so far
+-- the first of the leads so far
 abbrev pub invariant-leads : goal.invariant-leads
 invariant-leads l = (k : Key) → index_at l.first k ≡ first_index (take l.lead-index l.leads) k

@@ -6,7 +6,7 @@ use Rattle.handshake.specs.Refusals.{early_refusal}
 use Rattle.handshake.specs.declared.change.Change.{Change}
 use Rattle.repository.specs.Answers.{answer_of}
 use Rattle.repository.specs.Leaving.{going_with}
-use Rattle.repository.specs.Prepared.{IsPrepared}
+use Rattle.repository.specs.Prepared.{IsReady}
 use Rattle.repository.specs.Proper.{IsProper}
 use Rattle.repository.specs.declared.preparing.Prepared.{Prepared}
 use Rattle.repository.specs.Refusals.{IsPlanRefusal}
@@ -15,23 +15,19 @@ use Rattle.repository.specs.State.{State, reads}
 use Rattle.repository.specs.Views.{command_of}
 use Rattle.repository.proofs.AdapterLemmas.{heard_where_attached}
 use Rattle.repository.proofs.PlanLemmas.{asked-of, planned_err}
+use Rattle.repository.proofs.ValueLemmas.{ready-of}
 use Rattle.repository.proofs.repository.Repository.carry_out.Goals as goal
 
--- what is prepared of the model that is seen
+-- the preparation, by the abstract model
 ready : (s v : State) (x : Model) (text : List ℕ) (c : Change) (p : Prepared) → s ≡ v → x ≡ s.model → early_refusal (reads v) c ≡ None → IsProper (reads v) text c → ((rs : List Listed) (u : List ℕ) → IsProper (reading x) u c → p.answer ≡ answer_of (reading x) rs (command_of u c)) → p.spots.items ≡ going_with (reading x) s.adapters c
-    → IsPlanOf (nat_lt 0 (length s.adapters)) x c p.planned → IsPrepared v text c p
+    → IsPlanOf (nat_lt 0 (length s.adapters)) x c p.planned → IsReady v text c p.answer p.spots.items p.planned.edits p.planned.values p.planned.chain
 ready s v x text c p seen is early proper answers spots plan =
     let asked = asked-of s v text c seen early proper in
     let made = subst (λ (m : Model). IsPlanOf (nat_lt 0 (length s.adapters)) m c p.planned) is plan in
-    subst (λ (t : State). IsPrepared t text c p) seen (record {
-      asked = asked.early;
-      proper = asked.proper;
-      answered = subst (λ (m : Model). p.answer ≡ answer_of (reading m) s.adapters (command_of text c)) is (answers s.adapters text (subst (λ (m : Model). IsProper (reading m) text c) (sym is) asked.proper));
-      spots = spots ∙ ap (λ (m : Model). going_with (reading m) s.adapters c) is;
-      is_heard = nat_lt 0 (length s.adapters);
-      planned = made;
-      tells = heard_where_attached (reads s).above _ _ s.adapters made.tells;
-    })
+    subst (λ (t : State). IsReady t text c p.answer p.spots.items p.planned.edits p.planned.values p.planned.chain) seen
+    (ready-of s text c p.answer p.spots.items (nat_lt 0 (length s.adapters)) p.planned asked.early asked.proper
+    (subst (λ (m : Model). p.answer ≡ answer_of (reading m) s.adapters (command_of text c)) is (answers s.adapters text (subst (λ (m : Model). IsProper (reading m) text c) (sym is) asked.proper)))
+    (spots ∙ ap (λ (m : Model). going_with (reading m) s.adapters c) is) made (heard_where_attached (reads s).above _ _ s.adapters made.tells))
 
 pub returns-in-Err : goal.returns-in-Err
 returns-in-Err g c =

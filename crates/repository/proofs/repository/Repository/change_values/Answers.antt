@@ -1,11 +1,6 @@
 use Rattle.std.proofs.Common.{◌≡◌, ◌∙◌, ℕ, Bool, List, [], None, true, false, refl, sym, ap, subst}
-use Rattle.std.specs.Option.{option_map_or}
 use Rattle.mm_values.specs.Room.{values_of}
 use Rattle.models.specs.Model.{Model, model_of, reading}
-use Rattle.notice_chain.specs.Listed.{Listed}
-use Rattle.notice_chain.specs.Released.{is_gone_at}
-use Rattle.notice_chain.specs.Released.{spots as spots_at}
-use Rattle.removal.specs.Outer.{gone}
 use Rattle.adapter_list.specs.Hearing.{IsUnheard}
 use Rattle.handshake.specs.FeatureChanges.{chain}
 use Rattle.change_plans.specs.Plans.{IsPlanOf, of_values}
@@ -14,9 +9,6 @@ use Rattle.handshake.specs.declared.change.Change.{Change}
 use Rattle.change_plans.proofs.ValueLemmas.{is-plain}
 use Rattle.handshake.specs.Refusals.{early_refusal}
 use Rattle.repository.specs.Answers.{answer_of}
-use Rattle.repository.specs.Prepared.{IsPrepared}
-use Rattle.repository.specs.declared.preparing.Prepared.{Prepared}
-use Rattle.repository.specs.declared.preparing.PreparedValues.{PreparedValues}
 use Rattle.repository.specs.Proper.{IsProper}
 use Rattle.repository.specs.Refusals.{IsPlanRefusal}
 use Rattle.repository.specs.Repository.{state}
@@ -26,8 +18,7 @@ use Rattle.repository.proofs.InsideLemmas.{made, refused}
 use Rattle.repository.proofs.LegalLemmas.{stepped-legal}
 use Rattle.repository.proofs.LoadLemmas.{proper-steady}
 use Rattle.repository.proofs.PlanLemmas.{out_of_memory, planned_err}
-use Rattle.repository.proofs.AdapterLemmas.{heard-tells}
-use Rattle.repository.proofs.ValueLemmas.{changed-unheard}
+use Rattle.repository.proofs.ValueLemmas.{changed-unheard, values-ready}
 use Rattle.repository.proofs.repository.Repository.change_values.Goals as goal
 
 pub returns-in-Err : goal.returns-in-Err
@@ -45,47 +36,17 @@ returns-in-Err-try_apply g c =
     let proper : IsProper (reads s) [] c.args.change = subst (λ (t : State). IsProper (reads t) [] c.args.change) (sym c.self.view_is) c.requires.proper in
     rw (← c.self.view_is, c.in-Err-try_apply.ensures.err) (out_of_memory s [] c.args.change proper early)
 
--- if memory is refused, nothing that is seen has changed
+-- if memory is refused, the view has not changed
 pub invariant_of-self : goal.invariant_of-self
 invariant_of-self g c = refused g.L.LinkStore.links g.L.LinkStore.kinds c.self.inside c.try_apply.new.self c.in-Err-try_apply.ensures.err c.self.invariant
 
--- what is prepared of values, as what is prepared of any change
-ready : (s m : State) (c : Change) (is_heard : Bool) (x : Model) (values : PreparedValues) (p : Prepared) → s ≡ m → x ≡ s.model → early_refusal (reads m) c ≡ None → IsProper (reads m) [] c → edits_values_alone m.model.metamodel c ≡ true
-    → ((rs : List Listed) (text : List ℕ) → IsProper (reading x) text c → values.answer ≡ answer_of (reading x) rs (command_of text c)) → IsPlanOf is_heard x c (of_values values.values values.chain) → (is_heard ≡ false → IsUnheard (reads m).above (chain (reads m) c) m.adapters)
-    → p.answer ≡ values.answer → p.spots.items ≡ [] → p.planned ≡ of_values values.values values.chain → IsPrepared m [] c p
-ready s m c is_heard x values p seen is early proper alone answers plan unheard answer spots planned =
-    let there : x ≡ m.model = is ∙ ap (λ (t : State). t.model) seen in
-    let made = subst (λ (y : Model). IsPlanOf is_heard y c p.planned) there (subst (IsPlanOf is_heard x c) (sym planned) plan) in
-    record {
-      asked = early;
-      proper = proper;
-      answered = answer ∙ subst (λ (y : Model). values.answer ≡ answer_of (reading y) m.adapters (command_of [] c)) there (answers m.adapters [] (subst (λ (y : Model). IsProper (reading y) [] c) (sym there) proper));
-      spots = spots ∙ ap (λ o. option_map_or (λ y. spots_at (is_gone_at (gone (reads m) y)) m.adapters) o []) (is-plain (reads m) c alone).whose;
-      is_heard = is_heard;
-      planned = made;
-      tells = heard-tells is_heard (reads m).above p.planned.chain (chain (reads m) c) m.adapters made.tells unheard;
-    }
-
-pub finish-requires : goal.finish-requires
-finish-requires g c =
-    let s : State = state g.L.LinkStore.links c.self.inside in
-    let is : c.model-model.result ≡ s.model = c.model-model.ensures ∙ ap (λ (t : State). t.model) (sym c.self.view_is) in
-    record {
-      ready = (
-        [],
-        c.args.change,
-        ready s c.args.self.now c.args.change c.hears_values-is_heard.result c.model-model.result c.in-Ok.prepared c.into_prepared-prepared.result c.self.view_is is c.requires.asked c.requires.proper c.requires.values c.in-Ok.ensures.answer c.in-Ok.ensures.planned c.hears_values-is_heard.ensures
-            c.into_prepared-prepared.ensures.answer c.into_prepared-prepared.ensures.spots c.into_prepared-prepared.ensures.planned,
-      );
-    }
+pub tell_values-requires : goal.tell_values-requires
+tell_values-requires g c =
+    record { ready = (c.args.change, values-ready c.args.self.now c.model-model.result c.args.change c.in-Ok.prepared.answer c.model-model.ensures c.requires.asked c.requires.proper c.in-Ok.ensures.answer c.hears_values-is_heard.result c.in-Ok.prepared.values c.in-Ok.prepared.chain c.requires.values c.in-Ok.ensures.planned c.hears_values-is_heard.ensures) }
 
 pub returns-then-is_heard : goal.returns-then-is_heard
 returns-then-is_heard g c =
-    let s : State = state g.L.LinkStore.links c.self.inside in
-    let is : c.model-model.result ≡ s.model = c.model-model.ensures ∙ ap (λ (t : State). t.model) (sym c.self.view_is) in
-    c.finish.ensures [] c.args.change
-    (ready s c.args.self.now c.args.change c.hears_values-is_heard.result c.model-model.result c.in-Ok.prepared c.into_prepared-prepared.result c.self.view_is is c.requires.asked c.requires.proper c.requires.values c.in-Ok.ensures.answer c.in-Ok.ensures.planned c.hears_values-is_heard.ensures
-    c.into_prepared-prepared.ensures.answer c.into_prepared-prepared.ensures.spots c.into_prepared-prepared.ensures.planned)
+    c.tell_values.ensures c.args.change (values-ready c.args.self.now c.model-model.result c.args.change c.in-Ok.prepared.answer c.model-model.ensures c.requires.asked c.requires.proper c.in-Ok.ensures.answer c.hears_values-is_heard.result c.in-Ok.prepared.values c.in-Ok.prepared.chain c.requires.values c.in-Ok.ensures.planned c.hears_values-is_heard.ensures)
 
 pub returns : goal.returns
 returns g c =

@@ -11,6 +11,8 @@ use Rattle.links.specs.Holders.{above}
 use Rattle.repository.specs.declared.leaving.Leaving.{Leaving}
 use Rattle.adapter_list.proofs.RoundLemmas.{delivered-round_copies}
 use Rattle.links.specs.Links.{Links}
+use Rattle.links.specs.declared.plan.Edit.{Edit}
+use Rattle.mm_values.specs.declared.edit.ValueEdit.{ValueEdit}
 use Rattle.links.specs.Plans as links
 use Rattle.std.specs.FinMap as map
 use Rattle.std.specs.Prelude.{if◌then◌else◌}
@@ -23,8 +25,8 @@ use Rattle.handshake.specs.Effects.{after}
 use Rattle.handshake.specs.declared.change.Change.{Change}
 use Rattle.handshake.proofs.ProxyLemmas.{change-keeps-steady}
 use Rattle.repository.specs.Leaving.{going_with, leavers, spots_in}
-use Rattle.repository.specs.Prepared.{IsPrepared}
-use Rattle.repository.specs.declared.preparing.Prepared.{Prepared}
+use Rattle.repository.specs.Prepared.{IsReady}
+use Rattle.repository.specs.declared.reply.Answer.{Answer}
 use Rattle.repository.specs.Views.{command_of}
 use Rattle.repository.specs.Repository.{KeepsFragments, state}
 use Rattle.repository.specs.State.{IsLegal, State, reads}
@@ -38,9 +40,9 @@ none-go : {A : Type 0} (q : Option (Leaving A)) → is_some q ≡ false → spot
 none-go None h = refl
 none-go (Some x) h = absurd (let no : true ≡ false = h in cc)
 
--- what is prepared for the state that is seen is for the one that shows it
-seen : (s v : State) (text : List ℕ) (change : Change) (p : Prepared) → s ≡ v → IsPrepared v text change p → IsPrepared s text change p
-seen s v text change p is h = subst (λ (t : State). IsPrepared t text change p) (sym is) h
+-- a change that is ready for the abstract state is ready for the state of the repository
+seen : (s v : State) (text : List ℕ) (change : Change) (a : Answer) (ss : List Spot) (es : List Edit) (vs : List ValueEdit) (ns : List Notice) → s ≡ v → IsReady v text change a ss es vs ns → IsReady s text change a ss es vs ns
+seen s v text change a ss es vs ns is h = subst (λ (t : State). IsReady t text change a ss es vs ns) (sym is) h
 
 pub reserve-requires-clause-no_cycle : goal.reserve-requires-clause-no_cycle
 reserve-requires-clause-no_cycle g c = c.self.invariant.legal.model.links.forest
@@ -49,21 +51,19 @@ pub returns-in-Err : goal.returns-in-Err
 returns-in-Err g c =
     let s : State = state g.L.LinkStore.links c.self.inside in
     λ text change given.
-    let p = seen s c.args.self.now text change c.args.prepared c.self.view_is given in
-    let plan = p.planned in
+    let p = seen s c.args.self.now text change c.args.answer c.args.spots.items c.args.edits c.args.values c.args.chain c.self.view_is given in
     rw (← c.self.view_is, c.reserve.ensures.links, c.reserve.ensures.values, c.reserve.ensures.adapters)
-    (chain_err s text change c.args.prepared.planned.chain c.in-Err.refused p.proper p.asked plan.allowed p.tells c.in-Err.ensures.reason)
+    (chain_err s text change c.args.chain c.in-Err.refused p.proper p.asked p.allowed p.tells c.in-Err.ensures.reason)
 
 pub returns : goal.returns
 returns g c =
     let s : State = state g.L.LinkStore.links c.self.inside in
     λ text change given.
-    let p = seen s c.args.self.now text change c.args.prepared c.self.view_is given in
-    let plan = p.planned in
+    let p = seen s c.args.self.now text change c.args.answer c.args.spots.items c.args.edits c.args.values c.args.chain c.self.view_is given in
     let up = (reads s).above in
-    let ns : List Notice = c.args.prepared.planned.chain in
-    let values = c.apply-2.ensures ∙ ap (λ (v : ValuesState). applied v c.args.prepared.planned.values) c.reserve.ensures.values ∙ plan.values_made in
-    let made_links = c.apply.ensures.links ∙ ap (λ (l : Links). links.applied l c.args.prepared.planned.edits) c.reserve.ensures.links ∙ plan.links_made in
+    let ns : List Notice = c.args.chain in
+    let values = c.apply-2.ensures ∙ ap (λ (v : ValuesState). applied v c.args.values) c.reserve.ensures.values ∙ p.values_made in
+    let made_links = c.apply.ensures.links ∙ ap (λ (l : Links). links.applied l c.args.edits) c.reserve.ensures.links ∙ p.links_made in
     let answered = p.answered in
     let rs : List Listed = c.reserve.new.adapters.0 in
     let round : RoundView = c.in-Ok.reserved.0 in
@@ -76,10 +76,10 @@ returns g c =
     let adapters = c.notify-told.ensures.others ∙ ap (λ (x : Released). x.others) left in
     let t : State = record { model = model_of c.self.inside.meta (values_of c.apply-2.new.self) (g.L.LinkStore.links c.apply.new.self); adapters = c.notify-told.new.adapters.0 } in
     rw (← c.self.view_is)
-    (changed_to s t text change ns c.args.prepared.answer c.from_vec.result (views_of g.A.Adapter.heard c.from_vec-2.result) p.proper p.asked plan.allowed p.tells c.in-Ok.ensures.counted answered told views
+    (changed_to s t text change ns c.args.answer c.from_vec.result (views_of g.A.Adapter.heard c.from_vec-2.result) p.proper p.asked p.allowed p.tells c.in-Ok.ensures.counted answered told views
     (λ i. model_of c.self.inside.meta (values i) (made_links i)) adapters)
 
--- if capacity is refused, nothing that is seen has changed
+-- if capacity is refused, the view has not changed
 pub invariant_of-self : goal.invariant_of-self
 invariant_of-self g c =
     let m = c.self.inside.meta in
@@ -98,32 +98,31 @@ invariant_of-self-2 g c =
     let s : State = state g.L.LinkStore.links c.self.inside in
     let text : List ℕ = c.requires.ready.0 in
     let change : Change = c.requires.ready.1 in
-    let p = seen s c.args.self.now text change c.args.prepared c.self.view_is c.requires.ready.2 in
+    let p = seen s c.args.self.now text change c.args.answer c.args.spots.items c.args.edits c.args.values c.args.chain c.self.view_is c.requires.ready.2 in
     let proper = p.proper in
-    let plan = p.planned in
-    let edits = c.args.prepared.planned.edits in
+    let edits = c.args.edits in
     let m = c.self.inside.meta in
     let w = values_of c.apply-2.new.self in
     let applied_links = c.apply.ensures.links ∙ ap (λ (l : Links). links.applied l edits) c.reserve.ensures.links in
-    let values = c.apply-2.ensures ∙ ap (λ (v : ValuesState). applied v c.args.prepared.planned.values) c.reserve.ensures.values ∙ plan.values_made in
-    let made_links = applied_links ∙ plan.links_made in
+    let values = c.apply-2.ensures ∙ ap (λ (v : ValuesState). applied v c.args.values) c.reserve.ensures.values ∙ p.values_made in
+    let made_links = applied_links ∙ p.links_made in
     let made : model_of m w (g.L.LinkStore.links c.apply.new.self) ≡ after s.model change = λ i. model_of m (values i) (made_links i) in
     let legal = stepped-legal _ _ (command_of text change) _ (subst IsLegal c.self.view_is c.self.invariant.legal) (returns g c text change c.requires.ready.2) in
     let legal_after = subst (λ (l : Links). models.IsLegal (model_of m w l)) applied_links legal.model in
     record {
       legal = legal;
       steady = subst HasSteadyTexts (sym made) (change-keeps-steady s.model change c.self.invariant.steady (proper-steady (reads s) text change proper));
-      kinds_are = c.apply.ensures.kinds (kinds_of m) (c.reserve.ensures.kinds (kinds_of m) c.self.invariant.kinds_are) plan.of_kind;
+      kinds_are = c.apply.ensures.kinds (kinds_of m) (c.reserve.ensures.kinds (kinds_of m) c.self.invariant.kinds_are) p.of_kind;
       paths = subst (KeepsFragments (reading (model_of m w (g.L.LinkStore.links c.apply.new.self)))) (sym c.forget_touched.ensures.paths)
           (subst (λ (l : Links). KeepsFragments (reading (model_of m w l)) (if touches_containment (kinds_of m) edits then map.empty else c.self.inside.paths)) (sym applied_links)
-          (kept-after m (values_of c.self.inside.values) w (g.L.LinkStore.links c.self.inside.store) edits c.self.invariant.legal.model legal_after plan.fits plan.of_kind c.self.inside.paths c.self.invariant.paths));
+          (kept-after m (values_of c.self.inside.values) w (g.L.LinkStore.links c.self.inside.store) edits c.self.invariant.legal.model legal_after p.fits p.of_kind c.self.inside.paths c.self.invariant.paths));
       hearers = c.forget_touched.ensures.hearers (above (g.L.LinkStore.links c.apply.new.self)) c.notify-told.new.adapters.0 (λ out stay.
           let old = g.L.LinkStore.links c.self.inside.store in
           let rs : List Listed = c.reserve.new.adapters.0 in
           let copies = c.in-Ok.reserved.0.copies in
           let known : AreKnown (above old) rs c.reserve.new.hearers = subst (λ (qs : List Listed). AreKnown (above old) qs c.reserve.new.hearers) (sym c.reserve.ensures.adapters) c.reserve.ensures.known in
           let told = known-delivered (above old) copies rs c.reserve.new.hearers known in
-          let moved = hearers-kept m (values_of c.self.inside.values) w old edits c.self.invariant.legal.model legal_after plan.fits plan.of_kind (delivered copies rs) c.reserve.new.hearers told out in
+          let moved = hearers-kept m (values_of c.self.inside.values) w old edits c.self.invariant.legal.model legal_after p.fits p.of_kind (delivered copies rs) c.reserve.new.hearers told out in
           let nobody : spots_in c.in-Ok.reserved.1 ≡ [] = none-go c.in-Ok.reserved.1 (sym c.is_some.ensures ∙ stay) in
           let others : c.notify-told.new.adapters.0 ≡ delivered copies rs = c.notify-told.ensures.others ∙ ap (λ (ss : List Spot). (leavers ss copies rs).others) nobody in
           subst (λ (l : Links). AreKnown (above l) c.notify-told.new.adapters.0 c.reserve.new.hearers) (sym applied_links)

@@ -32,7 +32,7 @@ use Rattle.repository.proofs.RememberedLemmas.{hearers-after, kept-after}
 use Rattle.repository.proofs.ValueLemmas.{changed-unheard}
 use Rattle.repository.proofs.repository.Repository.put_alone.Goals as goal
 
--- what is asked of the state that is seen holds of the one that shows it
+-- facts about the abstract state hold for the state of the repository
 seen : (s v : State) (ch : Change) (p : NewLink) (a : Answer) → s ≡ v → IsPutAlone v ch p a → IsPutAlone s ch p a
 seen s v ch p a is h = subst (λ (t : State). IsPutAlone t ch p a) (sym is) h
 
@@ -48,7 +48,7 @@ put-requires-clause-of_kind g c =
     let alone = seen _ _ c.requires.alone.0 c.args.put c.requires.alone.1 c.self.view_is c.requires.alone.2 in
     (kinds_of c.self.inside.meta, c.self.invariant.kinds_are, alone.planned.of_kind)
 
--- if memory is refused, nothing that is seen has changed
+-- if memory is refused, the view has not changed
 pub returns-in-Err : goal.returns-in-Err
 returns-in-Err g c = λ change answer given.
     let s : State = state g.L.LinkStore.links c.self.inside in

@@ -5,7 +5,7 @@ use Rattle.repository.specs.State.{State, reads}
 use Rattle.repository.proofs.RememberedLemmas.{kept-more}
 use Rattle.repository.proofs.repository.Repository.remembered_fragment.Goals as goal
 
--- what is kept is the fragment that was found
+-- the remembered text is the fragment that was found
 pub invariant_of-self : goal.invariant_of-self
 invariant_of-self g c =
     let s : State = state g.L.LinkStore.links c.self.inside in

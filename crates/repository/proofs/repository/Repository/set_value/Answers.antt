@@ -47,7 +47,7 @@ returns-in-Err g c =
     let free = free-as-found s c.model-model.result change _ is c.attribute_refusal.ensures c.in_default.is in
     rw (← c.self.view_is, c.in-Err.ensures.err) (out_of_memory s [] change tt free.0)
 
--- if memory is refused, nothing that is seen has changed
+-- if memory is refused, the view has not changed
 pub invariant_of-self : goal.invariant_of-self
 invariant_of-self g c = refused g.L.LinkStore.links g.L.LinkStore.kinds c.self.inside c.put_value.new.values c.in-Err.ensures.err c.self.invariant
 

@@ -5,7 +5,7 @@ use Rattle.json.specs.Run.{is_stop}
 use Rattle.script_output.proofs.OutputLemmas.{plain_string}
 use Rattle.script_output.proofs.output.Output.json.Goals as goal
 
--- a text without escapes is in its quotation marks as it is
+-- a text without escapes is printed unchanged between quotation marks
 pub returns-else-has_escaped : goal.returns-else-has_escaped
 returns-else-has_escaped c =
     let plain = subst (λ (t : List ℕ). list_any is_stop t ≡ false) c.as_bytes.ensures.value (sym c.has_escaped.ensures ∙ c.if-has_escaped.false) in

@@ -1,4 +1,4 @@
--- The pieces so far do not have the value.
+-- The pieces that were searched so far do not have the value.
 use Rattle.slot_lists.proofs.PositionLemmas.{HasPassed}
 use Rattle.slot_lists.proofs.pieces.Pieces.position.Given as goal
 

@@ -1,4 +1,5 @@
--- The values and those to come are the old ones and the new, and each that came has used up a capacity of one at most.
+-- The present values and the values still to be appended are the old and the new values, and each value that was appended has used up a
+-- capacity of at most one.
 use Rattle.std.proofs.Common.{◌≡◌, ◌+◌, ◌≤◌, ◌++◌, length}
 use Rattle.std.specs.Vec.Iter.{into_iter_items}
 use Rattle.slot_lists.proofs.slot_list.SlotList.append.Given as goal

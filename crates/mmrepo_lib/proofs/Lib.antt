@@ -1,0 +1,7 @@
+mod KeptNodeLemmas
+mod HeardLemmas
+mod ReplayLemmas
+mod ThereLemmas
+mod EnoughLemmas
+mod BareStepLemmas
+mod ReloadLemmas

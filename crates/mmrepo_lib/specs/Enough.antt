@@ -1,0 +1,92 @@
+-- Notifications are enough: replayed on a snapshot of a deep target, the notifications of an adapter give the later state of each node at
+-- or below that target.
+use Rattle.std.specs.Prelude.{◌≡◌, ◌&&◌, Bool, true, false, IsTrue, List, [], ◌∷◌, drop, length, Some, None}
+use Rattle.std.specs.List.{list_any}
+use Rattle.std.specs.Option.{option_map_or}
+use Rattle.mm_types.specs.Same.{same_node}
+use Rattle.mm_types.specs.declared.end.End.{End}
+use Rattle.mm_types.specs.declared.numbers.AdapterNo.{AdapterNo}
+use Rattle.mm_types.specs.declared.numbers.Node.{Node}
+use Rattle.models.specs.Legal as models
+use Rattle.models.specs.Model.{Model, reading}
+use Rattle.models.specs.Reading.{held_at, is_within}
+use Rattle.notice_chain.specs.Listed.{Listed, adapter}
+use Rattle.notice_chain.specs.Replay.{replayed_all}
+use Rattle.notice_chain.specs.View.{View}
+use Rattle.handshake.specs.FeatureChange.{has_flag}
+use Rattle.notice_chain.specs.declared.notice.Notice.{Notice}
+use Rattle.mmrepo_lib.specs.Heard.{handed_out, handed_out_by, told_by_all, told_to}
+use Rattle.repository.specs.Refusals.{chain}
+use Rattle.repository.specs.Run.{run}
+use Rattle.repository.specs.State.{State, IsLegal, is_there, reads}
+use Rattle.repository.specs.Step.{closed, refusal_of, step}
+use Rattle.repository.specs.declared.command.Command.{Command}
+use Rattle.repository.specs.declared.command.Command.TheVariants.{Detach}
+use Rattle.snapshots.specs.Replayed.{replayed_notices, state_at}
+use Rattle.snapshots.specs.Snapshots.{node_state, snapshot_of}
+
+-- the notifications of a command that is not refused, replayed on the values of an end before it, give the values of the end after it, if
+-- the end's node exists before and after
+abbrev pub ChainReplays : State → Command View → Type 0
+ChainReplays s c =
+    IsLegal s → refusal_of s c ≡ None
+    → (d : End) → IsTrue (is_there (reads s) d.node) → IsTrue (is_there (reads (step s c).after) d.node)
+    → replayed_all (has_flag s.model.metamodel) (held_at (reads s)) (chain (reads s) c) d ≡ held_at (reads (step s c).after) d
+
+-- a snapshot has the state of each node that is its target or below it
+abbrev pub HasEachNode : Model → Node → Node → Type 0
+HasEachNode s target n =
+    models.IsLegal s → IsTrue (is_there (reading s) target) → is_within (reading s) target n ≡ true → state_at n (snapshot_of (reading s) target) ≡ Some (node_state (reading s) n)
+
+---------------------------------------------------------------- over a list of commands
+
+-- P is true of each state of a run: of the first, and of the state after each command
+abbrev pub AllAlong : (State → Type 0) → State → List (Command View) → Type 0
+AllAlong P s [] = P s
+AllAlong P s (c ∷ cs) = P s × AllAlong P (step s c).after cs
+
+-- whether a node is a deep target of an adapter
+abbrev pub is_deep_of : Node → Listed → Bool
+is_deep_of target a = list_any (λ t. t.deep && same_node t.node target) a.targets
+
+-- whether a node is a deep target of the attached adapter of a number
+abbrev pub is_deep_target : AdapterNo → Node → State → Bool
+is_deep_target number target s = option_map_or (is_deep_of target) (adapter number s.adapters) false
+
+abbrev pub HasDeepTarget : AdapterNo → Node → State → Type 0
+HasDeepTarget number target s = IsTrue (is_deep_target number target s)
+
+-- a node is the target or below it
+abbrev pub IsAtOrBelow : Node → Node → State → Type 0
+IsAtOrBelow target n s = is_within (reads s) target n ≡ true
+
+-- for one node, the notifications, replayed on the snapshot of a target, give the state that the snapshot at the end of a run has
+abbrev pub AreEnough : State → List (Command View) → Node → Node → List Notice → Type 0
+AreEnough s cs target n ns = state_at n (replayed_notices (snapshot_of (reads s) target) ns) ≡ state_at n (snapshot_of (reads (run s cs).after) target)
+
+-- `Holds` is true if an adapter is attached, and in each state of a run it has the node `target` as a deep target and the node n is the
+-- target or below it. Other targets may come and go.
+abbrev pub OfWatched : State → List (Command View) → AdapterNo → Node → Listed → Node → Type 0 → Type 0
+OfWatched s cs number target a n Holds =
+    IsLegal s → adapter number s.adapters ≡ Some a → AllAlong (HasDeepTarget number target) s cs → AllAlong (IsAtOrBelow target n) s cs → Holds
+
+-- the adapter's notifications in the replies are enough, however many it keeps
+abbrev pub ToldIsEnough : State → List (Command View) → AdapterNo → Node → Listed → Node → Type 0
+ToldIsEnough s cs number target a n = OfWatched s cs number target a n (AreEnough s cs target n (told_to number (told_by_all (run s cs).outcomes)))
+
+-- if a view keeps all notifications, those that it got since an earlier view are enough
+abbrev pub KeepsEnough : State → List (Command View) → Node → Node → View → View → Type 0
+KeepsEnough s cs target n v w = v.room ≡ None → AreEnough s cs target n (drop (length v.kept) w.kept)
+
+-- if an adapter keeps all notifications, those that it has kept since are enough: while it is attached, ..
+abbrev pub NoticesAreEnough : State → List (Command View) → AdapterNo → Node → Listed → Listed → Node → Type 0
+NoticesAreEnough s cs number target a b n = OfWatched s cs number target a n (adapter number (run s cs).after.adapters ≡ Some b → KeepsEnough s cs target n a.view b.view)
+
+-- .. when it is detached, ..
+abbrev pub DetachedKeepsEnough : State → List (Command View) → AdapterNo → Node → Listed → View → Node → Type 0
+DetachedKeepsEnough s cs number target a w n =
+    OfWatched s cs number target a n (handed_out number (handed_out_by (step (run s cs).after (Detach number)).outcome) ≡ Some w → KeepsEnough s cs target n a.view w)
+
+-- .. and when the repository is closed
+abbrev pub ClosedKeepsEnough : State → List (Command View) → AdapterNo → Node → Listed → View → Node → Type 0
+ClosedKeepsEnough s cs number target a w n = OfWatched s cs number target a n (handed_out number (closed (run s cs).after) ≡ Some w → KeepsEnough s cs target n a.view w)

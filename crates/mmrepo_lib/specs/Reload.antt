@@ -1,0 +1,135 @@
+-- Reloading in any order: the resources of a state are made in a new repository and their texts loaded, and then proxies are resolved, one
+-- after another or all at once.
+use Rattle.std.specs.Prelude.{◌≡◌, ℕ, ◌+◌, true, List, [], ◌∷◌, ◌++◌, is_some, Ok, Err, if◌then◌else◌}
+use Rattle.std.specs.List.{AllByRecursion}
+use Rattle.std.specs.Str.{is_utf8}
+use Rattle.mm_types.specs.Shapes.{shape}
+use Rattle.mm_types.specs.declared.numbers.FeatureNo.{FeatureNo}
+use Rattle.mm_types.specs.declared.numbers.Node.TheVariants as node
+use Rattle.mm_types.specs.declared.numbers.ObjectNo.{ObjectNo}
+use Rattle.mm_types.specs.declared.numbers.ResourceNo.{ResourceNo}
+use Rattle.mm_values.specs.Values.{ValuesState}
+use Rattle.links.specs.Links.{Links}
+use Rattle.models.specs.Model.{Model, model_of}
+use Rattle.models.specs.Reading.{Reading, at_end, has_resource}
+use Rattle.models.specs.Steady.{HasSteadyTexts}
+use Rattle.notice_chain.specs.View.{View}
+use Rattle.doc_writer.specs.Saved.{IsReadAs}
+use Rattle.proxies.specs.Resolving.{proxy_at}
+use Rattle.reloading.specs.Alike.{Alike}
+use Rattle.reloading.specs.Between.{Between}
+use Rattle.reloading.specs.Orders.{Fill, IsOrder, IsSaved, Make, Task, number_of, uri_of}
+use Rattle.reloading.specs.Proxies.{HasNoProxy, proxies_len}
+use Rattle.repository.specs.Run.{run}
+use Rattle.repository.specs.State.{State, IsLegal, bare, empty_state, reads}
+use Rattle.repository.specs.Step.{step}
+use Rattle.repository.specs.Views.{Outcome}
+use Rattle.repository.specs.declared.command.Command.{Command}
+use Rattle.handshake.specs.declared.act.Act.TheVariants.{Resolve}
+use Rattle.repository.specs.Commands.{resolve}
+use Rattle.repository.specs.declared.command.Command.TheVariants as command
+use Rattle.repository.specs.declared.reply.Answer.{Answer}
+use Rattle.repository.specs.declared.reply.Answer.TheVariants as answer
+
+-- the commands of tasks; `texts` has the text of each resource
+abbrev pub commands : Reading → (ResourceNo → List ℕ) → List ResourceNo → List Task → List (Command View)
+commands r texts made [] = []
+commands r texts made (Make k ∷ ts) = command.CreateResource (uri_of r k) ∷ commands r texts (made ++ k ∷ []) ts
+commands r texts made (Fill k ∷ ts) = command.Load (number_of made k) (texts k) ∷ commands r texts made ts
+
+-- each resource was saved as its text
+pub record AreTexts (r : Reading) (texts : ResourceNo → List ℕ) : Type 0 where
+  pub reads : (k : ResourceNo) → has_resource r k ≡ true → IsReadAs r k (texts k)
+  pub utf8 : (k : ResourceNo) → has_resource r k ≡ true → is_utf8 (texts k) ≡ true
+
+-- each command resolves a proxy that is there in its turn, and no proxy is left after the last command
+abbrev pub AreResolves : State → List (Command View) → Type 0
+AreResolves t [] = HasNoProxy (reads t)
+AreResolves t (command.At e (Resolve i) ∷ cs) = (is_some (proxy_at (reads t) e i) ≡ true) × AreResolves (step t (command.At e (Resolve i))).after cs
+AreResolves t (c ∷ cs) = ⊥
+
+-- an outcome is no refusal
+abbrev pub IsDone : Outcome → Type 0
+IsDone (Ok r) = Unit {0}
+IsDone (Err f) = ⊥
+
+abbrev pub AllDone : List Outcome → Type 0
+AllDone os = AllByRecursion IsDone os
+
+---------------------------------------------------------------- loads
+
+-- a new repository over the metamodel of s after the tasks of an order
+abbrev pub reloaded : State → (ResourceNo → List ℕ) → List Task → State
+reloaded s texts ts = (run (empty_state s.model.metamodel) (commands (reads s) texts [] ts)).after
+
+-- the loads are not refused; the state that they leave is legal, and a partly resolved copy of the saved one
+pub record AreLoads (s : State) (texts : ResourceNo → List ℕ) (ts : List Task) : Type 0 where
+  pub done : AllDone (run (empty_state s.model.metamodel) (commands (reads s) texts [] ts)).outcomes
+  pub legal : IsLegal (reloaded s texts ts)
+  pub between : Between (reads s) (reads (reloaded s texts ts))
+
+-- P is true for each legal state with normalised URIs and without proxies whose resources were saved as these texts, and for each order of
+-- tasks
+abbrev pub OfSaved : ((s : State) → (ResourceNo → List ℕ) → List Task → Type 0) → State → Type 0
+OfSaved P s =
+    IsLegal s → HasSteadyTexts s.model → IsSaved (reads s) → (texts : ResourceNo → List ℕ) → AreTexts (reads s) texts → (ts : List Task) → IsOrder (reads s) [] [] ts → P s texts ts
+
+-- the same in any order of the tasks
+abbrev pub LoadsGiveBetween : State → Type 0
+LoadsGiveBetween = OfSaved AreLoads
+
+---------------------------------------------------------------- resolves
+
+-- a resolve of a proxy is not refused; the state is still a partly resolved copy, and has one proxy fewer, or two if the reference has an
+-- opposite
+pub record IsResolvedBetween (r : Reading) (t : State) (o : ObjectNo) (f : FeatureNo) (i : ℕ) : Type 0 where
+  pub done : IsDone (step t (resolve o f i)).outcome
+  pub between : Between r (reads (step t (resolve o f i)).after)
+  pub fewer : proxies_len (reads t) ≡ (if is_some (shape t.model.metamodel f).opposite then 2 else 1) + proxies_len (reads (step t (resolve o f i)).after)
+
+-- the answer says that n proxies are left
+abbrev pub CountsLeft : Answer → ℕ → Type 0
+CountsLeft (answer.Resolved done left) n = left ≡ n
+CountsLeft _ n = ⊥
+
+abbrev pub LeavesProxies : Outcome → ℕ → Type 0
+LeavesProxies (Ok r) n = CountsLeft r.answer n
+LeavesProxies (Err f) n = ⊥
+
+-- a resolve of all proxies is not refused; its answer says that no proxy is left, no proxy is left, and the state is isomorphic to the
+-- saved one
+pub record IsAllResolved (r : Reading) (t : State) : Type 0 where
+  pub done : LeavesProxies (step t command.ResolveAll).outcome 0
+  pub none : HasNoProxy (reads (step t command.ResolveAll).after)
+  pub alike : Alike r (reads (step t command.ResolveAll).after)
+
+-- P is true of each state without adapters that is a partly resolved copy of a state without proxies
+abbrev pub OfBetween : (Reading → State → Type 0) → State → ValuesState → Links → Type 0
+OfBetween P s w b =
+    let t = bare (model_of s.model.metamodel w b) in
+    IsLegal s → IsLegal t → HasNoProxy (reads s) → Between (reads s) (reads t) → P (reads s) t
+
+abbrev pub ResolvesBetween : State → ValuesState → Links → Type 0
+ResolvesBetween s w b =
+    OfBetween (λ r t. (o : ObjectNo) (f : FeatureNo) (i : ℕ) → is_some (proxy_at (reads t) (at_end (node.Object o) f) i) ≡ true → IsResolvedBetween r t o f i) s w b
+
+abbrev pub ResolvesAll : State → ValuesState → Links → Type 0
+ResolvesAll s w b = OfBetween IsAllResolved s w b
+
+---------------------------------------------------------------- all of it
+
+-- the resolves are not refused, and the state that they leave is isomorphic to the saved one
+pub record IsHadAgain (s : State) (texts : ResourceNo → List ℕ) (ts : List Task) (rs : List (Command View)) : Type 0 where
+  pub resolves : AllDone (run (reloaded s texts ts) rs).outcomes
+  pub alike : Alike (reads s) (reads (run (reloaded s texts ts) rs).after)
+
+-- after loads in an order: the loads are not refused; a resolve of all proxies at once brings the saved state back; there are single
+-- resolves that leave no proxy; and all resolves that leave no proxy bring the saved state back
+pub record IsReloaded (s : State) (texts : ResourceNo → List ℕ) (ts : List Task) : Type 0 where
+  pub loads : AllDone (run (empty_state s.model.metamodel) (commands (reads s) texts [] ts)).outcomes
+  pub all : IsAllResolved (reads s) (reloaded s texts ts)
+  pub some : (rs : List (Command View)) × AreResolves (reloaded s texts ts) rs
+  pub had : (rs : List (Command View)) → AreResolves (reloaded s texts ts) rs → IsHadAgain s texts ts rs
+
+abbrev pub ReloadsInAnyOrder : State → Type 0
+ReloadsInAnyOrder = OfSaved IsReloaded

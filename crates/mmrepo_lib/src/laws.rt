@@ -1,0 +1,105 @@
+//! Laws of the definitions, each the contract of a function that does nothing.
+ghost use Rattle.std.specs.Prelude.{◌≡◌, List, Err};
+ghost use Rattle.mm_types.specs.declared.numbers.AdapterNo.{AdapterNo};
+ghost use Rattle.mm_types.specs.declared.numbers.Node.{Node};
+ghost use Rattle.mm_values.specs.Values.{ValuesState};
+ghost use Rattle.links.specs.Links.{Links};
+ghost use Rattle.models.specs.Model.{Model};
+ghost use Rattle.models.specs.Reading.{Reading};
+ghost use Rattle.notice_chain.specs.Listed.{Listed};
+ghost use Rattle.notice_chain.specs.View.{View};
+ghost use Rattle.reloading.specs.Alike.{Alike};
+ghost use Rattle.reloading.specs.Between.{Between};
+ghost use Rattle.reloading.specs.Proxies.{HasNoProxy};
+ghost use Rattle.repository.specs.Alone.{ComesBack, IsAloneToo, KeepsModel};
+ghost use Rattle.mmrepo_lib.specs.Enough.{ChainReplays, ClosedKeepsEnough, DetachedKeepsEnough, HasEachNode, NoticesAreEnough, ToldIsEnough};
+ghost use Rattle.mmrepo_lib.specs.Heard.{HearsItsReply};
+ghost use Rattle.repository.specs.Laws.{KeepsLegal};
+ghost use Rattle.mmrepo_lib.specs.Reload.{LoadsGiveBetween, ReloadsInAnyOrder, ResolvesAll, ResolvesBetween};
+ghost use Rattle.repository.specs.Run.{Executed};
+ghost use Rattle.repository.specs.State.{State};
+ghost use Rattle.repository.specs.Views.{brought};
+ghost use Rattle.repository.specs.declared.command.Command.{Command};
+ghost use Rattle.repository.specs.declared.reply.Failure.{Failure};
+ghost use Rattle.repository.specs.declared.reply.Reply.{Reply};
+
+/// Every command of a legal state, done or refused, leaves a legal one.
+pub fn keeps_legal()
+    ensures { (s : State) (c : Command View) → KeepsLegal s c }
+{}
+
+/// A command that is refused, also for lack of memory, changes nothing, and gives back the adapter that it was given.
+pub fn a_refusal_changes_nothing()
+    ensures unchanged { (s t : State) (c : Command View) (f : Failure View) → Executed s c (Err f) t → t ≡ s }
+    ensures given_back { (s t : State) (c : Command View) (f : Failure View) → Executed s c (Err f) t → f.given_back ≡ brought c }
+{}
+
+/// The notifications of a command, replayed in turn on the values of an end before it, give the values of the end after it. That is so for
+/// each end of a node that is there before and after the command.
+pub fn the_notices_of_a_command_replay_it()
+    ensures { (s : State) (c : Command View) → ChainReplays s c }
+{}
+
+/// The snapshot of an existing node has the state of that node and of each node below it.
+pub fn a_snapshot_has_each_node()
+    ensures { (s : Model) (target n : Node) → HasEachNode s target n }
+{}
+
+/// An adapter that is attached before a command was notified by it of exactly the notifications that the reply has for it, in order. That
+/// is so if it is still attached, and if the reply gives it back.
+pub fn an_adapter_hears_what_the_reply_tells_it()
+    ensures { (s : State) (c : Command View) (number : AdapterNo) (a : Listed) → HearsItsReply s c number a }
+{}
+
+/// Notifications are enough. Let a node be a deep target of an adapter during a whole run of commands, and let a snapshot of the target be
+/// taken at its beginning. Take a second node that is the target or below it during the whole run. If the adapter's notifications of the
+/// run are replayed on the snapshot, its state of the second node becomes that of a snapshot at the end. The notifications are those that
+/// the replies have for the adapter, however many it keeps. If it keeps all, they are also those that it has kept since the beginning:
+/// while it is attached, and when `detach` or `close` gives it back.
+pub fn notices_are_enough()
+    ensures kept { (s : State) (cs : List (Command View)) (number : AdapterNo) (target : Node) (a b : Listed) (n : Node) → NoticesAreEnough s cs number target a b n }
+    ensures told { (s : State) (cs : List (Command View)) (number : AdapterNo) (target : Node) (a : Listed) (n : Node) → ToldIsEnough s cs number target a n }
+    ensures detached { (s : State) (cs : List (Command View)) (number : AdapterNo) (target : Node) (a : Listed) (w : View) (n : Node) → DetachedKeepsEnough s cs number target a w n }
+    ensures closed { (s : State) (cs : List (Command View)) (number : AdapterNo) (target : Node) (a : Listed) (w : View) (n : Node) → ClosedKeepsEnough s cs number target a w n }
+{}
+
+/// What was saved of a state without proxies can be loaded into a new repository over the same metamodel, if the text of no reference is
+/// longer than 65,535 bytes. Its resources are created and their texts loaded, in any order in which none is loaded before it is created.
+/// The texts are those that `Repository::save` returns. Only memory can refuse these commands. The new state is legal, and a partly
+/// resolved copy of the saved one: it has the same objects at the same addresses, and some references are still proxies.
+pub fn loads_in_any_order_give_what_stands_between()
+    ensures { (s : State) → LoadsGiveBetween s }
+{}
+
+/// In a partly resolved copy of a saved state without proxies, only memory can refuse to resolve a proxy. Afterwards the state is still
+/// such a copy, and has one proxy fewer, or two if they were the ends of one link.
+pub fn resolving_stays_between()
+    ensures { (s : State) (w : ValuesState) (b : Links) → ResolvesBetween s w b }
+{}
+
+/// Only memory can refuse to resolve all proxies of a partly resolved copy. The answer says that no proxy is left, no proxy is left, and
+/// the state is isomorphic to the saved one (EMF: EcoreUtil.resolveAll).
+pub fn resolving_all_leaves_no_proxy()
+    ensures { (s : State) (w : ValuesState) (b : Links) → ResolvesAll s w b }
+{}
+
+/// A partly resolved copy that has no proxies is isomorphic to the saved state, if that has no proxies.
+pub fn without_proxies_what_stands_between_is_alike()
+    ensures { (s t : Reading) → HasNoProxy s → HasNoProxy t → Between s t → Alike s t }
+{}
+
+/// What was saved comes back. All resources of a state without proxies were saved, and the text of no reference is longer than 65,535
+/// bytes. In a new repository over the same metamodel they are created and loaded, both in any order, and then proxies are resolved, all at
+/// once or one after another in any order until none is left. Only memory can refuse these commands, and the two states are isomorphic:
+/// they have the same addresses, and at each address the same class, values, flags and ends, with objects compared by their addresses.
+pub fn what_was_saved_is_had_again_in_any_order()
+    ensures { (s : State) → ReloadsInAnyOrder s }
+{}
+
+/// Adapters do not change the effect of a change: a change that succeeds would succeed without them too, and leave the same model. Any
+/// other command leaves the model as it was.
+pub fn adapters_have_no_part()
+    ensures alone { (s : State) (c : Command View) → IsAloneToo s c }
+    ensures again { (s t : State) (c : Command View) (r : Reply View) → ComesBack s c r t }
+    ensures kept { (s : State) (c : Command View) → KeepsModel s c }
+{}

@@ -1,5 +1,0 @@
-use Rattle.repository.proofs.HeardLemmas.{hears-reply}
-use Rattle.repository.proofs.laws.an_adapter_hears_what_the_reply_tells_it.Goals as goal
-
-pub returns : goal.returns
-returns c = hears-reply

@@ -1,5 +1,0 @@
-use Rattle.repository.proofs.ReloadLemmas.{loads-between}
-use Rattle.repository.proofs.laws.loads_in_any_order_give_what_stands_between.Goals as goal
-
-pub returns : goal.returns
-returns c = loads-between

@@ -1,5 +1,0 @@
-use Rattle.repository.proofs.ReloadLemmas.{reloads}
-use Rattle.repository.proofs.laws.what_was_saved_is_had_again_in_any_order.Goals as goal
-
-pub returns : goal.returns
-returns c = reloads
