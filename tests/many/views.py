@@ -11,7 +11,7 @@ class View:
         self.no, self.target, self.values, self.stayed = no, target, values, set(values)
 
     def replay(self, kind, end, old, new, place):
-        """What a notification makes of one end; it is passed over if the view has no such end or index."""
+        """What a notification makes of one end; it is skipped if the view has no such end or index."""
         node, _, name = end.partition('.')
         values, place = self.values.get(node, {}).get(name), int(place)
         if values is None or place > len(values):

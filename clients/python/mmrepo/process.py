@@ -72,7 +72,7 @@ class Program(Engine):
             raise NotStarted(f'{file} was not started: {found}') from found
         assert self._process.stdin is not None and self._process.stdout is not None
         self._input, self._output = self._process.stdin, self._process.stdout
-        # A line that is passed over has an empty answer, and shows that the metamodel was accepted.
+        # A skipped line has an empty answer, which shows that the metamodel was accepted.
         if self.exchange(''):
             raise self.not_understood('', 'an answer to an empty line')
 

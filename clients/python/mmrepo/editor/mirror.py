@@ -155,7 +155,7 @@ class Mirror:
 
 
 def _apply(entry: Entry, form: Form, told: Told) -> None:
-    """Changes the one end that a notification names. One that can't be true is passed over."""
+    """Changes the one end that a notification names. A notification that can't be true is skipped."""
     kind, _, name, old, new, at, _ = told
     if kind in ('SET', 'UNSET') or kind == 'RESOLVE' and at < 0:
         entry.put(form, new)
