@@ -1,1 +1,1 @@
-"""What the tools share: they bring Ecore models and XMI instances in and out of documents of the repository, and draw both."""
+"""What the tools share. The tools convert Ecore models and XMI instances from and to documents of the repository, and draw both."""

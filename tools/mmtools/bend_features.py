@@ -1,4 +1,4 @@
-"""Bends a feature of Ecore to one of the repository: its type, bounds, flags and default."""
+"""Converts a feature of Ecore to a feature of the repository: its type, bounds, flags and default."""
 
 from __future__ import annotations
 
@@ -84,7 +84,7 @@ def reference_type(bending: 'Bent', feature: EFeature) -> Type:
 
 
 def bend_bounds(bending: 'Bent', made: MFeature, source: EFeature) -> None:
-    """The bounds: -1 for an upper bound that is no number, or unspecified in a feature map; 1 for another that none can have."""
+    """The bounds. The upper bound is -1 if it is no number, or is unspecified in a feature map; any other impossible one becomes 1."""
     upper = -1 if source.upper is None or source.upper == -2 and source.is_grouped else source.upper
     upper = 1 if upper < -1 or upper == 0 else upper
     lower = max(0, source.lower or 0)
@@ -95,7 +95,7 @@ def bend_bounds(bending: 'Bent', made: MFeature, source: EFeature) -> None:
 
 
 def bend_flags(bending: 'Bent', made: MFeature, source: EFeature) -> None:
-    """The flags: those that the repository has, and notes of the others."""
+    """The flags that the repository has. The others are noted."""
     tell = bending.notes.tell
     for flag, (value, kind, text) in FLAGS.items():
         if source.flags[flag] == value and not source.is_grouped:

@@ -1,4 +1,4 @@
-"""Bends opposites: each end declares its feature in the class that is the type of the other, and names the other."""
+"""Converts opposites: each end is declared in the class that is the type of the other end, and names the other end."""
 
 from __future__ import annotations
 
@@ -9,7 +9,7 @@ from .notes import Notes
 
 
 def fault_of(one: MFeature, other: MFeature) -> str:
-    """Why two features are no opposites here; empty if they are."""
+    """The reason why two features can't be opposites here; empty if they can."""
     if one is other:
         return 'it names itself'
     if other.source is None or one.source is None or other.source.opposite is not one.source:
@@ -22,7 +22,7 @@ def fault_of(one: MFeature, other: MFeature) -> str:
 
 
 def join_ends(one: MFeature, other: MFeature, notes: Notes) -> None:
-    """Makes two features opposites. The end of the part has one holder at most."""
+    """Makes two features opposites. The end at the part has an upper bound of 1."""
     one.opposite = other
     if other.containment and one.upper != 1:
         notes.tell('bounds', one.qualified, f'{one.lower}..{one.upper} becomes {min(one.lower, 1)}..1: it leads to a holder')
@@ -30,7 +30,7 @@ def join_ends(one: MFeature, other: MFeature, notes: Notes) -> None:
 
 
 def leave_out(one: MFeature, why: str, notes: Notes) -> None:
-    """Leaves out the end of a part whose holder's end is no opposite here; its holder is known without."""
+    """Leaves out the end at a part if the containment is no opposite here: the container of the part is known anyway."""
     one.owner.features.remove(one)
     if one.source is not None:
         one.owner.left[one.source.name] = Left('its opposite is a containment', one.source)

@@ -1,4 +1,4 @@
-"""Makes a metamodel of the packages of Ecore: what has a place is taken over, the rest is bent or left out, and noted."""
+"""Makes a metamodel of the packages of Ecore. What the repository has is taken over; the rest is converted or left out, and noted."""
 
 from __future__ import annotations
 
@@ -21,7 +21,7 @@ ANY = 'EObject'
 
 
 class Bent:
-    """A metamodel, and what each part of Ecore became."""
+    """A metamodel, and the part of it that each part of Ecore became."""
 
     def __init__(self, notes: Notes) -> None:
         """The notes are made while the parts are made."""
@@ -36,7 +36,9 @@ class Bent:
         self.files: List[EFile] = []
 
     def classifier_name(self, classifier: EClassifier) -> str:
-        """The name of a class or an enumeration: bent, with its package's name if it is taken, and at last with a number."""
+        """The name of a class or an enumeration. If the name is taken, the package's name is added, and if that is taken too, a
+        number.
+        """
         kind = 'enumeration' if isinstance(classifier, EEnum) else 'class'
         made = bent(classifier.name)
         if made in self.names:
@@ -82,7 +84,7 @@ class Bent:
         self.by_name.setdefault((source.package.uri, source.name), made)
 
     def add_supers(self, made: MClass, sources: Iterable[EClass], name: str) -> None:
-        """The supertypes of a class but for those that close a cycle or are too many."""
+        """The supertypes of a class, without those that close a cycle or are too many."""
         for source in sources:
             found = self.classes.get(source)
             why = ''
@@ -98,7 +100,7 @@ class Bent:
                 made.supers.append(found)
 
     def object_class(self) -> Optional[MClass]:
-        """The class that every object is of: Ecore's EObject if it is among the files, else an abstract class of our own."""
+        """The supertype of all classes: Ecore's EObject if it is among the files, else an abstract class that is added."""
         if self.any_object is not None:
             return self.any_object
         found = next((it for it in self.meta.classes if is_object_class(it.source)), None)
@@ -127,7 +129,7 @@ class Bent:
                 self.notes.tell(kind, feature.qualified, f'left out: {why}', None, why not in LOSES_NOTHING)
 
     def put_object_class_above(self) -> None:
-        """Makes the class of every object the supertype of those that have none."""
+        """Makes the supertype of all classes the supertype of those that have none."""
         above = self.any_object
         if above is None:
             return
@@ -137,7 +139,7 @@ class Bent:
         self.notes.tell('class', above.name, 'is the supertype of each class without one, since references lead to EObject')
 
     def separate_names(self) -> None:
-        """Renames the later of two features of one name that a class has."""
+        """Renames the later one of two features of a class that have one name."""
         taken = {feature.name for made in self.meta.classes for feature in made.features}
         for made in self.meta.classes:
             seen: Dict[str, MFeature] = {}

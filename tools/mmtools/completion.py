@@ -14,10 +14,10 @@ LONG = 20  # from which on the values of a list are found by a set
 
 
 class Completion:
-    """Completes the links of one file, which are joined."""
+    """Completes the links of one file, whose references are joined."""
 
     def __init__(self, reader: 'XmiReader', notes: Notes) -> None:
-        """`back` has the links whose other end is transient, as EMF sets them."""
+        """`back` has the links whose opposite end is transient, as EMF sets them."""
         self.back, self.plans, self.notes = reader.back, reader.plans, notes
         self.sets: Dict[Tuple[Obj, str], Set[object]] = {}
 
@@ -48,7 +48,7 @@ class Completion:
             self.cut(obj, slot, kept)
 
     def cut(self, obj: Obj, slot: Slot, kept: List[object]) -> None:
-        """Leaves an end with fewer links, and notes it."""
+        """Removes some links of an end, and notes it."""
         assert slot.opposite is not None
         self.notes.tell('link', slot.feature.qualified, f'left out: {slot.opposite.qualified} names another one', obj.line, True)
         self.sets.pop((obj, slot.name), None)
@@ -58,7 +58,7 @@ class Completion:
             del obj.values[slot.name]
 
     def has_back(self, target: Obj, slot: Slot, owner: Obj) -> bool:
-        """Whether the other end names an object too, or takes it."""
+        """Whether the opposite end names an object too, or takes it now."""
         other = self.other(target, slot)
         if not other.is_many:
             found = target.values.get(other.name)
@@ -89,7 +89,7 @@ class Completion:
         return True
 
     def take_over(self, target: Obj, slot: Slot, owner: Obj) -> None:
-        """A single end names the last object that names it, as in EMF; the link of the earlier one is left out."""
+        """Makes a single end name the last object that names it, as EMF does; the link of the earlier object is left out."""
         other = self.other(target, slot)
         if other.is_many:
             return

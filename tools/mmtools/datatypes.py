@@ -31,7 +31,7 @@ SPACES = ' \t\r\n'
 
 
 def is_short(text: str) -> bool:
-    """Whether a text is no longer than a document takes."""
+    """Whether a text is within the limit of a document."""
     return len(text.encode('utf-8', 'surrogatepass')) <= LONGEST_TEXT
 
 
@@ -47,12 +47,12 @@ def number(data_type: str, text: str) -> Optional[int]:
 
 
 def boolean(text: str) -> Optional[bool]:
-    """The truth of a text: true and false in any letters, or 1 and 0."""
+    """The truth value of a text: true and false in upper or lower case, or 1 and 0."""
     return {'true': True, '1': True, 'false': False, '0': False}.get(text.strip(SPACES).lower())
 
 
 def value_of(data_type: Union[str, MEnum], text: str) -> Value:
-    """The value that a text of XMI is in a data type; None if it is none. A text too long is none."""
+    """The value of a text of XMI in a data type; None if it is no value, or if the text is too long."""
     if isinstance(data_type, MEnum):
         return data_type.literal(text.strip(SPACES))
     if data_type in RANGES:
@@ -72,7 +72,7 @@ def text_of(data_type: Union[str, MEnum], value: Value) -> str:
 
 
 def literal_of(data_type: Union[str, MEnum], text: str) -> Optional[str]:
-    """The literal of a default: the value's one spelling; None if the text is no value."""
+    """The literal of a default in its normal spelling; None if the text is no value."""
     value = value_of(data_type, text)
     if value is None:
         return None
@@ -91,7 +91,7 @@ def default_of(data_type: Union[str, MEnum], literal: Optional[str]) -> Value:
 
 
 def is_value(data_type: Union[str, MEnum], value: object) -> bool:
-    """Whether a value of a document is one of a data type; null is not looked at."""
+    """Whether a value of a document belongs to a data type; null is not checked."""
     if isinstance(data_type, MEnum):
         return isinstance(value, str) and value in data_type.literals
     if data_type in RANGES:

@@ -1,4 +1,4 @@
-"""Which attributes and children each kind of Ecore element may have. What is none of them makes a file that is not Ecore."""
+"""The attributes and children that each kind of Ecore element may have. A file with any other is not an Ecore file."""
 
 from __future__ import annotations
 
@@ -61,7 +61,7 @@ TYPED_CHILDREN = {
 
 
 def kind_of(file: str, element: Element) -> str:
-    """The class of Ecore that an element is of, by the feature that it is in, or by its `xsi:type`."""
+    """The class of Ecore of an element: by the feature that the element is in, or by its `xsi:type`."""
     if element.name not in TYPED_CHILDREN:
         return KIND_OF_CHILD.get(element.name, '')
     text = element.type_name()
@@ -73,7 +73,7 @@ def kind_of(file: str, element: Element) -> str:
 
 
 def check(file: str, element: Element, name: str) -> None:
-    """Refuses an element, and what is below it, if it has what no element of its kind has."""
+    """Refuses an element if it, or an element below it, has anything that its kind can't have."""
     if name not in ALLOWED:
         return
     attributes, children = ALLOWED[name]

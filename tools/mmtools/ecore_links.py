@@ -39,7 +39,7 @@ class Links:
                     self.packages.setdefault(package.uri, (file, package))
 
     def find(self, file: EFile, link: str) -> Found:
-        """What a reference leads to. A name of Ecore itself that no file has is returned as a text, as `ecore:EString`."""
+        """The target of a reference. A name of Ecore itself that no file has is returned as a text, as `ecore:EString`."""
         uri, _, fragment = link.partition('#')
         if '#' not in link:
             uri, fragment = '', link
@@ -122,7 +122,7 @@ def join_class(links: Links, file: EFile, eclass: EClass, notes: Notes) -> None:
 
 
 def join_feature(links: Links, file: EFile, feature: EFeature) -> None:
-    """Joins the type and the opposite of a feature. A type parameter is erased to its first bound, else to any object."""
+    """Joins the type and the opposite of a feature. A type parameter is replaced by its first bound, or by EObject if it has none."""
     found = links.find(file, feature.type_link) if feature.type_link else None
     seen: List[ETypeParameter] = []
     while isinstance(found, ETypeParameter) and found not in seen:

@@ -112,7 +112,7 @@ Target = Union[EClassifier, EFeature, ETypeParameter, EPackage]
 
 @dataclass(eq=False)
 class EFile:
-    """A file with its root packages, and what each element of it is."""
+    """A file with its root packages, and the Ecore object of each element."""
 
     path: str
     root: Element

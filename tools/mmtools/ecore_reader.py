@@ -30,7 +30,7 @@ def value_of(element: Element, name: str) -> Optional[str]:
 
 
 def links_of(element: Element, name: str) -> List[str]:
-    """The references that are in an attribute, or in children with an href; names of types are left out."""
+    """The references in an attribute, or in children with an href; names of types are left out."""
     words = [word for word in (element.plain(name) or '').split() if '#' in word or '/' in word or ':' not in word]
     for child in element.children:
         if child.name == name and not child.space:
@@ -51,7 +51,7 @@ def is_true(element: Element, name: str, default: bool) -> bool:
 
 
 def number_of(element: Element, name: str, default: int) -> Optional[int]:
-    """A number; None if it is written and is none of 32 bits."""
+    """A number; None if the written text is no number of 32 bits."""
     text = value_of(element, name)
     if text is None:
         return default
@@ -61,7 +61,7 @@ def number_of(element: Element, name: str, default: int) -> Optional[int]:
 
 
 def erased(generic: Element) -> Optional[str]:
-    """The classifier or the type parameter that a generic type is erased to."""
+    """The classifier or the type parameter that a generic type stands for."""
     return link_of(generic, 'eClassifier') or link_of(generic, 'eTypeParameter')
 
 

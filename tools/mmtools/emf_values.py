@@ -1,4 +1,4 @@
-"""Which texts EMF reads as values of its data types, for those that are wider here."""
+"""Which texts EMF reads as values of its data types, if those are narrower than EString."""
 
 from __future__ import annotations
 
@@ -30,7 +30,7 @@ def like(pattern: str) -> Check:
 
 
 def is_char(text: str) -> bool:
-    """Whether a text is the number of a character, or a character that is no digit."""
+    """Whether EMF reads a text as an EChar: the number of a character, or one character that is no digit."""
     return text.isdecimal() and text.isascii() and int(text) < 1 << 16 or len(text) == 1 and not text.isdecimal() and text < '\U00010000'
 
 

@@ -12,7 +12,7 @@ PIECE = 1 << 16  # bytes that are read at once
 
 
 class ToolError(Exception):
-    """A fault of the input. Its text is the line that the user reads."""
+    """A fault of the input. The message is the line that the user reads."""
 
 
 def fault(file: str, line: Optional[int], text: str) -> NoReturn:
@@ -27,7 +27,7 @@ def one_line(text: str) -> str:
 
 
 def run(name: str, main: Callable[[], int]) -> NoReturn:
-    """Runs a tool, and ends the process: the status that the tool gives, or 1 for a fault, which is printed in one line."""
+    """Runs a tool and ends the process, with the status of the tool, or with 1 for a fault, which is printed in one line."""
     gc.disable()  # what is read stays until the end, and a search for cycles would look through all of it again and again
     try:
         status = main()

@@ -63,7 +63,7 @@ class MFeature:
 
     @property
     def is_container(self) -> bool:
-        """Whether it leads from the part to its holder."""
+        """Whether the reference leads from a part to its container."""
         return self.opposite is not None and self.opposite.containment
 
     @property
@@ -98,7 +98,7 @@ class MFeature:
 
 
 class Left(NamedTuple):
-    """A feature of Ecore that has no place, and why."""
+    """A feature of Ecore that is left out, and why."""
 
     why: str
     source: EFeature
@@ -106,7 +106,7 @@ class Left(NamedTuple):
 
 @dataclass(eq=False)
 class MClass:
-    """A class. `left` has what became of the features of Ecore that have no place, by their names there."""
+    """A class. `left` says by name what became of the Ecore features that are left out."""
 
     name: str
     is_abstract: bool = False
@@ -116,7 +116,7 @@ class MClass:
     left: Dict[str, Left] = field(default_factory=dict)
 
     def above(self) -> List['MClass']:
-        """Its supertypes, depth first, each once, and then itself."""
+        """Its supertypes, depth first, each once, and then the class itself."""
         seen: Dict[int, MClass] = {}
         stack = [(self, False)]
         entered = set()

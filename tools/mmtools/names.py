@@ -1,4 +1,4 @@
-"""Names as the repository takes them: each is bent to one, and made different from those that are taken."""
+"""Names that the repository takes: a name of Ecore is converted to one, and made different from the names that are taken."""
 
 from __future__ import annotations
 

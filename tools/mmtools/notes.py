@@ -1,4 +1,4 @@
-"""Notes of what a tool bends or leaves out, by kind and name; what loses content comes first, and is counted at the end."""
+"""Notes of what a tool changes or leaves out, by kind and name. Losses of content come first, and are counted at the end."""
 
 from __future__ import annotations
 
@@ -27,7 +27,7 @@ def counted(count: int, kind: str) -> str:
 
 @dataclass(frozen=True)
 class Note:
-    """One thing that has no place as it is: its kind, its name, the line of the file if it is at one, and what became of it."""
+    """A part that could not be taken over as it is: its kind, its name, its line if it is at one, and what became of it."""
 
     kind: str
     name: str
@@ -69,7 +69,7 @@ class Notes:
         return self.losses + self.told + more
 
     def sums(self) -> List[str]:
-        """How many things were left out: those that nobody misses, and those of the content."""
+        """How many things were left out: those without content, and those with content."""
         untold = Counter(note.kind for note in self.told if note.kind in UNTOLD)
         lines = [f'{", ".join(counted(untold[kind], kind) for kind in UNTOLD if kind in untold)} left out without a loss'] if untold else []
         lost = ', '.join(counted(count, kind) for kind, count in self.lost.items() if count)
@@ -93,7 +93,7 @@ class Notes:
         return ''.join('| ' + ' | '.join(cell.replace('|', '\\|') for cell in row) + ' |\n' for row in rows)
 
     def end(self, tool: str, is_report: bool, is_strict: bool) -> int:
-        """Prints the notes, as lines or as a table with all of them, and gives the status of the tool."""
+        """Prints the notes, as lines or as a whole table, and returns the status of the tool."""
         if is_report:
             sys.stderr.write(self.table())
         else:

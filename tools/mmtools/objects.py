@@ -1,4 +1,4 @@
-"""Objects of a resource, as documents and XMI hold them, and what is known of the features of their classes."""
+"""Objects of a resource, as documents and XMI have them, and the features of their classes."""
 
 from __future__ import annotations
 
@@ -17,11 +17,9 @@ MARKS = ': #'  # what a path has that is more than positions, or a part of a nam
 
 
 class Obj:
-    """An object.
-
-    `values` has what was written, by the names of the document: a list of a many-valued feature, the value of a single one. A value of
-    a containment is an object, and that of another reference an object or the text of a proxy. `via` is the slot that contains the
-    object in its parent, and `index` its position there; for a root it is the position among the roots.
+    """An object. `values` has the written values by the names of the document: a list for a many-valued feature, else one
+    value. A value of a containment is an object; a value of another reference is an object or the text of a proxy. `via` is the
+    slot of the parent that contains the object, and `index` its position there; for a root it is the position among the roots.
     """
 
     __slots__ = ('of', 'line', 'values', 'parent', 'via', 'index')
@@ -101,7 +99,7 @@ class Plans(Dict[MClass, Plan]):
 
 
 class Lists(Dict[str, List[Obj]]):
-    """The lists of contained objects that were looked for, by the paths to them."""
+    """The lists of contained objects that were looked up, by the paths to them."""
 
     def at(self, fragment: str) -> Union[Obj, object, None]:
         """The object of a fragment, or `BEYOND`, if its list is known; None if that is not known."""

@@ -1,4 +1,4 @@
-"""What references into other files lead to: the URIs of resources, and the names in fragments, bent and back."""
+"""The targets of references into other files: the URIs of resources, and the names in fragments, converted in both directions."""
 
 from __future__ import annotations
 

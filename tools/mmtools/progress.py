@@ -1,4 +1,4 @@
-"""How far a tool is with a long file, on standard error if that is a terminal."""
+"""The progress of a tool over a long file, on standard error if that is a terminal."""
 
 from __future__ import annotations
 

@@ -1,4 +1,4 @@
-"""Elements that are left out with all that is below them, whose objects are counted."""
+"""Elements that are left out with everything below them. The objects among them are counted."""
 
 from __future__ import annotations
 

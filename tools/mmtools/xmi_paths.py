@@ -1,4 +1,4 @@
-"""What fragments lead to in an XMI file: by `xmi:id`, by the value of an `iD` attribute, and by steps from a root."""
+"""The targets of fragments in an XMI file: by `xmi:id`, by the value of an `iD` attribute, and by steps from a root."""
 
 from __future__ import annotations
 
@@ -40,7 +40,7 @@ class Addresses:
         return None if self.gaps else self.graph.follow(fragment, True)
 
     def at(self, fragment: str) -> Found:
-        """The object of a fragment, that it is left out, or why there is none."""
+        """The object of a fragment; or that it was left out, or why there is none."""
         found = self.quick(fragment)
         if found is not None:
             return found

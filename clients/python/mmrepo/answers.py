@@ -1,4 +1,4 @@
-"""What an answer of a kind says. A ValueError comes for an answer of another kind."""
+"""What an answer of a kind says. Raises a ValueError for an answer of another kind."""
 
 from __future__ import annotations
 

@@ -19,13 +19,14 @@ if TYPE_CHECKING:
 NOT_MADE = '#?'  # the word of an object that is not made yet, which no line of a script can have
 
 class Batch:
-    """Commands that are collected, and sent at once: by `send`, and at the end of a `with`. `batch` of a repository makes it.
+    """Commands that are collected and then sent at once: by `send`, and at the end of a `with`. `batch` of a repository makes
+    it.
 
-    All are given, also behind one that is refused. `answers` has what each gave, in order: None for a change of a feature, a truth value
-    for `append`, the object that was made, how many objects a `delete` destroyed, and the Refused of a command that was refused. The first
-    Refused is raised when all were given.
+    All commands are sent, even if one of them is refused. `answers` has the results in order: None for a change of a feature, a
+    truth value for `append`, the object that was made, how many objects a `delete` destroyed, and the Refused of a command that
+    was refused. When all commands are done, the first Refused is raised.
 
-    The objects are made first. Until then an object of `create` is to be used in the batch alone.
+    The objects are made first. Before that, an object of `create` can only be used in the batch.
     """
 
     def __init__(self, session: Session) -> None:
@@ -39,8 +40,9 @@ class Batch:
         self.answers: List[Any] = []
 
     def create(self, eclass: Union[str, EClass], /, **features: Any) -> EObject:
-        """Makes an object of a class, with values of features: one value, or several of a list. A ValueError comes if there is no such
-        class, or it is abstract."""
+        """Makes an object of a class, with values of features: one value, or several values of a list. Raises a ValueError if
+        there is no such class, or if it is abstract.
+        """
         known = eclass if isinstance(eclass, EClass) else self._session.metamodel.classes.get(eclass)
         if known is None or known.abstract:
             raise ValueError(f'no object of {eclass} can be made')
@@ -77,7 +79,7 @@ class Batch:
         self._call('set', target, self._tail(name, value, target.eClass.findEStructuralFeature(name)))
 
     def unset(self, target: EObject, feature: FeatureName) -> None:
-        """Takes a feature back to its default, and empties a list."""
+        """Takes a feature back to its default; a list becomes empty."""
         self._call('unset', target, f' {name_word(name_of(feature))}')
 
     def append(self, values: FeatureList, value: Any) -> None:
@@ -102,9 +104,9 @@ class Batch:
         ]
 
     def send(self) -> List[Any]:
-        """Sends what was collected, and gives what each call gave. Further commands may be collected afterwards.
+        """Sends the collected commands, and returns their results. Further commands may be collected afterwards.
 
-        If an object is not made, its Refused is raised, and nothing else is sent.
+        If an object is refused, its Refused is raised and nothing else is sent.
         """
         calls, is_collecting = self._calls, gc.isenabled()
         gc.disable()  # what is made here stays, and looking through it again and again takes as long as all else
@@ -128,6 +130,6 @@ class Batch:
     def __exit__(
         self, kind: Optional[Type[BaseException]], error: Optional[BaseException], trace: Optional[TracebackType]
     ) -> None:
-        """Sends what was collected; nothing after an error."""
+        """Sends the collected commands. After an error it sends nothing."""
         if kind is None:
             self.send()

@@ -28,11 +28,11 @@ DASK = 'dask://'
 
 
 class WrongUse(Exception):
-    """The command can't be done as it was given. Its text says why."""
+    """The command can't be done with these arguments. The message says why."""
 
 
 class Files(NamedTuple):
-    """The files that are checked, by their names below a folder, which is shown in front of them."""
+    """The files to check, by their names below a folder. The path of the folder is shown before the names."""
 
     root: str
     shown: str
@@ -57,7 +57,7 @@ def add_arguments(parser: argparse.ArgumentParser) -> None:
 
 
 def main(words: argparse.Namespace) -> int:
-    """Checks, prints what is found, and gives the status."""
+    """Checks the files, prints the findings, and returns the status."""
     sys.stdout.reconfigure(errors='backslashreplace')
     try:
         models = _models(words)
@@ -79,7 +79,7 @@ def main(words: argparse.Namespace) -> int:
 
 
 def _models(words: argparse.Namespace) -> Models:
-    """The models below the root; a WrongUse if the metamodel is refused, or something is not there."""
+    """The models below the root. Raises a WrongUse if the metamodel is refused, or if a file or a folder is not there."""
     if words.jobs < 1:
         raise WrongUse(f'--jobs {words.jobs}: at least one process is needed')
     for path in [words.metamodel, *words.ecore]:
@@ -99,7 +99,7 @@ def _models(words: argparse.Namespace) -> Models:
 
 
 def _root(words: argparse.Namespace) -> str:
-    """The folder of all files: the one given, else the lowest folder that has all paths."""
+    """The folder of all files: the argument, else the lowest folder that contains all paths."""
     if words.root is not None:
         return words.root
     if len(words.paths) == 1 and os.path.isdir(words.paths[0]):
@@ -134,7 +134,7 @@ def _files(models: Models, words: argparse.Namespace) -> Files:
 
 @contextmanager
 def _executor(words: argparse.Namespace) -> Iterator[Optional[Executor]]:
-    """What checks: worker processes, workers of Dask, or none for this process."""
+    """The executor of the check: worker processes, workers of Dask, or None for this process."""
     if words.executor is not None:
         if not words.executor.startswith(DASK):
             raise WrongUse(f'--executor {words.executor}: it is written as {DASK}HOST:PORT')
@@ -156,12 +156,12 @@ def _executor(words: argparse.Namespace) -> Iterator[Optional[Executor]]:
 
 
 def _leave_interrupts() -> None:
-    """A Ctrl-C is for the process that gave the work."""
+    """Ignores Ctrl-C in a worker: the process that gave the work handles it."""
     signal.signal(signal.SIGINT, signal.SIG_IGN)
 
 
 def _check(models: Models, files: Files, words: argparse.Namespace, executor: Optional[Executor]) -> Counts:
-    """Checks the files, and prints each finding once those of the files before are printed."""
+    """Checks the files, and prints the findings of a file after those of the files before it."""
     counts, report, progress = Counts(), REPORTS[words.format](sys.stdout), Progress(len(files.names))
     refused = [Finding(name, 'FILE', '', why) for name, why in files.refused]
     counts.files = len(refused)

@@ -15,20 +15,21 @@ Placed = Tuple[int, Finding]  # with the number of the object in the document
 
 
 class Scope(NamedTuple):
-    """What is checked: the files below some names, an empty one for all, but for the metamodel; and the beginnings of URIs that may
-    lead outside."""
+    """What is checked: the files below some names, where an empty name stands for all files, without the metamodel; and the
+    beginnings of URIs that may lead outside.
+    """
 
     tops: Tuple[str, ...]
     accepted: Tuple[str, ...]
     metamodel: Optional[str] = None
 
     def has(self, name: Optional[str]) -> bool:
-        """Whether a file is one of those that are checked."""
+        """Whether a file is checked."""
         return name is not None and name != self.metamodel and any(top in ('', name) or name.startswith(f'{top}/') for top in self.tops)
 
 
 class Report(NamedTuple):
-    """What a check of a group has found, and how many files and objects it had."""
+    """The findings of a group, and how many files and objects it had."""
 
     findings: List[Finding]
     files: int
@@ -36,7 +37,7 @@ class Report(NamedTuple):
 
 
 class Checked(NamedTuple):
-    """A file of the group that is loaded: the proxies of its document, and its objects that have a feature with a lower bound."""
+    """A loaded file of the group: the proxies of its document, and its objects that have a feature with a lower bound."""
 
     loaded: Loaded
     proxies: List[Found]
@@ -44,8 +45,9 @@ class Checked(NamedTuple):
 
 
 def check_group(models: Models, scope: Scope, names: Group) -> Report:
-    """Checks some files. The files that they refer to are loaded beside them. If the repository can't hold all of them, the group is
-    loaded again for the others."""
+    """Checks some files. The files to which they refer are loaded beside them. If the repository can't hold all of them, the
+    group is loaded again for the remaining files.
+    """
     findings: List[Finding] = []
     placed: List[Placed] = []
     with models.opened() as part:
@@ -67,7 +69,7 @@ def check_group(models: Models, scope: Scope, names: Group) -> Report:
 
 
 def _loaded(part: Part, names: Group) -> List[Checked]:
-    """Loads a group. What can't be loaded is in the findings of the loader."""
+    """Loads a group. The findings of the loader say what can't be loaded."""
     files: List[Checked] = []
     for name in names:
         loaded = part.loader.load(name)
@@ -93,8 +95,9 @@ def _short(part: Part, file: Checked) -> Iterator[Placed]:
 
 
 def _load_some(part: Part, later: List[str]) -> Set[str]:
-    """Loads files that are waited for, and takes them out of the list, until the repository is full. One that it can't hold in any case
-    is taken out too."""
+    """Loads waiting files, and takes them off the list, until the repository is full. A file that the repository can't hold at
+    all is taken off too.
+    """
     tried: Set[str] = set()
     while later:
         part.loader.load(later[0])
@@ -105,7 +108,7 @@ def _load_some(part: Part, later: List[str]) -> Set[str]:
 
 
 def _judged(part: Part, scope: Scope, files: Sequence[Checked], is_now: Callable[[Optional[str]], bool]) -> Iterator[Placed]:
-    """The findings of the proxies that lead to certain files, but for those that say nothing new."""
+    """The findings of the proxies that lead to certain files, without those that repeat another finding."""
     for file in files:
         proxies = [it for it in file.proxies if is_now(name_of(part.base, it.proxy.uri))]
         judge = Judge(part.repo._session, part.base, file.loaded.name, file.loaded.resource.uri, part.loader.unread)

@@ -1,4 +1,4 @@
-"""Completes the word that is typed: verbs, classes, features and values."""
+"""Completes a word that is typed: verbs, classes, features and values."""
 
 from __future__ import annotations
 
@@ -24,7 +24,7 @@ class Completion:
         self._metamodel, self._class_of, self._own = metamodel, class_of, own
 
     def candidates(self, before: Sequence[str], begun: str) -> List[str]:
-        """The words that may follow others, and that begin as what was typed."""
+        """The words that may come after the earlier words and begin with the typed text."""
         return sorted(it for it in self._all(before) if it.startswith(begun))
 
     def _all(self, before: Sequence[str]) -> List[str]:

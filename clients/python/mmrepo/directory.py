@@ -1,4 +1,4 @@
-"""The files below a directory. No name leads out of it, and no symbolic link is followed."""
+"""The files below a directory. No name leads out of the directory, and no symbolic link is followed."""
 
 from __future__ import annotations
 
@@ -22,7 +22,7 @@ def digest_of(content: bytes) -> bytes:
 
 
 def checked_name(name: str) -> str:
-    """The name of a file below a directory, as `sub/town.json`; a ValueError if it may lead out of it."""
+    """The name of a file below a directory, as `sub/town.json`. Raises a ValueError if it may lead out of the directory."""
     parts = name.split('/')
     if any(part in ('', '.', '..') for part in parts) or '\0' in name:
         raise ValueError(f'{name!r} does not name a file below the folder')
@@ -35,7 +35,7 @@ def reason(error: OSError) -> str:
 
 
 class State(NamedTuple):
-    """A file at one moment: what identifies its content, and what a change of the file would change."""
+    """A file at one moment: values that identify its content, and that differ after a change of the file."""
 
     digest: bytes
     mode: int
@@ -46,7 +46,7 @@ class Directory:
     """A directory, and the files below it by their names, as `sub/town.json`."""
 
     def __init__(self, path: Union[str, os.PathLike]) -> None:
-        """The directory of a path, which may be a symbolic link itself. An OSError comes if it is none."""
+        """The directory of a path, which may itself be a symbolic link. Raises an OSError if it is not a directory."""
         self.path = os.fspath(path)
         self._real = os.path.realpath(self.path)
         os.close(os.open(self._real, _FOLDER))
@@ -56,12 +56,12 @@ class Directory:
         return os.path.join(self.path, name)
 
     def name_of(self, path: str) -> Optional[str]:
-        """The name of a file that is given by a path; None if it is not below the directory."""
+        """The name of the file of a path; None if the file is not below the directory."""
         name = os.path.relpath(os.path.realpath(path), self._real)
         return None if name.split('/')[0] in ('.', '..') else name
 
     def names(self, suffixes: Sequence[str]) -> Tuple[List[str], List[Tuple[str, str]]]:
-        """The files whose names have one of the suffixes, in order; and names that are refused, each with the reason."""
+        """The files whose names have one of the suffixes, in order; and the names that are refused, each with the reason."""
         names: List[str] = []
         refused: List[Tuple[str, str]] = []
         fd = os.open(self._real, _FOLDER)
@@ -73,7 +73,7 @@ class Directory:
 
     @contextmanager
     def _folder(self, name: str, makes: bool = False) -> Iterator[Tuple[int, str]]:
-        """The open directory of a file, and the file's name there. Directories on the way are made if it `makes` them."""
+        """The open directory of a file, and the file's name there. If `makes` is set, directories on the way are made."""
         *folders, leaf = checked_name(name).split('/')
         fd = os.open(self._real, _FOLDER)
         try:
@@ -92,7 +92,7 @@ class Directory:
             os.close(fd)
 
     def read(self, name: str) -> bytes:
-        """The content of a file. An OSError comes for what is no regular file, and for a symbolic link."""
+        """The content of a file. Raises an OSError for a symbolic link, and for anything else that is not a regular file."""
         return self._read(name)[0]
 
     def _read(self, name: str) -> Tuple[bytes, os.stat_result]:
@@ -103,7 +103,7 @@ class Directory:
             return file.read(), status
 
     def has(self, name: str) -> bool:
-        """Whether there is something under the name of a file, a link or a folder included."""
+        """Whether something has the name of a file; a link or a folder counts."""
         try:
             with self._folder(name) as (fd, leaf):
                 os.stat(leaf, dir_fd=fd, follow_symlinks=False)
@@ -112,7 +112,7 @@ class Directory:
             return False
 
     def state(self, name: str) -> Optional[State]:
-        """The state of a file; None if there is none. An OSError comes as it does for `read`."""
+        """The state of a file; None if there is none. Raises an OSError as `read` does."""
         try:
             content, status = self._read(name)
         except FileNotFoundError:
@@ -120,7 +120,7 @@ class Directory:
         return State(digest_of(content), stat.S_IMODE(status.st_mode), _mark(status))
 
     def is_as(self, name: str, state: Optional[State]) -> bool:
-        """Whether nobody has changed a file since it had a state."""
+        """Whether a file still has a state: nobody has changed it."""
         try:
             with self._folder(name) as (fd, leaf):
                 mark = _mark(os.stat(leaf, dir_fd=fd, follow_symlinks=False))
@@ -129,7 +129,7 @@ class Directory:
         return state is not None and mark == state.mark
 
     def replacement(self, name: str, content: bytes, mode: Optional[int]) -> Replacement:
-        """New content for a file, on the disk, which `put` puts in the file's place."""
+        """New content for a file, written to the disk. `put` puts it in the file's place."""
         leaf = f'.mmrepo-{secrets.token_hex(8)}.tmp'
         with self._folder(name, True) as (fd, _):
             with open(os.open(leaf, _MAKE, 0o666, dir_fd=fd), 'wb') as file:
@@ -145,15 +145,16 @@ class Directory:
         return Replacement(self, name, leaf)
 
     def sync(self, names: Iterable[str]) -> None:
-        """Has the disk know which files there are in the folders of some files."""
+        """Syncs the folders of some files, so that the names of the files are on the disk."""
         for name in {name.rpartition('/')[0]: name for name in names}.values():
             with self._folder(name) as (fd, _):
                 os.fsync(fd)
 
 
 class Replacement:
-    """New content of a file. It is in a file beside it until it is put in its place, by one step: a crash leaves the old content
-    or the new one, and perhaps the file beside it, whose name begins with `.mmrepo-`."""
+    """New content of a file. It is in a second file beside the first until one step puts it in its place. A crash leaves the
+    old content or the new one, and perhaps the second file, whose name begins with `.mmrepo-`.
+    """
 
     def __init__(self, directory: Directory, name: str, temporary: str) -> None:
         self._directory, self._name, self._temporary = directory, name, temporary
@@ -166,7 +167,7 @@ class Replacement:
             self._is_done = True
 
     def drop(self) -> None:
-        """Takes it away, unless it was put in its place."""
+        """Deletes the second file, unless it was put in its place."""
         if not self._is_done:
             self._is_done = True
             with self._directory._folder(self._name) as (fd, _):
@@ -174,7 +175,7 @@ class Replacement:
 
 
 def _look(fd: int, above: str, suffixes: Tuple[str, ...], names: List[str], refused: List[Tuple[str, str]]) -> None:
-    """Adds the files of an open directory and of those below it, and what is refused there."""
+    """Adds the files of an open directory and of the directories below it, and the names that are refused."""
     with os.scandir(fd) as entries:
         found = list(entries)
     for entry in found:
@@ -199,7 +200,7 @@ def _look(fd: int, above: str, suffixes: Tuple[str, ...], names: List[str], refu
 
 
 def _leads_to_folder(entry: os.DirEntry) -> bool:
-    """Whether a link leads to a directory; False if it leads nowhere, or round and round."""
+    """Whether a link leads to a directory. False if it leads nowhere, or is part of a cycle of links."""
     try:
         return entry.is_dir()
     except OSError:

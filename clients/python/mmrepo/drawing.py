@@ -1,4 +1,4 @@
-"""Draws objects for a reader: one in a line, with its class and name, and those below it as a tree."""
+"""Shows objects to a reader: an object in a line, with its class and name, and the objects below it as a tree."""
 
 from __future__ import annotations
 
@@ -29,7 +29,7 @@ class Drawing:
         return (self._session.raw(line) or [''])[0]
 
     def class_of(self, word: str) -> Optional[EClass]:
-        """The class of an object; None if there is no object of the word."""
+        """The class of an object; None if the word names no object."""
         if word not in self._classes:
             found = self._metamodel.classes.get(self._ask(f'class {word}').partition(' ')[2])
             if found is None:
@@ -103,7 +103,7 @@ class Drawing:
 
 
 def text_of(word: str) -> str:
-    """The text of a word in quotation marks; a ValueError if it is none."""
+    """The text of a word in quotation marks. Raises a ValueError for any other word."""
     value = value_of(word, str)
     if not isinstance(value, str):
         raise ValueError(f'{word} is no text')

@@ -17,7 +17,7 @@ _HERE = Path(__file__).resolve().parent
 
 
 class Engine:
-    """What answers lines. The text of an answer has a newline after each of its lines."""
+    """The interface of an engine, which answers lines. Each line of an answer ends with a newline."""
 
     name: str
     may_hang = False  # whether an answer may never come
@@ -35,7 +35,7 @@ class Engine:
     def exchange(self, line: str) -> str:
         """The text that a line prints.
 
-        A ValueError comes, and nothing is sent, for a line that is too long, has a newline or half of a surrogate pair.
+        Raises a ValueError, and sends nothing, for a line that is too long, has a newline or half of a surrogate pair.
         """
         raise NotImplementedError
 
@@ -45,11 +45,11 @@ class Engine:
         return [exchange(line) for line in lines]
 
     def explained(self, line: str, uri: Optional[str]) -> List[str]:
-        """What `--explain` says of the line that was given last, without its number. `uri` is that of the resource of a `load`."""
+        """What `--explain` says of the last line, without its number. `uri` is the URI of the resource of a `load`."""
         raise NotImplementedError
 
     def end(self, why: str) -> None:
-        """Ends it at once. Further lines raise a RepositoryClosed with the reason."""
+        """Ends the engine at once. Later lines raise a RepositoryClosed with the reason."""
         raise NotImplementedError
 
     def close(self) -> None:
@@ -71,7 +71,7 @@ class Engine:
             self.list_length = self.list_value = self.load = refused
 
     def shut(self, why: str) -> None:
-        """Has all further calls raise a RepositoryClosed, unless they raise an error already."""
+        """Makes all later calls raise a RepositoryClosed, unless they raise an error already."""
         if not self.is_shut:
             self.refuse(lambda: RepositoryClosed(why))
 
@@ -80,7 +80,7 @@ _open: WeakSet[Engine] = WeakSet()
 
 
 def _after_fork() -> None:
-    """In the child of a fork: no repository of the parent is its own."""
+    """Marks all repositories in the child of a fork: they belong to the parent."""
     for engine in list(_open):
         engine.abandon()
 
@@ -89,10 +89,11 @@ os.register_at_fork(after_in_child=_after_fork)
 
 
 def start(metamodel: str, document: bytes, program: Optional[str], library: Optional[str], journal: Optional[str] = None) -> Engine:
-    """The engine of a repository over a metamodel. A journal is kept by the program alone, so with one it is the program.
+    """The engine of a repository over a metamodel.
 
-    Else it is the library if one is given, else the program if one is given, else the library that MMREPO_LIBRARY names, or that is beside this
-    package, else the program. MMREPO_ENGINE in the environment demands an engine by its name, unless one is given.
+    Only the program keeps a journal, so with a journal the engine is the program. Otherwise it is the library, if that is an
+    argument; else the program, if that is an argument; else the library that MMREPO_LIBRARY names, or the library beside this
+    package; else the program. If neither is an argument, MMREPO_ENGINE can demand an engine by its name.
     """
     from .inprocess import InProcess
     from .process import Program, program_file

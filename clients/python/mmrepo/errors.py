@@ -14,7 +14,7 @@ SHOWN = 200  # the most characters of a line that a message shows
 
 
 def shown(line: str) -> str:
-    """A line as a message shows it: its beginning, where it is long."""
+    """The beginning of a line, as a message shows it."""
     return line if len(line) <= SHOWN else line[:SHOWN] + ' ..'
 
 
@@ -25,9 +25,9 @@ class MmrepoError(Exception):
 class Refused(MmrepoError):
     """A command was refused, and nothing has changed. docs/SCRIPT.md lists the refusals.
 
-    `number` and `name` tell which it is, as 8 and `TYPE`; `cause` has the number and the name of the cause, where a
-    document was refused, and is None elsewhere; `explained` has a line for each thing that is to be mended in the document,
-    in the words of `--explain`; `command` is the line of the script.
+    `number` and `name` identify the refusal, as 8 and `TYPE`. `cause` has the number and the name of the cause if a document
+    was refused, else it is None. `explained` has a line for each thing to fix in the document, in the words of `--explain`.
+    `command` is the line of the script.
     """
 
     def __init__(
@@ -51,7 +51,7 @@ class IndexRefused(Refused, IndexError):
 
 
 class BadLine(MmrepoError):
-    """The program does not know a command: it is older than this package. `command` is the line."""
+    """The program does not know a command, since it is older than this package. `command` is the line."""
 
     def __init__(self, command: str) -> None:
         super().__init__(command)
@@ -62,8 +62,9 @@ class BadLine(MmrepoError):
 
 
 class MetamodelRefused(MmrepoError):
-    """The metamodel has a fault. `fault` is what the program says of it, as `7 CYCLE class 0`; docs/METAMODEL.md lists the faults.
-    `explained` has a line for each thing that is to be fixed, in the words of `--explain`."""
+    """The metamodel has a fault. `fault` is the message of the program, as `7 CYCLE class 0`; docs/METAMODEL.md lists the
+    faults. `explained` has a line for each thing to fix, in the words of `--explain`.
+    """
 
     def __init__(self, file: str, fault: str, explained: Sequence[str] = ()) -> None:
         super().__init__(file, fault, explained)
@@ -76,8 +77,9 @@ class MetamodelRefused(MmrepoError):
 
 
 class JournalRefused(MmrepoError):
-    """The program does not take a journal, and leaves it as it is. `fault` is what the program says of it, as `IN_USE`;
-    docs/JOURNAL.md lists the faults. `explained` has the words of `--explain`."""
+    """The program does not take a journal, and leaves it as it is. `fault` is the message of the program, as `IN_USE`;
+    docs/JOURNAL.md lists the faults. `explained` has the words of `--explain`.
+    """
 
     def __init__(self, file: str, fault: str, explained: Sequence[str] = ()) -> None:
         super().__init__(file, fault, explained)
@@ -92,8 +94,8 @@ class JournalRefused(MmrepoError):
 class ProgramError(MmrepoError):
     """The program can't be used, and its process is ended.
 
-    `status` is the status with which it ended by itself, or None; below 0 it is the signal that ended it. `said` is what it
-    wrote on standard error.
+    `status` is the exit status of a process that ended by itself, else None; a negative status is the signal that ended it.
+    `said` is what the process wrote on standard error.
     """
 
     def __init__(self, why: str, status: Optional[int] = None, said: str = '') -> None:
@@ -109,7 +111,7 @@ class ProgramError(MmrepoError):
 
 
 class NotStarted(ProgramError):
-    """There is no program of the name, or the system does not run it."""
+    """There is no program of the name, or the system can't run it."""
 
 
 class ProgramEnded(ProgramError):
@@ -121,14 +123,14 @@ class ReplyCut(ProgramError):
 
 
 class ReplyNotUnderstood(ProgramError):
-    """The program answered what no command answers."""
+    """The program's answer is not one that the command can have."""
 
 
 class CallableFailed(MmrepoError):
-    """A callable that was attached raised an error, which is the `__cause__`. The command was done, all others were handed their
-    notifications, and the repository goes on.
+    """An attached callable raised an error, which is the `__cause__`.
 
-    `callable` is what was called, and `notice` the notification that it was handed.
+    The command was done, all other callables were called with their notifications, and the repository goes on. `callable` is
+    the one that failed, and `notice` the notification that it was called with.
     """
 
     def __init__(self, callable: Callable[..., Any], notice: Any) -> None:
@@ -141,9 +143,8 @@ class CallableFailed(MmrepoError):
 
 
 class NotOpened(MmrepoError):
-    """A folder was opened by `strict`, and something could not be loaded or resolved. What could be is in the repository.
-
-    `folder` is what was opened; its `findings` say what is wrong.
+    """A folder was opened with `strict`, and something could not be loaded or resolved. The repository has everything else.
+    `folder` is the folder; its `findings` say what is wrong.
     """
 
     def __init__(self, folder: Folder) -> None:
@@ -155,7 +156,7 @@ class NotOpened(MmrepoError):
 
 
 class NotLoaded(MmrepoError):
-    """Files of a shard could not be loaded. `findings` say why, file by file."""
+    """Files of a shard could not be loaded. `findings` give the reason for each file."""
 
     def __init__(self, findings: Sequence[Finding]) -> None:
         super().__init__(findings)
@@ -166,7 +167,7 @@ class NotLoaded(MmrepoError):
 
 
 class NotSaved(MmrepoError):
-    """Nothing was written, since something is in the way. `findings` say what, file by file."""
+    """Nothing was written, since a file can't be saved. `findings` give the reason for each file."""
 
     def __init__(self, findings: Sequence[Finding]) -> None:
         super().__init__(findings)
@@ -187,4 +188,4 @@ class NotOwner(MmrepoError):
 
 
 class RepositoryClosed(MmrepoError):
-    """The repository takes no more commands. Its text says why."""
+    """The repository takes no further commands. The message says why."""

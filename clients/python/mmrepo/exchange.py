@@ -1,4 +1,4 @@
-"""The exchange of a line and its answer: what comes back is read, raised or handed to the views."""
+"""The exchange of a line and its answer: an answer is read or raised as an error, and notifications are delivered to the views."""
 
 from __future__ import annotations
 
@@ -22,10 +22,10 @@ _REFUSED = re.compile(r'refused ([0-9]+) ([A-Z_]+)(?: ([0-9]+) ([A-Z_]+))?')
 
 
 class Exchange:
-    """Gives lines to an engine, and reads the answers.
+    """Gives lines to an engine, and reads the answers. It belongs to the thread that made it.
 
-    It is for the thread that made it. While it is `busy`, from before a line is given until its answer is read, a Ctrl-C waits, as
-    `interrupted` says then.
+    It is `busy` from before a line is given until its answer is read. During that time a Ctrl-C waits, and `interrupted` says
+    so.
     """
 
     def __init__(self, engine: Engine) -> None:
@@ -38,18 +38,18 @@ class Exchange:
         self._is_handing = False
 
     def named(self, word: str, eclass: Optional[EClass] = None) -> Any:
-        """The object, the resource or the view of a word; a ValueError if it is no such word."""
+        """The object, the resource or the view of a word. Raises a ValueError for any other word."""
         raise NotImplementedError
 
     def explained(self, line: str) -> List[str]:
-        """What is to be fixed in the line that was given last."""
+        """What has to be fixed in the last line."""
         raise NotImplementedError
 
     def ask(self, line: str, read: Callable[[str], T]) -> T:
-        """What `read` makes of the answer to a line. The views are notified before it is given.
+        """The result of `read` for the answer to a line. The views are notified before it is returned.
 
-        A Refused comes if the command is refused, and a BadLine if the engine does not know it. If `read` raises a
-        ValueError the engine is ended, and a ReplyNotUnderstood comes.
+        Raises a Refused if the command is refused, and a BadLine if the engine does not know it. If `read` raises a ValueError,
+        the engine is ended and a ReplyNotUnderstood is raised.
         """
         if get_ident() != self._owner:
             raise self._foreign()
@@ -118,7 +118,7 @@ class Exchange:
         return found
 
     def _asked_all(self, lines: Sequence[str], read: Callable[[str, str], T]) -> List[T]:
-        """What `read` makes of each line and the first line of its answer."""
+        """The results of `read` for each line and the first line of its answer."""
         self.check()
         self.busy = True
         try:
@@ -139,9 +139,10 @@ class Exchange:
             raise self._foreign()
 
     def take(self) -> None:
-        """Gives it to the thread that calls. The caller sees to it that no other thread is in the middle of a call.
+        """Gives the exchange to the calling thread. The caller makes sure that no other thread is in the middle of a call.
 
-        From the first change of threads on a Ctrl-C no longer waits: it is handled in the main thread, which need not be the one that is busy.
+        After the first change of threads a Ctrl-C no longer waits: Python handles it in the main thread, which need not be the
+        busy one.
         """
         if get_ident() != self._owner:
             interrupts.leave(self)
@@ -151,7 +152,7 @@ class Exchange:
         return NotOwner('the repository belongs to another thread: give it work by a queue, or open one for each thread')
 
     def _read(self, line: str, text: str, read: Callable[[str], T]) -> T:
-        """What `read` makes of the answer; or the error of a command that is not done."""
+        """The result of `read` for the answer, or the error of a command that was not done."""
         end = text.find('\n')
         if end < 0:
             end = len(text)
@@ -168,7 +169,7 @@ class Exchange:
         return self._heard(line, text, end, read)
 
     def _heard(self, line: str, text: str, end: int, read: Callable[[str], T]) -> T:
-        """What `read` makes of an answer that notifications follow. They wait for their views."""
+        """The result of `read` for an answer with notifications after it. The notifications wait for their views."""
         try:
             found = read(text[:end])
         except ValueError:
@@ -177,14 +178,14 @@ class Exchange:
         return found
 
     def _hear(self, line: str, text: str, end: int) -> None:
-        """Has the notifications wait that begin after an offset of an answer."""
+        """Queues the notifications that begin after an offset of an answer."""
         try:
             self.views.hear(text[end + 1:-1].split('\n'), self.named)
         except ValueError:
             raise self.not_understood(line, text) from None
 
     def _taken(self, line: str, text: str, read: Callable[[str, str], T]) -> T:
-        """What `read` makes of the first line of an answer. The notifications after it wait for their views."""
+        """The result of `read` for the first line of an answer. The notifications after it wait for their views."""
         end = text.find('\n')
         if end + 1 == len(text):
             try:
@@ -194,19 +195,19 @@ class Exchange:
         return self._heard(line, text, end, lambda answer: read(line, answer))
 
     def not_understood(self, line: str, text: str) -> ReplyNotUnderstood:
-        """Ends the engine, and gives the error for an answer that no command has."""
+        """Ends the engine, and returns the error for an answer that no command can have."""
         self.engine.end('the program answered what no command answers')
         return ReplyNotUnderstood(f'not understood: {shown(text.strip())}, at the line `{shown(line)}`')
 
     def _leave(self) -> None:
-        """Is called when a command was not done. A Ctrl-C that came meanwhile is handled."""
+        """Is called when a command was not done. Handles a Ctrl-C that came in the meantime."""
         self.busy = False
         handler, self.interrupted = self.interrupted, None
         if handler is not None:
             handler.deliver()
 
     def _called(self, line: str, call: Callable[[], str], read: Callable[[str], T]) -> T:
-        """What `read` makes of what a call prints; an error names the line that comes nearest to it."""
+        """The result of `read` for what a call prints. An error names the script line that is most like the call."""
         self.check()
         self.busy = True
         try:
@@ -230,10 +231,10 @@ class Exchange:
         return kind(line, int(number), name, (int(cause), cause_name) if cause else None, explained)
 
     def _hand_out(self) -> None:
-        """Hands the notifications that wait to their callables, and then handles a Ctrl-C that waits.
+        """Calls the callables with the notifications that wait, and then handles a Ctrl-C that waits.
 
-        What a callable causes by a command of its own waits after them. An error of a callable is raised when all were handed out, and
-        the first of several.
+        Notifications of a command that a callable gives come last. If callables raise errors, the first error is raised when
+        all notifications have been delivered.
         """
         if self._is_handing:
             self._leave()
@@ -257,7 +258,7 @@ class Exchange:
             raise CallableFailed(view.hearer, notice) from cause
 
     def is_busy_in(self, frame: Optional[FrameType]) -> bool:
-        """Whether a Ctrl-C has to wait that comes in a frame: a command is under way, or a notification was not handed out yet."""
+        """Whether a Ctrl-C that comes in a frame has to wait: a command is running, or a notification has not been delivered yet."""
         return self.busy or self._is_handing and frame is not None and frame.f_code is _HANDING
 
     def _read_value(self, answer: str) -> Any:

@@ -9,11 +9,11 @@ _PLACED = re.compile(r'(roots(?:\[[0-9]+\]|\.[A-Za-z_][A-Za-z0-9_]*)*): (.*)', r
 
 
 class Finding(NamedTuple):
-    """One thing that is wrong with a file.
+    """Something that is wrong with a file. `file` is its name in the folder, as `sub/town.json`.
 
-    `file` is its name in the folder, as `sub/town.json`. `kind` is the cause for which a document is refused, as `VALUE`; the
-    refusal of a command, as `UNRESOLVED` or `LIMIT`; or `FILE`, `LONG`, `TOOL`, `LEFT_OUT`, `OUTSIDE`, `UNREAD`, `SHORT`, `CHANGED`.
-    `place` is where it is in the document, as `roots[0].features.books[3]`, or empty; `text` says what is wrong.
+    `kind` is the cause for which a document is refused, as `VALUE`; the refusal of a command, as `UNRESOLVED` or `LIMIT`; or
+    `FILE`, `LONG`, `TOOL`, `LEFT_OUT`, `OUTSIDE`, `UNREAD`, `SHORT`, `CHANGED`. `place` is the place in the document, as
+    `roots[0].features.books[3]`, or empty. `text` says what is wrong.
     """
 
     file: str
@@ -27,11 +27,11 @@ class Finding(NamedTuple):
         return ': '.join(part for part in (self.file, self.place, self.text) if part)
 
     def record(self) -> Dict[str, str]:
-        """The finding by the names of its parts, as JSON takes it."""
+        """The finding as a dict for JSON, by the names of its parts."""
         return dict(self._asdict())
 
 
 def explained(file: str, kind: str, said: str) -> Finding:
-    """The finding of a line of `--explain`, which may begin with a place."""
+    """The finding for a line of `--explain`, which may begin with a place."""
     found = _PLACED.fullmatch(said)
     return Finding(file, kind, *found.groups()) if found else Finding(file, kind, '', said)

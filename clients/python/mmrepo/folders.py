@@ -1,4 +1,4 @@
-"""Folders: the files below a directory as resources of a repository, which are saved to their files again."""
+"""Folders: the files below a directory are resources of a repository, and are saved to their files again."""
 
 from __future__ import annotations
 
@@ -26,7 +26,7 @@ LEFT_OUT = 'something of the file was left out when it was read; save_all(force=
 
 
 class Kept:
-    """A resource and its file: the document that the file has, and the content that it had when it was read or written."""
+    """A resource and its file: the document of the file, and the content that the file had when it was read or written."""
 
     def __init__(self, name: str, resource: Resource, is_whole: bool) -> None:
         self.name, self.resource, self.is_whole = name, resource, is_whole
@@ -35,7 +35,7 @@ class Kept:
 
 
 class Ready(NamedTuple):
-    """A file that is to be written: its new content, and the state that it has to have still."""
+    """A file that is to be written: its new content, and the state that it must still have."""
 
     folder: Folder
     kept: Kept
@@ -45,16 +45,16 @@ class Ready(NamedTuple):
 
 
 class Folder:
-    """What `open` of a repository has made of the files below a directory.
+    """The files below a directory as `open` of a repository has loaded them.
 
-    `resources` has the resource of each file that could be loaded, in the order of the names, and each that was made since.
-    `findings` says what could not be loaded or resolved, and what of an XMI file was left out.
+    `resources` has the resource of each file that could be loaded, in the order of the names, and each resource that was made
+    since. `findings` say what could not be loaded or resolved, and what was left out of an XMI file.
     """
 
     def __init__(
         self, repo: Repository, path: Any, base: str, ecore: Sequence[str], suffixes: Sequence[str], metamodel: str
     ) -> None:
-        """Loads the files, and resolves all proxies. The file of the metamodel is none of them."""
+        """Loads the files, and resolves all proxies. The file of the metamodel is not loaded."""
         self.base = checked_base(base)
         self.directory = Directory(path)
         self._repo, self._suffixes = repo, tuple(suffixes) if ecore else ()
@@ -81,10 +81,10 @@ class Folder:
         return [it.resource for it in self._kept.values()]
 
     def resource(self, name: str) -> Resource:
-        """Makes an empty resource for a new file, as `sub/town.json`, which `save_all` makes with its folders.
+        """Makes an empty resource for a new file, as `sub/town.json`. `save_all` makes the file and its folders.
 
-        A ValueError comes if the name leads out of the folder, or has a different suffix; a Refused (RESOURCE_EXISTS) if there is a
-        resource of its URI.
+        Raises a ValueError if the name leads out of the folder, or has a different suffix. Refused (RESOURCE_EXISTS) if there
+        is a resource of its URI.
         """
         if not self._loader.is_document(checked_name(name)):
             raise ValueError(f'{name!r} has to end with one of {", ".join(DOCUMENTS + self._suffixes)}')
@@ -97,7 +97,7 @@ class Folder:
         kept.resource.path = Path(self.directory.full(kept.name))
 
     def _keep(self, loaded: Loaded, has_proxies: bool) -> List[Finding]:
-        """Remembers what a file has, and gives the findings of its proxies."""
+        """Remembers the content of a file, and returns the findings of its proxies."""
         kept = Kept(loaded.name, loaded.resource, loaded.is_whole)
         document = loaded.resource.save()
         kept.saved, kept.content = digest_of(document.encode('utf-8')), loaded.digest
@@ -105,7 +105,7 @@ class Folder:
         return self._unresolved(loaded, document) if has_proxies and loaded.count else []
 
     def _unresolved(self, loaded: Loaded, document: str) -> List[Finding]:
-        """The findings of the proxies that a resource has left."""
+        """The findings of the proxies that are left in a resource."""
         session, uri = self._repo._session, loaded.resource.uri
         shapes = Shapes(session.metamodel)
         links = [link for met in shapes.walk(parsed(document)) for link in links_of(met)]
@@ -115,11 +115,11 @@ class Folder:
     # Saving
 
     def changed(self) -> List[Resource]:
-        """The resources whose documents are not what their files have. A resource that can't be saved is one of them."""
+        """The resources whose documents differ from their files. A resource that can't be saved is one of them."""
         return [it.resource for it in self._kept.values() if self._document_of(it)[0] != it.saved]
 
     def _document_of(self, kept: Kept) -> Tuple[Optional[bytes], str]:
-        """What identifies the document of a resource, and the document; None and the refusal if it can't be saved."""
+        """The hash of the document of a resource, and the document; None and the refusal if it can't be saved."""
         try:
             document = kept.resource.save()
         except Refused as refused:
@@ -127,7 +127,7 @@ class Folder:
         return digest_of(document.encode('utf-8')), document
 
     def prepared(self, force: bool) -> Tuple[List[Ready], List[Finding]]:
-        """The files that are to be written, and what is in the way."""
+        """The files to write, and the findings that forbid it."""
         ready: List[Ready] = []
         findings: List[Finding] = []
         for kept in self._kept.values():
@@ -181,11 +181,11 @@ class Folder:
 
 
 class _InTheWay(Exception):
-    """Why a file is not written: the kind, place and text of a finding."""
+    """The reason why a file is not written: the kind, place and text of a finding."""
 
 
 def _check_differ(texts: Sequence[str], place: str) -> None:
-    """Refuses a list that has an object and a proxy of its address too: a document with one text twice is not read again."""
+    """Refuses a list that has an object and also a proxy with its address: a document with one text twice is not read again."""
     if len(set(texts)) < len(texts):
         text = next(it for it in texts if texts.count(it) > 1)
         raise _InTheWay('DUPLICATE', place, f'{text_word(text)} is in the list twice, as an object and as a proxy that was left; take one out')

@@ -1,4 +1,4 @@
-"""The shared library as an engine (docs/C.md): by the extension module if it is there, else by ctypes."""
+"""The shared library as an engine (docs/C.md): by the extension module, or by ctypes if there is no extension module."""
 
 from __future__ import annotations
 
@@ -35,7 +35,7 @@ class Library:
     """The library by ctypes. It and its sessions have the methods of the extension module."""
 
     def __init__(self, path: str) -> None:
-        """An OSError comes if there is no library at a path."""
+        """Loads the library at a path. Raises an OSError if there is none."""
         library = ctypes.PyDLL(path)
         number, size, words = ctypes.c_uint32, ctypes.c_size_t, ctypes.c_char_p
         handle = ctypes.c_void_p
@@ -75,7 +75,7 @@ class _Session:
         self._place = ctypes.addressof((ctypes.c_char * ROOM).from_buffer(self._room))
 
     def open(self, document: bytes) -> int:
-        """Opens it over a metamodel, and gives the status."""
+        """Opens a session over a metamodel, and returns the status."""
         return self._library.open(self._at, document, len(document))
 
     def line(self, line: str) -> str:
@@ -102,11 +102,11 @@ class _Session:
         return self._answer(self._library.list_value(self._at, is_resource, number, data, len(data), index))
 
     def load(self, resource: int, document: bytes) -> str:
-        """Loads a document, and gives what that prints."""
+        """Loads a document, and returns the text that this prints."""
         return self._answer(self._library.load(self._at, resource, document, len(document)))
 
     def _answer(self, status: int) -> str:
-        """What a call printed, or an error by its status."""
+        """The text that a call printed, or an error by its status."""
         if status == OK or BLANK <= status <= LOST:
             size = self._text(self._at, self._place, ROOM)
             if size <= ROOM:
@@ -156,7 +156,7 @@ class InProcess(Engine):
             self.list_length, self.list_value, self.load = self._session.list_length, self._session.list_value, self._session.load
 
     def _refusal(self, metamodel: str, status: int) -> Exception:
-        """The error of a metamodel that is refused. Its place and what is to be fixed are said by the program, if there is one."""
+        """The error of a metamodel that is refused. The program, if there is one, says at which place, and what to fix."""
         if status == MEMORY:
             return MemoryError()
         if status == TOO_LONG:
@@ -168,7 +168,7 @@ class InProcess(Engine):
         return MetamodelRefused(metamodel, f'{status} {FAULTS[status]}')
 
     def exchange_all(self, lines: Sequence[str]) -> List[str]:
-        """The texts that lines print. An error comes before the first is run, if one can't be."""
+        """The texts that lines print. If a line can't be run, an error is raised before the first line is run."""
         text = '\n'.join(lines)
         if not text.isascii() or len(text) > LONGEST_LINE or text.count('\n') >= max(1, len(lines)):
             for line in lines:
@@ -184,7 +184,7 @@ class InProcess(Engine):
         return [it[len('line 2: '):] for it in said.split('\n') if it.startswith('line 2: ')]
 
     def _said(self, script: str) -> str:
-        """What the program says on standard error of a script."""
+        """What the program writes on standard error for a script."""
         try:
             command = [program_file(None), '--meta', self._metamodel, '--explain']
             done = subprocess.run(command, input=script.encode(), stdout=subprocess.DEVNULL, stderr=subprocess.PIPE)

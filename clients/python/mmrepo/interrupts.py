@@ -1,4 +1,4 @@
-"""Ctrl-C: it waits while a session has sent a command and has not read the answer to its end."""
+"""Ctrl-C waits while a session has sent a command and has not read the whole answer."""
 
 from __future__ import annotations
 
@@ -18,14 +18,16 @@ _watched: WeakSet[Session] = WeakSet()  # the sessions of the main thread, in wh
 
 
 class Handler:
-    """Handles a Ctrl-C in place of another handler, which it calls when no session is busy."""
+    """Handles Ctrl-C in place of another handler, and calls that handler when no session is busy."""
 
     def __init__(self, before: Callable[[int, Optional[FrameType]], Any]) -> None:
         self.before = before
         self._until = 0.0  # the moment until which a program may take to answer
 
     def __call__(self, number: int, frame: Optional[FrameType]) -> None:
-        """Leaves it to a session that is busy. A further one is not held back from a program that takes long, which may never answer."""
+        """Leaves a Ctrl-C to a session that is busy. A second one is handled at once, since a program that takes long may never
+        answer.
+        """
         for session in _watched:
             if session.is_busy_in(frame) and not (session.interrupted and session.engine.may_hang and time.monotonic() > self._until):
                 if session.interrupted is None:
@@ -34,12 +36,12 @@ class Handler:
         self.before(number, frame)
 
     def deliver(self) -> None:
-        """Handles a Ctrl-C that has waited: mostly by a KeyboardInterrupt."""
+        """Handles a Ctrl-C that has waited, usually by a KeyboardInterrupt."""
         self.before(signal.SIGINT, None)
 
 
 def watch(session: Session) -> None:
-    """Has a Ctrl-C wait for a session. A handler of Python that is set already is called later; if there is none, nothing is done."""
+    """Makes Ctrl-C wait for a session. If Python has a handler already, that is called later; without a handler nothing is done."""
     if threading.current_thread() is not threading.main_thread():
         return
     current = signal.getsignal(signal.SIGINT)
@@ -50,7 +52,7 @@ def watch(session: Session) -> None:
 
 
 def leave(session: Session) -> None:
-    """Ends that. With the last session the handler from before is set again."""
+    """Ends the watch of a session. After the last session the earlier handler is set again."""
     _watched.discard(session)
     current = signal.getsignal(signal.SIGINT)
     if isinstance(current, Handler) and not _watched and threading.current_thread() is threading.main_thread():

@@ -16,11 +16,11 @@ T = TypeVar('T')
 
 
 class FeatureList(Sequence[T]):
-    """The list of a feature of a node. It keeps no values: each use asks the repository for some or all of them, or changes some.
+    """The list of a feature of a node.
 
-    An index is counted from 0, or from the end if it is below 0. A refused command raises a Refused, and has changed
-    nothing: BOUND if the list is full, TYPE if the feature can't have a value. There is no assignment to an index, since the
-    repository has no command for it.
+    It keeps no values: each use asks the repository for some or all of them, or changes some. An index is counted from 0, or
+    from the end if it is negative. A refused command raises a Refused, and has changed nothing: BOUND if the list is full, TYPE
+    if the feature can't have a value. No index can be assigned to, since the repository has no command for it.
     """
 
     __slots__ = ('_node', '_name', '_feature')
@@ -50,7 +50,7 @@ class FeatureList(Sequence[T]):
         return self._node._session.list_length(self._node._word, self._name)
 
     def __iter__(self) -> Iterator[T]:
-        """Goes through the values that there are when it begins."""
+        """Iterates over the values that the list has when the iteration begins."""
         return iter(self._values())
 
     def __reversed__(self) -> Iterator[T]:
@@ -85,7 +85,7 @@ class FeatureList(Sequence[T]):
         return session.list_value(self._node._word, self._name, index)
 
     def index(self, value: Any, *bounds: int) -> int:
-        """The first index of a value; a ValueError if the list does not have it."""
+        """The first index of a value. Raises a ValueError if the list does not have the value."""
         return self._values().index(value, *bounds)
 
     def count(self, value: Any) -> int:
@@ -112,19 +112,20 @@ class FeatureList(Sequence[T]):
         return self._node._session.value_word(value, self._feature)
 
     def _index(self, index: int) -> str:
-        """The word of an index; an IndexError if it is before the first."""
+        """The word of an index. Raises an IndexError if it is before the first value."""
         index = operator.index(index)
         return index_word(index if index >= 0 else index + len(self))
 
     def append(self, value: T) -> bool:
-        """Puts a value at the end. False: the list has it already and repeats none, so nothing has changed."""
+        """Puts a value at the end. Returns False if the list repeats no value and has this one already; then nothing has changed."""
         node = self._node
         session = node._session
         return session.flag(f'add {node._word} {self._name} {session.value_word(value, self._feature)}')
 
     def extend(self, values: Iterable[T]) -> None:
-        """Appends values, one command each, which are sent at once. If one is refused all others are put in, and the first refusal is
-        raised."""
+        """Appends values by one command each; the commands are sent at once. If some are refused, all other values are
+        appended, and the first refusal is raised.
+        """
         with self._node._session.batch() as batch:
             for value in values:
                 batch.append(self, value)
@@ -134,23 +135,22 @@ class FeatureList(Sequence[T]):
         return self
 
     def insert(self, index: int, value: T) -> None:
-        """Puts a value before the one at an index, or at the end if it is the index after the last.
-
-        An IndexError comes for an index beyond it; DUPLICATE is refused if the list has the value and repeats none.
+        """Puts a value before the value at an index, or at the end if the index is the length of the list. Raises an IndexError
+        for a greater index. Refused with DUPLICATE if the list repeats no value and has this one already.
         """
         self._node._session.flag(self._give('add', f'{self._word(value)} {self._index(index)}'))
 
     def remove(self, value: T) -> None:
-        """Takes the first occurrence of a value out; a ValueError if the list does not have it."""
+        """Takes the first occurrence of a value out. Raises a ValueError if the list does not have the value."""
         if not self._node._session.flag(self._give('removevalue', self._word(value))):
             raise ValueError(f'{value!r} is not in the list')
 
     def pop(self, index: int = -1) -> T:
-        """Takes the value at an index out, and gives it; an IndexError if there is none."""
+        """Takes the value at an index out, and returns it. Raises an IndexError if there is no such index."""
         return self._node._session.value(self._give('remove', self._index(index)))
 
     def __delitem__(self, index: Union[int, slice]) -> None:
-        """Takes out the value at an index; or those of a slice, the last one first, by a command each."""
+        """Takes out the value at an index; or the values of a slice, the last one first, by one command each."""
         if isinstance(index, slice):
             for at in sorted(range(*index.indices(len(self))), reverse=True):
                 self.pop(at)
@@ -158,17 +158,21 @@ class FeatureList(Sequence[T]):
             self.pop(index)
 
     def __setitem__(self, index: Any, value: Any) -> None:
-        """A TypeError: no command replaces a value, and two commands would leave the list changed if the second is refused."""
+        """Raises a TypeError: no command replaces a value, and of two commands the second could be refused after the first has
+        changed the list.
+        """
         raise TypeError('no value is assigned to an index: remove the one, and insert the other')
 
     def clear(self) -> None:
-        """Takes all values out, by one command, the last one first."""
+        """Takes all values out by one command, the last one first."""
         self._node._session.done(f'unset {self._node._word} {self._name}')
 
     def move(self, to: int, index: int) -> T:
-        """Takes the value at an index out, and puts it in at the index `to` of what remains; gives the value."""
+        """Takes the value at an index out, inserts it at the index `to` of the remaining list, and returns it."""
         return self._node._session.value(self._give('move', f'{self._index(to)} {self._index(index)}'))
 
     def resolve(self, index: int) -> EObject:
-        """Replaces the proxy at an index by the object that it finds, and gives that. The refusals are those of `resolve` of an object."""
+        """Replaces the proxy at an index by the object at its address, and returns that object. Refused as `resolve` of an
+        object is.
+        """
         return self._node._session.object(self._give('resolve', self._index(index)))

@@ -26,7 +26,7 @@ TOO_LONG = f'it has %s bytes; a document that is loaded has at most {LONGEST_LIN
 
 
 class Loaded(NamedTuple):
-    """A file that is loaded: its resource, how many objects were made, its document, and what identifies its content."""
+    """A loaded file: its resource, how many objects were made, its document, and the hash of its content."""
 
     name: str
     resource: Resource
@@ -37,10 +37,10 @@ class Loaded(NamedTuple):
 
 
 class Loader:
-    """Loads files of a folder. `findings` says why one can't be loaded, and `unread` has its name, with the kind of the finding."""
+    """Loads files of a folder. `findings` say why a file can't be loaded; `unread` has its name and the kind of the finding."""
 
     def __init__(self, repo: Repository, directory: Directory, base: str, xmi: Optional[Xmi], suffixes: Sequence[str]) -> None:
-        """The XMI files are those with one of the suffixes, if there are the tools for them."""
+        """`suffixes` are those of XMI files, which are read if there are tools for them."""
         self.repo, self.directory, self.base = repo, directory, base
         self._xmi, self._suffixes = xmi, tuple(suffixes)
         self.findings: List[Finding] = []
@@ -52,11 +52,11 @@ class Loader:
         return self._xmi is not None and name.endswith(self._suffixes)
 
     def is_document(self, name: str) -> bool:
-        """Whether the name of a file is that of one that may be loaded."""
+        """Whether a file of this name may be loaded."""
         return name.endswith(DOCUMENTS) or self.is_xmi(name)
 
     def load(self, name: str) -> Optional[Loaded]:
-        """Makes the resource of a file, and loads it; None if it can't be."""
+        """Makes the resource of a file, and loads it. Returns None if the file can't be loaded."""
         try:
             return self._load(name)
         except _NotLoaded as found:
@@ -126,7 +126,7 @@ def _reasons(name: str, refused: Refused) -> List[Finding]:
 
 
 def several(given: Union[str, os.PathLike, Sequence[Any]]) -> Tuple[str, ...]:
-    """Paths or texts, of which one may be given alone."""
+    """A list of paths or texts, from one or several."""
     return tuple(os.fspath(it) for it in ([given] if isinstance(given, (str, os.PathLike)) else given))
 
 
@@ -136,5 +136,5 @@ def parsed(document: str) -> Dict[str, List[dict]]:
 
 
 def first_number(resource: Resource) -> int:
-    """The number of the first object of a resource that was loaded and has roots: those after it have the next numbers."""
+    """The number of the first object of a resource that was loaded and has roots. The other objects have the next numbers."""
     return int(resource.eContents[0]._word[1:])

@@ -7,7 +7,7 @@ from typing import Any, Dict, List, Optional
 
 
 class EClassifier:
-    """What has a name and can be the type of a feature."""
+    """A class or an enumeration: it has a name, and can be the type of a feature."""
 
     def __init__(self, name: str) -> None:
         self.name = name
@@ -50,7 +50,7 @@ class EStructuralFeature:
 
 
 class EAttribute(EStructuralFeature):
-    """A feature whose values are data. `default` is the literal of the document, or None where it has none."""
+    """A feature whose values are data. `default` is the literal of the document; None if the document gives none."""
 
     def __init__(self, owner: EClass, document: Dict[str, Any], types: Dict[str, EClassifier]) -> None:
         super().__init__(owner, document, types)
@@ -85,7 +85,7 @@ class EReference(EStructuralFeature):
 
 
 class EClass(EClassifier):
-    """A class. `eSuperTypes` and `eStructuralFeatures` have what it names and declares itself."""
+    """A class. `eSuperTypes` and `eStructuralFeatures` have the supertypes that it names, and the features that it declares."""
 
     def __init__(self, name: str, abstract: bool) -> None:
         super().__init__(name)

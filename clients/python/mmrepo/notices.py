@@ -37,8 +37,8 @@ class Kind(enum.IntEnum):
 class Notice(NamedTuple):
     """A notification: a change of one feature of one node. docs/ADAPTERS.md says which changes notify whom, and when.
 
-    `notifier` is the object or the resource, and `feature` the name of its feature. `old` and `new` are the value before and
-    the value after; `position` is the index in a list, or -1. A MOVE has the old index as `old`. REMOVING_ADAPTER has no
+    `notifier` is the object or the resource, and `feature` the name of its feature. `old` and `new` are the values before and
+    after the change; `position` is the index in a list, or -1. A MOVE has the old index as `old`. A REMOVING_ADAPTER has no
     feature, and the view as `old`.
     """
 
@@ -59,7 +59,7 @@ Hearer = Callable[[Notice], Any]
 
 
 def told_of(line: str, named: Named) -> Tuple[str, Notice]:
-    """The adapter and the notification of a `told` line; a ValueError if it is none."""
+    """The adapter and the notification of a `told` line. Raises a ValueError for any other line."""
     words = line.split(' ')
     if len(words) == 7 and '"' not in line:
         _, adapter, name, where, before, after, place = words
@@ -73,7 +73,7 @@ def told_of(line: str, named: Named) -> Tuple[str, Notice]:
 
 
 def _told_of(line: str, named: Named) -> Tuple[str, Notice]:
-    """That of any line: a text in it may have spaces."""
+    """The adapter and the notification of a `told` line whose texts may have spaces."""
     head = _HEAD.match(line)
     if head is None:
         raise ValueError('no notification')
@@ -102,26 +102,28 @@ class View:
         self.is_attached = True
 
     def watch(self, node: Union[EObject, Resource], deep: bool = True) -> bool:
-        """Attaches it to a further node. False: it was attached there before, and nothing has changed."""
+        """Attaches it to a further node. Returns False if it is attached there already; then nothing has changed."""
         self._session.check_node(node)
         self._check()
         return self._session.flag(f'watch {self._word} {node._word} {depth(deep)}')
 
     def unwatch(self, node: Union[EObject, Resource]) -> bool:
-        """Takes it away from a node; from its last node it is detached. False: it was not attached there."""
+        """Takes it away from a node. If that was its last node, it is detached. Returns False if it was not attached there."""
         self._session.check_node(node)
         self._check()
         return self._session.flag(f'unwatch {self._word} {node._word}')
 
     def detach(self) -> bool:
-        """Detaches it from all its nodes. It is notified of REMOVING_ADAPTER, and of nothing after. False: it was detached before."""
+        """Detaches it from all its nodes. It is notified with REMOVING_ADAPTER, and of nothing afterwards. Returns False if it
+        was detached before.
+        """
         if not self.is_attached:
             return False
         self._session.done(f'detach {self._word}')
         return True
 
     def _check(self) -> None:
-        """A ValueError if it is attached no more: its number may be that of another view by now."""
+        """Raises a ValueError if it is detached: another view may have its number by now."""
         if not self.is_attached:
             raise ValueError('the view is attached no more')
 
@@ -131,7 +133,7 @@ class View:
 
 
 class Views:
-    """The views that are attached, the numbers that are free, and the notifications that no callable was handed yet."""
+    """The attached views, the free numbers, and the notifications that have not been delivered to a callable yet."""
 
     def __init__(self) -> None:
         self._attached: Dict[str, View] = {}
@@ -159,14 +161,16 @@ class Views:
         heapq.heappush(self._free, int(word[1:]))
 
     def named(self, word: str) -> View:
-        """The view of an adapter; a ValueError if there is none."""
+        """The view of an adapter. Raises a ValueError if there is none."""
         view = self._attached.get(word)
         if view is None:
             raise ValueError(f'no view {word} is attached')
         return view
 
     def hear(self, lines: List[str], named: Named) -> None:
-        """Takes lines that follow an answer; a ValueError if one is no notification and releases no view."""
+        """Takes the lines that follow an answer. Raises a ValueError for a line that is neither a notification nor the release
+        of a view.
+        """
         for line in lines:
             if line[:5] == 'told ':
                 word, notice = told_of(line, named)

@@ -19,7 +19,7 @@ NOT_COPIED = 'it is a part of a repository: `copy` of a repository copies an obj
 
 
 class Node:
-    """An object or a resource. It is known by its number; all that it has is asked of the engine."""
+    """An object or a resource. It is known by its number; everything that it has is asked of the engine."""
 
     __slots__ = ('_session', '_word', '__weakref__')
     _session: Session
@@ -41,9 +41,9 @@ _keep_session, _keep_word = Node._session.__set__, Node._word.__set__  # type: i
 class EObject(Node):
     """An object. Its features are attributes, and items under their names.
 
-    A feature that is named as something of this class, as `delete`, is an item alone. Most methods are one command of the
-    repository, and a command that is refused raises a Refused: NO_OBJECT if the object is deleted. `number` is its number, unless its
-    class has a feature of that name.
+    A feature that has the name of a member of this class, as `delete`, is only an item. Most methods are one command of the
+    repository. A command that is refused raises a Refused: NO_OBJECT if the object is deleted. `number` is the object's number,
+    unless its class has a feature of that name.
     """
 
     __slots__ = ('_class',)
@@ -58,7 +58,7 @@ class EObject(Node):
     # What a feature has
 
     def eGet(self, feature: FeatureName) -> Any:
-        """The value of a feature of one value: a Value. Of a list a FeatureList, which asks at each use what it has."""
+        """The value of a single feature as a Value. For a list, a FeatureList, which asks for its values at each use."""
         name = name_of(feature)
         found = self.eClass.findEStructuralFeature(name)
         if found is not None and found.many:
@@ -66,12 +66,12 @@ class EObject(Node):
         return self._session.value(f'get {self._word} {name_word(name)}')
 
     def eSet(self, feature: FeatureName, value: Value) -> None:
-        """Sets a feature of one value. None is null; the name of a literal sets a feature of an enumeration."""
+        """Sets a single feature. None is null. A feature of an enumeration is set by the name of a literal."""
         name = name_word(name_of(feature))
         self._set(name, self.eClass.findEStructuralFeature(name), value)
 
     def eIsSet(self, feature: FeatureName) -> bool:
-        """Whether a feature is set, as `isset` of docs/SCRIPT.md has it."""
+        """Whether a feature is set, as the command `isset` of docs/SCRIPT.md says."""
         return self._session.flag(f'isset {self._word} {name_word(name_of(feature))}')
 
     def eUnset(self, feature: FeatureName) -> None:
@@ -91,7 +91,7 @@ class EObject(Node):
         self.eUnset(name)
 
     def __getattr__(self, name: str) -> Any:
-        """The value of a feature. An AttributeError comes if the class has no feature of the name."""
+        """The value of a feature. Raises an AttributeError if the class has no feature of the name."""
         eclass = self._class or self.eClass
         feature = (eclass.attributes or _attributes(eclass)).get(name)
         if feature is None:
@@ -104,7 +104,7 @@ class EObject(Node):
         return self._session.value(f'get {self._word} {name}')
 
     def __setattr__(self, name: str, value: Any) -> None:
-        """Sets a feature. An AttributeError comes if the class has no feature of the name, or if the name is one of EObject."""
+        """Sets a feature. Raises an AttributeError if the class has no feature of the name, or if the name is a member of EObject."""
         eclass = self._class or self.eClass
         feature = (eclass.attributes or _attributes(eclass)).get(name)
         if feature is None:
@@ -126,12 +126,12 @@ class EObject(Node):
         self._session.done(f'set {self._word} {name_word(name)} {self._session.value_word(value, feature)}')
 
     def __delattr__(self, name: str) -> None:
-        """Unsets a feature. An AttributeError comes as it does for setting one."""
+        """Unsets a feature. Raises an AttributeError as setting does."""
         self._check_feature(name)
         self.eUnset(name)
 
     def _check_feature(self, name: str) -> None:
-        """Refuses what is no feature, or can't be reached as an attribute."""
+        """Raises an error for a name that is no feature, or that can't be used as an attribute."""
         if hasattr(type(self), name):
             raise AttributeError(f'{name} is a name of EObject: write [{name!r}] for the feature')
         if name.startswith('__'):
@@ -169,7 +169,7 @@ class EObject(Node):
         return found[0]
 
     def eContainingFeature(self) -> Optional[EReference]:
-        """The same: a repository has no feature that stands for others."""
+        """The same as `eContainmentFeature`: a repository has no feature that stands for others."""
         return self.eContainmentFeature()
 
     @property
@@ -178,7 +178,7 @@ class EObject(Node):
         return self._session.values(f'contents {self._word}')
 
     def eAllContents(self) -> Iterator[EObject]:
-        """All objects below it, each before what it contains. Each is asked for its contents when the one after it is needed."""
+        """All objects below it, each before its contents. An object is asked for its contents when the next one is needed."""
         waiting = self.eContents[::-1]
         while waiting:
             top = waiting.pop()
@@ -187,11 +187,11 @@ class EObject(Node):
 
     @property
     def eResource(self) -> Optional[Resource]:
-        """The resource that it is in, through however many containers, or None."""
+        """The resource that it is in, directly or below other objects; None if it is in none."""
         return self._session.within(f'within {self._word}')
 
     def fragment(self) -> str:
-        """The way to it from a root of its resource, as `//@books.0`. It is refused (DANGLING) in no resource."""
+        """The path to it from a root of its resource, as `//@books.0`. Refused with DANGLING if it is in no resource."""
         return self._session.text(f'fragment {self._word}')
 
     # What is done with it
@@ -201,14 +201,15 @@ class EObject(Node):
         return self._session.names(f'validate {self._word}')
 
     def resolve(self, feature: FeatureName, index: int = 0) -> EObject:
-        """Replaces a proxy by the object that it finds, and gives that: the proxy at an index of a list, or at 0 of a single reference.
-
-        The refusals are those of `resolve` in docs/SCRIPT.md, as UNLOADED and UNRESOLVED.
+        """Replaces a proxy by the object at its address, and returns that object: the proxy at an index of a list, or at index
+        0 of a single reference. Refused as `resolve` of docs/SCRIPT.md is, as UNLOADED and UNRESOLVED.
         """
         return self._session.object(f'resolve {self._word} {name_word(name_of(feature))} {index_word(index)}')
 
     def delete(self) -> int:
-        """Destroys it and all that is below it, and takes them out of every end that holds them. Gives how many went."""
+        """Destroys it and all objects below it, and takes them out of every end that holds them. Returns how many objects were
+        destroyed.
+        """
         return self._session.counts(f'delete {self._word}', 'deleted')[0]
 
     def __repr__(self) -> str:
@@ -219,7 +220,7 @@ _keep_class = EObject._class.__set__  # type: ignore[union-attr,misc]
 
 
 def new_object(session: Session, word: str, eclass: Optional[EClass]) -> EObject:
-    """An object, as the class makes one, and in less time."""
+    """Makes an object without its constructor, which takes less time."""
     made = _new(EObject)
     _keep_session(made, session)
     _keep_word(made, word)
@@ -228,7 +229,7 @@ def new_object(session: Session, word: str, eclass: Optional[EClass]) -> EObject
 
 
 def name_object(made: EObject, word: str) -> None:
-    """Gives an object that a batch has made its word."""
+    """Gives its word to an object that a batch has made."""
     _keep_word(made, word)
 
 
@@ -246,5 +247,5 @@ def _attributes(eclass: EClass) -> Dict[str, EStructuralFeature]:
 
 
 def name_of(feature: FeatureName) -> str:
-    """The name of a feature, which is given by it or as itself."""
+    """The name of a feature that is given as a feature or as a name."""
     return feature.name if isinstance(feature, EStructuralFeature) else feature

@@ -32,8 +32,9 @@ _BESIDE = Path(__file__).resolve().parent / 'bin/mmrepo'
 
 
 def program_file(given: Optional[str]) -> str:
-    """The file of the program: the one given, else that of the environment's MMREPO, else the one that is installed with this package,
-    else `mmrepo` on the PATH."""
+    """The file of the program: the argument, else the file that MMREPO names, else the one that is installed with this package,
+    else `mmrepo` on the PATH.
+    """
     name = given or os.environ.get('MMREPO') or (str(_BESIDE) if _BESIDE.is_file() else 'mmrepo')
     found = shutil.which(name)
     if found is None:
@@ -48,8 +49,9 @@ class Program(Engine):
     may_hang = True
 
     def __init__(self, file: str, metamodel: str, journal: Optional[str] = None) -> None:
-        """Starts it. A NotStarted comes if the system does not run the file; a MetamodelRefused for a fault of the metamodel, and a
-        JournalRefused if the program does not take the journal."""
+        """Starts the program. Raises a NotStarted if the system does not run the file, a MetamodelRefused for a fault of the
+        metamodel, and a JournalRefused if the program does not take the journal.
+        """
         super().__init__()
         self._metamodel = metamodel
         self._journal = journal
@@ -88,7 +90,7 @@ class Program(Engine):
             raise
 
     def exchange_all(self, lines: Sequence[str]) -> List[str]:
-        """The texts that lines print. The lines are sent many at once, which takes a fraction of the time."""
+        """The texts that lines print. Many lines are sent at once, which takes a fraction of the time."""
         waiting = [(line, data_of(line) + b'\n') for line in lines]
         answers: List[str] = []
         at = 0
@@ -114,7 +116,7 @@ class Program(Engine):
             raise
 
     def _send(self, line: str, count: int, data: bytes) -> None:
-        """Sends the bytes of lines, which begin with a line."""
+        """Sends bytes that begin with a whole line."""
         try:
             sent = self._input.write(data)
             while sent < len(data):
@@ -145,7 +147,7 @@ class Program(Engine):
             raise self.not_understood(line, repr(bytes(found))) from None
 
     def _end(self) -> Optional[int]:
-        """The offset at which the empty line after the next answer begins in what was read; None if it was not read."""
+        """The offset, in what was read, of the empty line after the next answer; None if it was not read yet."""
         if self._data[self._at:self._at + 1] == b'\n':
             return self._at
         end = self._data.find(b'\n\n', self._known)
@@ -155,21 +157,23 @@ class Program(Engine):
         return end + 1
 
     def explained(self, line: str, uri: Optional[str]) -> List[str]:
-        """What `--explain` says of the line that was sent last, without its number: nothing for most lines."""
+        """What `--explain` says of the line that was sent last, without its number. For most lines it says nothing."""
         start = f'line {self._sent}: '
         if self.exchange(''):  # once this line is answered, all has been said of the one before it
             raise self.not_understood('', 'an answer to an empty line')
         return [said[len(start):] for said in self._news().split('\n') if said.startswith(start)]
 
     def _news(self) -> str:
-        """What it wrote on standard error since this was asked before. The offset of the file is also the program's, and stays."""
+        """What the program wrote on standard error since the last call. The offset of the file is shared with the program, and
+        stays.
+        """
         size = os.fstat(self._said.fileno()).st_size
         data = os.pread(self._said.fileno(), size - self._said_before, self._said_before)
         self._said_before += len(data)
         return data.decode('utf-8', 'replace')
 
     def _failure(self, line: str, is_cut: bool) -> MmrepoError:
-        """The error for a program that ended by itself, or took no more."""
+        """The error for a program that ended by itself, or that took no more input."""
         status, said = self._ending()
         if status == 1 and said.startswith(REFUSED):
             fault, *explained = said[len(REFUSED):].split('\n')
@@ -182,7 +186,7 @@ class Program(Engine):
         return kind(f'{what}, at the line `{shown(line)}`', status, said)
 
     def _ending(self) -> Tuple[Optional[int], str]:
-        """The status with which the process ended, None if it had to be ended, and what it wrote on standard error."""
+        """The status with which the process ended, or None if it was killed; and what it wrote on standard error."""
         try:
             status: Optional[int] = self._process.wait(SECONDS_TO_END)
         except subprocess.TimeoutExpired:
@@ -192,12 +196,12 @@ class Program(Engine):
         return status, said
 
     def not_understood(self, line: str, answer: str) -> ReplyNotUnderstood:
-        """Ends the process, and gives the error for an answer that no command has."""
+        """Ends the process, and returns the error for an answer that no command can have."""
         self.end('the program answered what no command answers')
         return ReplyNotUnderstood(f'not understood: {shown(answer)}, at the line `{shown(line)}`')
 
     def end(self, why: str) -> None:
-        """Ends the process at once. Further lines raise a RepositoryClosed with the reason."""
+        """Ends the process at once. Later lines raise a RepositoryClosed with the reason."""
         self.shut(why)
         self._process.kill()
         self._process.wait()
@@ -208,14 +212,14 @@ class Program(Engine):
                 pass  # what was not written yet has no reader
 
     def abandon(self) -> None:
-        """Leaves the process to the one that was forked: only the streams are closed here."""
+        """Leaves the process to the parent of a fork: only the streams are closed here."""
         super().abandon()
         self._process.returncode = 0
         for stream in (self._input, self._output, self._said):
             stream.close()
 
     def close(self) -> None:
-        """Ends the input, and waits for the program; a ProgramEnded comes if it ends with a status other than 0."""
+        """Ends the input, and waits for the program. Raises a ProgramEnded if it ends with a status other than 0."""
         if self.is_shut:
             return
         self.shut('the repository is closed')
@@ -229,7 +233,7 @@ class Program(Engine):
 
 
 def data_of(line: str) -> bytes:
-    """The bytes of a line, without a newline; a ValueError if they can't be read as one line."""
+    """The bytes of a line, without a newline. Raises a ValueError if they can't be read as one line."""
     data = line.encode('utf-8')
     if len(data) > LONGEST_LINE:
         raise ValueError(f'a line has at most {LONGEST_LINE} bytes, and this one {len(data)}')

@@ -1,4 +1,4 @@
-"""Proxies of a document that was loaded: what they lead to, and why one of them leads nowhere."""
+"""Proxies of a loaded document: where they lead, and why a proxy can't be resolved."""
 
 from __future__ import annotations
 
@@ -34,7 +34,7 @@ class Found(NamedTuple):
 
 
 def proxies_of(session: Session, first: int, links: Sequence[Link]) -> List[Found]:
-    """The proxies at the links of a document, whose first object has a number."""
+    """The proxies at the links of a document, given the number of its first object."""
     words = [f'#{first + link.number}' for link in links]
     asked = list(dict.fromkeys(f'get {word} {link.feature.name}' for word, link in zip(words, links)))
     answers = dict(zip(asked, session.answers(asked)))
@@ -51,14 +51,14 @@ def proxies_of(session: Session, first: int, links: Sequence[Link]) -> List[Foun
 
 
 class Judge:
-    """Says of proxies of the file `own`, of a URI, why they can't be resolved."""
+    """Says why proxies of the file `own` can't be resolved."""
 
     def __init__(self, session: Session, base: str, own: str, uri: str, unread: Mapping[str, str]) -> None:
         """`unread` has the names of the files that could not be loaded, each with the kind of its finding."""
         self._session, self._base, self._own, self._uri, self._unread = session, base, own, uri, unread
 
     def findings(self, proxies: Sequence[Found]) -> Iterator[Tuple[Found, Finding]]:
-        """Resolves each proxy, and gives each that is refused with a finding."""
+        """Resolves each proxy, and returns the refused ones with a finding each."""
         answers = self._session.answers([it.command for it in proxies])
         for proxy, answer in zip(proxies, answers):
             refused = _REFUSED.fullmatch(answer)

@@ -74,6 +74,6 @@ def _escaped(text: str) -> str:
 
 
 def _on_one_line(text: str) -> str:
-    """A text without characters that end a line or that can't be printed."""
+    """A text without line breaks, and without characters that can't be printed."""
     parts: List[str] = [char if char.isprintable() else char.encode('unicode_escape', 'surrogatepass').decode() for char in text]
     return ''.join(parts)

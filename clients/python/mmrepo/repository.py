@@ -1,4 +1,4 @@
-"""A repository: what a session of the library, or a program in its live mode, has."""
+"""A repository: what a session of the library has, or a program in its live mode."""
 
 from __future__ import annotations
 
@@ -36,7 +36,7 @@ class Resolved(NamedTuple):
 
 
 class Repository:
-    """Objects of a metamodel. It is for the thread that opens it, and lives until it is closed.
+    """Objects of a metamodel. A repository is for the thread that opens it, and lives until it is closed.
 
     Each call is a command of docs/SCRIPT.md. A command that is refused raises a Refused, and has changed nothing.
     """
@@ -45,17 +45,18 @@ class Repository:
         self, metamodel: Union[str, os.PathLike], program: Union[None, str, os.PathLike] = None,
         library: Union[None, str, os.PathLike] = None, journal: Union[None, str, os.PathLike] = None,
     ) -> None:
-        """Opens a repository over the file of a metamodel, in this process by the shared library, or in a process of the program.
+        """Opens a repository over the file of a metamodel: in this process by the shared library, or in a process of the
+        program.
 
-        The library is the one given, else that of the environment's MMREPO_LIBRARY, else the one beside this package. The program is
-        taken if one is given, and if there is no library: it is the one given, else that of the environment's MMREPO, else the one
+        The library is the argument, else the file that MMREPO_LIBRARY names, else the one beside this package. The program is
+        used if it is an argument, or if there is no library. It is the argument, else the file that MMREPO names, else the one
         beside this package, else `mmrepo` on the PATH.
 
-        With the file of a journal, which the program alone keeps, each change is on the disk before its call returns, and the repository
-        begins with what the journal has (docs/JOURNAL.md). A library may not be given then.
+        With the file of a journal, each change is on the disk before its call returns, and the repository begins with the
+        content of the journal (docs/JOURNAL.md). Only the program keeps a journal, so no library may be an argument then.
 
-        An OSError comes if the file can't be read, a MetamodelRefused for a fault of the metamodel, a NotStarted if there is no library
-        and no program, and a JournalRefused if the program does not take the journal.
+        Raises an OSError if the file can't be read, a MetamodelRefused for a fault of the metamodel, a NotStarted if there is
+        no library and no program, and a JournalRefused if the program does not take the journal.
         """
         if journal is not None and library is not None:
             raise ValueError('a journal is kept by the program, and not by the library')
@@ -77,7 +78,9 @@ class Repository:
 
     @property
     def engine(self) -> str:
-        """What answers: `extension` and `ctypes` for the library in this process, by the extension module and by ctypes, or `program`."""
+        """The engine that answers: `extension` and `ctypes` for the library in this process, by the extension module and by
+        ctypes, or `program`.
+        """
         return self._session.engine.name
 
     @property
@@ -86,9 +89,9 @@ class Repository:
         return self._session.metamodel
 
     def create(self, eclass: Union[str, EClass], /, **features: Any) -> EObject:
-        """Makes an object of a class, with values of features: one value, or several of a list.
+        """Makes an object of a class, with values of features: one value, or several values of a list.
 
-        It is refused if there is no such class (NO_CLASS) or it is abstract (ABSTRACT). If a value is refused, the object is deleted.
+        Refused if there is no such class (NO_CLASS) or it is abstract (ABSTRACT). If a value is refused, the object is deleted.
         """
         name = eclass.name if isinstance(eclass, EClass) else eclass
         known = self._session.metamodel.classes.get(name)
@@ -115,22 +118,23 @@ class Repository:
         return self._session.batch()
 
     def object(self, number: int) -> EObject:
-        """The object of a number, as `number` of an object has it. It is refused if no object of the number lives (NO_OBJECT)."""
+        """The object of a number, which `number` of an object returns. Refused if no object of the number lives (NO_OBJECT)."""
         word = f'#{number:d}'
         self._session.class_of(word)
         found: EObject = self._session.named(word)
         return found
 
     def objects(self, eclass: Union[None, str, EClass] = None) -> List[EObject]:
-        """The objects that live, by their numbers: all, or those of a class and of the classes below it. A KeyError comes if there is no
-        such class."""
+        """The objects that live, by their numbers: all, or the objects of a class and of its subclasses. Raises a KeyError if
+        there is no such class.
+        """
         return self._session.objects(self.metamodel.classes[eclass] if isinstance(eclass, str) else eclass)
 
     def copy(self, node: EObject) -> EObject:
         """A copy of an object with all that is below it, in no container.
 
-        A reference to an object that is copied leads to its copy. Another one leads to the same object; it is left out if it has an
-        opposite. A ValueError comes if an object has a proxy.
+        A reference to an object that is copied leads to its copy. Any other reference leads to the same object, and is left out
+        if it has an opposite. Raises a ValueError if an object has a proxy.
         """
         self._session.check_node(node)
         return copied(self._session, node)
@@ -141,8 +145,9 @@ class Repository:
         return snapshot_of(self._session, node)
 
     def resource(self, uri: str) -> Resource:
-        """Makes a resource of a URI of http or https. It is refused for another text (BAD_URI) and for a URI that a
-        resource has (RESOURCE_EXISTS)."""
+        """Makes a resource of a URI of http or https. Refused for any other text (BAD_URI), and for a URI that a resource has
+        already (RESOURCE_EXISTS).
+        """
         return self._session.resource(f'resource {text_word(uri)}', uri)
 
     @property
@@ -154,11 +159,13 @@ class Repository:
         self, path: Union[str, os.PathLike], base: str = BASE, ecore: Sequence[str] = (), strict: bool = False,
         suffixes: Sequence[str] = XMI_FILES,
     ) -> Folder:
-        """Loads each `*.json` below a directory into a resource, whose URI is the base and the relative path, and resolves all
-        proxies. With the Ecore files of the metamodel also each `*.xmi` is loaded, or the files with other suffixes.
+        """Loads each `*.json` below a directory into a resource, and resolves all proxies. The URI of a resource is the base
+        and the relative path. With the Ecore files of the metamodel each `*.xmi` is loaded too, or the files with other
+        suffixes.
 
-        What could not be loaded or resolved is in the `findings` of the Folder. With `strict` a NotOpened comes for it. An OSError
-        comes if there is no directory, and a ValueError for a base that is none. docs/FOLDERS.md has more.
+        The `findings` of the Folder say what could not be loaded or resolved. If there are findings and `strict` is set, a
+        NotOpened is raised. Raises an OSError if there is no directory, and a ValueError if the base is not a valid one.
+        docs/FOLDERS.md has more.
         """
         folder = Folder(self, path, base, several(ecore), several(suffixes), self._file)
         self._session.folders.append(folder)
@@ -167,30 +174,31 @@ class Repository:
         return folder
 
     def save_all(self, force: bool = False) -> List[Path]:
-        """Writes the files of the resources of folders that have changed, and gives their paths.
+        """Writes the files of changed resources of all folders, and returns their paths.
 
-        Each file has its old content or its new one at any moment. A NotSaved comes, and nothing is written, if a resource can't be
-        saved; and unless it is by `force`, if others have changed a file, or something of it was left out when it was read. A
-        ValueError comes in a shard, since files of other shards refer to its objects by their positions.
+        At any moment each file has its old content or its new content. If a resource can't be saved, a NotSaved is raised and
+        nothing is written. The same happens, unless `force` is set, if others have changed a file or if something of it was
+        left out when it was read. In a shard a ValueError is raised, since files of other shards refer to its objects by their
+        positions.
         """
         if self._session.is_shard:
             raise ValueError('the files of a shard are not written: open the folder for it (docs/SHARDS.md)')
         return save_all(self._session.folders, force)
 
     def at(self, address: str) -> Optional[EObject]:
-        """The object at an address: the URI of a resource, `#` and a fragment. None: nothing is there."""
+        """The object at an address: the URI of a resource, `#` and a fragment. Returns None if nothing is there."""
         return self._session.optional(f'at {text_word(address)}')
 
     def resolve_all(self) -> Resolved:
-        """Resolves all proxies that find an object which their reference can take."""
+        """Resolves each proxy that leads to an object which its reference can take."""
         return Resolved(*self._session.counts('resolveall', 'resolved', 'left'))
 
     def attach(self, hearer: Hearer, node: Union[EObject, Resource], deep: bool = True) -> View:
-        """Attaches a callable to a node. From the next command on it is handed each notification there, and if it is `deep`
-        each one at a node below it, when the command is done.
+        """Attaches a callable to a node. It is called with each notification of the node, and if `deep` is set also with each
+        notification of a node below it. The calls begin with the next command, and are made when a command is done.
 
-        A callable may give commands; the notifications of a command that it gives are handed out after those that wait. An
-        error in it raises a CallableFailed, when all notifications are handed out.
+        A callable may give commands. Notifications of a command that it gives come after the notifications that are already
+        waiting. If a callable raises an error, a CallableFailed is raised after all notifications have been delivered.
         """
         if not callable(hearer):
             raise TypeError(f'{hearer!r} is not callable')
@@ -198,9 +206,8 @@ class Repository:
         return self._session.attach(node, hearer, depth(deep))
 
     def close(self) -> None:
-        """Ends its engine. No view is notified; further calls raise a RepositoryClosed, but a further `close` does nothing.
-
-        A ProgramEnded comes if the program ends with another status than 0.
+        """Ends the engine. No view is notified. Later calls raise a RepositoryClosed, except a further `close`, which does
+        nothing. Raises a ProgramEnded if the program ends with a status other than 0.
         """
         self._session.close()
 
@@ -214,7 +221,7 @@ class Repository:
     def __exit__(
         self, kind: Optional[Type[BaseException]], error: Optional[BaseException], trace: Optional[TracebackType]
     ) -> None:
-        """Closes it. After an error it is ended at once, and the error stays the one that is raised."""
+        """Closes the repository. After an error the engine is ended at once, and that error is the one that is raised."""
         if kind is None:
             self.close()
         else:

@@ -14,9 +14,8 @@ if TYPE_CHECKING:
 
 
 class Resource(Node):
-    """A resource: objects that are its roots, and all that they contain.
-
-    `uri` is its URI, as the repository has it: `HTTP://M.example` is `http://m.example/`. `path` is its file if it is one of a folder that was opened, and None otherwise.
+    """A resource: objects that are its roots, and all objects below them. `uri` is its URI as the repository has it:
+    `HTTP://M.example` becomes `http://m.example/`. `path` is its file if it belongs to a folder that was opened, else None.
     """
 
     __slots__ = ('uri', 'path')
@@ -46,23 +45,24 @@ class Resource(Node):
         return self._session.values(f'contents {self._word}')
 
     def append(self, root: Value) -> bool:
-        """Puts an object among the roots, as the last of them. It leaves the container, or the resource, that it was in."""
+        """Puts an object after the other roots. The object leaves the container, or the resource, that it was in."""
         return self.contents.append(root)
 
     def remove(self, root: Value) -> None:
-        """Takes an object out of the roots; a ValueError if it is none of them."""
+        """Takes an object out of the roots. Raises a ValueError if it is not one of them."""
         self.contents.remove(root)
 
     def load(self, text: str) -> int:
-        """Makes what a document says (docs/DOCUMENTS.md), all of it or nothing, and gives how many objects were made.
+        """Makes the objects of a document (docs/DOCUMENTS.md), all or none, and returns how many were made.
 
-        It is refused if the resource has roots (NOT_EMPTY), and if the document can't be read (DOCUMENT, with a cause). In the process
-        a document may have any length; to a program a line of at most 16,777,216 bytes is sent, and a ValueError comes for more.
+        Refused if the resource has roots (NOT_EMPTY), and if the document can't be read (DOCUMENT, with a cause). In this
+        process a document may have any length. A line for a program has at most 16,777,216 bytes; a longer one raises a
+        ValueError.
         """
         return self._session.load(self._word, text)
 
     def save(self) -> str:
-        """The document of the resource, in one line. It is refused as `save` of docs/SCRIPT.md is, as DANGLING."""
+        """The document of the resource, in one line. Refused as `save` of docs/SCRIPT.md is, as DANGLING."""
         return self._session.document(f'save {self._word}')
 
     def __repr__(self) -> str:

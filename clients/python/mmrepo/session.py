@@ -1,4 +1,4 @@
-"""A session: the commands of a repository, and the objects, resources and views that are known of it."""
+"""A session: the commands of a repository, and its known objects, resources and views."""
 
 from __future__ import annotations
 
@@ -25,7 +25,7 @@ FEW = 10_000  # objects from which on those that nobody has are looked for
 
 
 class Session(Exchange):
-    """An exchange with an engine, the metamodel that it runs over, and the objects, resources and views that are known of it."""
+    """An exchange with an engine, the metamodel, and the known objects, resources and views."""
 
     def __init__(self, engine: Engine, metamodel: Metamodel) -> None:
         super().__init__(engine)
@@ -45,12 +45,13 @@ class Session(Exchange):
         return self._asked_all(lines, lambda line, answer: answer)
 
     def outcomes(self, lines: Sequence[str]) -> List[Any]:
-        """What each of several commands gives, which are sent at once: None for `ok`, a truth value, how many objects were deleted, the
-        object that was made, or the Refused of one that was refused."""
+        """The results of several commands, which are sent at once: None for `ok`, a truth value, how many objects were deleted,
+        the object that was made, or the Refused of a refused command.
+        """
         return self._asked_all(lines, self._outcome)
 
     def raw(self, line: str) -> List[str]:
-        """The lines that a line prints, of which no view is notified."""
+        """The lines that a line prints. No view is notified of them."""
         return self.raw_all([line])[0]
 
     def raw_all(self, lines: Sequence[str]) -> List[List[str]]:
@@ -81,7 +82,7 @@ class Session(Exchange):
         return self.named(answer) if answer[:1] == '#' else read_counts(['deleted'], answer)[0]
 
     def load(self, word: str, document: str) -> int:
-        """Loads a document into the resource of a word, and gives how many objects were made."""
+        """Loads a document into a resource, given by its word, and returns how many objects were made."""
         # On a line a newline may be between tokens, and so may a tab; inside of a text of the document neither may.
         line = f'load {word} ' + document.replace('\n', '\t')
         call = self.engine.load
@@ -104,14 +105,14 @@ class Session(Exchange):
         return self._called(f'get {word} {name}', lambda: call(is_resource, number, name), int)
 
     def list_value(self, word: str, name: str, index: int) -> Any:
-        """The value at an index of a list, which is not below 0; an IndexRefused if there is none."""
+        """The value at an index of a list; the index is not negative. Raises an IndexRefused if there is none."""
         call = self.engine.list_value
         assert call is not None
         is_resource, number = word[0] == 'r', int(word[1:])
         return self._called(f'get {word} {name}', lambda: call(is_resource, number, name, index), self._read_value)
 
     def explained(self, line: str) -> List[str]:
-        """What is to be fixed in the line that was given last."""
+        """What has to be fixed in the last line."""
         words = line.split(' ', 2)
         resource = self._resources.get(words[1]) if words[0] == 'load' and len(words) > 1 else None
         return self.engine.explained(line, None if resource is None else resource.uri)
@@ -119,11 +120,11 @@ class Session(Exchange):
     # Answers of a kind
 
     def counts(self, line: str, *words: str) -> List[int]:
-        """The numbers of a command that answers words with a number after each, as `deleted 3`."""
+        """The numbers in an answer that has a number after each of some words, as `deleted 3`."""
         return self.ask(line, lambda answer: read_counts(words, answer))
 
     def values(self, line: str) -> List[Any]:
-        """The values of a command that answers some in brackets."""
+        """The values in an answer that lists them in brackets."""
         return self.ask(line, lambda answer: values_of(answer, self.named))
 
     def text(self, line: str) -> str:
@@ -144,15 +145,15 @@ class Session(Exchange):
         return found
 
     def optional(self, line: str) -> Optional[EObject]:
-        """The object of a command that answers one, or `null`."""
+        """The object in an answer that is an object or `null`."""
         return self.ask(line, lambda answer: None if answer == 'null' else checked(self.named(answer), EObject))
 
     def within(self, line: str) -> Optional[Resource]:
-        """The resource of a command that answers one, or `null`."""
+        """The resource in an answer that is a resource or `null`."""
         return self.ask(line, lambda answer: None if answer == 'null' else checked(self.named(answer), Resource))
 
     def names(self, line: str) -> List[str]:
-        """The names of a command that answers some in brackets."""
+        """The names in an answer that lists them in brackets."""
         return self.ask(line, read_names)
 
     def document(self, line: str) -> str:
@@ -176,8 +177,9 @@ class Session(Exchange):
         return Batch(self)
 
     def make(self, objects: Sequence[EObject]) -> None:
-        """Makes the objects of a batch, whose classes are known, and which are not made yet. If one is refused, the Refused is raised, and
-        none after it is made."""
+        """Makes the objects of a batch that are not made yet; their classes are known. If one is refused, its Refused is raised
+        and no further object is made.
+        """
         waiting = iter(objects)
 
         def read(line: str, answer: str) -> Optional[MmrepoError]:
@@ -205,7 +207,7 @@ class Session(Exchange):
         return self.ask(line, lambda answer: self._read_resource(answer, uri))
 
     def found_resource(self, uri: str) -> None:
-        """Takes the next resource that the program had when it was started. Its number is how many there were before it."""
+        """Records the next resource that the program had at its start. Its number is how many there were before it."""
         word = f'r{len(self._resources)}'
         url = parse(uri, None)
         self._resources[word] = Resource(self, word, uri if url is None else url.text())
@@ -228,9 +230,8 @@ class Session(Exchange):
         return self.ask(f'attach A{number} {node._word} {how}', read)
 
     def named(self, word: str, eclass: Optional[EClass] = None) -> Any:
-        """The object, the resource or the view of a word; a ValueError if it is no such word.
-
-        An object of one number is one object of Python, for as long as anybody has it.
+        """The object, the resource or the view of a word. Raises a ValueError for any other word. One number always gives the
+        same Python object, as long as somebody has it.
         """
         known = self._objects.get(word)
         if known is not None:
@@ -263,21 +264,21 @@ class Session(Exchange):
         return [self.named(f'#{number}', classes[answer]) for number, answer in found if answer in classes]
 
     def _count(self, line: str, answer: str) -> None:
-        """Takes note of the objects that a line has made."""
+        """Counts the objects that a line has made."""
         if answer[:1] == '#' and line.lstrip(' ').startswith('new '):
             self._next = max(self._next, int(answer[1:]) + 1)
         elif answer.startswith('loaded '):
             self._next += int(answer[len('loaded '):])
 
     def check_node(self, node: Any) -> None:
-        """A TypeError for what is no object and no resource, and a ValueError for one of another repository."""
+        """Raises a TypeError for anything but an object or a resource, and a ValueError for one of another repository."""
         if not isinstance(node, Node):
             raise TypeError(f'{node!r} is no object and no resource')
         if node._session is not self:
             raise ValueError(f'{node!r} is of another repository')
 
     def value_word(self, value: Any, feature: Optional[EStructuralFeature]) -> str:
-        """The word of a value of a feature. A ValueError comes for an object of another repository."""
+        """The word of a value of a feature. Raises a ValueError for an object of another repository."""
         if isinstance(value, EObject):
             if value._session is not self:
                 self.check_node(value)

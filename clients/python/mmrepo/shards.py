@@ -1,4 +1,4 @@
-"""Shards: a model of files that is too large for one repository, taken group by group. docs/SHARDS.md is the page on them."""
+"""Shards: a model of files that is too large for one repository is read group by group. docs/SHARDS.md is the page on them."""
 
 from __future__ import annotations
 
@@ -28,7 +28,7 @@ Group = Tuple[str, ...]
 
 
 class Models(NamedTuple):
-    """Files of models, and how they are read: all that a worker has to know of them."""
+    """Files of models, and how they are read: everything that a worker has to know."""
 
     metamodel: bytes
     path: str
@@ -38,7 +38,7 @@ class Models(NamedTuple):
     program: Optional[str]
 
     def names(self) -> Tuple[List[str], List[Tuple[str, str]]]:
-        """The files, in order; and names that are refused, each with the reason."""
+        """The files, in order; and the names that are refused, each with the reason."""
         return Directory(self.path).names([*DOCUMENTS, *self.xmi_suffixes])
 
     @property
@@ -48,7 +48,7 @@ class Models(NamedTuple):
 
     @contextmanager
     def opened(self) -> Iterator[Part]:
-        """A repository of its own, into which files are loaded."""
+        """A new repository, into which files are loaded."""
         with tempfile.TemporaryDirectory() as room:
             file = os.path.join(room, 'metamodel.json')
             with open(file, 'wb') as stream:
@@ -59,7 +59,7 @@ class Models(NamedTuple):
 
 
 class Part:
-    """Some files that are loaded into a repository, with what their proxies lead to."""
+    """Some files that are loaded into a repository, and the files to which their proxies lead."""
 
     def __init__(self, models: Models, repo: Repository) -> None:
         directory = Directory(models.path)
@@ -75,7 +75,7 @@ class Part:
         return proxies_of(self.repo._session, first_number(loaded.resource), links) if links else []
 
     def targets(self, proxies: Iterable[Found]) -> Set[str]:
-        """The files that proxies lead to, and that are not loaded."""
+        """The files to which proxies lead, and that are not loaded."""
         uris = {it.proxy.uri for it in proxies}
         names = {name_of(self.base, uri) for uri in uris}
         return {
@@ -85,12 +85,12 @@ class Part:
 
 
 def weight(content: bytes, is_xmi: bool) -> int:
-    """How many objects a file has at most. An object of a document has two pairs of braces, and the document one."""
+    """An upper bound for the number of objects in a file. An object of a document has two pairs of braces, and the document has one."""
     return content.count(b'<') if is_xmi else max(0, content.count(b'{') - 1) // 2
 
 
 def groups(models: Models, names: Iterable[str], objects: int) -> Iterator[Group]:
-    """Cuts files into groups of at most so many objects, in order. A file that has more is a group of its own."""
+    """Cuts files, in order, into groups of at most so many objects. A file that has more is a group of its own."""
     directory = Directory(models.path)
     group: List[str] = []
     count = 0
@@ -109,7 +109,7 @@ def groups(models: Models, names: Iterable[str], objects: int) -> Iterator[Group
 
 
 def in_order(work: Callable[[Group], Any], parts: Iterable[Group], executor: Optional[Executor]) -> Iterator[Any]:
-    """The results of work on groups, in the order of the groups. Without an executor they are done one after another."""
+    """The results of work on groups, in the order of the groups. Without an executor the groups are done one after another."""
     if executor is None:
         for part in parts:
             yield work(part)
@@ -130,7 +130,7 @@ def _called(work: Callable[[Group], Any], part: Group, run: str) -> Any:
 
 
 def _on_shard(models: Models, function: Callable[[Repository, List[Resource]], Any], names: Group) -> Any:
-    """Loads a group with what its proxies lead to, resolves all, and calls the function."""
+    """Loads a group and the files to which its proxies lead, resolves all proxies, and calls the function."""
     with models.opened() as part:
         resources, targets = [], set()
         for name in names:
@@ -149,7 +149,7 @@ def _on_shard(models: Models, function: Callable[[Repository, List[Resource]], A
 
 
 def _check_loaded(part: Part, names: Sequence[str]) -> None:
-    """A NotLoaded if one of some files could not be loaded."""
+    """Raises a NotLoaded if a file could not be loaded."""
     wrong = {name for name in names if name in part.loader.unread}
     if wrong:
         raise NotLoaded([it for it in part.loader.findings if it.file in wrong])
@@ -160,13 +160,15 @@ def map(
     objects: int = 500_000, base: str = BASE, ecore: Sequence[Path] = (), suffixes: Sequence[str] = XMI_FILES,
     program: Optional[Path] = None,
 ) -> Iterator[Any]:
-    """Cuts the files below a path into groups of at most so many objects, calls the function on each, and gives the results in
-    the order of the files.
+    """Cuts the files below a path into groups of at most so many objects, calls the function on each group, and returns the
+    results in the order of the files.
 
-    A worker of the executor loads a group together with the files that its proxies lead to, resolves all proxies, and calls
-    `function(repo, resources)` with the resources of the group. Without an executor it is done here, one group after another. A
-    NotLoaded comes if a file of a group, or one that it leads to, can't be loaded, and any error that the function raises. The
-    paths and the program have to be there for each worker. docs/SHARDS.md says what is promised.
+    A worker of the executor loads a group together with the files to which its proxies lead, resolves all proxies, and calls
+    `function(repo, resources)` with the resources of the group. Without an executor this process does it, one group after
+    another.
+
+    Raises a NotLoaded if a file of a group, or a file to which it leads, can't be loaded; and any error that the function
+    raises. Each worker needs the paths and the program. docs/SHARDS.md says what is promised.
     """
     if not 1 <= objects <= MOST_OBJECTS:
         raise ValueError(f'a group has 1 to {MOST_OBJECTS} objects')
@@ -183,7 +185,7 @@ def models_of(
     path: Path, metamodel: Path, base: str = BASE, ecore: Sequence[Path] = (), suffixes: Sequence[str] = XMI_FILES,
     program: Optional[Path] = None,
 ) -> Models:
-    """The models below a path. An OSError comes if there is no folder or no metamodel, and a ValueError for a wrong base."""
+    """The models below a path. Raises an OSError if there is no folder or no metamodel, and a ValueError for a wrong base."""
     with open(metamodel, 'rb') as file:
         document = file.read()
     Directory(path)

@@ -29,10 +29,10 @@ HELP = """Each line of docs/SCRIPT.md is a command, as: new Book, set #0 name "E
 
 
 class Shell:
-    """Answers lines: those of a script, and its own."""
+    """Answers lines: the lines of a script, and the shell's own commands."""
 
     def __init__(self, repo: Repository, folder: Optional[Folder], out: Callable[[str], None], says: Callable[[str], None]) -> None:
-        """Answers go to `out`, and what is wrong to `says`."""
+        """Answers go to `out`, and messages to `says`."""
         self._repo, self._folder, self._out, self._says = repo, folder, out, says
         self._session = repo._session
         self._is_warned = False
@@ -45,7 +45,7 @@ class Shell:
         }
 
     def answer(self, line: str) -> None:
-        """Answers a line as a reader likes it: objects have their names below the answer."""
+        """Answers a line for a reader: the names of the objects follow below the answer."""
         words = line.split()
         if words and words[0] in self.own:
             self.own[words[0]](words[1:])
@@ -56,7 +56,7 @@ class Shell:
                 self._out(below)
 
     def scripted(self, line: str, number: Optional[int] = None) -> List[str]:
-        """The lines that a script prints for a line. What is wrong with it is said, with the number that it has."""
+        """The lines that a script prints for a line. A message says what is wrong with the line, and its number."""
         try:
             answers = self._session.raw(line)
         except ValueError as error:
@@ -112,7 +112,7 @@ class Shell:
         self._out(HELP)
 
     def _quit(self, _: Sequence[str]) -> None:
-        """Ends the shell; if files have changed, the second time."""
+        """Ends the shell; if files have changed, only at the second time."""
         unsaved = self._unsaved()
         self.is_over = self._is_warned or not unsaved
         if not self.is_over:
@@ -120,7 +120,7 @@ class Shell:
             self._says(f'not saved: {", ".join(unsaved)}; saveall writes them, and quit once more leaves them')
 
     def end(self) -> None:
-        """Says at the end of the input what is not saved."""
+        """Says at the end of the input which files are not saved."""
         unsaved = self._unsaved()
         if unsaved and not self.is_over:
             self._says(f'not saved: {", ".join(unsaved)}')
@@ -167,7 +167,7 @@ def main(words: argparse.Namespace) -> int:
 
 
 def _program() -> Optional[str]:
-    """The program, which explains lines that are wrong; None if there is the library alone."""
+    """The program, which explains lines that are wrong; None if there is only the library."""
     try:
         return program_file(None)
     except NotStarted:
@@ -175,7 +175,7 @@ def _program() -> Optional[str]:
 
 
 def _lines_of(file: str) -> Iterator[str]:
-    """The lines of a script, each without its newline. Bytes that are not UTF-8 stay in them as such."""
+    """The lines of a script, each without its newline. Bytes that are not UTF-8 are kept."""
     stream = sys.stdin.buffer if file == '-' else open(file, 'rb')
 
     def read() -> Iterator[str]:
@@ -230,7 +230,9 @@ def _next_line() -> str:
 
 
 def _edit_lines(shell: Shell, repo: Repository) -> Callable[[], None]:
-    """Reads the history, and has words completed by the tabulator. Gives what writes the history; nothing without `readline`."""
+    """Reads the history, and completes words at the tabulator key. Returns a function that writes the history, which does
+    nothing without `readline`.
+    """
     try:
         import readline
     except ImportError:
@@ -260,5 +262,5 @@ def _edit_lines(shell: Shell, repo: Repository) -> Callable[[], None]:
 
 
 def _numbered(number: Optional[int], said: str) -> str:
-    """What is said of a line, with its number if it has one."""
+    """What is said of a line, after the number of the line if it has one."""
     return said if number is None else f'line {number}: {said}'

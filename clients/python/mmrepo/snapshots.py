@@ -16,14 +16,18 @@ Node = Union['EObject', 'Resource']
 
 
 class Snapshot(Dict[Node, Dict[str, Any]]):
-    """The features of a node and of each node below it, by their names: a value, or a list of values. `snapshot` of a repository makes it.
+    """The features of a node and of each node below it, by their names: a value, or a list of values. `snapshot` of a
+    repository makes it.
 
-    `replay` brings it up to date by a notice. A snapshot that is handed all notices of a deep view of its node knows each node that stays
-    below that node, as the theorem of the repository says of its own snapshots; of a node that comes later it knows nothing.
+    `replay` brings it up to date by a notification. If it replays all notifications of a deep view of its node, it stays right
+    for each node that stays below that node, which is proved of the repository's own snapshots. It has no node that comes
+    later.
     """
 
     def replay(self, notice: Notice) -> None:
-        """Makes the change of a notification in the snapshot. One at a node that the snapshot does not know changes nothing."""
+        """Makes the change of a notification in the snapshot. A notification of a node that the snapshot does not have changes
+        nothing.
+        """
         features = self.get(notice.notifier)
         if features is None or notice.feature is None:
             return

@@ -84,7 +84,7 @@ def _class(eclass: EClass) -> Iterator[str]:
 
 
 def _is_hidden(name: str) -> bool:
-    """Whether a feature is no attribute, but an item alone."""
+    """Whether a feature is no attribute of the class in Python, and is reached only as an item."""
     return keyword.iskeyword(name) or name.startswith('__') or hasattr(EObject, name)
 
 

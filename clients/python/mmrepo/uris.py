@@ -19,7 +19,7 @@ _SAFE = "/|[]'~!$&()*+,;=:@-._"
 
 
 def checked_base(base: str) -> str:
-    """A base; a ValueError if the URL Standard would write it otherwise, or if it does not end with a slash."""
+    """A base URI. Raises a ValueError if the URL Standard writes it in another way, or if it does not end with a slash."""
     found = _BASE.fullmatch(base)
     if found is None or found[2] == _DEFAULT_PORTS[found[1]] or {'.', '..'} & set(found[3].split('/')):
         raise ValueError(f'{base!r} is no base: a base is written as {BASE} or http://models.example/town/')
@@ -32,7 +32,7 @@ def uri_of(base: str, name: str) -> str:
 
 
 def name_of(base: str, uri: str) -> Optional[str]:
-    """The name of the file of a URI; None if the URI is that of no file below the base."""
+    """The name of the file of a URI; None if the URI belongs to no file below the base."""
     if not uri.startswith(base):
         return None
     name = os.fsdecode(unquote_to_bytes(uri[len(base):]))
@@ -47,7 +47,7 @@ def shortened(base: str, own: str, address: str) -> str:
 
 @lru_cache(maxsize=10_000)
 def _relative(base: str, folder: str, uri: str) -> str:
-    """A URI relative to a folder, if that leads back to it."""
+    """A URI relative to a folder, if the relative URI leads back to it; else the URI itself."""
     if not (folder.startswith(base) and uri.startswith(base)):
         return uri
     way = posixpath.relpath('/' + uri[len(base):], '/' + folder[len(base):])

@@ -52,17 +52,17 @@ Named = Callable[[str], Any]  # what a word such as `#3`, `r0` or `A9` names
 
 
 def is_number(text: str) -> bool:
-    """Whether a text is a number as a word has it: digits of ASCII, of which the first is no 0 unless it is alone."""
+    """Whether a text is a number as a word writes it: ASCII digits, with no 0 in front of others."""
     return text.isdigit() and text.isascii() and (text[0] != '0' or text == '0')
 
 
 def is_name(text: str) -> bool:
-    """Whether a text is a name: a letter of ASCII or `_`, and then letters, digits and `_`."""
+    """Whether a text is a name: an ASCII letter or `_`, and then letters, digits and `_`."""
     return _NAME.fullmatch(text) is not None
 
 
 def name_word(name: Any) -> str:
-    """The word of a class or a feature; a TypeError if it is no text, and a ValueError if it is no name."""
+    """The word of a class or a feature. Raises a TypeError if it is no text, and a ValueError if it is no name."""
     if not isinstance(name, str):
         raise TypeError(f'{name!r} is no text')
     if not is_name(name):
@@ -71,23 +71,22 @@ def name_word(name: Any) -> str:
 
 
 def index_word(index: int) -> str:
-    """The word of an index of a list, which is counted from 0; an IndexError if no list has it."""
+    """The word of an index of a list, counted from 0. Raises an IndexError for an index that no list has."""
     if not 0 <= index <= LONGEST_NUMBER:
         raise IndexError(f'there is no index {index}')
     return str(index)
 
 
 def text_word(text: Any) -> str:
-    """The word of a text; a TypeError if it is none."""
+    """The word of a text. Raises a TypeError for anything else."""
     if not isinstance(text, str):
         raise TypeError(f'{text!r} is no text')
     return _encode(text)
 
 
 def data_word(value: Any, is_enumeration: bool) -> str:
-    """The word of a value that is no object. A text is a literal if the feature has an enumeration as its type.
-
-    A ValueError comes for a whole number beyond 64 bits; a TypeError for a proxy and for what is no value.
+    """The word of a value that is no object. A text is a literal if the type of the feature is an enumeration. Raises a
+    ValueError for a whole number beyond 64 bits, and a TypeError for a proxy and for anything that is no value.
     """
     if value is None:
         return 'null'
@@ -106,7 +105,7 @@ def data_word(value: Any, is_enumeration: bool) -> str:
 
 
 def value_at(text: str, at: int, named: Named) -> Tuple[Any, int]:
-    """The value that begins at an offset of an answer, and the offset after it; a ValueError if there is none."""
+    """The value that begins at an offset of an answer, and the offset after it. Raises a ValueError if there is none."""
     if text.startswith('"', at):
         return scanstring(text, at + 1)
     found = _WORD.match(text, at)

@@ -10,7 +10,7 @@ Place = Tuple[Any, ...]  # the place above, the name of a feature and the index 
 
 
 class Shape:
-    """What is asked of the objects of a class: the features that contain, those that refer, and those with a lower bound."""
+    """What is known of the objects of a class: the features that contain, those that refer, and those with a lower bound."""
 
     def __init__(self, eclass: EClass) -> None:
         features = eclass.eAllStructuralFeatures()
@@ -21,7 +21,7 @@ class Shape:
 
 
 class Met(NamedTuple):
-    """An object of a document: how many come before it, where it is, and what is written of it."""
+    """An object of a document: how many objects come before it, its place, and its JSON."""
 
     number: int
     place: Place
@@ -53,7 +53,7 @@ class Shapes:
         return found
 
     def walk(self, document: Dict[str, Any]) -> Iterator[Met]:
-        """Each object of a document, before those that it contains."""
+        """Each object of a document, before its contents."""
         waiting: List[Tuple[Dict[str, Any], Place]] = [
             (root, (None, 'roots', index)) for index, root in enumerate(document['roots'])
         ]
@@ -75,7 +75,7 @@ class Shapes:
 
 
 def links_of(met: Met) -> Iterator[Link]:
-    """The texts of an object that refer to addresses. A fragment alone is none, and neither is `#` with one."""
+    """The texts of an object that refer to addresses. A fragment is no address, with or without its `#`."""
     for feature in met.shape.links:
         value = met.features.get(feature.name)
         if not value:
@@ -97,7 +97,7 @@ def place_text(place: Optional[Place]) -> str:
 
 
 def shortage(met: Met, feature: EStructuralFeature) -> str:
-    """In which way a feature has fewer values than it should."""
+    """The reason why a feature has fewer values than it should."""
     if not feature.many:
         unset = isinstance(feature, EAttribute) and feature.unsettable and feature.name not in met.features
         return 'it is not set, and has to be' if unset else 'it has no value, and has to have one'

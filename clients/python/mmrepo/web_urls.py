@@ -1,4 +1,4 @@
-"""URLs of http and https as the URL Standard reads, joins and writes them. The fragment is cut off before."""
+"""URLs of http and https as the URL Standard reads, joins and writes them. The fragment is cut off beforehand."""
 
 from __future__ import annotations
 
@@ -20,7 +20,7 @@ DROPPED = re.compile('[\u00ad\u034f\u180b-\u180d\u200b\u2060\u2064\ufe00-\ufe0f\
 
 
 class Url(NamedTuple):
-    """The parts of a URL. `before` is the user and the password with the mark after them."""
+    """The parts of a URL. `before` is the user and the password, with the `@` after them."""
 
     scheme: str
     before: str
@@ -37,7 +37,7 @@ class Url(NamedTuple):
 
 
 def escaped(text: str, marks: str) -> str:
-    """The text with the bytes of these marks, of control characters and of what is beyond ASCII as numbers."""
+    """The text with certain characters escaped: those of `marks`, control characters, and all that are not ASCII."""
     return ''.join(
         char if ' ' <= char <= '~' and char not in marks else ''.join(f'%{byte:02X}' for byte in char.encode('utf-8', 'replace'))
         for char in text
@@ -45,7 +45,7 @@ def escaped(text: str, marks: str) -> str:
 
 
 def parse(text: str, base: Optional[Url]) -> Optional[Url]:
-    """The URL of a text: that of the text alone, or joined with a base. None if there is none of http or https."""
+    """The URL of a text, read alone or joined with a base. Returns None if the result is no URL of http or https."""
     text = re.sub('[\t\n\r]', '', text.strip(''.join(map(chr, range(33)))))
     found = SCHEME.fullmatch(text)
     if found is None:
@@ -60,7 +60,7 @@ def parse(text: str, base: Optional[Url]) -> Optional[Url]:
 
 
 def with_authority(scheme: str, text: str) -> Optional[Url]:
-    """The URL of what comes after the slashes of its scheme."""
+    """The URL of the text after the slashes of its scheme."""
     authority, rest = cut(text, '/\\?')
     user, at, place = authority.rpartition('@')
     found = re.fullmatch(r'(\[[^\]]*\]|[^:]*)(?::([0-9]*))?', place)
@@ -89,13 +89,13 @@ def relative(text: str, base: Url) -> Optional[Url]:
 
 
 def cut(text: str, marks: str) -> Tuple[str, str]:
-    """A text before and from the first of some marks on."""
+    """The text before the first of some characters, and the text from there on."""
     place = next((place for place, char in enumerate(text) if char in marks), len(text))
     return text[:place], text[place:]
 
 
 def query_of(text: str) -> Optional[str]:
-    """The query of a text that begins with its mark."""
+    """The query of a text that begins with `?`."""
     return escaped(text[1:], QUERY_SET) if text else None
 
 
@@ -115,7 +115,7 @@ def segments(above: List[str], text: str) -> List[str]:
 
 
 def host_of(text: str) -> Optional[str]:
-    """The host as it is written: a name, or an address of four or of eight numbers."""
+    """The host as it is written: a name, an IPv4 address or an IPv6 address."""
     if text.startswith('['):
         return eight_numbers(text[1:-1]) if text.endswith(']') else None
     name = ascii_name(unquote_to_bytes(text).decode('utf-8', 'replace'))
@@ -129,7 +129,7 @@ def host_of(text: str) -> Optional[str]:
 
 
 def ascii_name(name: str) -> Optional[str]:
-    """The name of a host in ASCII: folded, and a label with other characters in Punycode. None if it is no name."""
+    """The name of a host in ASCII: lower case, and Punycode for a label with other characters. Returns None if it is not valid."""
     if name.isascii():
         return name.lower()
     folded = ''.join(char if char in KEPT else unicodedata.normalize('NFKC', char).casefold() for char in DROPPED.sub('', name))
@@ -145,7 +145,7 @@ def ascii_name(name: str) -> Optional[str]:
 
 
 def is_plain_label(label: str) -> bool:
-    """Whether a label has only characters of words, does not begin with a mark, and reads in one direction."""
+    """Whether a label has only characters of words, begins with no combining mark, and reads in one direction."""
     kinds = [unicodedata.category(char) for char in label]
     ways = {unicodedata.bidirectional(char) for char in label}
     if kinds[0][0] == 'M' or not all(kind[0] in 'LMNPS' or char in KEPT for kind, char in zip(kinds, label)):
@@ -154,7 +154,7 @@ def is_plain_label(label: str) -> bool:
 
 
 def four_numbers(words: List[str]) -> Optional[str]:
-    """An address of up to four numbers: decimal, octal or hexadecimal, the last one for all bytes that are left."""
+    """An IPv4 address of up to four numbers: decimal, octal or hexadecimal, the last one for all remaining bytes."""
     numbers = [number_of(word) for word in words]
     if len(words) > 4 or any(it is None for it in numbers):
         return None
@@ -175,7 +175,7 @@ def number_of(word: str) -> Optional[int]:
 
 
 def eight_numbers(text: str) -> Optional[str]:
-    """An address of eight numbers, with the longest run of zeros left out."""
+    """An IPv6 address; the longest run of zeros is left out."""
     found = re.fullmatch(r'(.*?)([0-9]+)\.([0-9]+)\.([0-9]+)\.([0-9]+)', text)
     if found is not None:
         parts = found.groups()[1:]

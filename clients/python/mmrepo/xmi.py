@@ -21,11 +21,11 @@ _SPACE = re.compile(rb'\bnsURI\s*=\s*["\']([^"\']+)["\']')
 
 
 class ToolFailed(MmrepoError):
-    """A tool for Ecore and XMI is not there, or refused a file. Its text says what is wrong."""
+    """A tool for Ecore and XMI is not there, or refused a file. The message says what is wrong."""
 
 
 class Converted(NamedTuple):
-    """The document of an XMI file, and a line for each thing that was left out."""
+    """The document of an XMI file, and a line for each part that was left out."""
 
     document: bytes
     notes: List[str]

@@ -1,4 +1,4 @@
-"""What a window may ask for: each call by its name, with the arguments that it takes. Anything else is a BadCall."""
+"""The calls that a window may make: each by its name, with its arguments. Anything else is a BadCall."""
 
 from __future__ import annotations
 
@@ -20,7 +20,7 @@ _RESOURCE = re.compile(r'r(0|[1-9][0-9]{0,9})')
 
 
 class BadCall(Exception):
-    """A call that no window makes. Its text says what is wrong with it."""
+    """A call that no window makes. The message says what is wrong with it."""
 
 
 # Arguments
@@ -64,7 +64,7 @@ class Call(NamedTuple):
 
 
 def answer(model: Model, body: Any) -> Any:
-    """What a call gives. A BadCall comes for one that is none, and a NotDone for one that is refused."""
+    """The result of a call. Raises a BadCall for a call that does not exist, and a NotDone for a call that is refused."""
     if not isinstance(body, dict):
         raise BadCall('a call is a JSON object')
     call = CALLS.get(body.get('do')) if isinstance(body.get('do'), str) else None
@@ -85,7 +85,7 @@ def answer(model: Model, body: Any) -> Any:
 
 
 def _edit(does: Callable[[Model, Dict[str, Any]], Any]) -> Callable[[Model, Dict[str, Any]], Any]:
-    """An edit: its answer has the number of its event."""
+    """An edit whose answer has the number of its event."""
     def do(model: Model, it: Dict[str, Any]) -> Any:
         done = model.step(lambda: does(model, it))
         return {'done': done, 'number': model.events.number}
@@ -137,7 +137,7 @@ def _export(model: Model, it: Dict[str, Any]) -> Any:
 
 
 def _draw(model: Model, it: Dict[str, Any]) -> Any:
-    """A picture of the metamodel, of what is near a class, or of a node."""
+    """A picture of the metamodel, of the classes near a class, or of a node."""
     file, node = model.files.given.metamodel, it['node']
     try:
         if node is None:
@@ -153,7 +153,7 @@ def _draw(model: Model, it: Dict[str, Any]) -> Any:
 
 
 def _hits(model: Model, it: Dict[str, Any]) -> List[Optional[Dict[str, Any]]]:
-    """Nodes as hits, for rows that show where they are."""
+    """Nodes as hits, for rows that show their paths."""
     return [search.hit(model.mirror, node) if node in model.mirror.nodes else None for node in it['nodes']]
 
 

@@ -52,7 +52,7 @@ class Connection(BaseHTTPRequestHandler):
     _is_first = True
 
     def handle_one_request(self) -> None:
-        """Answers a request. One that does not come in in time is ended by the server."""
+        """Answers a request. The server ends a request that does not arrive in time."""
         self.server.begin(self.connection, self._is_first)
         self._is_first = False
         try:
@@ -61,7 +61,7 @@ class Connection(BaseHTTPRequestHandler):
             self.close_connection = True
 
     def parse_request(self) -> bool:
-        """Reads the head of a request, and checks who asks for what."""
+        """Reads the head of a request, and checks its sender and its target."""
         if not super().parse_request():
             return False
         wrong = self._wrong()
@@ -105,7 +105,7 @@ class Connection(BaseHTTPRequestHandler):
         return None
 
     def _refuse(self, wrong: Wrong) -> None:
-        """Answers what is wrong, and reads what was sent all the same: else the answer may be lost with the connection."""
+        """Answers what is wrong, and still reads the rest of the request: otherwise the answer may be lost with the connection."""
         self.send_error(*wrong)
         self.wfile.flush()
         self.server.ready(self.connection)
@@ -178,7 +178,7 @@ class Connection(BaseHTTPRequestHandler):
         self._send(HTTPStatus(code), 'application/json', text.encode() + b'\n', {'Connection': 'close'})
 
     def _events(self, after: Any) -> None:
-        """The events after the one that the window has, for as long as it listens."""
+        """The events after the last event of the window, until it stops listening."""
         since = self.headers.get('Last-Event-ID') or after[0]
         if not (since.isascii() and since.isdigit() and len(since) < 18):
             self.send_error(HTTPStatus.BAD_REQUEST, 'after is the number of an event')
@@ -191,7 +191,7 @@ class Connection(BaseHTTPRequestHandler):
                 self.server.listens(-1)
 
     def _stream(self, sent: int) -> None:
-        """Sends events as they come, and a sign of life now and then."""
+        """Sends events as they come, and now and then a sign of life."""
         self.close_connection = True
         self.send_response(HTTPStatus.OK)
         for name, value in {**HEADERS, 'Content-Type': 'text/event-stream', 'Connection': 'close'}.items():

@@ -1,4 +1,4 @@
-"""Documents of what the mirror has, as `save` would write them: for pictures, and to compare them with the program's."""
+"""Documents of the mirror's content, as `save` would write them: for pictures, and for a comparison with the program's documents."""
 
 from __future__ import annotations
 
@@ -11,14 +11,14 @@ MOST = 20  # differences that are listed
 
 
 class Place(NamedTuple):
-    """Where an object is: its resource, and the fragment there."""
+    """The place of an object: its resource, and its fragment there."""
 
     resource: Id
     fragment: str
 
 
 def places_of(mirror: Mirror) -> Dict[int, Place]:
-    """Where each object is: its resource and its fragment."""
+    """The place of each object: its resource and its fragment."""
     found: Dict[int, Place] = {}
     for word in [it for it in mirror.nodes if isinstance(it, str)]:
         for number, fragment in fragments(mirror, mirror.nodes[word].values.get(CONTENTS, ())):
@@ -27,7 +27,7 @@ def places_of(mirror: Mirror) -> Dict[int, Place]:
 
 
 def fragments(mirror: Mirror, roots: Sequence[int]) -> Iterator[Tuple[int, str]]:
-    """The objects at and below roots, each with its fragment and before what it contains."""
+    """The roots and all objects below them, each with its fragment and before its contents."""
     waiting = [(root, '/' if len(roots) == 1 else f'/{index}') for index, root in enumerate(roots)][::-1]
     while waiting:
         number, fragment = waiting.pop()
@@ -38,7 +38,7 @@ def fragments(mirror: Mirror, roots: Sequence[int]) -> Iterator[Tuple[int, str]]
 
 
 def written(mirror: Mirror, roots: Sequence[int], refer: Callable[[int], str], kept: Optional[Dict[int, str]] = None) -> Dict[str, Any]:
-    """The document of some roots. `refer` gives the text of a reference; of the objects only those that are `kept` are written."""
+    """The document of some roots. `refer` gives the text of a reference; only objects in `kept` are written."""
     made: Dict[int, Dict[str, Any]] = {}
     for number, _ in fragments(mirror, roots):
         entry = mirror.nodes.get(number)
@@ -54,7 +54,7 @@ def written(mirror: Mirror, roots: Sequence[int], refer: Callable[[int], str], k
 
 
 def _features(entry: Entry, refer: Callable[[int], str]) -> Dict[str, Any]:
-    """What is written of an object, but for what it contains."""
+    """The features of an object as they are written, without its containments."""
     assert entry.shape is not None
     found: Dict[str, Any] = {}
     for form in entry.shape.forms.values():
@@ -66,7 +66,7 @@ def _features(entry: Entry, refer: Callable[[int], str]) -> Dict[str, Any]:
 
 
 def _is_holder(entry: Entry, form: Form) -> bool:
-    """Whether a reference leads to the container, in which the object is written already."""
+    """Whether a reference leads to the container, which has the object in its own features."""
     feature = entry.shape and entry.shape.eclass.findEStructuralFeature(form.name)
     return bool(getattr(feature, 'container', False))
 
@@ -79,7 +79,7 @@ def _text(form: Form, value: Any, refer: Callable[[int], str]) -> Any:
 
 
 def differences(here: Any, there: Any, place: str = '') -> Iterator[str]:
-    """Where two documents differ, and what each has there."""
+    """The places at which two documents differ, and the content of each there."""
     waiting: List[Tuple[Any, Any, str]] = [(here, there, place)]
     while waiting:
         one, other, at = waiting.pop()

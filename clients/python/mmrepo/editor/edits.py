@@ -1,4 +1,4 @@
-"""What a window may do to the model. Each edit is one step for the windows, and a refused one changes nothing."""
+"""The edits that a window may make. Each edit is one step for the windows, and a refused edit changes nothing."""
 
 from __future__ import annotations
 
@@ -20,7 +20,7 @@ _WHOLE = re.compile(r'\s*([+-]?)0*([0-9]{1,20})\s*')
 
 
 class NotDone(Exception):
-    """An edit is refused: the name of the refusal, and why, in words."""
+    """An edit is refused: the name of the refusal, and the reason in words."""
 
     def __init__(self, name: str, text: str) -> None:
         super().__init__(text)
@@ -28,7 +28,7 @@ class NotDone(Exception):
 
 
 class Edits:
-    """The edits. A node is given by its number or its word, and a value as JSON has it."""
+    """The edits. A node is given by its number or its word, and a value as JSON."""
 
     def __init__(self, repo: Repository, mirror: Mirror) -> None:
         self._repo, self._mirror = repo, mirror
@@ -42,7 +42,7 @@ class Edits:
         self._try(Attempt(self._mirror, node, kind, value), lambda: owner.eSet(feature, self._value(kind, value)))
 
     def unset(self, node: int, feature: str) -> None:
-        """Takes a feature back to its default, and empties a list."""
+        """Takes a feature back to its default; a list becomes empty."""
         owner, kind = self._feature(node, feature)
         self._check_not_held(kind, node)
         self._try(Attempt(self._mirror, node, kind), lambda: owner.eUnset(feature))
@@ -55,7 +55,9 @@ class Edits:
         self._try(Attempt(self._mirror, node, kind, value), lambda: owner.eGet(feature).insert(place, self._value(kind, value)))
 
     def remove(self, node: int, feature: str, at: int, was: Any = None) -> None:
-        """Takes the value at an index out of a list: the one that the window has seen there, if it says which."""
+        """Takes the value at an index out of a list. If the window says which value it has seen there, the value must still be
+        that one.
+        """
         owner, kind = self._feature(node, feature)
         self._check_not_held(kind, node)
         self._check_many(kind)
@@ -63,7 +65,7 @@ class Edits:
         self._try(Attempt(self._mirror, node, kind), lambda: owner.eGet(feature).pop(at))
 
     def move(self, node: Id, feature: str, to: int, at: int, was: Any = None) -> None:
-        """Moves the value at an index of a list: the one that the window has seen there, if it says which."""
+        """Moves the value at an index of a list. If the window says which value it has seen there, the value must still be that one."""
         self._check_is(node, feature, at, was)
         if isinstance(node, str):
             self._try(Attempt(self._mirror, node), lambda: self._resource(node).contents.move(to, at))
@@ -73,7 +75,7 @@ class Edits:
         self._try(Attempt(self._mirror, node, kind), lambda: owner.eGet(feature).move(to, at))
 
     def resolve(self, node: int, feature: str, at: int) -> None:
-        """Replaces a proxy by the object that it finds."""
+        """Replaces a proxy by the object at its address."""
         owner, kind = self._feature(node, feature)
         value = self._mirror.nodes[node].values.get(feature)
         address = value[at] if isinstance(value, list) and at < len(value) else value
@@ -82,7 +84,7 @@ class Edits:
     # The tree
 
     def new(self, eclass: str, node: Id, feature: str, at: Optional[int] = None) -> int:
-        """Makes an object of a class in a container or a resource, and gives its number."""
+        """Makes an object of a class in a container or a resource, and returns its number."""
         made = self._try(Attempt(self._mirror), lambda: self._repo.create(eclass))
         number = int(made._word[1:])
         try:
@@ -93,7 +95,7 @@ class Edits:
         return number
 
     def place(self, number: int, node: Id, feature: str, at: Optional[int] = None) -> None:
-        """Puts an object into a container or a resource, at the end or at an index; or moves it there in its list."""
+        """Puts an object into a container or a resource, at the end or at an index; or moves it there within its list."""
         thing = object_of(self._repo, number)
         entry = self._mirror.nodes.get(number)
         if entry is not None and (entry.holder, entry.under) == (node, feature):
@@ -113,7 +115,7 @@ class Edits:
                 self._try(Attempt(self._mirror, node, kind, number), lambda: owner.eSet(feature, thing))
 
     def _shift(self, number: int, node: Id, feature: str, at: Optional[int]) -> None:
-        """Moves an object in the list that it is in: before the one that is at the index now."""
+        """Moves an object within its list: before the object that is at the index now."""
         values = self._mirror.nodes[node].values[feature]
         if isinstance(values, list):
             now = values.index(number)
@@ -121,7 +123,7 @@ class Edits:
             self.move(node, feature, to, now)
 
     def delete(self, number: int) -> int:
-        """Destroys an object and all that is below it, and gives how many went."""
+        """Destroys an object and all objects below it, and returns how many were destroyed."""
         return self._try(Attempt(self._mirror, number), lambda: object_of(self._repo, number).delete())
 
     # What an edit needs
@@ -156,7 +158,7 @@ class Edits:
         return found
 
     def _value(self, feature: EStructuralFeature, value: Any) -> Any:
-        """A value of JSON as the package takes it; a NotDone if the feature can't have it."""
+        """A value of JSON as the package takes it. Raises a NotDone if the feature can't have it."""
         if value is None:
             return None
         if isinstance(feature, EReference):
@@ -175,7 +177,9 @@ class Edits:
         return value
 
     def _check_is(self, node: Id, feature: str, at: int, was: Any) -> None:
-        """A NotDone if a list has a different value at an index than the window has seen: another window was faster."""
+        """Raises a NotDone if the value at an index of a list is not the one that the window has seen, since another window was
+        faster.
+        """
         entry = self._mirror.nodes.get(node)
         values = entry.values.get(feature) if entry else None
         if was is not None and isinstance(values, list) and values[at:at + 1] != [was]:
@@ -187,11 +191,11 @@ class Edits:
             raise NotDone('NOT_MANY', f'NOT_MANY: {feature.name} is no list')
 
     def _check_not_held(self, feature: EStructuralFeature, node: int) -> None:
-        """A NotDone for what would leave an object in no resource: its container is changed in the tree."""
+        """Raises a NotDone for an edit that would leave an object in no resource: its container is changed in the tree."""
         if isinstance(feature, EReference) and (feature.containment or feature.container):
             raise NotDone('HELD', f'HELD: {feature.name} is changed in the tree, so that no object is lost: delete, drag, or make a new one')
 
     def _check_free(self, node: int, feature: str) -> None:
-        """A NotDone if a feature of one part has one, which would be lost."""
+        """Raises a NotDone if a single containment has a part already, which would be lost."""
         if self._mirror.nodes[node].values.get(feature) is not None:
             raise NotDone('BOUND', f'BOUND: at most 1 {feature}; delete the one that is there')

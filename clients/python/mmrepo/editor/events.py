@@ -1,4 +1,4 @@
-"""What happened, in order: each event has a number, and a window that was away gets what it has missed."""
+"""The events, in order. Each event has a number, and a window that was disconnected gets the events that it has missed."""
 
 from __future__ import annotations
 

@@ -1,4 +1,4 @@
-"""The files of the model: which resources there are, saving, new files, and XMI and documents that come in and go out."""
+"""The files of the model: the resources, saving, new files, and XMI and documents that are brought in or taken out."""
 
 from __future__ import annotations
 
@@ -32,7 +32,7 @@ class Given(NamedTuple):
 
 
 class Files:
-    """The folders that are open, and their resources."""
+    """The open folders, and their resources."""
 
     def __init__(self, repo: Repository, given: Given, folders: Sequence[Folder]) -> None:
         self._repo, self.given, self.folders = repo, given, list(folders)
@@ -42,7 +42,7 @@ class Files:
         return [{'resource': it._word, 'name': self.name(it), 'uri': it.uri, 'folder': self._folder_of(it)} for it in self._repo.resources]
 
     def name(self, resource: Resource) -> str:
-        """The name of a resource: that of its file in the folder, else its URI."""
+        """The name of a resource: its file's name in the folder, else its URI."""
         number = self._folder_of(resource)
         return resource.uri if number is None else name_of(self.folders[number].base, resource.uri) or resource.uri
 
@@ -57,7 +57,7 @@ class Files:
         return [it.line for folder in self.folders for it in folder.findings]
 
     def save(self, force: bool) -> Dict[str, Any]:
-        """Writes the files that have changed, or says what is in the way."""
+        """Writes the files that have changed, or says why they can't be written."""
         if not self.folders:
             raise NotDone('NO_FOLDER', NO_FOLDER)
         try:
@@ -84,8 +84,9 @@ class Files:
     # What comes in
 
     def converted(self, name: str, content: bytes) -> Converted:
-        """The document of a file that comes in: XMI by the tool, a document as it is. It is tried before, so that all of it is taken or
-        nothing."""
+        """The document of a file that is brought in: XMI is converted by the tool, a document is taken as it is. It is tried
+        first, so that either all of it is taken or nothing.
+        """
         is_document = name.endswith(DOCUMENTS)
         made = Converted(content, []) if is_document else self._by_tool(name, content)
         try:

@@ -1,6 +1,5 @@
-"""The features of a metamodel, and their values as JSON has them.
-
-An object is its number, a proxy its address, and an ELong its digits, since a number of a browser has 53 bits.
+"""The features of a metamodel, and their values as JSON. An object is its number, a proxy its address, and an ELong its digits,
+since a number in a browser has 53 bits.
 """
 
 from __future__ import annotations
@@ -88,7 +87,7 @@ class Shapes:
         return found
 
     def conforms(self, name: str, wanted: str) -> bool:
-        """Whether an object of a class may be where one of another class is wanted."""
+        """Whether an object of a class may be used as an object of another class."""
         if name not in self._above:
             found, waiting = set(), [self._metamodel.classes[name]]
             while waiting:

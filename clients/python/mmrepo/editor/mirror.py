@@ -1,4 +1,4 @@
-"""What the server knows of the model. It is read once, and then kept by notifications alone, as docs/ADAPTERS.md replays them."""
+"""The server's copy of the model. It is read once, and then kept only by notifications, as docs/ADAPTERS.md replays them."""
 
 from __future__ import annotations
 
@@ -13,10 +13,7 @@ Told = Tuple[str, Id, str, Any, Any, int, Optional[str]]
 
 
 class Entry:
-    """A node: what it has that is not the default, the unsettable attributes that are set, and what contains it.
-
-    A resource has no shape.
-    """
+    """A node: its values other than defaults, its unsettable attributes that are set, and its container. A resource has no shape."""
 
     __slots__ = ('shape', 'values', 'flags', 'holder', 'under')
 
@@ -31,7 +28,7 @@ class Entry:
         return (ROOTS if feature == CONTENTS else None) if self.shape is None else self.shape.forms.get(feature)
 
     def get(self, form: Form) -> Any:
-        """What it has under a feature: a list that is not to be changed, or a value."""
+        """The value of a feature. A list is not to be changed."""
         return self.values.get(form.name, () if form.many else form.default)
 
     def put(self, form: Form, value: Any) -> None:
@@ -42,7 +39,7 @@ class Entry:
             self.values[form.name] = value
 
     def parts(self) -> Iterator[Tuple[Form, int, int]]:
-        """What it contains: the feature, the index there, and the object."""
+        """Its contents: the feature, the index there, and the object."""
         for form in (ROOTS,) if self.shape is None else self.shape.parts:
             value = self.values.get(form.name)
             if value is not None:
@@ -57,7 +54,7 @@ class Entry:
 
 
 class Changes(NamedTuple):
-    """What a replay has found: objects that came and are not known, with what contains them; and those that are gone."""
+    """The result of a replay: new objects that are not known yet, with their containers; and objects that are gone."""
 
     come: Dict[int, Tuple[Id, str]]
     gone: List[int]
@@ -95,7 +92,7 @@ class Mirror:
         return Changes(come, [gone for it in lost for gone in self._drop(it)])
 
     def _move(self, told: Told, come: Dict[int, Tuple[Id, str]], lost: List[int]) -> None:
-        """Follows an object that leaves a container, and one that gets one."""
+        """Follows an object that leaves a container, and an object that gets one."""
         kind, node, feature, old, new = told[:5]
         if kind == 'MOVE' or old == new:
             return
@@ -113,7 +110,7 @@ class Mirror:
                 entry.holder, entry.under = node, feature
 
     def _drop(self, top: int) -> Iterator[int]:
-        """Forgets an object that nothing contains, and all that is below it."""
+        """Forgets an object that nothing contains, and all objects below it."""
         entry = self.nodes.get(top)
         waiting = [top] if entry is not None and entry.holder is None else []
         while waiting:
@@ -145,7 +142,7 @@ class Mirror:
         return found[::-1]
 
     def below(self, node: Id) -> Iterator[int]:
-        """All objects below a node, each before what it contains."""
+        """All objects below a node, each before its contents."""
         waiting = [part for _, _, part in self.nodes[node].parts()][::-1]
         while waiting:
             top = waiting.pop()

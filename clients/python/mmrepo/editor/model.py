@@ -1,4 +1,4 @@
-"""The model that is edited: the repository, what is known of it by notifications, and the events for the windows."""
+"""The model that is edited: the repository, its copy that notifications keep, and the events for the windows."""
 
 from __future__ import annotations
 
@@ -21,7 +21,7 @@ from .reading import asked, object_of, read_object, read_resources
 
 
 class Turn:
-    """A lock that gives the repository to the thread that has it. A thread that has it may take it once more."""
+    """A lock that gives the repository to the thread that holds it. The thread that holds it may take it a second time."""
 
     def __init__(self, repo: Repository) -> None:
         self._lock = threading.RLock()
@@ -36,10 +36,10 @@ class Turn:
 
 
 class Model:
-    """What the windows share. One thread at a time has it: the one that has the `lock`."""
+    """The state that the windows share. One thread at a time uses it: the one that holds the `lock`."""
 
     def __init__(self, repo: Repository, files: Files) -> None:
-        """Reads all resources, and is notified of each change from now on."""
+        """Reads all resources, and follows each change from now on."""
         self.lock = Turn(repo)
         self.repo, self.files = repo, files
         self.events = Events()
@@ -55,7 +55,7 @@ class Model:
         self.problems.look_at_all()
 
     def _follow(self, resource: Resource) -> None:
-        """Is notified of each change in a resource from now on."""
+        """Follows each change in a resource from now on."""
         if self._view is None:
             self._view = self.repo.attach(self._hear, resource)
         else:
@@ -67,7 +67,7 @@ class Model:
             self._told.append(self.mirror.told(notice))
 
     def step(self, do: Callable[[], Any]) -> Any:
-        """Does something to the model, and sends the windows its event, also if it is refused half way."""
+        """Executes something on the model, and sends the windows its event, even if it is refused half way."""
         with self.lock:
             try:
                 return do()
@@ -75,7 +75,7 @@ class Model:
                 self._tell()
 
     def _tell(self, changes: Optional[Changes] = None) -> None:
-        """Takes the notifications in, and sends the windows an event: none if there are none."""
+        """Takes the notifications, and sends the windows an event if there are any."""
         told, self._told = self._told, []
         if not told:
             return
@@ -92,7 +92,7 @@ class Model:
     # Files
 
     def new_file(self, folder: int, name: str) -> str:
-        """Makes an empty resource for a file, and gives its word."""
+        """Makes an empty resource for a file, and returns its word."""
         resource = self.files.new(folder, name)
         read_resources(self.repo, self.mirror, [resource], False)
         self._follow(resource)
@@ -101,7 +101,7 @@ class Model:
         return resource._word
 
     def load(self, folder: int, name: str, document: str) -> Dict[str, Any]:
-        """Makes a resource for a file, with what a document says, and resolves all proxies."""
+        """Makes a resource for a file with the content of a document, and resolves all proxies."""
         word = self.new_file(folder, name)
         resource = self.resource(word)
         assert resource is not None
@@ -114,7 +114,7 @@ class Model:
         return {'resource': word, 'count': count}
 
     def save(self, force: bool) -> Dict[str, Any]:
-        """Writes the files that have changed. Gives what was written, or what is in the way."""
+        """Writes the files that have changed. Returns what was written, or why nothing can be written."""
         done = self.files.save(force)
         if 'findings' not in done:
             self.changed.clear()
@@ -136,7 +136,7 @@ class Model:
         }
 
     def nodes(self, ids: Sequence[Id]) -> Dict[str, Any]:
-        """What nodes have; null for one that is not there."""
+        """The content of nodes; null for a node that is not there."""
         found = {it: self.mirror.nodes.get(it) for it in ids}
         return {
             'number': self.events.number, 'nodes': {str(it): entry and entry.state() for it, entry in found.items()},
@@ -144,7 +144,7 @@ class Model:
         }
 
     def asked(self, ids: Sequence[Id]) -> Dict[str, Any]:
-        """What nodes have in the repository, which is asked for each of their features."""
+        """The content of nodes in the repository, which is asked for each of their features."""
         found: Dict[str, Any] = {}
         for it in ids:
             entry = self.mirror.nodes.get(it)
@@ -153,7 +153,7 @@ class Model:
         return {'number': self.events.number, 'nodes': found}
 
     def compared(self) -> Dict[str, Any]:
-        """Compares all that the server knows with what the repository has, resource by resource, and says where they differ."""
+        """Compares the server's copy with the repository, resource by resource, and returns the differences."""
         places = places_of(self.mirror)
         uris = {it._word: it.uri for it in self.repo.resources}
         found: List[str] = []
@@ -170,7 +170,7 @@ class Model:
 
 
 def _compared(resource: Resource, here: Dict[str, Any]) -> Iterator[str]:
-    """Where a document differs from what a resource saves."""
+    """The differences between a document and the save of a resource."""
     try:
         there = parsed(resource.save())
     except Refused as refused:

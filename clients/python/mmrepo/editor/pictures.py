@@ -1,4 +1,4 @@
-"""Pictures: the text of the tool `diagram` for the metamodel, and for an object with what is below it."""
+"""Pictures: the text of the tool `diagram` for the metamodel, or for an object and the objects below it."""
 
 from __future__ import annotations
 
@@ -21,7 +21,7 @@ SECONDS = 60  # that the tool may take
 
 
 def picture_of_classes(metamodel: str, around: Optional[str], steps: int) -> str:
-    """The diagram of a metamodel, or of what is near a class."""
+    """The diagram of a metamodel, or of the classes near a class."""
     return _drawn([metamodel] + (['--around', around, '--steps', str(steps)] if around is not None else []))
 
 
@@ -33,7 +33,7 @@ def document_of_objects(mirror: Mirror, names: Dict[Id, str], node: Id) -> Tuple
     places: Dict[int, Place] = {}
 
     def refer(number: int) -> str:
-        """A fragment of the picture, or the address of an object outside of it."""
+        """A fragment in the picture, or the address of an object outside of it."""
         if number in kept:
             return kept[number]
         if not places:

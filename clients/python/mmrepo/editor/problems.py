@@ -1,4 +1,4 @@
-"""What is wrong with the objects: features with fewer values than they should have, and proxies that are left."""
+"""The problems of objects: features with fewer values than they should have, and proxies that are left."""
 
 from __future__ import annotations
 
@@ -35,7 +35,7 @@ class Problems:
             self._note(number, Problem(short.get(number, ()), _proxies(entry)))
 
     def look_at(self, numbers: Iterable[Id], gone: Iterable[int]) -> Dict[str, Any]:
-        """Looks at objects that have changed, and gives what is new for the page."""
+        """Looks at objects that have changed, and returns what is new for the page."""
         changed: Dict[int, Optional[Dict[str, Any]]] = {}
         for number in gone:
             if self._note(number, None):
@@ -59,11 +59,11 @@ class Problems:
         return found and {'short': found.short, 'proxies': found.proxies}
 
     def some(self, most: int) -> List[Dict[str, Any]]:
-        """The problems of the first objects that have some, by number."""
+        """The problems of the first objects that have any, by number."""
         return [{'object': number, **(self.of(number) or {})} for number in sorted(self._found)[:most]]
 
     def _note(self, number: int, problem: Optional[Problem]) -> bool:
-        """Remembers the problems of an object. Gives whether they are different from before."""
+        """Records the problems of an object. Returns whether they have changed."""
         before = self._found.pop(number, None)
         after = problem if problem is not None and (problem.short or problem.proxies) else None
         if after is not None:

@@ -1,4 +1,4 @@
-"""Reads nodes: those of a resource from its document, all at once, and single ones by asking for each feature."""
+"""Reads nodes: the nodes of a resource all at once from its document, and single nodes by a read of each feature."""
 
 from __future__ import annotations
 
@@ -15,8 +15,9 @@ Later = Tuple[Entry, int, Form, Any]  # texts that refer to objects, of an objec
 
 
 def read_resources(repo: Repository, mirror: Mirror, resources: Sequence[Resource], has_proxies: bool) -> None:
-    """Reads resources whose objects have the numbers of a load: each before what it contains, in order. If there may be proxies, or
-    other resources, each reference to a different resource is asked for."""
+    """Reads resources whose objects are numbered as a load numbers them: each before its contents, in order. If there may be
+    proxies or other resources, the repository is asked for each reference that leads to a different resource.
+    """
     places: Dict[str, Dict[str, int]] = {}
     later: Dict[str, List[Later]] = {}
     for resource in resources:
@@ -39,7 +40,7 @@ def _elsewhere(places: Dict[str, Dict[str, int]], address: str) -> int:
 
 
 def asked_values(repo: Repository, number: int, form: Form) -> List[Any]:
-    """The values of a feature of an object, by asking."""
+    """The values of a feature of an object, as the repository answers."""
     value = object_of(repo, number).eGet(form.name)
     return [encoded(form, it) for it in (value if form.many else [value])]
 
@@ -112,7 +113,7 @@ def _parts(entry: Entry, features: Dict[str, Any]) -> Iterator[Tuple[Form, str, 
 
 
 def asked(mirror: Mirror, node: Any) -> Entry:
-    """A node as the repository has it at this moment: each feature is asked for."""
+    """A node as the repository has it now: each feature is read."""
     if not isinstance(node, EObject):
         entry = Entry(None)
         entry.values = {CONTENTS: [id_of(it) for it in node.eContents]}
@@ -139,7 +140,7 @@ def _root_of(node: EObject) -> Any:
 
 
 def read_object(repo: Repository, mirror: Mirror, number: int, holder: Any, under: str) -> List[int]:
-    """Reads an object that came, and all that is below it. Gives their numbers."""
+    """Reads a new object and all objects below it. Returns their numbers."""
     waiting, found = [(number, holder, under)], []
     while waiting:
         top, above, name = waiting.pop()

@@ -1,4 +1,4 @@
-"""Finds objects: by class and text, and for a reference those that conform."""
+"""Finds objects: by class and text; for a reference, the objects that conform."""
 
 from __future__ import annotations
 
@@ -22,7 +22,7 @@ def hit(mirror: Mirror, number: Id) -> Dict[str, Any]:
 
 
 def search(mirror: Mirror, text: str, eclass: Optional[str]) -> Dict[str, Any]:
-    """The objects of a class, or of one below it, that have a text in an attribute; and how many there are."""
+    """The objects of a class, or of a subclass, that have a text in an attribute; and their count."""
     begun = text.casefold()
     found = [
         number for number, entry in _objects(mirror)
@@ -32,7 +32,7 @@ def search(mirror: Mirror, text: str, eclass: Optional[str]) -> Dict[str, Any]:
 
 
 def picks(mirror: Mirror, node: Id, feature: EStructuralFeature, text: str) -> Dict[str, Any]:
-    """The objects that a reference of a node can take, whose label has a text: first those that begin so."""
+    """The objects that a reference of a node can take and whose label has a text; labels that begin with the text come first."""
     assert isinstance(feature, EReference)
     value = mirror.nodes[node].values.get(feature.name, ())
     taken = set(value) if feature.many else {value}

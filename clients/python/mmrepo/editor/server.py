@@ -1,4 +1,4 @@
-"""The server: connections of this machine alone, at most so many, and none that takes for ever."""
+"""The server: it takes connections only from this machine, a limited number of them, and none that lasts for ever."""
 
 from __future__ import annotations
 
@@ -23,13 +23,13 @@ KINDS = {'.html': 'text/html; charset=utf-8', '.css': 'text/css; charset=utf-8',
 
 
 class Server(ThreadingHTTPServer):
-    """Serves the page of a model, to whom knows the token."""
+    """Serves the page of a model to everybody who knows the token."""
 
     daemon_threads = True
     request_queue_size = 200
 
     def __init__(self, model: Model, port: int) -> None:
-        """Takes a port; 0 is a free one. An OSError comes if it is not free."""
+        """Opens a port; 0 stands for any free one. Raises an OSError if the port is not free."""
         super().__init__((HOST, port), Connection)
         self.model = model
         self.token = secrets.token_urlsafe(24)
@@ -47,7 +47,7 @@ class Server(ThreadingHTTPServer):
     # Connections
 
     def process_request(self, request: Any, client_address: Any) -> None:
-        """Answers a connection in a thread of its own; one that is too many gets an answer that says so."""
+        """Answers a connection in its own thread. A connection beyond the limit gets an answer that says so."""
         with self._lock:
             is_taken = self._open < CONNECTIONS
             self._open += is_taken
@@ -77,8 +77,9 @@ class Server(ThreadingHTTPServer):
             self._coming.pop(connection, None)
 
     def service_actions(self) -> None:
-        """Ends the connections whose requests do not come in. One that had an answer before is ended without a word, since a browser
-        keeps it for a request that may never come."""
+        """Ends the connections whose requests do not arrive. A connection that had an answer before is ended silently, since a
+        browser keeps it for a request that may never come.
+        """
         now = time.monotonic()
         with self._lock:
             late = [(it, is_first) for it, (end, is_first) in self._coming.items() if end < now]
@@ -90,7 +91,7 @@ class Server(ThreadingHTTPServer):
             _end(it)
 
     def listens(self, step: int) -> bool:
-        """Counts a stream of events that begins or ends; False if it is one too many."""
+        """Counts a stream of events that begins or ends. Returns False if there are too many."""
         with self._lock:
             if step > 0 and self._listening >= WINDOWS:
                 return False
@@ -98,14 +99,14 @@ class Server(ThreadingHTTPServer):
             return True
 
     def handle_error(self, request: Any, client_address: Any) -> None:
-        """Says what failed in the editor itself, without the address; a connection that breaks off is none of it."""
+        """Reports an error in the editor itself, without the address. A connection that breaks off is no error."""
         kind, error, _ = sys.exc_info()
         if not isinstance(error, (ConnectionError, socket.timeout)):
             print(f'error: {kind.__name__ if kind else ""}: {error}', file=sys.stderr)
 
 
 def _say(connection: socket.socket, status: str, name: str, text: str) -> None:
-    """Answers a connection from outside of its thread."""
+    """Answers a connection from a different thread."""
     body = json.dumps({'refused': name, 'text': text}) + '\n'
     head = f'HTTP/1.1 {status}\r\nContent-Type: application/json\r\nContent-Length: {len(body)}\r\nConnection: close\r\n\r\n'
     try:
@@ -116,7 +117,7 @@ def _say(connection: socket.socket, status: str, name: str, text: str) -> None:
 
 
 def _end(connection: socket.socket) -> None:
-    """Ends a connection; the thread that reads from it finds nothing more."""
+    """Ends a connection; the thread that reads from it finds the end of the input."""
     try:
         connection.shutdown(socket.SHUT_RDWR)
     except OSError:
@@ -124,6 +125,6 @@ def _end(connection: socket.socket) -> None:
 
 
 def read_page() -> Dict[str, Tuple[str, bytes]]:
-    """The files of the page, which are all that is served: each with its kind and content."""
+    """The files of the page, each with its kind and content. Nothing else is served."""
     files = sorted((Path(__file__).parent / 'page').iterdir())
     return {file.name: (KINDS[file.suffix], file.read_bytes()) for file in files if file.suffix in KINDS}

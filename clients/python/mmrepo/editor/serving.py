@@ -79,8 +79,9 @@ def _model(repo: Repository, words: argparse.Namespace) -> Model:
 
 
 def bases(words: argparse.Namespace) -> Sequence[str]:
-    """The URI of each folder: that of `--base`; of several folders each has its own below that, so that they refer to one another as
-    the folders beside each other do."""
+    """The URI of each folder: the `--base`. If there are several folders, each has its own URI below the base, so that they
+    refer to one another as folders beside each other do.
+    """
     if len(words.paths) < 2:
         return [words.base]
     names = [os.path.basename(os.path.abspath(path)) for path in words.paths]
