@@ -191,7 +191,7 @@ impl<A: Adapter> Going<A> {
     }
 }
 
-/// Takes a node out of some targets, none of which is there twice.
+/// Takes a node out of a list of targets, in which no target comes twice.
 fn drop_target(targets: &mut VecDeque<Target>, node: Node)
     requires { IsDistinct same_node (map (λ t. t.node) targets.old.items) }
     ensures { targets.new.items ≡ filter (λ t. not (is_at node t)) targets.old.items }
@@ -201,7 +201,7 @@ fn drop_target(targets: &mut VecDeque<Target>, node: Node)
     }
 }
 
-/// The index of a node among some targets, which is looked for from the first on.
+/// The index of a node in a list of targets. The list is searched from the front.
 fn index_among(targets: &VecDeque<Target>, node: Node) -> Option<usize>
     ensures { result ≡ position (is_at node) targets.now.items }
 {

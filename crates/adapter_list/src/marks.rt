@@ -6,7 +6,7 @@ ghost use Rattle.adapter_list.specs.Targets.{AreSameMarks, AreSetAt, HasMarkRoom
 use mm_types::Node;
 use std::alloc::AllocError;
 
-/// Whether a node is marked. A resource always is; at most one resource is above a node.
+/// Whether a node is marked. Every resource counts as marked: at most one resource is above a node, so no mark is needed.
 pub(crate) fn is_marked(marks: &[bool], node: Node) -> bool
     ensures { result ≡ is_marked_in marks.now node }
 {

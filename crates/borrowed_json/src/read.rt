@@ -17,8 +17,8 @@ use std::alloc::Global;
 /// The greatest depth to which arrays and objects nest.
 const NESTING: usize = 127;
 
-/// What is read of the arrays and objects that are not ended yet: the items of the arrays, and the members of the objects, each after
-/// those of the arrays and objects that it is in.
+/// The parts of arrays and objects whose end was not read yet: the items of the arrays, and the members of the objects. Those of an inner
+/// array or object come after those of the outer ones.
 #[derive(Drop)]
 struct Unfinished<'t> {
     items: Vec<Json<'t>>,

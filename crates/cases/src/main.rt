@@ -103,7 +103,7 @@ fn passes_over<L: LinkStore, W: Write>(
     Ok(true)
 }
 
-/// Runs a case, over each store if it has a script; returns whether it gives what it expects, and so the same over both.
+/// Runs a case, and returns whether it gives what it expects. A script runs over each store, and must give the same over both.
 fn passes<W: Write>(
     alloc: Global,
     writer: &mut W,

@@ -93,7 +93,7 @@ pub(crate) fn script_outcome<L: LinkStore>(
     given::<L, _>(alloc, metamodel, boxes, script)
 }
 
-/// What a metamodel gives: its fault, or `accepted`. A script without lines prints nothing over one that is accepted.
+/// What a metamodel gives: its fault, or `accepted`. A script without lines prints nothing over a metamodel that is accepted.
 pub(crate) fn document_outcome(alloc: Global, metamodel: &[u8]) -> Result<Vec<u8>, AllocError> {
     let given = script_outcome::<SlotStore>(alloc, metamodel, b"")?;
     if given.is_empty() {

@@ -1,13 +1,10 @@
 -- The result of planning, by its parts.
-use Rattle.std.proofs.Common.{◌≡◌, Bool, false, [], None, if◌then◌else◌, refl, sym, ap, subst}
-use Rattle.std.proofs.lemmas.Bool.{true≢false}
-use Rattle.links.specs.Plans.{applied}
+use Rattle.std.proofs.Common.{◌≡◌, Bool, false, [], None, Option, Some, if◌then◌else◌, sym, ap, subst}
 use Rattle.mm_values.specs.Values as values
 use Rattle.models.specs.Legal.{IsLegal}
 use Rattle.models.specs.Model.{Model, reading}
 use Rattle.models.specs.Reading.{Reading}
 use Rattle.handshake.specs.declared.change.Change.{Change}
-use Rattle.handshake.specs.declared.change.Change.TheVariants.{ResolveAll}
 use Rattle.change_plans.specs.declared.planned.Planned.{Planned}
 use Rattle.handshake.specs.FeatureChanges.{chain, resolved_by, resolves_all, target_of}
 use Rattle.handshake.specs.Edits.{link_edits}
@@ -16,11 +13,12 @@ use Rattle.handshake.specs.Changes.{HasReadDocument, IsRemovalOf}
 use Rattle.change_plans.specs.Plans.{IsPlanOf}
 use Rattle.handshake.specs.Refusals.{early_refusal, late_refusal}
 use Rattle.handshake.proofs.PlanLemmas.{IsPlanFor, plan-for}
+use Rattle.proxies.specs.ResolvingAll.{done, left}
+use Rattle.proxies.specs.declared.resolved.Resolved.{Resolved}
 
 -- nothing is resolved by a change that doesn't resolve all proxies
 pub none-counted : (r : Reading) (c : Change) → resolves_all c ≡ false → None ≡ resolved_by r c
-none-counted r ResolveAll one = absurd (true≢false one)
-none-counted r _ one = refl
+none-counted r c one = sym (ap (λ (b : Bool). let q : Option Resolved = if b then Some (record { done = done r; left = left r }) else None in q) one)
 
 -- the result of planning, by its parts
 pub planned : (is_heard : Bool) (s : Model) (c : Change) (p : Planned) → resolves_all c ≡ false → IsLegal s → early_refusal (reading s) c ≡ None → late_refusal (reading s) c ≡ None → HasReadDocument s.metamodel c → IsRemovalOf (reading s) c p.removal → p.target ≡ target_of (reading s) c → p.resolved ≡ resolved_by (reading s) c

@@ -123,7 +123,6 @@ module _ (q : Refused → Bool) (never : IsNeverLate q) where
   late-not r (At e (Move to from)) = unless-not q Index (nat_lt to (count_at r e) && nat_lt from (count_at r e)) never.index
   late-not r (NewResource u) = uri-not r u
   late-not r (At e (Resolve i)) = resolve-not r e i (target_at r e i)
-  late-not r ResolveAll = refl
   late-not r (Load k doc) =
       later-not q _ _ (unless-not q Limit (nat_le (r.next + length doc.objects) OBJECTS) never.limit) (unless-not q NotEmpty (is_empty_resource r k) never.not_empty)
   late-not r _ = refl

@@ -1,8 +1,8 @@
 -- A change that edits only values has a plan without edits of links, and a change that edits only links has a plan without edits of values.
-use Rattle.std.proofs.Common.{◌≡◌, ◌∙◌, ◌++◌, ◌∷◌, ℕ, zero, suc, Bool, true, false, not, ◌||◌, List, [], length, map, option_map, option_to_list, Option, Some, None, if◌then◌else◌, refl, sym, ap, subst}
+use Rattle.std.proofs.Common.{◌≡◌, ◌∙◌, ◌++◌, ◌∷◌, ℕ, zero, suc, Bool, true, false, not, ◌||◌, List, [], length, map, option_map, Option, Some, None, if◌then◌else◌, refl, sym, ap, subst}
 use Rattle.std.specs.List.{AllByRecursion}
 use Rattle.std.specs.Option.{option_map_or}
-use Rattle.std.proofs.lemmas.Bool.{false≢true, not-true}
+use Rattle.std.proofs.lemmas.Bool.{and_parts, false≢true, not-true}
 use Rattle.mm_types.specs.Resolved.{Metamodel}
 use Rattle.mm_types.specs.Same.{node_value}
 use Rattle.mm_types.specs.Shapes.{shape}
@@ -12,15 +12,15 @@ use Rattle.mm_types.specs.declared.numbers.Node.{Node}
 use Rattle.mm_types.specs.declared.value.Value.{Value}
 use Rattle.mm_types.specs.declared.value.Value.TheVariants as value
 use Rattle.mm_values.specs.declared.edit.ValueEdit.{ValueEdit}
-use Rattle.links.specs.Links.{far_end}
+use Rattle.links.specs.Links.{Links, far_end}
 use Rattle.links.specs.declared.plan.Edit.{Edit}
-use Rattle.links.specs.declared.plan.Edit.TheVariants as edit
 use Rattle.models.specs.Legal.{IsLegal}
 use Rattle.models.specs.Model.{Model, reading}
-use Rattle.models.specs.Reading.{Reading, first_at, held_at, is_repeat, position_for, shape_at}
+use Rattle.models.specs.Reading.{Reading, first_at, held_at, is_repeat, shape_at}
 use Rattle.removal.specs.declared.link_end.LinkEnd.{LinkEnd}
 use Rattle.doc_loader.proofs.SideLemmas.{opposite-reference}
 use Rattle.handshake.specs.declared.change.Change.{Change}
+use Rattle.handshake.specs.declared.act.Act.{Act}
 use Rattle.handshake.specs.declared.change.Change.TheVariants.{At, Create}
 use Rattle.handshake.specs.FeatureChange.{feature_change, notice_at, told}
 use Rattle.handshake.specs.declared.change_kind.ChangeKind.{ChangeKind}
@@ -28,10 +28,12 @@ use Rattle.handshake.specs.declared.change_kind.ChangeKind.TheVariants.{Gains, U
 use Rattle.handshake.specs.declared.change_kind.FeatureChange.{FeatureChange}
 use Rattle.handshake.specs.declared.act.Act.TheVariants.{Add, Move, Remove, RemoveValue, Resolve, Set, Unset}
 use Rattle.notice_chain.specs.declared.notice.Notice.{Notice}
-use Rattle.handshake.specs.Displaced.{cut_by_new, cut_by_set, cut_link_ends, has_already, link_end_in, link_ends_backwards}
-use Rattle.handshake.specs.Edits.{cut_of, link_edits, new_put}
+use Rattle.handshake.specs.Displaced.{cut_link_ends, has_already}
+use Rattle.handshake.specs.Edits.{cut_of, link_edits, made_edits}
+use Rattle.handshake.proofs.ActLemmas.{act-puts}
+use Rattle.handshake.proofs.CutLinkEndLemmas.{act-cuts, plain-not}
 use Rattle.handshake.specs.Effects.{act_edits, value_edits}
-use Rattle.handshake.specs.Changes.{HasFittingDocument, HasReadDocument, edits_links_alone, edits_values_alone}
+use Rattle.handshake.specs.Changes.{HasFittingDocument, HasReadDocument, edits_links_alone, edits_one_kind, edits_values_alone, is_at_reference}
 use Rattle.change_plans.specs.Plans.{IsPlanOf, of_links, of_values}
 use Rattle.handshake.specs.Refusals.{early_refusal, late_refusal}
 use Rattle.handshake.specs.FeatureChanges.{all_lost, before_gain, chain, destroyed_by, emptied, feature_changes, feature_changes_with, gain_at, resolved_by, resolves_all, taken_out, target_of}
@@ -47,17 +49,17 @@ pub record IsPlain (r : Reading) (c : Change) : Type 0 where
   pub found : None ≡ target_of r c
   pub resolved : None ≡ resolved_by r c
 
-pub is-plain : (r : Reading) (c : Change) → edits_values_alone r.metamodel c ≡ true → IsPlain r c
-is-plain r (Create k) h = record { one = refl; read = tt; fits = tt; whose = refl; found = refl; resolved = refl }
-is-plain r (At e (Resolve i)) h = absurd (false≢true h)
-is-plain r (At e a) h = record { one = refl; read = tt; fits = tt; whose = refl; found = refl; resolved = refl }
-is-plain r _ h = absurd (false≢true h)
+plain-of : (r : Reading) (c : Change) → edits_one_kind c ≡ true → IsPlain r c
+plain-of r (Create k) h = record { one = refl; read = tt; fits = tt; whose = refl; found = refl; resolved = refl }
+plain-of r (At e (Resolve i)) h = absurd (false≢true h)
+plain-of r (At e a) h = record { one = refl; read = tt; fits = tt; whose = refl; found = refl; resolved = refl }
+plain-of r _ h = absurd (false≢true h)
 
--- the same for a change that edits only links
+pub is-plain : (r : Reading) (c : Change) → edits_values_alone r.metamodel c ≡ true → IsPlain r c
+is-plain r c h = plain-of r c (and_parts (edits_one_kind c) (not (is_at_reference r.metamodel c)) h).0
+
 pub is-plain-link : (r : Reading) (c : Change) → edits_links_alone r.metamodel c ≡ true → IsPlain r c
-is-plain-link r (At e (Resolve i)) h = absurd (false≢true h)
-is-plain-link r (At e a) h = record { one = refl; read = tt; fits = tt; whose = refl; found = refl; resolved = refl }
-is-plain-link r _ h = absurd (false≢true h)
+is-plain-link r c h = plain-of r c (and_parts (edits_one_kind c) (is_at_reference r.metamodel c) h).0
 
 no-values : (r : Reading) (c : Change) → edits_links_alone r.metamodel c ≡ true → [] ≡ value_edits r c
 no-values r (At e (Resolve i)) h = absurd (false≢true h)
@@ -71,29 +73,31 @@ links-planned is_heard s c es ns h legal early late edits tells =
     let plain = is-plain-link r c h in
     planned is_heard s c (of_links es ns) plain.one legal early late plain.read (record { whose = plain.whose; found = tt }) plain.found plain.resolved edits (no-values r c h) tells
 
--- a change that edits only values cuts no link
+-- what it does at an end, it does at an attribute
+at-attribute : (m : Metamodel) (e : End) (a : Act) → edits_values_alone m (At e a) ≡ true → (shape m e.feature).is_reference ≡ true → ⊥
+at-attribute m e a h reference = false≢true (sym (not-true (shape m e.feature).is_reference (and_parts (edits_one_kind (At e a)) (not (shape m e.feature).is_reference) h).1) ∙ reference)
+
+-- it cuts no link
 pub no-cuts : (r : Reading) (c : Change) → edits_values_alone r.metamodel c ≡ true → [] ≡ cut_link_ends r c
 no-cuts r (Create k) h = refl
-no-cuts r (At e (Set v)) h = sym (ap (λ (b : Bool). if b || has_already r e v then [] else cut_by_set r e v) h)
-no-cuts r (At e Unset) h = sym (ap (λ (b : Bool). if b then link_ends_backwards e (r.values e) else []) (not-true (shape r.metamodel e.feature).is_reference h))
-no-cuts r (At e (Add v i)) h = sym (ap (λ (b : Bool). if b || is_repeat r e v then [] else cut_by_new r e v) h)
-no-cuts r (At e (Remove i)) h = sym (ap (λ (b : Bool). if b then link_end_in r e i else []) (not-true (shape r.metamodel e.feature).is_reference h))
-no-cuts r (At e (RemoveValue v)) h = sym (ap (λ (b : Bool). if b then option_map_or (link_end_in r e) (first_at r e v) [] else []) (not-true (shape r.metamodel e.feature).is_reference h))
-no-cuts r (At e (Move to from)) h = refl
+no-cuts r (At e a) h =
+    let never = at-attribute r.metamodel e a h in
+    act-cuts (λ (ts : List LinkEnd). [] ≡ ts) r e refl a
+    (λ v _ reference. absurd (never reference)) (λ v reference. absurd (never reference)) (λ reference. absurd (never reference)) (λ i reference. absurd (never reference)) (λ i reference. absurd (never reference))
 no-cuts r _ h = absurd (false≢true h)
 
+-- it makes no link, and moves none
+none-made : (r : Reading) (c : Change) → edits_values_alone r.metamodel c ≡ true → [] ≡ made_edits r c
+none-made r (At e a) h =
+    let never = at-attribute r.metamodel e a h in
+    act-puts (λ (ts : List LinkEnd) (xs : List Edit) (made : Links → Links). [] ≡ xs) r e (λ ts. refl) a (λ v is new. absurd (never (plain-not (shape_at r e).is_reference (has_already r e v) new).0))
+    (λ v i is new. absurd (never (plain-not (shape_at r e).is_reference (is_repeat r e v) new).0)) (λ to from is reference. absurd (never reference))
+    (λ i is. absurd (false≢true (subst (λ (b : Act). edits_values_alone r.metamodel (At e b) ≡ true) is h)))
+none-made r (Create k) h = refl
+none-made r _ h = absurd (false≢true h)
+
 no-links : (r : Reading) (c : Change) → edits_values_alone r.metamodel c ≡ true → [] ≡ link_edits r c
-no-links r (Create k) h = refl
-no-links r (At e (Set v)) h =
-    sym (ap (λ (b : Bool). let c = b || has_already r e v in map cut_of (if c then [] else cut_by_set r e v) ++ option_to_list (if c then None else new_put r e 0 v)) h)
-no-links r (At e Unset) h = sym (ap (λ (b : Bool). map cut_of (if b then link_ends_backwards e (r.values e) else []) ++ []) (not-true (shape r.metamodel e.feature).is_reference h))
-no-links r (At e (Add v i)) h =
-    sym (ap (λ (b : Bool). let c = b || is_repeat r e v in map cut_of (if c then [] else cut_by_new r e v) ++ option_to_list (if c then None else new_put r e (position_for r e i) v)) h)
-no-links r (At e (Remove i)) h = sym (ap (λ (b : Bool). map cut_of (if b then link_end_in r e i else []) ++ []) (not-true (shape r.metamodel e.feature).is_reference h))
-no-links r (At e (RemoveValue v)) h =
-    sym (ap (λ (b : Bool). map cut_of (if b then option_map_or (link_end_in r e) (first_at r e v) [] else []) ++ []) (not-true (shape r.metamodel e.feature).is_reference h))
-no-links r (At e (Move to from)) h = sym (ap (λ (b : Bool). option_to_list (if b then Some (edit.Shift e to from) else None)) (not-true (shape r.metamodel e.feature).is_reference h))
-no-links r _ h = absurd (false≢true h)
+no-links r c h = λ i. map cut_of (no-cuts r c h i) ++ none-made r c h i
 
 pub values-planned : (is_heard : Bool) (s : Model) (c : Change) (vs : List ValueEdit) (ns : List Notice) → edits_values_alone s.metamodel c ≡ true → IsLegal s → early_refusal (reading s) c ≡ None → late_refusal (reading s) c ≡ None
     → vs ≡ value_edits (reading s) c → ns ≡ (if is_heard then chain (reading s) c else []) → IsPlanOf is_heard s c (of_values vs ns)

@@ -10,12 +10,10 @@ use Rattle.models.specs.Legal.{kinds_of}
 use Rattle.models.specs.Model.{Model, reading}
 use Rattle.notice_chain.specs.declared.notice.Notice.{Notice}
 use Rattle.handshake.specs.declared.change.Change.{Change}
-use Rattle.handshake.specs.declared.change.Change.TheVariants.{At}
-use Rattle.handshake.specs.declared.act.Act.TheVariants.{Resolve}
 use Rattle.handshake.specs.Changes.{IsRemovalOf}
 use Rattle.handshake.specs.Effects.{after}
 use Rattle.handshake.specs.Refusals.{late_refusal}
-use Rattle.handshake.specs.FeatureChanges.{chain, resolved_by, target_of}
+use Rattle.handshake.specs.FeatureChanges.{chain, resolved_by, resolves_one, target_of}
 use Rattle.change_plans.specs.declared.planned.Planned.{Planned}
 
 abbrev pub is_memory_refusal : Refused → Bool
@@ -45,8 +43,7 @@ of_links es ns = record { removal = None; target = None; resolved = None; edits 
 
 -- whether planning looks for something with memory before it looks for refusals: for the target of a proxy
 abbrev pub looks_first : Change → Bool
-looks_first (At e (Resolve i)) = true
-looks_first _ = false
+looks_first c = resolves_one c
 
 -- the result of planning: the plan, or the refusal that applies. `Memory` comes only if no refusal applies, or while planning looks first
 abbrev pub Plans : Bool → Result Planned Refused → Model → Change → Type 0

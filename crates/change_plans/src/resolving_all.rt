@@ -100,7 +100,7 @@ fn push_edits<L: LinkStore>(
     push_joining(model, end, site.index, Some(target), edits)
 }
 
-/// The notifications that proxies are resolved, each read in the model before the change.
+/// The notifications of proxies that are resolved, each computed in the model before the change.
 fn joint_notices<L: LinkStore>(
     alloc: Global,
     model: &ModelRef<L>,

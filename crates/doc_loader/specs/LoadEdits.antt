@@ -54,7 +54,7 @@ is_ascending_from k [] = true
 is_ascending_from k (value.Object a ∷ vs) = nat_le k a.0 && is_ascending_from (suc a.0) vs
 is_ascending_from k (v ∷ vs) = is_ascending_from k vs
 
--- takes an object b out of the end of a value a, and puts it back at its index, so that a becomes the last value at the other end
+-- cuts the link from an object a to an object b, and puts it again with b at its index. So a becomes the last value at the opposite end of b
 abbrev pub puts_again : Metamodel → ℕ → (ReferenceKey → ℕ) → ObjectNo → FeatureNo → Value → List Edit
 puts_again m n index_of b f (value.Object a) =
     let e = object_end n a f in

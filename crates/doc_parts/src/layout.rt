@@ -51,7 +51,7 @@ fn of_two<'t>(class: &'t Json<'t>, features: &'t Json<'t>) -> Option<ObjectMembe
     Some(ObjectMembers { class, features })
 }
 
-/// The object of some members; `None` if they are not those of an object.
+/// The class and the features of an object that is written with these members; `None` if they are not the members of an object.
 #[tactic(auto, unfolding(crate::specs::Layout::written))]
 fn of_members<'t>(members: Members<'t>) -> Option<ObjectMembers<'t>>
     ensures { option_map (λ w. new_written w.class.now (members_view w.features.now)) result ≡ written_meant (object (members_view members.now)) }

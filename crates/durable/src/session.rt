@@ -50,17 +50,17 @@ pub trait Twin: Session {
     /// The session has nothing that concerns only this session.
     ghost is_alone: { Self → Type 0 };
 
-    /// A line that is not to be kept changes only things that concern only its session.
+    /// A line that is not to be kept changes nothing but what is the session's own.
     ghost others: { (s t x : Self) (l : List ℕ) (p : Printed) → Self.Session.runs s l p t → is_kept_turn p.turn ≡ false → alike s x → alike t x };
 
     /// A line that is kept does the same to both sessions.
     ghost kept: { (s t x y : Self) (l : List ℕ) (p q : Printed) → Self.Session.runs s l p t → is_kept_turn p.turn ≡ true → alike s x
         → Self.Session.runs x l q y → is_kept_turn q.turn ≡ true → alike t y };
 
-    /// A session without things of its own can refuse a line that was kept only for memory.
+    /// If a session has nothing of its own, only memory can make it refuse a line that was kept.
     ghost done: { (s t x y : Self) (l : List ℕ) (p q : Printed) → Self.Session.runs s l p t → is_kept_turn p.turn ≡ true → alike s x → is_alone x
         → Self.Session.runs x l q y → is_kept_turn q.turn ≡ false → is_lost_turn q.turn ≡ true };
 
-    /// A line that is kept gives a session without things of its own none.
+    /// If a session has nothing of its own, it has nothing of its own after a line that is kept.
     ghost alone: { (x y : Self) (l : List ℕ) (q : Printed) → is_alone x → Self.Session.runs x l q y → is_kept_turn q.turn ≡ true → is_alone y };
 }

@@ -222,7 +222,7 @@ pub(crate) const MISPLACED: [Hint; 41] = [
     ("enums", "only the document has it"),
 ];
 
-/// What is said in addition of a key's value, or of an item of it, that is not written as its field says.
+/// What is added to the explanation of a value, or of an item of an array, that is not written as its field says; by key.
 pub(crate) const ADVICE: [Hint; 3] = [
     ("upper", "; -1 stands for any number"),
     (

@@ -149,14 +149,17 @@ fn reference_names<'m>(
     Ok(names)
 }
 
-/// Explains a reference whose opposite is not declared by its type.
-fn explain_undeclared(
+/// Explains a reference that names no valid opposite.
+fn explain_none(
     alloc: Global,
     out: &mut String,
     at: Named<'_>,
     feature: &RawFeature,
     opposite: &str,
 ) -> Result<(), AllocError> {
+    if let Some(other) = declared_of(at.raw, feature, opposite) {
+        return explain_declared(alloc, out, at, feature, other);
+    }
     let class = feature.type_name.as_str();
     let Some(number) = class_named(at.raw, class) else {
         return Ok(());
@@ -175,20 +178,6 @@ fn explain_undeclared(
     match nearest(alloc, opposite, names.as_slice())? {
         Some(meant) => writeln!(out, "; is {meant:?} meant?"),
         None => writeln!(out),
-    }
-}
-
-/// Explains a reference that names no valid opposite.
-fn explain_none(
-    alloc: Global,
-    out: &mut String,
-    at: Named<'_>,
-    feature: &RawFeature,
-    opposite: &str,
-) -> Result<(), AllocError> {
-    match declared_of(at.raw, feature, opposite) {
-        Some(other) => explain_declared(alloc, out, at, feature, other),
-        None => explain_undeclared(alloc, out, at, feature, opposite),
     }
 }
 

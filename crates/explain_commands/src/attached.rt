@@ -1,10 +1,9 @@
 //! Adapters that are not attached, are attached already, or are full.
-use crate::scene::Scene;
+use crate::scene::{Scene, Written};
 use adapters::Adapter;
 use links::LinkStore;
 use mm_types::AdapterNo;
 use script_lines::Form;
-use std::alloc::AllocError;
 
 /// The adapter that a line names.
 fn adapter_in(form: &Form<'_>) -> Option<AdapterNo> {
@@ -15,71 +14,62 @@ fn adapter_in(form: &Form<'_>) -> Option<AdapterNo> {
     }
 }
 
-/// Explains an adapter that is not there, or not attached.
-pub(crate) fn explain_no_adapter<L: LinkStore, A: Adapter>(
-    scene: &Scene<'_, L, A>,
-    out: &mut String,
-    form: &Form<'_>,
-) -> Result<(), AllocError> {
-    let prefix = scene.prefix;
-    let Some(AdapterNo(number)) = adapter_in(form) else {
-        return Ok(());
-    };
-    let last = scene.adapters;
-    if number == 0 || number > last {
-        return writeln!(
+impl<L: LinkStore, A: Adapter> Scene<'_, L, A> {
+    /// Explains an adapter that is not there, or not attached.
+    pub(crate) fn explain_no_adapter(&self, out: &mut String, form: &Form<'_>) -> Written {
+        let prefix = self.prefix;
+        let Some(AdapterNo(number)) = adapter_in(form) else {
+            return Ok(());
+        };
+        let last = self.adapters;
+        if number == 0 || number > last {
+            return writeln!(
+                out,
+                "{prefix}: there is no adapter A{number}: the adapters are A1 to A{last}"
+            );
+        }
+        writeln!(
             out,
-            "{prefix}: there is no adapter A{number}: the adapters are A1 to A{last}"
-        );
+            "{prefix}: A{number} is attached to no node; attach it first"
+        )
     }
-    writeln!(
-        out,
-        "{prefix}: A{number} is attached to no node; attach it first"
-    )
-}
 
-/// Explains an adapter that is attached already.
-pub(crate) fn explain_taken<L: LinkStore, A: Adapter>(
-    scene: &Scene<'_, L, A>,
-    out: &mut String,
-    form: &Form<'_>,
-) -> Result<(), AllocError> {
-    let prefix = scene.prefix;
-    match adapter_in(form) {
-        Some(AdapterNo(number)) => writeln!(
-            out,
-            "{prefix}: A{number} is attached already; watch gives it one target more, and detach takes all of them"
-        ),
-        None => Ok(()),
-    }
-}
-
-/// The attached adapter that got the most notifications, and how many it got.
-fn fullest<L: LinkStore, A: Adapter>(scene: &Scene<'_, L, A>) -> Option<(u32, u64)> {
-    let mut found = None;
-    let mut most = 0;
-    for number in 1..=scene.adapters {
-        if let Ok(told) = scene.repository.adapter_told(AdapterNo(number))
-            && told >= most
-        {
-            found = Some((number, told));
-            most = told;
+    /// Explains an adapter that is attached already.
+    pub(crate) fn explain_taken(&self, out: &mut String, form: &Form<'_>) -> Written {
+        let prefix = self.prefix;
+        match adapter_in(form) {
+            Some(AdapterNo(number)) => writeln!(
+                out,
+                "{prefix}: A{number} is attached already; watch gives it one target more, and detach takes all of them"
+            ),
+            None => Ok(()),
         }
     }
-    found
-}
 
-/// Explains an adapter that can't count the notifications that it would get.
-pub(crate) fn explain_full<L: LinkStore, A: Adapter>(
-    scene: &Scene<'_, L, A>,
-    out: &mut String,
-) -> Result<(), AllocError> {
-    let prefix = scene.prefix;
-    match fullest(scene) {
-        Some((number, told)) => writeln!(
-            out,
-            "{prefix}: A{number} was told {told} notices, and can't count as many more; detach it"
-        ),
-        None => Ok(()),
+    /// The attached adapter that got the most notifications, and how many it got.
+    fn fullest(&self) -> Option<(u32, u64)> {
+        let mut found = None;
+        let mut most = 0;
+        for number in 1..=self.adapters {
+            if let Ok(told) = self.repository.adapter_told(AdapterNo(number))
+                && told >= most
+            {
+                found = Some((number, told));
+                most = told;
+            }
+        }
+        found
+    }
+
+    /// Explains an adapter that can't count the notifications that it would get.
+    pub(crate) fn explain_full(&self, out: &mut String) -> Written {
+        let prefix = self.prefix;
+        match self.fullest() {
+            Some((number, told)) => writeln!(
+                out,
+                "{prefix}: A{number} was told {told} notices, and can't count as many more; detach it"
+            ),
+            None => Ok(()),
+        }
     }
 }

@@ -1,6 +1,6 @@
 //! What a line names.
-use mm_types::{Node, ObjectNo};
-use script_lines::{Form, WrittenValue};
+use mm_types::{EndRead, Node, ObjectNo, Read};
+use script_lines::{FeatureForm, Form, WrittenValue};
 
 /// What a line names: a node, and a feature of it.
 #[derive(Clone, Copy)]
@@ -12,32 +12,26 @@ pub(crate) struct Named<'a> {
 
 /// The verb of a line.
 fn verb_in(form: &Form<'_>) -> &'static str {
+    let Form::At { form, .. } = form else {
+        return "the line";
+    };
     match form {
-        Form::Set { .. } => "set",
-        Form::Unset { .. } => "unset",
-        Form::Get { .. } => "get",
-        Form::IsSet { .. } => "isset",
-        Form::Add { .. } => "add",
-        Form::Remove { .. } => "remove",
-        Form::RemoveValue { .. } => "removevalue",
-        Form::Move { .. } => "move",
-        Form::Resolve { .. } => "resolve",
-        _ => "the line",
+        FeatureForm::Read(EndRead::Get) => "get",
+        FeatureForm::Read(EndRead::IsSet) => "isset",
+        FeatureForm::Set(_) => "set",
+        FeatureForm::Unset => "unset",
+        FeatureForm::Add(_) | FeatureForm::AddAt(..) => "add",
+        FeatureForm::Remove(_) => "remove",
+        FeatureForm::RemoveValue(_) => "removevalue",
+        FeatureForm::Move { .. } => "move",
+        FeatureForm::Resolve(_) => "resolve",
     }
 }
 
 /// The feature that a line names.
 fn feature_in<'a>(form: &Form<'a>) -> Option<&'a str> {
     match form {
-        Form::Set { feature, .. }
-        | Form::Unset { feature, .. }
-        | Form::Get { feature, .. }
-        | Form::IsSet { feature, .. }
-        | Form::Add { feature, .. }
-        | Form::Remove { feature, .. }
-        | Form::RemoveValue { feature, .. }
-        | Form::Move { feature, .. }
-        | Form::Resolve { feature, .. } => Some(feature.as_str()),
+        Form::At { feature, .. } => Some(feature.as_str()),
         _ => None,
     }
 }
@@ -45,13 +39,12 @@ fn feature_in<'a>(form: &Form<'a>) -> Option<&'a str> {
 /// The object that a line names first, if it can name nothing else there.
 fn object_in(form: &Form<'_>) -> Option<ObjectNo> {
     match form {
-        Form::Resolve { object, .. } => Some(*object),
-        Form::Delete(object)
-        | Form::Validate(object)
-        | Form::Class(object)
-        | Form::Container(object)
-        | Form::Within(object)
-        | Form::Fragment(object) => Some(*object),
+        Form::At {
+            node: Node::Object(object),
+            form: FeatureForm::Resolve(_),
+            ..
+        } => Some(*object),
+        Form::Delete(object) | Form::Read(Read::Of(object, _)) => Some(*object),
         _ => None,
     }
 }
@@ -59,30 +52,44 @@ fn object_in(form: &Form<'_>) -> Option<ObjectNo> {
 /// The node that a line names first.
 fn node_in(form: &Form<'_>) -> Option<Node> {
     match form {
-        Form::Set { node, .. }
-        | Form::Unset { node, .. }
-        | Form::Get { node, .. }
-        | Form::IsSet { node, .. }
-        | Form::Add { node, .. }
-        | Form::Remove { node, .. }
-        | Form::RemoveValue { node, .. }
-        | Form::Move { node, .. } => Some(*node),
-        Form::Contents(node) => Some(*node),
+        Form::At { node, .. } => Some(*node),
+        Form::Read(Read::Under(node, _)) => Some(*node),
         Form::Attach { target, .. } | Form::Watch { target, .. } | Form::Unwatch { target, .. } => {
             Some(*target)
         }
-        Form::Save(resource) => Some(Node::Resource(*resource)),
-        Form::Load { resource, .. } => Some(Node::Resource(*resource)),
+        Form::Load { resource, .. } | Form::Read(Read::Save(resource)) => {
+            Some(Node::Resource(*resource))
+        }
         _ => object_in(form).map(Node::Object),
+    }
+}
+
+/// The value that a feature is given, or loses.
+fn given_value<'f, 'a>(form: &'f FeatureForm<'a>) -> Option<&'f WrittenValue<'a>> {
+    match form {
+        FeatureForm::Set(value)
+        | FeatureForm::Add(value)
+        | FeatureForm::AddAt(_, value)
+        | FeatureForm::RemoveValue(value) => Some(value),
+        _ => None,
+    }
+}
+
+/// The index of the proxy that a line resolves.
+pub(crate) fn resolved_index(form: &Form<'_>) -> Option<u32> {
+    match form {
+        Form::At {
+            form: FeatureForm::Resolve(index),
+            ..
+        } => Some(*index),
+        _ => None,
     }
 }
 
 /// The value that a line gives a feature.
 pub(crate) fn value_in<'f, 'a>(form: &'f Form<'a>) -> Option<&'f WrittenValue<'a>> {
     match form {
-        Form::Set { value, .. } | Form::Add { value, .. } | Form::RemoveValue { value, .. } => {
-            Some(value)
-        }
+        Form::At { form, .. } => given_value(form),
         _ => None,
     }
 }

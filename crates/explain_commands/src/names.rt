@@ -1,103 +1,92 @@
 //! Names that should name classes or features, and name none, or an abstract class.
 use crate::named::Named;
-use crate::scene::Scene;
+use crate::scene::{Scene, Written};
 use adapters::Adapter;
 use explain::{Listed, nearest};
 use explain_scripts::{class_names, concrete_names, feature_names};
 use links::LinkStore;
 use mm_types::Node;
-use std::alloc::AllocError;
 
-/// Explains a name that is no class.
-pub(crate) fn explain_no_class<L: LinkStore, A: Adapter>(
-    scene: &Scene<'_, L, A>,
-    out: &mut String,
-    name: &str,
-) -> Result<(), AllocError> {
-    let prefix = scene.prefix;
-    let names = class_names(scene.alloc, scene.repository.meta())?;
-    match nearest(scene.alloc, name, names.as_slice())? {
-        Some(meant) => writeln!(out, "{prefix}: {name:?} is no class; is {meant:?} meant?"),
-        None => writeln!(
+impl<L: LinkStore, A: Adapter> Scene<'_, L, A> {
+    /// Explains a name that is no class.
+    pub(crate) fn explain_no_class(&self, out: &mut String, name: &str) -> Written {
+        let prefix = self.prefix;
+        let names = class_names(self.alloc, self.repository.meta())?;
+        match nearest(self.alloc, name, names.as_slice())? {
+            Some(meant) => writeln!(out, "{prefix}: {name:?} is no class; is {meant:?} meant?"),
+            None => writeln!(
+                out,
+                "{prefix}: {name:?} is no class; the classes are {}",
+                Listed(names.as_slice())
+            ),
+        }
+    }
+
+    /// Explains a class that is abstract.
+    pub(crate) fn explain_abstract(&self, out: &mut String, name: &str) -> Written {
+        let prefix = self.prefix;
+        let meta = self.repository.meta();
+        let Some(class) = meta.class_by_name(name) else {
+            return Ok(());
+        };
+        let names = concrete_names(self.alloc, meta, class)?;
+        if names.is_empty() {
+            return writeln!(
+                out,
+                "{prefix}: class {name} is abstract, and no class below it is concrete"
+            );
+        }
+        writeln!(
             out,
-            "{prefix}: {name:?} is no class; the classes are {}",
+            "{prefix}: class {name} is abstract; the concrete classes below it are {}",
             Listed(names.as_slice())
-        ),
+        )
     }
-}
 
-/// Explains a class that is abstract.
-pub(crate) fn explain_abstract<L: LinkStore, A: Adapter>(
-    scene: &Scene<'_, L, A>,
-    out: &mut String,
-    name: &str,
-) -> Result<(), AllocError> {
-    let prefix = scene.prefix;
-    let meta = scene.repository.meta();
-    let Some(class) = meta.class_by_name(name) else {
-        return Ok(());
-    };
-    let names = concrete_names(scene.alloc, meta, class)?;
-    if names.is_empty() {
-        return writeln!(
-            out,
-            "{prefix}: class {name} is abstract, and no class below it is concrete"
-        );
+    /// Explains a name that is no feature of an object's class.
+    fn explain_unknown(
+        &self,
+        out: &mut String,
+        class: &str,
+        names: &[&str],
+        name: &str,
+    ) -> Written {
+        let prefix = self.prefix;
+        match nearest(self.alloc, name, names)? {
+            Some(meant) => writeln!(
+                out,
+                "{prefix}: {name:?} is no feature of {class}; is {meant:?} meant?"
+            ),
+            None if names.is_empty() => writeln!(
+                out,
+                "{prefix}: {name:?} is no feature of {class}, which has none"
+            ),
+            None => writeln!(
+                out,
+                "{prefix}: {name:?} is no feature of {class}; its features are {}",
+                Listed(names)
+            ),
+        }
     }
-    writeln!(
-        out,
-        "{prefix}: class {name} is abstract; the concrete classes below it are {}",
-        Listed(names.as_slice())
-    )
-}
 
-/// Explains a name that is no feature of an object's class.
-fn explain_unknown<L: LinkStore, A: Adapter>(
-    scene: &Scene<'_, L, A>,
-    out: &mut String,
-    class: &str,
-    names: &[&str],
-    name: &str,
-) -> Result<(), AllocError> {
-    let prefix = scene.prefix;
-    match nearest(scene.alloc, name, names)? {
-        Some(meant) => writeln!(
-            out,
-            "{prefix}: {name:?} is no feature of {class}; is {meant:?} meant?"
-        ),
-        None if names.is_empty() => writeln!(
-            out,
-            "{prefix}: {name:?} is no feature of {class}, which has none"
-        ),
-        None => writeln!(
-            out,
-            "{prefix}: {name:?} is no feature of {class}; its features are {}",
-            Listed(names)
-        ),
+    /// Explains a name that is no feature of a node's class.
+    pub(crate) fn explain_no_feature(&self, out: &mut String, named: &Named<'_>) -> Written {
+        let (Some(node), Some(name)) = (named.node, named.feature) else {
+            return Ok(());
+        };
+        let Node::Object(object) = node else {
+            let prefix = self.prefix;
+            return writeln!(
+                out,
+                "{prefix}: {name:?} is no feature of a resource, whose one feature is \"contents\""
+            );
+        };
+        let meta = self.repository.meta();
+        let Ok(class) = self.repository.e_class(object) else {
+            return Ok(());
+        };
+        let features = meta.features(class).unwrap_or(&[]);
+        let names = feature_names(self.alloc, meta, features)?;
+        self.explain_unknown(out, meta.class_name(class), names.as_slice(), name)
     }
-}
-
-/// Explains a name that is no feature of a node's class.
-pub(crate) fn explain_no_feature<L: LinkStore, A: Adapter>(
-    scene: &Scene<'_, L, A>,
-    out: &mut String,
-    named: &Named<'_>,
-) -> Result<(), AllocError> {
-    let (Some(node), Some(name)) = (named.node, named.feature) else {
-        return Ok(());
-    };
-    let Node::Object(object) = node else {
-        let prefix = scene.prefix;
-        return writeln!(
-            out,
-            "{prefix}: {name:?} is no feature of a resource, whose one feature is \"contents\""
-        );
-    };
-    let meta = scene.repository.meta();
-    let Ok(class) = scene.repository.e_class(object) else {
-        return Ok(());
-    };
-    let features = meta.features(class).unwrap_or(&[]);
-    let names = feature_names(scene.alloc, meta, features)?;
-    explain_unknown(scene, out, meta.class_name(class), names.as_slice(), name)
 }

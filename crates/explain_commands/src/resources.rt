@@ -1,10 +1,10 @@
 //! URIs that no resource can have, and resources that are not empty.
-use crate::called::{URI_BYTES, object_called};
-use crate::scene::Scene;
+use crate::called::URI_BYTES;
+use crate::scene::{Scene, Written};
 use adapters::Adapter;
 use explain::front_of;
 use links::LinkStore;
-use mm_types::{Node, ResourceNo};
+use mm_types::{Node, Read, ResourceNo};
 use models::Found;
 use script_lines::Form;
 use std::alloc::AllocError;
@@ -32,51 +32,45 @@ fn is_of_the_web(scheme: &str) -> bool {
     scheme.eq_ignore_ascii_case("http") || scheme.eq_ignore_ascii_case("https")
 }
 
-/// Explains a text that is no URI of a resource.
-fn explain_uri<L: LinkStore, A: Adapter>(
-    scene: &Scene<'_, L, A>,
-    out: &mut String,
-    text: &str,
-) -> Result<(), AllocError> {
-    let prefix = scene.prefix;
-    let shown = front_of(text, URI_BYTES);
-    match scheme_of(text.trim_start()) {
-        None => writeln!(
-            out,
-            "{prefix}: {shown:?} is relative, and has to begin with http:// or https://"
-        ),
-        Some(scheme) if !is_of_the_web(scheme) => {
-            let scheme = front_of(scheme, URI_BYTES);
-            writeln!(
+impl<L: LinkStore, A: Adapter> Scene<'_, L, A> {
+    /// Explains a text that is no URI of a resource.
+    fn explain_uri(&self, out: &mut String, text: &str) -> Written {
+        let prefix = self.prefix;
+        let shown = front_of(text, URI_BYTES);
+        match scheme_of(text.trim_start()) {
+            None => writeln!(
                 out,
-                "{prefix}: the scheme of {shown:?} is {scheme:?}, and has to be http or https"
-            )
+                "{prefix}: {shown:?} is relative, and has to begin with http:// or https://"
+            ),
+            Some(scheme) if !is_of_the_web(scheme) => {
+                let scheme = front_of(scheme, URI_BYTES);
+                writeln!(
+                    out,
+                    "{prefix}: the scheme of {shown:?} is {scheme:?}, and has to be http or https"
+                )
+            }
+            Some(_) if text.contains('#') => writeln!(
+                out,
+                "{prefix}: {shown:?} has a fragment; leave out the # and what follows it"
+            ),
+            Some(_) => writeln!(out, "{prefix}: {shown:?} is no URI of http or https"),
         }
-        Some(_) if text.contains('#') => writeln!(
-            out,
-            "{prefix}: {shown:?} has a fragment; leave out the # and what follows it"
-        ),
-        Some(_) => writeln!(out, "{prefix}: {shown:?} is no URI of http or https"),
     }
-}
 
-/// Explains a text that is no URI, or no address.
-pub(crate) fn explain_bad_uri<L: LinkStore, A: Adapter>(
-    scene: &Scene<'_, L, A>,
-    out: &mut String,
-    form: &Form<'_>,
-) -> Result<(), AllocError> {
-    let prefix = scene.prefix;
-    match form {
-        Form::Resource(text) => explain_uri(scene, out, text.as_str()),
-        Form::At(text) => {
-            let shown = front_of(text.as_str(), URI_BYTES);
-            writeln!(
-                out,
-                "{prefix}: {shown:?} has no fragment; an address is a URI, # and a fragment, as \"http://m.example/a#/\""
-            )
+    /// Explains a text that is no URI, or no address.
+    pub(crate) fn explain_bad_uri(&self, out: &mut String, form: &Form<'_>) -> Written {
+        let prefix = self.prefix;
+        match form {
+            Form::Resource(text) => self.explain_uri(out, text.as_str()),
+            Form::Read(Read::ObjectAt(text)) => {
+                let shown = front_of(text.as_str(), URI_BYTES);
+                writeln!(
+                    out,
+                    "{prefix}: {shown:?} has no fragment; an address is a URI, # and a fragment, as \"http://m.example/a#/\""
+                )
+            }
+            _ => Ok(()),
         }
-        _ => Ok(()),
     }
 }
 
@@ -90,54 +84,48 @@ pub(crate) fn resource_of(uris: &[String], uri: &str) -> Option<ResourceNo> {
     None
 }
 
-/// Explains a URI that a resource has already.
-pub(crate) fn explain_exists<L: LinkStore, A: Adapter>(
-    scene: &Scene<'_, L, A>,
-    out: &mut String,
-    form: &Form<'_>,
-) -> Result<(), AllocError> {
-    let prefix = scene.prefix;
-    let Form::Resource(text) = form else {
-        return Ok(());
-    };
-    let uri = match joined(scene.alloc, "", text.as_str()) {
-        Ok(uri) => uri,
-        Err(UriFault::Memory) => return Err(AllocError),
-        Err(UriFault::Bad) => return Ok(()),
-    };
-    match resource_of(scene.uris, uri.as_str()) {
-        Some(resource) => {
-            let shown = front_of(uri.as_str(), URI_BYTES);
-            writeln!(
-                out,
-                "{prefix}: r{} has the URI {shown:?} already",
-                resource.0
-            )
+impl<L: LinkStore, A: Adapter> Scene<'_, L, A> {
+    /// Explains a URI that a resource has already.
+    pub(crate) fn explain_exists(&self, out: &mut String, form: &Form<'_>) -> Written {
+        let prefix = self.prefix;
+        let Form::Resource(text) = form else {
+            return Ok(());
+        };
+        let uri = match joined(self.alloc, "", text.as_str()) {
+            Ok(uri) => uri,
+            Err(UriFault::Memory) => return Err(AllocError),
+            Err(UriFault::Bad) => return Ok(()),
+        };
+        match resource_of(self.uris, uri.as_str()) {
+            Some(resource) => {
+                let shown = front_of(uri.as_str(), URI_BYTES);
+                writeln!(
+                    out,
+                    "{prefix}: r{} has the URI {shown:?} already",
+                    resource.0
+                )
+            }
+            None => Ok(()),
         }
-        None => Ok(()),
     }
-}
 
-/// Explains a resource that is not empty.
-pub(crate) fn explain_not_empty<L: LinkStore, A: Adapter>(
-    scene: &Scene<'_, L, A>,
-    out: &mut String,
-    resource: ResourceNo,
-) -> Result<(), AllocError> {
-    let prefix = scene.prefix;
-    let number = resource.0;
-    let contents = scene.repository.meta().contents();
-    match scene
-        .repository
-        .list_value(Node::Resource(resource), contents, 0)
-    {
-        Ok(Found::Object(root)) => {
-            let root = object_called(scene, root)?;
-            writeln!(
-                out,
-                "{prefix}: r{number} has a root, {root}, and load takes an empty resource"
-            )
+    /// Explains a resource that is not empty.
+    pub(crate) fn explain_not_empty(&self, out: &mut String, resource: ResourceNo) -> Written {
+        let prefix = self.prefix;
+        let number = resource.0;
+        let contents = self.repository.meta().contents();
+        match self
+            .repository
+            .list_value(Node::Resource(resource), contents, 0)
+        {
+            Ok(Found::Object(root)) => {
+                let root = self.object_called(root)?;
+                writeln!(
+                    out,
+                    "{prefix}: r{number} has a root, {root}, and load takes an empty resource"
+                )
+            }
+            _ => Ok(()),
         }
-        _ => Ok(()),
     }
 }

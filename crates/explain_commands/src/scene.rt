@@ -1,9 +1,12 @@
 //! The data from which a refusal is explained.
 use adapters::Adapter;
 use links::LinkStore;
-use mm_types::{FeatureNo, Node};
+use mm_types::{End, FeatureNo, Node};
 use repository::Repository;
-use std::alloc::Global;
+use std::alloc::{AllocError, Global};
+
+/// Errs only if memory is refused.
+pub(crate) type Written = Result<(), AllocError>;
 
 /// The data from which a refusal is explained, and the text with which its line begins.
 #[derive(Drop)]
@@ -35,7 +38,7 @@ impl<L: LinkStore, A: Adapter> Scene<'_, L, A> {
     }
 
     /// How many values a list has; none if there is no such list.
-    pub(crate) fn len(&self, node: Node, feature: FeatureNo) -> u32 {
-        self.repository.list_len(node, feature).unwrap_or(0)
+    pub(crate) fn len(&self, end: End) -> u32 {
+        self.repository.list_len(end.node, end.feature).unwrap_or(0)
     }
 }

@@ -1,6 +1,5 @@
 //! A script is watched while it runs.
 use crate::answer::{Printed, printed_as};
-use crate::refusal::explain_refusal;
 use crate::resources::resource_of;
 use crate::scene::Scene;
 use adapters::Adapter;
@@ -98,7 +97,7 @@ impl Watch {
         self.is_lost = noted.is_err();
     }
 
-    /// Notes a resource that was made and loaded, as the lines `resource` and `load` would be noted.
+    /// Notes that a resource was made and loaded, as it notes the lines `resource` and `load`.
     pub fn resource_was_loaded(&mut self, uri: &str, objects: u64) {
         let noted = self.note_uri(uri);
         self.is_lost = self.is_lost || noted.is_err();
@@ -199,7 +198,7 @@ impl Watch {
             objects: self.objects,
             adapters: self.adapters,
         };
-        explain_refusal(&scene, &mut text, form, refused)?;
+        scene.explain_refusal(&mut text, form, refused)?;
         Ok(text)
     }
 

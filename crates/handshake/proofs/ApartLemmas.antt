@@ -1,8 +1,8 @@
 -- A chain has no end twice, except a list that is unset. So its notifications can be computed in the model as it is.
-use Rattle.std.proofs.Common.{◌≡◌, ◌≢◌, ◌<◌, ◌≤◌, ◌||◌, ℕ, zero, suc, pos, nat_lt, length, take, remove, slice_get, option_to_list, arith, Bool, true, false, not, List, [], ◌∷◌, ◌++◌, filter, flat_map, map, Option, Some, None, option_map, if◌then◌else◌, refl, sym, ap, ◌∙◌, subst, inl, inr, true≢false}
+use Rattle.std.proofs.Common.{◌≡◌, ◌≢◌, ◌<◌, ◌≤◌, ◌||◌, ℕ, zero, suc, pos, nat_lt, length, take, remove, slice_get, option_to_list, arith, Bool, true, false, not, List, [], ◌∷◌, ◌++◌, filter, flat_map, map, Option, Some, None, is_some, option_map, if◌then◌else◌, refl, sym, ap, ◌∙◌, subst, inl, inr, true≢false}
 use Rattle.std.specs.List.{AllByRecursion}
 use Rattle.std.specs.Option.{option_map_or}
-use Rattle.std.proofs.lemmas.Bool.{and_from, false≢true, or_left, or_right}
+use Rattle.std.proofs.lemmas.Bool.{and_from, false≢true, not-true, or_left, or_right}
 use Rattle.std.proofs.lemmas.Bool.Decides.{nat_tests}
 use Rattle.std.proofs.lemmas.Option.{none-some, same_Some}
 use Rattle.mm_meta.proofs.ShapeLemmas.{opposites_are_pairs}
@@ -24,7 +24,7 @@ use Rattle.links.specs.Links.{end, far_end}
 use Rattle.links.specs.Plans.{Lacks}
 use Rattle.models.specs.Legal.{IsLegal}
 use Rattle.models.specs.Model.{Model, reading}
-use Rattle.models.specs.Reading.{Reading, at_end, first_at, held_at, is_repeat}
+use Rattle.models.specs.Reading.{Reading, at_end, held_at, is_repeat}
 use Rattle.notice_chain.specs.Replay.{removed, replayed_in}
 use Rattle.notice_chain.specs.declared.kind.NoticeKind.TheVariants as kind
 use Rattle.notice_chain.specs.declared.notice.Notice.{Notice}
@@ -36,14 +36,14 @@ use Rattle.handshake.proofs.PlanLemmas.{add-new, set-new}
 use Rattle.handshake.proofs.YieldLemmas.{Origin, yields-origin}
 use Rattle.handshake.proofs.ReplayLemmas.{replayed_all-told}
 use Rattle.handshake.proofs.LinkEndNameLemmas.{IsNameOf, IsYielded, name-stands, names-apart, turned-apart, yielded, yielded-agree, yielded-far, yielded-near}
-use Rattle.handshake.specs.Displaced.{cut_by_new, cut_by_set, cut_link_ends, has_already, is_plain_add, is_plain_set, other_side, same_link, link_end_in, link_ends_at, link_ends_backwards, turned, yields}
+use Rattle.handshake.specs.Displaced.{cut_by_new, cut_by_set, cut_link_ends, has_already, is_plain_add, is_plain_set, other_side, same_link, link_end_in, link_ends_at, link_ends_backwards, taken_index, turned, yields}
 use Rattle.removal.specs.TreeLinkEnds.{link_end}
 use Rattle.handshake.specs.Laws.{AreApart, AreDifferent, takes_many}
 use Rattle.handshake.specs.Refusals.{early_refusal, late_refusal}
 use Rattle.handshake.specs.FeatureChange.{changed, flagged, happened, happened_all, has_flag, notice_at, notice_of, feature_change, told}
 use Rattle.handshake.specs.FeatureChanges.{all_lost, before_gain, chain, destroyed_by, far_gain, far_loss, far_losses, gain_at, is_replaced, loaded_by, loss, losses, other_losses, resolves_all, taken_out, feature_changes, feature_changes_with}
-use Rattle.handshake.specs.declared.change.Change.TheVariants.{At, Create, Delete, NewResource, ResolveAll, Load}
-use Rattle.handshake.specs.declared.act.Act.TheVariants.{Set, Unset, Add, Remove, RemoveValue, Move, Resolve}
+use Rattle.handshake.specs.declared.change.Change.TheVariants.{At, Create, NewResource, Load}
+use Rattle.handshake.specs.declared.act.Act.TheVariants.{Set, Unset, Add, Move, Resolve}
 use Rattle.resource_docs.specs.declared.doc.Doc.{Doc}
 use Rattle.handshake.specs.declared.change.Change.{Change}
 use Rattle.handshake.specs.declared.change_kind.ChangeKind.TheVariants.{Gains, LosesAt, Moves, Resolves, Unsets}
@@ -391,13 +391,6 @@ feature_changes-apart s (At e (Add v i)) legal early late few =
         | false ↦ λ attribute. attribute-add s e.node e.feature v (gain_at i v) attribute (add-taken r e.node e.feature v i late).takes
       ] refl
     ] refl
-feature_changes-apart s (At e (Remove i)) legal early late few = taken-apart s e.node e.feature i legal
-feature_changes-apart s (At e (RemoveValue v)) legal early late few =
-    let r = reading s in
-    elim (first_at r e v) as (λ q. AreApart (option_map_or (taken_out r e (if (shape s.metamodel e.feature).is_reference then option_map_or (link_end_in r e) q [] else [])) q [])) [
-      | None ↦ tt
-      | Some i ↦ taken-apart s e.node e.feature i legal
-    ]
 feature_changes-apart s (At e (Move to from)) legal early late few = one-apart (feature_change e (Moves to from))
 feature_changes-apart s (At e (Resolve i)) legal early late few =
     resolved-as s legal e i late (λ ts xs us u. AreApart us) (λ x is alone. one-apart (feature_change e (Resolves i (value.Object x.object))))
@@ -405,6 +398,12 @@ feature_changes-apart s (At e (Resolve i)) legal early late few =
     let d = far_end x.object g in
     let apart : d ≡ e → ⊥ = λ same. true≢false (sym (same_end-self d) ∙ ap (same_end d) same ∙ match-apart (reading s) e x.object g legal.metamodel opposite) in
     ((apart, tt), one-apart (feature_change e (Resolves i (value.Object x.object)))))
+feature_changes-apart s (At e a) legal early late few =
+    let r = reading s in
+    elim (taken_index r e a) as (λ q. AreApart (option_map_or (taken_out r e (if (shape s.metamodel e.feature).is_reference then option_map_or (link_end_in r e) q [] else [])) q [])) [
+      | None ↦ tt
+      | Some i ↦ taken-apart s e.node e.feature i legal
+    ]
 feature_changes-apart s _ legal early late few = absurd (true≢false few)
 
 ---------------------------------------------------------------- a list that is unset
@@ -522,16 +521,12 @@ chain-read s c one legal none unloaded early late =
       | false ↦ λ few. told-apart s.metamodel (held_at (reading s)) (feature_changes (reading s) c) (feature_changes-apart s c legal early late few)
     ] refl
   where
-    not-true : (b : Bool) → not b ≡ true → b ≡ false
-    not-true true h = absurd (false≢true h)
-    not-true false h = refl
+    few : (x : Option ObjectNo) (all : Bool) (y : Option Doc) → x ≡ None → all ≡ false → y ≡ None → (is_some x || all || is_some y) ≡ true → ⊥
+    few x all y none one unloaded many = false≢true (sym (λ i. is_some (none i) || one i || is_some (unloaded i)) ∙ many)
 
     by : (c : Change) → resolves_all c ≡ false → destroyed_by c ≡ None → loaded_by c ≡ None → takes_many (reading s) c ≡ true → chain (reading s) c ≡ map (notice_at (reading s)) (feature_changes (reading s) c)
-    by ResolveAll one none unloaded many = absurd (true≢false one)
-    by (Load k doc) one none unloaded many = absurd (none-some doc (sym unloaded))
-    by (Delete o) one none unloaded many = absurd (none-some o (sym none))
     by (At e Unset) one none unloaded many = unset-read s e.node e.feature legal (not-true (shape s.metamodel e.feature).is_single many)
-    by _ one none unloaded many = absurd (false≢true many)
+    by d one none unloaded many = absurd (few (destroyed_by d) (resolves_all d) (loaded_by d) none one unloaded many)
 
 ---------------------------------------------------------------- feature changes that are made
 

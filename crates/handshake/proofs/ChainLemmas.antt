@@ -46,7 +46,7 @@ use Rattle.handshake.specs.Refusals.{early_refusal, late_refusal}
 use Rattle.handshake.specs.FeatureChange.{feature_change}
 use Rattle.handshake.specs.FeatureChanges.{all_lost, before_gain, far_losses, gain_at, resolves_all, taken_out, feature_changes}
 use Rattle.handshake.specs.declared.change.Change.{Change}
-use Rattle.handshake.specs.declared.change.Change.TheVariants.{At, Create, Delete, NewResource, ResolveAll, Load}
+use Rattle.handshake.specs.declared.change.Change.TheVariants.{At, Create, Delete, NewResource, Load}
 use Rattle.handshake.specs.declared.act.Act.TheVariants.{Set, Unset, Add, Remove, RemoveValue, Move, Resolve}
 use Rattle.handshake.specs.declared.change_kind.ChangeKind.{ChangeKind}
 use Rattle.handshake.specs.declared.change_kind.ChangeKind.TheVariants.{Gains, LosesAt, Moves, Resolves, Unsets}
@@ -493,7 +493,8 @@ move-changes s n f to from legal has many late =
     let r = reading s in
     let e = at_end n f in
     let placed = move-placed r n f to from late in
-    elim (shape s.metamodel f).is_reference as (λ b. (shape s.metamodel f).is_reference ≡ b → Replays s (feature_change e (Moves to from) ∷ []) (record s { values = applied s.values (if b then [] else of_object n (λ o. MoveValue o f to from)); links = if b then shift s.links e to from else s.links })) [
+    elim (shape s.metamodel f).is_reference as (λ b. (shape s.metamodel f).is_reference ≡ b → Replays s (feature_change e (Moves to from) ∷ []) (let t = without_link_ends s.links (if b then [] else []) in
+    record s { values = applied s.values (if b then [] else of_object n (λ o. MoveValue o f to from)); links = if b then shift t e to from else t })) [
       | true ↦ λ reference. move-link s legal e reference to from many placed.0 placed.1
       | false ↦ λ attribute. by-object s f (λ n. nat_lt to (length (r.values (at_end n f))) ≡ true → nat_lt from (length (r.values (at_end n f))) ≡ true → Replays s (feature_change (at_end n f) (Moves to from) ∷ []) (record s { values = applied s.values (of_object n (λ o. MoveValue o f to from)) }))
           attribute (λ o has low_to low_from. list-moved s legal o f has attribute many to from low_to low_from) n has placed.0 placed.1
@@ -521,8 +522,8 @@ changes-replay s (At e (Move to from)) one legal early late read =
     let named = move-named (reading s) e.node e.feature to from early in
     everywhere s (At e (Move to from)) (move-changes s e.node e.feature to from legal named.0 named.1 late)
 changes-replay s (At e (Resolve i)) one legal early late read = everywhere s (At e (Resolve i)) (resolve-changes s legal e i late)
-changes-replay s ResolveAll one legal early late read = absurd (true≢false one)
 changes-replay s (Load k doc) one legal early late read = λ d stays old. load-replays s k doc legal late read d old
+changes-replay s _ one legal early late read = absurd (true≢false one)
 
 pub one-replays : (s : Model) (c : Change) → resolves_all c ≡ false → ChainReplays s c
 one-replays s c one legal early late read d stays old =

@@ -28,14 +28,15 @@ use Rattle.links.proofs.RankLemmas.{same-tests}
 use Rattle.models.proofs.EndLemmas.{values-single}
 use Rattle.models.specs.Legal.{IsLegal, kinds_of}
 use Rattle.models.specs.Model.{Model, reading}
-use Rattle.models.specs.Reading.{Reading, at_end, first_at, is_repeat}
+use Rattle.models.specs.Reading.{Reading, is_repeat, shape_at}
 use Rattle.containment.proofs.PartLemmas.{all-append, kinds-are}
 use Rattle.handshake.proofs.KnownLemmas.{delete-named, far-reference, set-named}
+use Rattle.handshake.specs.declared.act.Act.{Act}
 use Rattle.handshake.specs.declared.change.Change.{Change}
 use Rattle.handshake.specs.declared.change.Change.TheVariants.{At, Delete}
-use Rattle.handshake.specs.declared.act.Act.TheVariants.{Set, Unset, Add, Remove, RemoveValue, Resolve}
+use Rattle.handshake.specs.declared.act.Act.TheVariants.{Set, Unset, Add, Resolve}
 use Rattle.removal.specs.declared.link_end.LinkEnd.{LinkEnd}
-use Rattle.handshake.specs.Displaced.{cut_by_new, cut_by_set, cut_link_ends, is_plain_add, link_end_in, link_ends_backwards, has_already, in_the_way, is_plain_set, once, holding_link_end, other_side, same_link, same_link_end, link_ends_at, link_ends_if_single, with_link_end, yields, link_ends_resolved}
+use Rattle.handshake.specs.Displaced.{cut_by_new, cut_by_set, cut_link_ends, link_end_in, link_ends_backwards, has_already, in_the_way, once, holding_link_end, other_side, same_link, same_link_end, link_ends_at, link_ends_if_single, with_link_end, yields, link_ends_resolved, taken_index}
 use Rattle.proxies.specs.Resolving.{opposite_end}
 use Rattle.removal.specs.TreeLinkEnds.{link_end, tree_link_ends}
 use Rattle.removal.specs.Laws.{names_of}
@@ -233,37 +234,32 @@ pub plain-not : (a b : Bool) → (not a || b) ≡ false → (a ≡ true) × (b �
 plain-not true b h = (refl, h)
 plain-not false b h = absurd (false≢true (sym h))
 
--- the links that a set may cut, and the links that an unset of a reference cuts
-module _ (P : List LinkEnd → Type 0) (s : Model) (n : Node) (f : FeatureNo) (none : P []) where
-  pub set-cuts : (v : Value) → ((shape s.metamodel f).is_reference ≡ true → has_already (reading s) (at_end n f) v ≡ false → P (cut_by_set (reading s) (at_end n f) v)) → P (cut_link_ends (reading s) (At (at_end n f) (Set v)))
-  set-cuts v some =
-      elim (is_plain_set (reading s) (at_end n f) v) as (λ b. is_plain_set (reading s) (at_end n f) v ≡ b → P (if b then [] else cut_by_set (reading s) (at_end n f) v)) [
+-- a property of what an act cuts, if it holds of no links, and of all that an act may cut at a reference
+module _ (P : List LinkEnd → Type 0) (r : Reading) (e : End) (none : P []) where
+  -- what is cut unless nothing is to be done
+  plain-cuts : (b : Bool) (ts : List LinkEnd) → ((shape_at r e).is_reference ≡ true → P ts) → P (if not (shape_at r e).is_reference || b then [] else ts)
+  plain-cuts b ts some =
+      elim (not (shape_at r e).is_reference || b) as (λ c. (not (shape_at r e).is_reference || b) ≡ c → P (if c then [] else ts)) [
         | true ↦ λ _. none
-        | false ↦ λ h. let both = plain-not (shape s.metamodel f).is_reference (has_already (reading s) (at_end n f) v) h in some both.0 both.1
-      ] refl
-
-  pub add-cuts : (v : Value) (i : Option ℕ) → ((shape s.metamodel f).is_reference ≡ true → is_repeat (reading s) (at_end n f) v ≡ false → P (cut_by_new (reading s) (at_end n f) v)) → P (cut_link_ends (reading s) (At (at_end n f) (Add v i)))
-  add-cuts v i some =
-      elim (is_plain_add (reading s) (at_end n f) v) as (λ b. is_plain_add (reading s) (at_end n f) v ≡ b → P (if b then [] else cut_by_new (reading s) (at_end n f) v)) [
-        | true ↦ λ _. none
-        | false ↦ λ h. let both = plain-not (shape s.metamodel f).is_reference (is_repeat (reading s) (at_end n f) v) h in some both.0 both.1
+        | false ↦ λ h. some (plain-not (shape_at r e).is_reference b h).0
       ] refl
 
   -- only a change of a reference cuts links
-  pub reference-cuts : (ts : List LinkEnd) → ((shape s.metamodel f).is_reference ≡ true → P ts) → P (if (shape s.metamodel f).is_reference then ts else [])
+  reference-cuts : (ts : List LinkEnd) → ((shape_at r e).is_reference ≡ true → P ts) → P (if (shape_at r e).is_reference then ts else [])
   reference-cuts ts some =
-      elim (shape s.metamodel f).is_reference as (λ b. (shape s.metamodel f).is_reference ≡ b → P (if b then ts else [])) [ true ↦ some | false ↦ λ _. none ] refl
+      elim (shape_at r e).is_reference as (λ b. (shape_at r e).is_reference ≡ b → P (if b then ts else [])) [ true ↦ some | false ↦ λ _. none ] refl
 
-  pub unset-cuts : ((shape s.metamodel f).is_reference ≡ true → P (link_ends_backwards (at_end n f) ((reading s).values (at_end n f)))) → P (cut_link_ends (reading s) (At (at_end n f) Unset))
-  unset-cuts some = reference-cuts (link_ends_backwards (at_end n f) ((reading s).values (at_end n f))) some
-
-  pub take-cuts : (v : Value) → ((shape s.metamodel f).is_reference ≡ true → (i : ℕ) → P (link_end_in (reading s) (at_end n f) i)) → P (cut_link_ends (reading s) (At (at_end n f) (RemoveValue v)))
-  take-cuts v some =
-      let r = reading s in
-      let e = at_end n f in
-      elim (first_at r e v) as (λ q. P (if (shape s.metamodel f).is_reference then option_map_or (link_end_in r e) q [] else [])) [
+  pub act-cuts : (a : Act) → ((v : Value) → a ≡ Set v → (shape_at r e).is_reference ≡ true → P (cut_by_set r e v)) → ((v : Value) → (shape_at r e).is_reference ≡ true → P (cut_by_new r e v))
+      → ((shape_at r e).is_reference ≡ true → P (link_ends_backwards e (r.values e))) → ((i : ℕ) → (shape_at r e).is_reference ≡ true → P (link_end_in r e i))
+      → ((i : ℕ) → (shape_at r e).is_reference ≡ true → P (link_ends_resolved r e i)) → P (cut_link_ends r (At e a))
+  act-cuts (Set v) set add unset at resolve = plain-cuts (has_already r e v) (cut_by_set r e v) (set v refl)
+  act-cuts Unset set add unset at resolve = reference-cuts (link_ends_backwards e (r.values e)) unset
+  act-cuts (Add v i) set add unset at resolve = plain-cuts (is_repeat r e v) (cut_by_new r e v) (add v)
+  act-cuts (Resolve i) set add unset at resolve = reference-cuts (link_ends_resolved r e i) (resolve i)
+  act-cuts a set add unset at resolve =
+      elim (taken_index r e a) as (λ q. P (if (shape_at r e).is_reference then option_map_or (link_end_in r e) q [] else [])) [
         | None ↦ reference-cuts [] (λ _. none)
-        | Some i ↦ reference-cuts (link_end_in r e i) (λ reference. some reference i)
+        | Some i ↦ reference-cuts (link_end_in r e i) (at i)
       ]
 
 cut_by_set-stand : (s : Model) (e : End) (v : Value) → IsLegal s → (shape s.metamodel e.feature).is_reference ≡ true → AllByRecursion (Stands s.links) (cut_by_set (reading s) e v)
@@ -310,15 +306,11 @@ left-cuts s c legal early = without_link_ends-names_of s.links (cut_link_ends (r
 -- each link that a change cuts is where its name says
 pub cuts-stand : (s : Model) (c : Change) → IsLegal s → early_refusal (reading s) c ≡ None → AllByRecursion (Stands s.links) (cut_link_ends (reading s) c)
 cuts-stand s (Delete o) legal early = all_from_map (λ (t : End × Value). Has s.links t.0 t.1) (λ (t : LinkEnd). (t.end, t.value)) (tree_link_ends (reading s) o) (tree-named s legal o (delete-named (reading s) o early)).there
-cuts-stand s (At e (Set v)) legal early = set-cuts (AllByRecursion (Stands s.links)) s e.node e.feature tt v (λ reference _. cut_by_set-stand s e v legal reference)
-cuts-stand s (At e Unset) legal early = unset-cuts (AllByRecursion (Stands s.links)) s e.node e.feature tt (λ reference. link_ends_backwards-stand s e reference)
-cuts-stand s (At e (Add v i)) legal early = add-cuts (AllByRecursion (Stands s.links)) s e.node e.feature tt v i (λ reference _. cut_by_new-stand s e v legal reference)
-cuts-stand s (At e (Remove i)) legal early = reference-cuts (AllByRecursion (Stands s.links)) s e.node e.feature tt (link_end_in (reading s) e i) (λ reference. link_end_in-stand s e i reference)
-cuts-stand s (At e (RemoveValue v)) legal early = take-cuts (AllByRecursion (Stands s.links)) s e.node e.feature tt v (λ reference i. link_end_in-stand s e i reference)
-cuts-stand s (At e (Resolve i)) legal early =
+cuts-stand s (At e a) legal early =
     let r = reading s in
-    reference-cuts (AllByRecursion (Stands s.links)) s e.node e.feature tt (link_ends_resolved r e i) (λ reference.
-    resolved-cuts (AllByRecursion (Stands s.links)) r e i (link_end_in-stand s e i reference) (λ b c t is at.
+    act-cuts (AllByRecursion (Stands s.links)) r e tt a (λ v _ reference. cut_by_set-stand s e v legal reference) (λ v reference. cut_by_new-stand s e v legal reference)
+    (λ reference. link_ends_backwards-stand s e reference) (λ i reference. link_end_in-stand s e i reference)
+    (λ i reference. resolved-cuts (AllByRecursion (Stands s.links)) r e i (link_end_in-stand s e i reference) (λ b c t is at.
     all-append (Stands s.links) (link_end_in r e i) (link_end_in r c.end c.index) (link_end_in-stand s e i reference)
     (link_end_in-stand s c.end c.index (subst (λ (d : End). (shape s.metamodel d.feature).is_reference ≡ true) (sym is.stands) (far-reference s.metamodel legal.metamodel e.feature is.feature is.opposite)))))
 cuts-stand s _ legal early = tt
@@ -414,18 +406,14 @@ proxies-different s e i o c t legal is at =
 
 pub cuts-different : (s : Model) (c : Change) → IsLegal s → early_refusal (reading s) c ≡ None → AreDifferent (reading s) (cut_link_ends (reading s) c)
 cuts-different s (Delete o) legal early = different-of_once (reading s) (tree_link_ends (reading s) o) (tree-named s legal o (delete-named (reading s) o early)).once
-cuts-different s (At e (Set v)) legal early =
-    set-cuts (AreDifferent (reading s)) s e.node e.feature tt v (λ reference _. cut_by_set-different s e v legal reference (set-named (reading s) e.node e.feature v early).single)
-cuts-different s (At e Unset) legal early =
-    unset-cuts (AreDifferent (reading s)) s e.node e.feature tt (λ reference.
-    subst (λ (vs : List Value). AreDifferent (reading s) (link_ends_backwards e vs)) (sym (values-linked s e reference)) (backwards-different s e (end s.links e) legal (legal.links.set.placed.distinct e)))
-cuts-different s (At e (Add v i)) legal early = add-cuts (AreDifferent (reading s)) s e.node e.feature tt v i (λ reference _. cut_by_new-different (reading s) e v)
-cuts-different s (At e (Remove i)) legal early = reference-cuts (AreDifferent (reading s)) s e.node e.feature tt (link_end_in (reading s) e i) (λ reference. link_end_in-different (reading s) e i)
-cuts-different s (At e (RemoveValue v)) legal early = take-cuts (AreDifferent (reading s)) s e.node e.feature tt v (λ reference i. link_end_in-different (reading s) e i)
-cuts-different s (At e (Resolve i)) legal early =
+cuts-different s (At e a) legal early =
     let r = reading s in
-    reference-cuts (AreDifferent r) s e.node e.feature tt (link_ends_resolved r e i) (λ reference.
-    resolved-cuts (AreDifferent r) r e i (link_end_in-different r e i) (λ b c t is at. proxies-different s e i b c t legal is at))
+    act-cuts (AreDifferent r) r e tt a
+    (λ v is reference. cut_by_set-different s e v legal reference (set-named r e.node e.feature v (ap (λ (b : Act). early_refusal r (At e b)) (sym is) ∙ early)).single)
+    (λ v reference. cut_by_new-different r e v)
+    (λ reference. subst (λ (vs : List Value). AreDifferent r (link_ends_backwards e vs)) (sym (values-linked s e reference)) (backwards-different s e (end s.links e) legal (legal.links.set.placed.distinct e)))
+    (λ i reference. link_end_in-different r e i)
+    (λ i reference. resolved-cuts (AreDifferent r) r e i (link_end_in-different r e i) (λ b c t is at. proxies-different s e i b c t legal is at))
 cuts-different s _ legal early = tt
 
 pub cuts-once : (s : Model) (c : Change) → IsLegal s → early_refusal (reading s) c ≡ None → late_refusal (reading s) c ≡ None → AreOnce (kinds_of s.metamodel) (names_of (cut_link_ends (reading s) c))

@@ -29,14 +29,15 @@ use Rattle.models.specs.Model.{Model, reading}
 use Rattle.models.proofs.EndLemmas.{values-single}
 use Rattle.models.specs.Reading.{Reading, at_end, has_feature, is_live, is_node_live, is_repeat, is_value_live, position_for, takes, has_uri}
 use Rattle.containment.proofs.PartLemmas.{object-reference}
-use Rattle.handshake.specs.Refusals.{add_refusal, early_refusal, gain_refusal, is_at_limit, is_full_at, is_recursive, late_refusal, link_refusal, many_refusal, of_either, set_refusal, single_refusal, type_refusal, uri_refusal}
+use Rattle.handshake.specs.Displaced.{taken_index}
+use Rattle.handshake.specs.Refusals.{add_refusal, early_refusal, gain_refusal, is_at_limit, is_full_at, is_recursive, kind_refusal, late_refusal, link_refusal, many_refusal, named_refusal, of_either, set_refusal, single_refusal, type_refusal, uri_refusal, value_of}
 use Rattle.proxies.specs.Refusals.{is_mistyped, is_there_already, resolve_refusal, target_refusal}
 use Rattle.proxies.specs.Resolving.{is_unmatched, proxy_at, target_at}
 use Rattle.proxies.specs.declared.target.Target.{Target}
 use Rattle.proxies.proofs.TargetLemmas.{IsFound, found-is}
 use Rattle.handshake.specs.declared.act.Act.{Act}
 use Rattle.handshake.specs.declared.change.Change.TheVariants.{At, Delete}
-use Rattle.handshake.specs.declared.act.Act.TheVariants.{Set, Unset, Add, Remove, RemoveValue, Move, Resolve}
+use Rattle.handshake.specs.declared.act.Act.TheVariants.{Set, Unset, Add, Remove, RemoveValue, Move}
 use Rattle.std.proofs.lemmas.Bool.Decides.{nat_tests}
 use Rattle.mm_types.specs.declared.limits.TheConstants.{LIST_VALUES, RESOURCES}
 use Rattle.models.specs.Existence.{end_refusal, node_refusal, value_refusal}
@@ -140,11 +141,8 @@ delete-named r o h = none-unless NoObject (is_live r o) (none-else_by (NoObject 
 pub set-named : (r : Reading) (n : Node) (f : FeatureNo) (v : Value) → early_refusal r (At (at_end n f) (Set v)) ≡ None → IsNamed true r n f v
 set-named r n f v h = single-named r n f v h
 
-pub set-there : (r : Reading) (n : Node) (f : FeatureNo) (v : Value) → early_refusal r (At (at_end n f) (Set v)) ≡ None → has_feature r n f ≡ true
-set-there r n f v h = (set-named r n f v h).there
-
 pub unset-there : (r : Reading) (n : Node) (f : FeatureNo) → early_refusal r (At (at_end n f) Unset) ≡ None → has_feature r n f ≡ true
-unset-there r n f h = feature-named r n f h
+unset-there r n f h = feature-named r n f (none-else_by (end_refusal r (at_end n f)) None h).0
 
 pub add-named : (r : Reading) (n : Node) (f : FeatureNo) (v : Value) (i : Option ℕ) → early_refusal r (At (at_end n f) (Add v i)) ≡ None → IsNamed false r n f v
 add-named r n f v i h = many-named r n f v h
@@ -160,13 +158,20 @@ move-named r n f to from h = list-named r n f h
 
 -- so the end of an act exists
 pub act-there : (r : Reading) (e : End) (a : Act) → early_refusal r (At e a) ≡ None → has_feature r e.node e.feature ≡ true
-act-there r e (Set v) h = set-there r e.node e.feature v h
-act-there r e Unset h = unset-there r e.node e.feature h
-act-there r e (Add v i) h = (add-named r e.node e.feature v i h).there
-act-there r e (Remove i) h = (remove-named r e.node e.feature i h).0
-act-there r e (RemoveValue v) h = (take-named r e.node e.feature v h).there
-act-there r e (Move to from) h = (move-named r e.node e.feature to from h).0
-act-there r e (Resolve i) h = feature-named r e.node e.feature h
+act-there r e a h = by (value_of a) (none-else_by (named_refusal r e a) (kind_refusal r.metamodel e.feature a) h).0
+  where
+    by : (q : Option Value) → option_map_or (value_refusal r e) q (end_refusal r e) ≡ None → has_feature r e.node e.feature ≡ true
+    by None named = feature-named r e.node e.feature named
+    by (Some v) named = (value-named r e.node e.feature v named).1
+
+-- and an act that takes a value out of a list is at a list
+pub taken-many : (r : Reading) (e : End) (a : Act) (i : ℕ) → taken_index r e a ≡ Some i → early_refusal r (At e a) ≡ None → (shape r.metamodel e.feature).is_single ≡ false
+taken-many r e a i at h = by a at (none-else_by (named_refusal r e a) (kind_refusal r.metamodel e.feature a) h).1
+  where
+    by : (b : Act) → taken_index r e b ≡ Some i → kind_refusal r.metamodel e.feature b ≡ None → (shape r.metamodel e.feature).is_single ≡ false
+    by (Remove j) at kind = none-where_so NotMany (shape r.metamodel e.feature).is_single kind
+    by (RemoveValue v) at kind = none-where_so NotMany (shape r.metamodel e.feature).is_single kind
+    by _ at kind = absurd (none-some i at)
 
 ---------------------------------------------------------------- late refusals
 

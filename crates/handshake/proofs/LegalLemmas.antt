@@ -1,7 +1,6 @@
 -- A change that nothing refuses keeps a legal model legal, if it doesn't resolve all proxies.
 use Rattle.std.proofs.Common.{◌≡◌, ℕ, zero, suc, ◌≤◌, nat_le, nat_lt, insert, remove, nat_eq, Bool, true, false, ◌&&◌, ◌||◌, not, List, [], ◌∷◌, ◌++◌, filter, map, length, slice_index_or, slice_set, Option, Some, None, unwrap_or, option_map, if◌then◌else◌, refl, sym, ap, ◌∙◌, subst, arith, ◌<◌, IsTrue}
 use Rattle.std.specs.List.{All, AllByRecursion, list_any}
-use Rattle.std.specs.Option.{option_map_or}
 use Rattle.std.proofs.lemmas.Bool.{false≢true, true≢false, ltb-true}
 use Rattle.std.proofs.lemmas.Bool.Decides.{nat_tests}
 use Rattle.std.proofs.lemmas.Option.{none-some}
@@ -29,7 +28,7 @@ use Rattle.mm_types.specs.Same.{same_object}
 use Rattle.containment.specs.Forest.{is_node_among, subtree}
 use Rattle.removal.specs.Outer.{gone}
 use Rattle.mm_values.specs.declared.edit.ValueEdit.{ValueEdit}
-use Rattle.mm_values.specs.declared.edit.ValueEdit.TheVariants.{DropObject, InsertValue}
+use Rattle.mm_values.specs.declared.edit.ValueEdit.TheVariants.{DropObject}
 use Rattle.links.specs.Holders.{HasNoCycle}
 use Rattle.links.specs.Laws.{goes, without_all}
 use Rattle.links.specs.LegalSets.{AreOfKind, IsLegalSet}
@@ -40,7 +39,7 @@ use Rattle.links.proofs.KindLemmas.{plan_keeps_kinds}
 use Rattle.links.proofs.LegalLemmas.{plan_keeps_legal}
 use Rattle.models.specs.Legal.{AreLegalLinks, AreLegalUris, IsLegal, IsLegalObject, IsLegalStored, is_legal_end, is_short_text, kinds_of}
 use Rattle.models.specs.Model.{Model, attribute_values, kept_values, reading}
-use Rattle.models.specs.Reading.{at_end, first_at, has_feature, has_resource, is_repeat, position_for, takes}
+use Rattle.models.specs.Reading.{at_end, has_feature, has_resource, is_repeat, position_for, takes}
 use Rattle.models.proofs.PlaceLemmas.{legal-at}
 use Rattle.resource_docs.specs.declared.doc.Doc.{Doc}
 use Rattle.doc_loader.proofs.TypedLemmas.{read-typed}
@@ -48,17 +47,18 @@ use Rattle.containment.proofs.PartLemmas.{kinds-are, object-reference}
 use Rattle.handshake.specs.declared.act.Act.{Act}
 use Rattle.handshake.specs.declared.change.Change.{Change}
 use Rattle.handshake.specs.declared.change.Change.TheVariants.{At, Create, Delete, NewResource, ResolveAll, Load}
-use Rattle.handshake.specs.declared.act.Act.TheVariants.{Set, Unset, Add, Remove, RemoveValue, Move, Resolve}
+use Rattle.handshake.specs.declared.act.Act.TheVariants.{Set, Add, Move, Resolve}
 use Rattle.handshake.specs.Displaced.{cut_by_new, cut_by_set, cut_link_ends, is_plain_add, is_plain_set}
 use Rattle.handshake.specs.Edits.{link_edits}
-use Rattle.handshake.specs.Effects.{act_edits, after, links_after, put_by, put_under, take_value, value_edits, with_value}
+use Rattle.handshake.specs.Effects.{act_edits, after, links_after, put_by, put_under, value_edits, with_value}
 use Rattle.handshake.specs.Laws.{KeepsLegal, IsBrought, goes_with}
 use Rattle.handshake.specs.Changes.{HasReadDocument, IsDocument}
 use Rattle.handshake.specs.FeatureChanges.{loaded_by, resolves_all}
 use Rattle.handshake.specs.Refusals.{early_refusal, gain_refusal, is_at_limit, is_full_at, late_refusal}
 use Rattle.handshake.proofs.CutLinkEndLemmas.{left-cuts, values-linked}
 use Rattle.removal.specs.Laws.{names_of}
-use Rattle.handshake.proofs.KnownLemmas.{act-there, add-gains, add-named, add-taken, move-named, move-placed, none-else_by, none-unless, none-where_so, remove-named, resource-keeps-none, set-named, set-taken, take-named, uri-taken}
+use Rattle.handshake.proofs.ActLemmas.{act-made, act-puts}
+use Rattle.handshake.proofs.KnownLemmas.{act-there, add-gains, add-named, add-taken, move-named, move-placed, none-else_by, none-unless, none-where_so, resource-keeps-none, set-named, set-taken, taken-many, uri-taken}
 use Rattle.handshake.proofs.LegalEndLemmas.{HaveClasses, IsUntouched, cut-end, legal-end-kept, none_goes, put-end, shifted-end, untouched-end}
 use Rattle.handshake.proofs.LinkLemmas.{below-limit, near-empty, without_displaced}
 use Rattle.handshake.proofs.LoadEndLemmas.{linked-legal, no-fewer, same-classes}
@@ -256,36 +256,23 @@ load-legal s k doc legal late read =
 -- an attribute, whose node is an object, after an act
 act-values : (s : Model) (n : Node) (f : FeatureNo) (a : Act) → IsLegal s → early_refusal (reading s) (At (at_end n f) a) ≡ None → late_refusal (reading s) (At (at_end n f) a) ≡ None → (shape s.metamodel f).is_reference ≡ false
     → AreLegalValues s none_goes (applied s.values (act_edits (reading s) (at_end n f) a))
-act-values s (node.Object o) f (Set v) legal early late attribute =
+act-values s (node.Object o) f a legal early late attribute =
     let m = s.metamodel in
-    let ask = set-taken (reading s) (node.Object o) f v late in
+    let r = reading s in
+    let n = node.Object o in
+    let e = at_end n f in
+    let asked : (b : Act) → a ≡ b → early_refusal r (At e b) ≡ None = λ b is. subst (λ (x : Act). early_refusal r (At e x) ≡ None) is early in
+    let allowed : (b : Act) → a ≡ b → late_refusal r (At e b) ≡ None = λ b is. subst (λ (x : Act). late_refusal r (At e x) ≡ None) is late in
+    act-made (λ xs. AreLegalValues s none_goes (applied s.values xs)) r e (same-values s legal) a
+    (λ v is.
+    let ask = set-taken r n f v (allowed (Set v) is) in
     let h : Stored = record { list = v ∷ []; flag = (shape m f).is_unsettable } in
-    let named = set-named (reading s) (node.Object o) f v early in
-    put-values s o f h legal (λ x e. one-legal m x.class f v named.single (has-of m _ f x e named.there) (keeps-taken m (class_of s.values) f v attribute ask.takes) ask.short)
-act-values s (node.Object o) f Unset legal early late attribute = put-values s o f nothing_stored legal (λ x e. nothing-legal s.metamodel x.class f)
-act-values s (node.Object o) f (Add v i) legal early late attribute =
-    let r = reading s in
-    let e = at_end (node.Object o) f in
-    let named = add-named r (node.Object o) f v i early in
-    elim (is_repeat r e v) as (λ b. is_repeat r e v ≡ b → AreLegalValues s none_goes (applied s.values (if b then [] else InsertValue o f (position_for r e i) v (shape s.metamodel f).is_unique ∷ []))) [
-      | true ↦ λ _. same-values s legal
-      | false ↦ λ new. added-values s legal o f named.single named.there attribute v i late new
-    ] refl
-act-values s (node.Object o) f (Remove i) legal early late attribute =
-    let named = remove-named (reading s) (node.Object o) f i early in
-    taken-values s legal o f named.1 named.0 attribute i
-act-values s (node.Object o) f (RemoveValue v) legal early late attribute =
-    let r = reading s in
-    let e = at_end (node.Object o) f in
-    let named = take-named r (node.Object o) f v early in
-    elim (first_at r e v) as (λ q. AreLegalValues s none_goes (applied s.values (option_map_or (take_value e) q []))) [
-      | None ↦ same-values s legal
-      | Some i ↦ taken-values s legal o f named.single named.there attribute i
-    ]
-act-values s (node.Object o) f (Move to from) legal early late attribute =
-    let named = move-named (reading s) (node.Object o) f to from early in
-    moved-values s legal o f named.1 named.0 attribute to from
-act-values s (node.Object o) f (Resolve i) legal early late attribute = same-values s legal
+    let named = set-named r n f v (asked (Set v) is) in
+    put-values s o f h legal (λ x e. one-legal m x.class f v named.single (has-of m _ f x e named.there) (keeps-taken m (class_of s.values) f v attribute ask.takes) ask.short))
+    (put-values s o f nothing_stored legal (λ x e. nothing-legal m x.class f))
+    (λ v i is new. let named = add-named r n f v i (asked (Add v i) is) in added-values s legal o f named.single named.there attribute v i (allowed (Add v i) is) new)
+    (λ i at. taken-values s legal o f (taken-many r e a i at early) (act-there r e a early) attribute i)
+    (λ to from is. let named = move-named r n f to from (asked (Move to from) is) in moved-values s legal o f named.1 named.0 attribute to from)
 act-values s (node.Resource k) f a legal early late attribute = absurd (resource-keeps-none (reading s) k f (act-there (reading s) (at_end (node.Resource k) f) a early) attribute)
 
 values-after : (s : Model) (c : Change) → IsLegal s → early_refusal (reading s) c ≡ None → late_refusal (reading s) c ≡ None → HasReadDocument s.metamodel c → IsBrought c → AreLegalValues s (goes_with (reading s) c) (applied s.values (value_edits (reading s) c))
@@ -303,10 +290,10 @@ values-after s (NewResource u) legal early late read is =
     let uri = uri-taken (reading s) u late in
     let us = with-new s.values.uris u legal.uris is uri.short uri.room uri.free in
     record { count = legal.count; objects = legal.objects; classes = λ o stays c h. h; uris = us.0; more = us.1 }
-values-after s ResolveAll legal early late read brought = same-values s legal
 values-after s (At e (Resolve i)) legal early late read brought = same-values s legal
 values-after s (At e a) legal early late read brought = of-attribute s e.feature (act_edits (reading s) e a) legal (λ attribute. act-values s e.node e.feature a legal early late attribute)
 values-after s (Load k doc) legal early late read brought = load-legal s k doc legal late read
+values-after s _ legal early late read brought = same-values s legal
 
 ---------------------------------------------------------------- the links after a change
 
@@ -344,29 +331,18 @@ move-ends s n f to from legal late reference d =
 -- the case of a change that loads nothing and doesn't resolve all proxies
 ends-by-pairs : (s : Model) (c : Change) → loaded_by c ≡ None → resolves_all c ≡ false → IsLegal s → early_refusal (reading s) c ≡ None → late_refusal (reading s) c ≡ None → (d : End)
     → is_legal_end (reading s) d (end (put_by (without_all s.links (names_of (cut_link_ends (reading s) c))) (reading s) c) d) ≡ true
-ends-by-pairs s (At e (Set v)) none one legal early late d =
+ends-by-pairs s (At e a) none one legal early late d =
     let r = reading s in
-    let t : Bool → Links = λ b. without_all s.links (names_of (if b then [] else cut_by_set r e v)) in
-    elim (is_plain_set r e v) as (λ b. is_plain_set r e v ≡ b → is_legal_end r d (end (if b then t b else with_value (t b) r e None v) d) ≡ true) [
-      | true ↦ λ _. legal.links.ends d
-      | false ↦ λ new. set-ends s e.node e.feature v legal early late new d
-    ] refl
-ends-by-pairs s (At e (Add v i)) none one legal early late d =
-    let r = reading s in
-    let t : Bool → Links = λ b. without_all s.links (names_of (if b then [] else cut_by_new r e v)) in
-    elim (is_plain_add r e v) as (λ b. is_plain_add r e v ≡ b → is_legal_end r d (end (if b then t b else with_value (t b) r e i v) d) ≡ true) [
-      | true ↦ λ _. legal.links.ends d
-      | false ↦ λ new. add-ends s e.node e.feature v i legal early late new d
-    ] refl
-ends-by-pairs s (At e (Move to from)) none one legal early late d =
-    elim (shape s.metamodel e.feature).is_reference as (λ b. (shape s.metamodel e.feature).is_reference ≡ b → is_legal_end (reading s) d (end (if b then shift s.links e to from else s.links) d) ≡ true) [
-      | true ↦ λ reference. move-ends s e.node e.feature to from legal late reference d
-      | false ↦ λ _. legal.links.ends d
-    ] refl
-ends-by-pairs s (At e (Resolve i)) none one legal early late d =
-    resolved-as s legal e i late (λ ts xs us u. is_legal_end (reading s) d (end u d) ≡ true)
+    let asked : (b : Act) → a ≡ b → early_refusal r (At e b) ≡ None = λ b is. subst (λ (x : Act). early_refusal r (At e x) ≡ None) is early in
+    let allowed : (b : Act) → a ≡ b → late_refusal r (At e b) ≡ None = λ b is. subst (λ (x : Act). late_refusal r (At e x) ≡ None) is late in
+    act-puts (λ ts xs made. is_legal_end r d (end (made (without_all s.links (names_of ts))) d) ≡ true) r e (λ ts. cut-end s (names_of ts) legal d) a
+    (λ v is new. set-ends s e.node e.feature v legal (asked (Set v) is) (allowed (Set v) is) new d)
+    (λ v i is new. add-ends s e.node e.feature v i legal (asked (Add v i) is) (allowed (Add v i) is) new d)
+    (λ to from is reference. move-ends s e.node e.feature to from legal (allowed (Move to from) is) reference d)
+    (λ i is.
+    resolved-as s legal e i (allowed (Resolve i) is) (λ ts xs us u. is_legal_end (reading s) d (end u d) ≡ true)
     (λ x is alone. alone-legal s legal _ i x is alone d)
-    (λ x is g opposite j text stands. joint-legal s legal _ i x is g opposite j text stands d)
+    (λ x is g opposite j text stands. joint-legal s legal _ i x is g opposite j text stands d))
 ends-by-pairs s ResolveAll none one legal early late d = absurd (true≢false one)
 ends-by-pairs s (Load k doc) none one legal early late d = absurd (none-some doc (sym none))
 ends-by-pairs s c none one legal early late d = cut-end s (names_of (cut_link_ends (reading s) c)) legal d

@@ -1,3 +1,4 @@
+pub mod ActLemmas
 pub mod AllLemmas
 pub mod ApartLemmas
 pub mod AttributeLemmas

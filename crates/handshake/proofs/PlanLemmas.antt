@@ -26,6 +26,7 @@ use Rattle.doc_loader.specs.LoadEdits.{load_edits}
 use Rattle.doc_loader.specs.Loading.{loaded_links, with_links}
 use Rattle.doc_loader.proofs.KindLemmas.{read-kind}
 use Rattle.containment.proofs.PartLemmas.{kinds-are}
+use Rattle.handshake.specs.declared.act.Act.{Act}
 use Rattle.handshake.specs.declared.change.Change.{Change}
 use Rattle.handshake.specs.declared.change.Change.TheVariants.{At, ResolveAll, Load}
 use Rattle.handshake.specs.declared.act.Act.TheVariants.{Set, Add, Move, Resolve}
@@ -36,6 +37,7 @@ use Rattle.handshake.specs.Edits.{cut_of, link_edits, made_edits, new_put}
 use Rattle.handshake.specs.Effects.{links_after, put_by, with_value}
 use Rattle.handshake.specs.Changes.{HasReadDocument, IsDocument}
 use Rattle.handshake.specs.Refusals.{early_refusal, late_refusal, link_refusal}
+use Rattle.handshake.proofs.ActLemmas.{act-puts}
 use Rattle.handshake.proofs.KnownLemmas.{IsResolvable, add-gains, add-named, add-taken, linkable, move-placed, set-named, set-taken}
 use Rattle.handshake.proofs.LoadLemmas.{load-makes}
 use Rattle.handshake.proofs.LinkLemmas.{IsNewLink, many-lacks, near-empty, near-same, new-fits, new-outside, new_edit, single-lacks, without_displaced}
@@ -164,29 +166,19 @@ load-puts s k doc legal late read =
 
 are-puts : (s : Model) (c : Change) → resolves_all c ≡ false → IsLegal s → early_refusal (reading s) c ≡ None → late_refusal (reading s) c ≡ None → HasReadDocument s.metamodel c
     → ArePuts s (without_all s.links (names_of (cut_link_ends (reading s) c))) (made_edits (reading s) c) (put_by (without_all s.links (names_of (cut_link_ends (reading s) c))) (reading s) c)
-are-puts s (At e (Set v)) one legal early late read =
+are-puts s (At e a) one legal early late read =
     let r = reading s in
-    let t : Bool → Links = λ b. without_all s.links (names_of (if b then [] else cut_by_set r e v)) in
-    elim (is_plain_set r e v) as (λ b. is_plain_set r e v ≡ b → ArePuts s (t b) (option_to_list (if b then None else new_put r e 0 v)) (if b then t b else with_value (t b) r e None v)) [
-      | true ↦ λ plain. no-puts s s.links
-      | false ↦ λ new. set-puts s e.node e.feature v legal early late new
-    ] refl
-are-puts s (At e (Add v i)) one legal early late read =
-    let r = reading s in
-    let t : Bool → Links = λ b. without_all s.links (names_of (if b then [] else cut_by_new r e v)) in
-    elim (is_plain_add r e v) as (λ b. is_plain_add r e v ≡ b → ArePuts s (t b) (option_to_list (if b then None else new_put r e (position_for r e i) v)) (if b then t b else with_value (t b) r e i v)) [
-      | true ↦ λ plain. no-puts s s.links
-      | false ↦ λ new. add-puts s e.node e.feature v i legal early late new
-    ] refl
-are-puts s (At e (Move to from)) one legal early late read =
-    elim (shape s.metamodel e.feature).is_reference as (λ b. (shape s.metamodel e.feature).is_reference ≡ b → ArePuts s s.links (option_to_list (if b then Some (edit.Shift e to from) else None)) (if b then shift s.links e to from else s.links)) [
-      | true ↦ λ reference. move-puts s e.node e.feature to from late reference
-      | false ↦ λ _. no-puts s s.links
-    ] refl
-are-puts s (At e (Resolve i)) one legal early late read =
-    resolved-as s legal e i late (λ ts xs us u. ArePuts s (without_all s.links (names_of ts)) xs u)
+    let t : List LinkEnd → Links = λ ts. without_all s.links (names_of ts) in
+    let asked : (b : Act) → a ≡ b → early_refusal r (At e b) ≡ None = λ b is. subst (λ (x : Act). early_refusal r (At e x) ≡ None) is early in
+    let allowed : (b : Act) → a ≡ b → late_refusal r (At e b) ≡ None = λ b is. subst (λ (x : Act). late_refusal r (At e x) ≡ None) is late in
+    act-puts (λ ts xs made. ArePuts s (t ts) xs (made (t ts))) r e (λ ts. no-puts s (t ts)) a
+    (λ v is new. set-puts s e.node e.feature v legal (asked (Set v) is) (allowed (Set v) is) new)
+    (λ v i is new. add-puts s e.node e.feature v i legal (asked (Add v i) is) (allowed (Add v i) is) new)
+    (λ to from is reference. move-puts s e.node e.feature to from (allowed (Move to from) is) reference)
+    (λ i is.
+    resolved-as s legal e i (allowed (Resolve i) is) (λ ts xs us u. ArePuts s (t ts) xs u)
     (λ x is alone. record { fits = (alone-fits s legal _ i x is alone, tt); of_kind = ((refl, refl), tt); no_cycle = (alone-outside s legal _ i x is alone, tt); makes = refl })
-    (λ x is g opposite j text stands. joint-puts s legal _ i x is g opposite j text stands)
+    (λ x is g opposite j text stands. joint-puts s legal _ i x is g opposite j text stands))
 are-puts s ResolveAll one legal early late read = absurd (true≢false one)
 are-puts s (Load k doc) one legal early late read = load-puts s k doc legal late read
 are-puts s _ one legal early late read = no-puts s _

@@ -1,72 +1,67 @@
 -- A property of the text of each proxy, and of each URI, still holds after a change that brings no text without it.
-use Rattle.std.proofs.Common.{◌≡◌, ◌∙◌, ℕ, Bool, true, false, List, [], ◌∷◌, ◌++◌, Option, Some, None, filter, find, fold, length, map, unwrap_or, if◌then◌else◌, sym, ap, inl, inr}
-use Rattle.std.specs.Prelude.{◌&&◌}
+use Rattle.std.proofs.Common.{◌≡◌, ◌∙◌, ℕ, Bool, true, false, List, [], ◌∷◌, ◌++◌, Option, Some, None, filter, find, fold, length, unwrap_or, if◌then◌else◌, sym, ap, inl, inr, subst}
 use Rattle.std.specs.FinSet as set
-use Rattle.std.specs.List.{All, AllByRecursion, enumerate_from, list_any}
+use Rattle.std.specs.List.{All, AllByRecursion, list_any}
 use Rattle.std.specs.Option.{option_map_or}
 use Rattle.std.specs.Str.{bytes_eq}
+use Rattle.std.proofs.lemmas.Bool.{false≢true}
 use Rattle.std.proofs.lemmas.List.Elements.{All-append, All-cons, All-nil}
 use Rattle.mm_types.specs.Resolved.{Metamodel}
 use Rattle.mm_types.specs.Same.{same_end}
-use Rattle.mm_types.specs.Shapes.{shape}
 use Rattle.mm_types.specs.declared.end.End.{End}
 use Rattle.mm_types.specs.declared.numbers.FeatureNo.{FeatureNo}
 use Rattle.mm_types.specs.declared.numbers.Node.{Node}
-use Rattle.mm_types.specs.declared.numbers.Node.TheVariants as node
 use Rattle.mm_types.specs.declared.numbers.ObjectNo.{ObjectNo}
 use Rattle.mm_types.specs.declared.value.Value.{Value}
 use Rattle.mm_types.specs.declared.value.Value.TheVariants as value
 use Rattle.mm_values.specs.Values.{ValuesState, applied, edited}
 use Rattle.mm_values.specs.declared.edit.ValueEdit.{ValueEdit}
-use Rattle.mm_values.specs.declared.edit.ValueEdit.TheVariants.{NewObject, DropObject, PutList, InsertValue, RemoveValue as TakeValue, MoveValue, NewUri}
+use Rattle.mm_values.specs.declared.edit.ValueEdit.TheVariants.{DropObject, NewUri}
 use Rattle.links.specs.Links.{Links, cut, cut_some, cut_value, end, far_end, lower, lowered_far, new_link, put, raise, renumbered, shift, shifted_index, touches, without_nodes}
 use Rattle.links.specs.Indexed.{far_moved, far_value, has_value, moved}
 use Rattle.links.specs.declared.link.Far.{Far}
-use Rattle.links.specs.declared.link.Far.TheVariants.{At, Alone, Proxy}
+use Rattle.links.specs.declared.link.Far.TheVariants as leads
 use Rattle.links.specs.declared.link.Link.{Link}
 use Rattle.links.proofs.EditLemmas.{In-insert, In-remove, In-renumbered}
 use Rattle.web_uris.specs.Addresses.{IsProxyText, IsSteadyProxy}
 use Rattle.web_uris.specs.Joined.{IsWebUri}
 use Rattle.models.specs.Legal.{OfProxies}
 use Rattle.models.specs.Model.{Model, reading}
-use Rattle.models.specs.Reading.{Reading, first_at, is_repeat, position_for, shape_at}
+use Rattle.models.specs.Reading.{Reading, shape_at}
 use Rattle.containment.specs.Forest.{subtree}
 use Rattle.removal.specs.Outer.{gone}
 use Rattle.resource_docs.specs.Read.{OfDocProxies}
-use Rattle.resource_docs.specs.declared.doc.Content.{Content}
-use Rattle.resource_docs.specs.declared.doc.Doc.{Doc}
-use Rattle.doc_loader.specs.Loading as loading
-use Rattle.doc_loader.specs.Loading.{attribute_edits, loaded, loaded_links, of_contents, with_links}
-use Rattle.doc_loader.proofs.PairLemmas.{all-append, all-every, all-flat_map_every, all-map}
+use Rattle.doc_loader.specs.Loading.{loaded_links, with_links}
+use Rattle.doc_loader.proofs.PairLemmas.{all-every, all-map}
 use Rattle.doc_loader.proofs.ProxyLemmas.{OfLink, alone-no_proxy, at-no_proxy, far_of, joined-no_proxy, loaded-proxies, read-proxies}
 use Rattle.removal.specs.declared.link_end.LinkEnd.{LinkEnd}
-use Rattle.handshake.specs.declared.act.Act.{Act}
 use Rattle.handshake.specs.declared.change.Change.{Change}
-use Rattle.handshake.specs.declared.change.Change.TheVariants.{At, Create, Delete, NewResource, ResolveAll, Load}
-use Rattle.handshake.specs.declared.act.Act.TheVariants.{Set, Unset, Add, Remove, RemoveValue, Move, Resolve}
-use Rattle.handshake.specs.Displaced.{cut_link_ends, is_plain_add, is_plain_set, link_ends_joined}
+use Rattle.handshake.specs.declared.change.Change.TheVariants.{At, NewResource, ResolveAll, Load}
+use Rattle.handshake.specs.Displaced.{cut_link_ends, link_ends_joined}
 use Rattle.proxies.specs.Proxies.{end_of, sites}
 use Rattle.proxies.specs.ResolvingAll.{Resolution, resolutions}
 use Rattle.handshake.specs.Changes.{HasReadDocument}
+use Rattle.handshake.proofs.ActLemmas.{act-puts, edits-all, is_plain_edit}
+use Rattle.handshake.specs.FeatureChanges.{destroyed_by}
 use Rattle.handshake.specs.Laws.{BringsSteadyTexts, KeepsSteady}
-use Rattle.handshake.specs.Effects.{act_edits, add_value, if_attribute, joined, links_after, links_left, of_object, put_back, put_by, put_under, take_value, value_edits, with_resolution, with_value, without_link_ends}
+use Rattle.handshake.specs.Effects.{joined, links_after, links_left, put_back, put_by, value_edits, with_resolution, with_value, without_link_ends}
 use Rattle.proxies.specs.Resolving.{target_at}
 use Rattle.proxies.specs.declared.target.Target.{Target}
 
 ---------------------------------------------------------------- links
 
-far-back : (x : Far) (e : End) (r : ℕ → ℕ) (t : List ℕ) → far_moved x e r ≡ Proxy t → x ≡ Proxy t
-far-back (At d j) e r t = elim (same_end d e) as (λ b. (if b then At d (r j) else At d j) ≡ Proxy t → At d j ≡ Proxy t) [ true ↦ λ h. absurd (at-no_proxy d (r j) t h) | false ↦ λ h. h ]
-far-back (Alone o) e r t = λ h. h
-far-back (Proxy u) e r t = λ h. h
+far-back : (x : Far) (e : End) (r : ℕ → ℕ) (t : List ℕ) → far_moved x e r ≡ leads.Proxy t → x ≡ leads.Proxy t
+far-back (leads.At d j) e r t = elim (same_end d e) as (λ b. (if b then leads.At d (r j) else leads.At d j) ≡ leads.Proxy t → leads.At d j ≡ leads.Proxy t) [ true ↦ λ h. absurd (at-no_proxy d (r j) t h) | false ↦ λ h. h ]
+far-back (leads.Alone o) e r t = λ h. h
+far-back (leads.Proxy u) e r t = λ h. h
 
-moved-back : (l : Link) (e : End) (r : ℕ → ℕ) (t : List ℕ) → far_of (moved l e r) ≡ Proxy t → l.far ≡ Proxy t
-moved-back l e r t = elim (same_end l.end e) as (λ b. far_of (if b then record l { index = r l.index } else record l { far = far_moved l.far e r }) ≡ Proxy t → l.far ≡ Proxy t) [
+moved-back : (l : Link) (e : End) (r : ℕ → ℕ) (t : List ℕ) → far_of (moved l e r) ≡ leads.Proxy t → l.far ≡ leads.Proxy t
+moved-back l e r t = elim (same_end l.end e) as (λ b. far_of (if b then record l { index = r l.index } else record l { far = far_moved l.far e r }) ≡ leads.Proxy t → l.far ≡ leads.Proxy t) [
   | true ↦ λ h. h
   | false ↦ far-back l.far e r t
 ]
 
-new-no_proxy : (s : Links) (e : End) (i : ℕ) (o : ObjectNo) (g c : Option FeatureNo) (t : List ℕ) → far_of (new_link s e i o g c) ≡ Proxy t → ⊥
+new-no_proxy : (s : Links) (e : End) (i : ℕ) (o : ObjectNo) (g c : Option FeatureNo) (t : List ℕ) → far_of (new_link s e i o g c) ≡ leads.Proxy t → ⊥
 new-no_proxy s e i o None c t h = alone-no_proxy o t h
 new-no_proxy s e i o (Some g) c t h = joined-no_proxy e i (far_end o g) (length (end s (far_end o g))) c t h
 
@@ -86,9 +81,9 @@ module _ (Holds : List ℕ → Type 0) where
   remove-of s k of l t within far = of l t (In-remove s k l within).1 far
 
   lowered-of : (s : Links) (x : Far) → OfProxies Holds s → OfProxies Holds (lowered_far s x)
-  lowered-of s (At d j) of = renumbered-of s d (lower j) of
-  lowered-of s (Alone o) of = of
-  lowered-of s (Proxy t) of = of
+  lowered-of s (leads.At d j) of = renumbered-of s d (lower j) of
+  lowered-of s (leads.Alone o) of = of
+  lowered-of s (leads.Proxy t) of = of
 
   cut-of : (s : Links) (l : Link) → OfProxies Holds s → OfProxies Holds (cut s l)
   unfolding cut
@@ -147,21 +142,20 @@ module _ (Holds : List ℕ → Type 0) where
   BringsProxies _ = Unit {0}
 
   put_by-of : (s : Links) (r : Reading) (c : Change) → BringsProxies c → OfProxies Holds s → OfProxies Holds (put_by s r c)
-  put_by-of s r (At e (Set v)) brings of =
-      elim (is_plain_set r e v) as (λ b. OfProxies Holds (if b then s else with_value s r e None v)) [ true ↦ of | false ↦ value-of s r e None v of ]
-  put_by-of s r (At e (Add v i)) brings of =
-      elim (is_plain_add r e v) as (λ b. OfProxies Holds (if b then s else with_value s r e i v)) [ true ↦ of | false ↦ value-of s r e i v of ]
-  put_by-of s r (At e (Move to from)) brings of =
-      elim (shape_at r e).is_reference as (λ b. OfProxies Holds (if b then shift s e to from else s)) [ true ↦ shift-of s e to from of | false ↦ of ]
-  put_by-of s r (At e (Resolve i)) brings of =
-      elim (target_at r e i) as (λ q. OfProxies Holds (option_map_or (joined s r e i) q s)) [ None ↦ of | Some x ↦ joined-of s r e i x of ]
+  put_by-of s r (At e a) brings of =
+      act-puts (λ ts xs made. OfProxies Holds (made s)) r e (λ ts. of) a (λ v is new. value-of s r e None v of) (λ v i is new. value-of s r e i v of) (λ to from is reference. shift-of s e to from of)
+      (λ i is. elim (target_at r e i) as (λ q. OfProxies Holds (option_map_or (joined s r e i) q s)) [ None ↦ of | Some x ↦ joined-of s r e i x of ])
   put_by-of s r ResolveAll brings of = resolutions-of (resolutions r (sites r)) s of
   put_by-of s r (Load k doc) brings of = inserted-of (loaded_links r.metamodel r.next k doc) s (loaded-proxies Holds r.metamodel r.next doc k brings) of
   put_by-of s r _ brings of = of
 
   left-of : (s : Links) (r : Reading) (c : Change) → OfProxies Holds s → OfProxies Holds (links_left s r c)
-  left-of s r (Delete o) of = nodes-of s (gone r o) of
-  left-of s r c of = cuts-of (λ (t : LinkEnd). t.end) (λ (t : LinkEnd). t.value) (cut_link_ends r c) s of
+  left-of s r c of =
+      let ts = cut_link_ends r c in
+      elim (destroyed_by c) as (λ q. OfProxies Holds (option_map_or (λ o. without_nodes s (gone r o)) q (without_link_ends s ts))) [
+        | None ↦ cuts-of (λ (t : LinkEnd). t.end) (λ (t : LinkEnd). t.value) ts s of
+        | Some o ↦ nodes-of s (gone r o) of
+      ]
 
   pub proxies-after : (s : Links) (r : Reading) (c : Change) → BringsProxies c → OfProxies Holds s → OfProxies Holds (links_after s r c)
   proxies-after s r c brings of = put_by-of (links_left s r c) r c brings (left-of s r c of)
@@ -185,45 +179,9 @@ module _ (Holds : List ℕ → Type 0) where
   applied-of [] v edits all = all
   applied-of (x ∷ xs) v edits all = applied-of xs (edited v x) edits.1 (edited-of v x edits.0 all)
 
-  attribute-of : (r : Reading) (e : End) (xs : List ValueEdit) → AllByRecursion OfEdit xs → AllByRecursion OfEdit (if_attribute r e xs)
-  attribute-of r e xs all = elim (shape_at r e).is_reference as (λ b. AllByRecursion OfEdit (if b then [] else xs)) [ true ↦ tt | false ↦ all ]
-
-  under-of : (f : FeatureNo) (vs : List Value) (flag : Bool) (n : Node) → AllByRecursion OfEdit (put_under f vs flag n)
-  under-of f vs flag (node.Object o) = (tt, tt)
-  under-of f vs flag (node.Resource k) = tt
-
-  object-of : (n : Node) (edit : ObjectNo → ValueEdit) → ((o : ObjectNo) → OfEdit (edit o)) → AllByRecursion OfEdit (of_object n edit)
-  object-of (node.Object o) edit of = (of o, tt)
-  object-of (node.Resource k) edit of = tt
-
-  added-of : (r : Reading) (e : End) (v : Value) (i : Option ℕ) → AllByRecursion OfEdit (add_value r e v i)
-  added-of r e v i =
-      let insert : ObjectNo → ValueEdit = λ o. InsertValue o e.feature (position_for r e i) v (shape_at r e).is_unique in
-      elim (is_repeat r e v) as (λ b. AllByRecursion OfEdit (if b then [] else of_object e.node insert)) [ true ↦ tt | false ↦ object-of e.node insert (λ o. tt) ]
-
-  taken-of : (e : End) (o : Option ℕ) → AllByRecursion OfEdit (option_map_or (take_value e) o [])
-  taken-of e None = tt
-  taken-of e (Some i) = object-of e.node (λ o. TakeValue o e.feature i) (λ o. tt)
-
-  act-of : (r : Reading) (e : End) (a : Act) → AllByRecursion OfEdit (act_edits r e a)
-  act-of r e (Set v) = under-of e.feature (v ∷ []) (shape_at r e).is_unsettable e.node
-  act-of r e Unset = under-of e.feature [] false e.node
-  act-of r e (Add v i) = added-of r e v i
-  act-of r e (Remove i) = taken-of e (Some i)
-  act-of r e (RemoveValue v) = taken-of e (first_at r e v)
-  act-of r e (Move to from) = object-of e.node (λ o. MoveValue o e.feature to from) (λ o. tt)
-  act-of r e (Resolve i) = tt
-
-  content-of : (m : Metamodel) (n : ℕ) (o : ObjectNo) (c : Content) → AllByRecursion OfEdit (attribute_edits m n o c)
-  content-of m n o c =
-      let a = shape m c.feature in
-      elim a.is_reference as (λ b. AllByRecursion OfEdit (if b then [] else PutList (loaded n o) c.feature c.values (a.is_unsettable && a.is_single) ∷ [])) [ true ↦ tt | false ↦ (tt, tt) ]
-
-  loaded-of : (m : Metamodel) (n : ℕ) (doc : Doc) → AllByRecursion OfEdit (loading.loaded_values m n doc)
-  loaded-of m n doc =
-      all-append OfEdit (map (λ o. NewObject o.class) doc.objects) (of_contents (attribute_edits m n) doc)
-      (all-map OfEdit (λ o. NewObject o.class) doc.objects (all-every (λ o. OfEdit (NewObject o.class)) doc.objects (λ o. tt)))
-      (all-flat_map_every OfEdit (loading.of_object (attribute_edits m n)) (enumerate_from 0 doc.objects) (λ x. all-flat_map_every OfEdit (attribute_edits m n (record { 0 = x.0 })) x.1.contents (content-of m n (record { 0 = x.0 }))))
+  plain-of : (x : ValueEdit) → is_plain_edit x ≡ true → OfEdit x
+  plain-of (NewUri u) plain = absurd (false≢true plain)
+  plain-of _ plain = tt
 
   -- a change brings the URI of a new resource
   abbrev pub BringsUri : Change → Type 0
@@ -231,13 +189,8 @@ module _ (Holds : List ℕ → Type 0) where
   BringsUri _ = Unit {0}
 
   edits-of : (r : Reading) (c : Change) → BringsUri c → AllByRecursion OfEdit (value_edits r c)
-  edits-of r (At e (Resolve i)) brings = tt
-  edits-of r (At e a) brings = attribute-of r e (act_edits r e a) (act-of r e a)
-  edits-of r (Create c) brings = (tt, tt)
-  edits-of r (Delete o) brings = all-map OfEdit DropObject (subtree r o) (all-every (λ p. OfEdit (DropObject p)) (subtree r o) (λ p. tt))
-  edits-of r (NewResource u) brings = (brings, tt)
-  edits-of r (Load k doc) brings = loaded-of r.metamodel r.next doc
-  edits-of r ResolveAll brings = tt
+  edits-of r c brings =
+      edits-all OfEdit plain-of r c (λ o is. all-map OfEdit DropObject (subtree r o) (all-every (λ p. OfEdit (DropObject p)) (subtree r o) (λ p. tt))) (λ u is. subst BringsUri is brings)
 
   pub uris-after : (v : ValuesState) (r : Reading) (c : Change) → BringsUri c → All Holds v.uris → All Holds (applied v (value_edits r c)).uris
   uris-after v r c brings all = applied-of (value_edits r c) v (edits-of r c brings) all

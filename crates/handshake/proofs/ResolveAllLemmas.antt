@@ -81,7 +81,7 @@ named-there r o f has = by (r.class o) refl has
 
     by : (q : Option ClassNo) → r.class o ≡ q → option_map_or (λ c. lookups.has_feature r.metamodel c f) q false ≡ true → early_refusal r (At (at_end (node.Object o) f) (Resolve 0)) ≡ None
     by None none h = absurd (false≢true h)
-    by (Some c) is h = (λ k. (NoObject unless is_some (is k) else_by NoResource unless true) else_by NoFeature unless has k)
+    by (Some c) is h = (λ k. ((NoObject unless is_some (is k) else_by NoResource unless true) else_by NoFeature unless has k) else_by None)
 
 -- the links that are cut when a proxy is resolved, if its feature is a reference
 abbrev pub cut : Reading → ProxySite → Bool → Option Target → List LinkEnd

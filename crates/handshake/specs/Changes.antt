@@ -1,6 +1,6 @@
 -- Facts about a change that hold before it is planned: the document that it loads, the objects that it destroys, and whether it edits only
 -- values, or only links.
-use Rattle.std.specs.Prelude.{◌≡◌, ℕ, Bool, true, false, List, Option, IfSome, not, option_map}
+use Rattle.std.specs.Prelude.{◌≡◌, ◌&&◌, ℕ, Bool, true, false, List, Option, IfSome, not, option_map}
 use Rattle.mm_types.specs.Resolved.{Metamodel}
 use Rattle.mm_types.specs.Shapes.{shape}
 use Rattle.models.specs.Model.{reading}
@@ -12,8 +12,7 @@ use Rattle.resource_docs.specs.Causes.{IsRead}
 use Rattle.resource_docs.specs.declared.doc.Doc.{Doc}
 use Rattle.handshake.specs.declared.change.Change.{Change}
 use Rattle.handshake.specs.declared.change.Change.TheVariants.{At, Create, Load}
-use Rattle.handshake.specs.declared.act.Act.TheVariants.{Resolve}
-use Rattle.handshake.specs.FeatureChanges.{destroyed_by}
+use Rattle.handshake.specs.FeatureChanges.{destroyed_by, resolves_one}
 
 -- a document was read from some JSON value, in a resource of some URI
 pub record IsDocument (m : Metamodel) (doc : Doc) : Type 0 where
@@ -35,15 +34,21 @@ pub record IsRemovalOf (r : Reading) (c : Change) (q : Option Removal) : Type 0 
   pub whose : option_map (λ (x : Removal). x.object) q ≡ destroyed_by c
   pub found : IfSome q (IsRemoval r)
 
+-- whether a change edits only values, or only links: it makes an object, or does an act at an end and resolves no proxy
+abbrev pub edits_one_kind : Change → Bool
+edits_one_kind (Create c) = true
+edits_one_kind (At e a) = not (resolves_one (At e a))
+edits_one_kind _ = false
+
+-- whether a change is at an end of a reference
+abbrev pub is_at_reference : Metamodel → Change → Bool
+is_at_reference m (At e a) = (shape m e.feature).is_reference
+is_at_reference m _ = false
+
 -- whether a change edits no link: it makes an object, or changes an attribute
 abbrev pub edits_values_alone : Metamodel → Change → Bool
-edits_values_alone m (Create c) = true
-edits_values_alone m (At e (Resolve i)) = false
-edits_values_alone m (At e a) = not (shape m e.feature).is_reference
-edits_values_alone m _ = false
+edits_values_alone m c = edits_one_kind c && not (is_at_reference m c)
 
 -- whether a change edits only links: it changes a reference, and resolves no proxy
 abbrev pub edits_links_alone : Metamodel → Change → Bool
-edits_links_alone m (At e (Resolve i)) = false
-edits_links_alone m (At e a) = (shape m e.feature).is_reference
-edits_links_alone m _ = false
+edits_links_alone m c = edits_one_kind c && is_at_reference m c

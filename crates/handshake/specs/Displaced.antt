@@ -15,6 +15,7 @@ use Rattle.links.specs.Links.{far_end}
 use Rattle.links.specs.Holders.{contained}
 use Rattle.models.specs.Reading.{Reading, is_repeat, shape_at, first_at, value_at}
 use Rattle.removal.specs.TreeLinkEnds.{link_end, tree_link_ends}
+use Rattle.handshake.specs.declared.act.Act.{Act}
 use Rattle.handshake.specs.declared.change.Change.{Change}
 use Rattle.proxies.specs.declared.target.Target.{Target}
 use Rattle.proxies.specs.Resolving.{opposite_end, target_at}
@@ -55,7 +56,7 @@ link_ends_if_single r e = if (shape_at r e).is_single then link_ends_at r e else
 abbrev pub holding_link_end : Reading → Node → Option LinkEnd
 holding_link_end r n = option_map (λ d. link_end d (node_value n)) (r.holder n)
 
--- the links with one more at the end, unless it is one of them
+-- a list of links with one more link at its end, unless the list has that link already
 abbrev pub with_link_end : Reading → List LinkEnd → LinkEnd → List LinkEnd
 with_link_end r ts t = if list_any (same_link r t) ts then ts else ts ++ t ∷ []
 
@@ -119,13 +120,18 @@ abbrev pub cut_by_set : Reading → End → Value → List LinkEnd
 cut_by_set r e (value.Object o) = yields r e o
 cut_by_set r e v = link_ends_at r e
 
+-- the index of the value that an act takes out of a list, if it takes one out
+abbrev pub taken_index : Reading → End → Act → Option ℕ
+taken_index r e (Remove i) = Some i
+taken_index r e (RemoveValue v) = first_at r e v
+taken_index r e _ = None
+
 -- the links that a change cuts, in order. When all proxies are resolved, the edits of each proxy cut its link
 abbrev pub cut_link_ends : Reading → Change → List LinkEnd
 cut_link_ends r (At e (Set v)) = if is_plain_set r e v then [] else cut_by_set r e v
 cut_link_ends r (At e Unset) = if (shape_at r e).is_reference then link_ends_backwards e (r.values e) else []
 cut_link_ends r (At e (Add v i)) = if is_plain_add r e v then [] else cut_by_new r e v
-cut_link_ends r (At e (Remove i)) = if (shape_at r e).is_reference then link_end_in r e i else []
-cut_link_ends r (At e (RemoveValue v)) = if (shape_at r e).is_reference then option_map_or (link_end_in r e) (first_at r e v) [] else []
 cut_link_ends r (At e (Resolve i)) = if (shape_at r e).is_reference then link_ends_resolved r e i else []
+cut_link_ends r (At e a) = if (shape_at r e).is_reference then option_map_or (link_end_in r e) (taken_index r e a) [] else []
 cut_link_ends r (Delete o) = tree_link_ends r o
 cut_link_ends r _ = []

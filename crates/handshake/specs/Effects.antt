@@ -19,12 +19,13 @@ use Rattle.removal.specs.Outer.{gone}
 use Rattle.handshake.specs.declared.act.Act.{Act}
 use Rattle.handshake.specs.declared.change.Change.{Change}
 use Rattle.handshake.specs.declared.change.Change.TheVariants.{At, Create, Delete, NewResource, ResolveAll, Load}
-use Rattle.handshake.specs.declared.act.Act.TheVariants.{Set, Unset, Add, Remove, RemoveValue, Move, Resolve}
+use Rattle.handshake.specs.declared.act.Act.TheVariants.{Set, Unset, Add, Move, Resolve}
 use Rattle.proxies.specs.declared.target.Counterpart.{Counterpart}
 use Rattle.proxies.specs.declared.target.Target.{Target}
 use Rattle.removal.specs.declared.link_end.LinkEnd.{LinkEnd}
 use Rattle.doc_loader.specs.Loading.{loaded_links, loaded_values, with_links}
-use Rattle.handshake.specs.Displaced.{cut_link_ends, is_plain_add, is_plain_set, link_ends_joined}
+use Rattle.handshake.specs.Displaced.{cut_link_ends, is_plain_add, is_plain_set, link_ends_joined, taken_index}
+use Rattle.handshake.specs.FeatureChanges.{destroyed_by}
 use Rattle.proxies.specs.Proxies.{end_of, sites}
 use Rattle.proxies.specs.ResolvingAll.{Resolution, resolutions}
 use Rattle.proxies.specs.Resolving.{target_at}
@@ -63,10 +64,8 @@ abbrev pub act_edits : Reading → End → Act → List ValueEdit
 act_edits r e (Set v) = put_values e (v ∷ []) (shape_at r e).is_unsettable
 act_edits r e Unset = put_values e [] false
 act_edits r e (Add v i) = add_value r e v i
-act_edits r e (Remove i) = take_value e i
-act_edits r e (RemoveValue v) = take_first r e v
 act_edits r e (Move to from) = of_object e.node (λ o. MoveValue o e.feature to from)
-act_edits r e (Resolve i) = []
+act_edits r e a = option_map_or (take_value e) (taken_index r e a) []
 
 abbrev pub value_edits : Reading → Change → List ValueEdit
 value_edits r (At e (Resolve i)) = []
@@ -75,7 +74,7 @@ value_edits r (Create c) = NewObject c ∷ []
 value_edits r (Delete o) = map DropObject (subtree r o)
 value_edits r (NewResource u) = NewUri u ∷ []
 value_edits r (Load k doc) = loaded_values r.metamodel r.next doc
-value_edits r ResolveAll = []
+value_edits r _ = []
 
 ---------------------------------------------------------------- links
 
@@ -115,8 +114,7 @@ put_by s r _ = s
 
 -- the links that a change leaves: a deletion takes all links that name a destroyed object, any other change the links that it cuts
 abbrev pub links_left : Links → Reading → Change → Links
-links_left s r (Delete o) = without_nodes s (gone r o)
-links_left s r c = without_link_ends s (cut_link_ends r c)
+links_left s r c = option_map_or (λ o. without_nodes s (gone r o)) (destroyed_by c) (without_link_ends s (cut_link_ends r c))
 
 abbrev pub links_after : Links → Reading → Change → Links
 links_after s r c = put_by (links_left s r c) r c

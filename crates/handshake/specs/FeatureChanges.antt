@@ -17,14 +17,14 @@ use Rattle.removal.specs.Losses.{is_lost}
 use Rattle.removal.specs.Outer.{touched_ends}
 use Rattle.handshake.specs.declared.change.Change.{Change}
 use Rattle.handshake.specs.declared.change.Change.TheVariants.{At, Delete, ResolveAll, Load}
-use Rattle.handshake.specs.declared.act.Act.TheVariants.{Set, Unset, Add, Remove, RemoveValue, Move, Resolve}
+use Rattle.handshake.specs.declared.act.Act.TheVariants.{Set, Unset, Add, Move, Resolve}
 use Rattle.handshake.specs.declared.change_kind.ChangeKind.TheVariants.{Gains, GainsAt, Loses, LosesAt, Unsets, Moves, Resolves}
 use Rattle.handshake.specs.declared.change_kind.ChangeKind.{ChangeKind}
 use Rattle.handshake.specs.declared.change_kind.FeatureChange.{FeatureChange}
 use Rattle.proxies.specs.declared.resolved.Resolved.{Resolved}
 use Rattle.proxies.specs.declared.target.Target.{Target}
 use Rattle.removal.specs.declared.link_end.LinkEnd.{LinkEnd}
-use Rattle.handshake.specs.Displaced.{cut_link_ends, is_plain_set, turned}
+use Rattle.handshake.specs.Displaced.{cut_link_ends, is_plain_set, taken_index, turned}
 use Rattle.proxies.specs.Proxies.{end_of, sites}
 use Rattle.proxies.specs.ResolvingAll.{Resolution, done, left, resolutions}
 use Rattle.proxies.specs.Resolving.{opposite_end, target_at}
@@ -99,6 +99,11 @@ abbrev pub destroyed_by : Change → Option ObjectNo
 destroyed_by (Delete o) = Some o
 destroyed_by _ = None
 
+-- whether a change resolves one proxy
+abbrev pub resolves_one : Change → Bool
+resolves_one (At e (Resolve i)) = true
+resolves_one _ = false
+
 -- the target of the proxy that a change resolves
 abbrev pub target_of : Reading → Change → Option Target
 target_of r (At e (Resolve i)) = target_at r e i
@@ -116,8 +121,7 @@ resolves_all _ = false
 
 -- how many proxies a change that resolves all resolves, and how many remain
 abbrev pub resolved_by : Reading → Change → Option Resolved
-resolved_by r ResolveAll = Some (record { done = done r; left = left r })
-resolved_by r _ = None
+resolved_by r c = if resolves_all c then Some (record { done = done r; left = left r }) else None
 
 -- the losses of an end of another node, in order, when an object and all objects below it are destroyed
 abbrev pub lost_with : Reading → ObjectNo → End → List FeatureChange
@@ -148,10 +152,9 @@ abbrev pub feature_changes_with : Reading → Change → List LinkEnd → List F
 feature_changes_with r (At e (Set v)) ts = set_to r e v ts
 feature_changes_with r (At e Unset) ts = far_losses r ts ++ emptied r e
 feature_changes_with r (At e (Add v i)) ts = added r e v i ts
-feature_changes_with r (At e (Remove i)) ts = taken_out r e ts i
-feature_changes_with r (At e (RemoveValue v)) ts = value_taken_out r e ts v
 feature_changes_with r (At e (Move to from)) ts = feature_change e (Moves to from) ∷ []
 feature_changes_with r (At e (Resolve i)) ts = option_map_or (resolved e i) (target_at r e i) []
+feature_changes_with r (At e a) ts = option_map_or (taken_out r e ts) (taken_index r e a) []
 feature_changes_with r (Delete o) ts = destroyed r o
 feature_changes_with r ResolveAll ts = flat_map resolution_told (resolutions r (sites r))
 feature_changes_with r (Load k doc) ts = loaded r k doc

@@ -1,6 +1,7 @@
 -- Laws on every change of a legal model that is not refused.
-use Rattle.std.specs.Prelude.{◌≡◌, Bool, true, false, not, nat_le, IsFalse, List, [], ◌∷◌, ◌++◌, filter, None}
+use Rattle.std.specs.Prelude.{◌≡◌, ◌&&◌, ◌||◌, ℕ, Bool, false, not, nat_le, IsFalse, List, [], ◌∷◌, ◌++◌, filter, None, is_some}
 use Rattle.std.specs.List.{AllByRecursion}
+use Rattle.std.specs.Option.{option_map_or}
 use Rattle.mm_types.specs.Resolved.{Metamodel}
 use Rattle.mm_types.specs.Shapes.{shape}
 use Rattle.mm_types.specs.declared.end.End.{End}
@@ -15,7 +16,7 @@ use Rattle.models.specs.Steady.{HasSteadyTexts}
 use Rattle.removal.specs.Outer.{gone}
 use Rattle.notice_chain.specs.Replay.{replayed_all}
 use Rattle.handshake.specs.declared.change.Change.{Change}
-use Rattle.handshake.specs.declared.change.Change.TheVariants.{At, Delete, Load, NewResource, ResolveAll}
+use Rattle.handshake.specs.declared.change.Change.TheVariants.{At, Load, NewResource}
 use Rattle.handshake.specs.declared.act.Act.TheVariants.{Unset}
 use Rattle.handshake.specs.declared.change_kind.ChangeKind.TheVariants.{Unsets}
 use Rattle.handshake.specs.declared.change_kind.FeatureChange.{FeatureChange}
@@ -25,7 +26,7 @@ use Rattle.handshake.specs.Effects.{after}
 use Rattle.handshake.specs.Changes.{HasReadDocument}
 use Rattle.handshake.specs.Refusals.{early_refusal, late_refusal}
 use Rattle.handshake.specs.FeatureChange.{has_flag, feature_change}
-use Rattle.handshake.specs.FeatureChanges.{chain, far_losses, feature_changes}
+use Rattle.handshake.specs.FeatureChanges.{chain, destroyed_by, far_losses, feature_changes, loaded_by, resolves_all}
 
 -- `Holds` is true of a change of a model, if the model is legal and the change is not refused
 abbrev pub OfAllowed : (Model → Change → Type 0) → Model → Change → Type 0
@@ -52,13 +53,16 @@ KeepsSteady s c = HasSteadyTexts s → BringsSteadyTexts c → HasSteadyTexts (a
 
 -- whether a node is an object that a change destroys
 abbrev pub goes_with : Reading → Change → Node → Bool
-goes_with r (Delete o) n = gone r o n
-goes_with r _ n = false
+goes_with r c n = option_map_or (λ o. gone r o n) (destroyed_by c) false
+
+-- whether a node is an object whose number is n or higher
+abbrev pub is_object_from : ℕ → Node → Bool
+is_object_from n (node.Object o) = nat_le n o.0
+is_object_from n (node.Resource k) = false
 
 -- whether a change is a load, and a node is an object that the load may make: its number is the next number or higher
 abbrev pub comes_with : Reading → Change → Node → Bool
-comes_with r (Load k doc) (node.Object o) = nat_le r.next o.0
-comes_with r _ n = false
+comes_with r c n = is_some (loaded_by c) && is_object_from r.next n
 
 -- the chain of a change, replayed at an end, gives the values of the end after the change. Excepted are the ends of nodes that it destroys,
 -- or that a load makes
@@ -68,10 +72,7 @@ ChainReplays = OfAllowed (λ s c. HasReadDocument s.metamodel c → (d : End) �
 -- whether a change may take several values out of one list, or put several in
 abbrev pub takes_many : Reading → Change → Bool
 takes_many r (At e Unset) = not (shape_at r e).is_single
-takes_many r (Delete o) = true
-takes_many r ResolveAll = true
-takes_many r (Load k doc) = true
-takes_many r _ = false
+takes_many r c = is_some (destroyed_by c) || resolves_all c || is_some (loaded_by c)
 
 -- no end has two notifications
 abbrev pub AreApart : List FeatureChange → Type 0

@@ -1,6 +1,6 @@
 -- Why a change is refused: something that it names is not there, or a value's type or length, an index, a repeated value, a full end, a
 -- cycle of containment or a limit forbids it. The repository looks for the refusals that come after these.
-use Rattle.std.specs.Prelude.{ℕ, ◌+◌, ◌&&◌, ◌||◌, Bool, false, not, List, length, nat_le, nat_lt, Option, None, is_some, if◌then◌else◌}
+use Rattle.std.specs.Prelude.{ℕ, ◌+◌, ◌&&◌, ◌||◌, Bool, false, not, List, length, nat_le, nat_lt, Option, None, Some, is_some, if◌then◌else◌}
 use Rattle.std.specs.Option.{option_map_or}
 use Rattle.mm_types.specs.Conditions.{◌unless◌, ◌where_so◌, ◌else_by◌}
 use Rattle.mm_types.specs.Same.{same_feature}
@@ -24,6 +24,7 @@ use Rattle.mm_types.specs.Resolved.{Metamodel}
 use Rattle.handshake.specs.Displaced.{has_already}
 use Rattle.proxies.specs.Resolving.{opposite_end}
 use Rattle.proxies.specs.Refusals.{resolve_refusal}
+use Rattle.handshake.specs.declared.act.Act.{Act}
 use Rattle.handshake.specs.declared.change.Change.{Change}
 use Rattle.handshake.specs.declared.change.Change.TheVariants.{At, Create, Delete, NewResource, Load}
 use Rattle.handshake.specs.declared.act.Act.TheVariants.{Set, Unset, Add, Remove, RemoveValue, Move, Resolve}
@@ -100,19 +101,31 @@ single_refusal m f = NotSingle unless (shape m f).is_single
 abbrev pub many_refusal : Metamodel → FeatureNo → Option Refused
 many_refusal m f = NotMany where_so (shape m f).is_single
 
+-- why an act doesn't fit a feature: the feature is single, or it is many-valued
+abbrev pub kind_refusal : Metamodel → FeatureNo → Act → Option Refused
+kind_refusal m f (Set v) = single_refusal m f
+kind_refusal m f Unset = None
+kind_refusal m f (Resolve i) = None
+kind_refusal m f _ = many_refusal m f
+
+-- the value that an act names
+abbrev pub value_of : Act → Option Value
+value_of (Set v) = Some v
+value_of (Add v i) = Some v
+value_of (RemoveValue v) = Some v
+value_of _ = None
+
+-- why an act at an end is refused: something that it names is not there
+abbrev pub named_refusal : Reading → End → Act → Option Refused
+named_refusal r e a = option_map_or (value_refusal r e) (value_of a) (end_refusal r e)
+
 -- why a value can't be added to a list, or removed from it, as far as that is known early
 abbrev pub list_refusal : Reading → End → Value → Option Refused
 list_refusal r e v = value_refusal r e v else_by many_refusal r.metamodel e.feature
 
 -- why a change is refused before it is planned: something that it names is not there, or the feature is of another kind
 abbrev pub early_refusal : Reading → Change → Option Refused
-early_refusal r (At e (Set v)) = value_refusal r e v else_by single_refusal r.metamodel e.feature
-early_refusal r (At e Unset) = end_refusal r e
-early_refusal r (At e (Add v i)) = list_refusal r e v
-early_refusal r (At e (Remove i)) = end_refusal r e else_by many_refusal r.metamodel e.feature
-early_refusal r (At e (RemoveValue v)) = list_refusal r e v
-early_refusal r (At e (Move to from)) = end_refusal r e else_by many_refusal r.metamodel e.feature
-early_refusal r (At e (Resolve i)) = end_refusal r e
+early_refusal r (At e a) = named_refusal r e a else_by kind_refusal r.metamodel e.feature a
 early_refusal r (Create c) = class_refusal r.metamodel c
 early_refusal r (Delete o) = node_refusal r (node.Object o)
 early_refusal r (Load k doc) = node_refusal r (node.Resource k)

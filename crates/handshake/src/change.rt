@@ -25,28 +25,41 @@ pub enum Change {
 }
 
 impl Change {
-    ghost use Rattle.handshake.specs.Changes.{edits_links_alone, edits_values_alone};
+    ghost use Rattle.handshake.specs.Changes.{edits_links_alone, edits_one_kind, edits_values_alone, is_at_reference};
+
+    /// Whether it edits only values, or only links: it makes an object, or does an act at an end and resolves no proxy.
+    fn edits_one_kind(&self) -> bool
+        ensures { result ≡ edits_one_kind self.now }
+    {
+        match self {
+            Change::Create(_) => true,
+            Change::At(_, Act::Resolve(_)) => false,
+            Change::At(..) => true,
+            _ => false,
+        }
+    }
+
+    /// Whether it is at an end of a reference.
+    fn is_at_reference(&self, meta: &Meta) -> bool
+        ensures { result ≡ is_at_reference meta.now self.now }
+    {
+        match self {
+            Change::At(end, _) => meta.is_reference(end.feature),
+            _ => false,
+        }
+    }
 
     /// Whether it edits only values, and no link: it makes an object, or changes an attribute. Takes no memory.
     pub fn edits_values_alone(&self, meta: &Meta) -> bool
         ensures { result ≡ edits_values_alone meta.now self.now }
     {
-        match self {
-            Change::Create(_) => true,
-            Change::At(_, Act::Resolve(_)) => false,
-            Change::At(end, _) => !meta.is_reference(end.feature),
-            _ => false,
-        }
+        self.edits_one_kind() && !self.is_at_reference(meta)
     }
 
     /// Whether it edits only links, and no value: it changes a reference, and resolves no proxy. Takes no memory.
     pub fn edits_links_alone(&self, meta: &Meta) -> bool
         ensures { result ≡ edits_links_alone meta.now self.now }
     {
-        match self {
-            Change::At(_, Act::Resolve(_)) => false,
-            Change::At(end, _) => meta.is_reference(end.feature),
-            _ => false,
-        }
+        self.edits_one_kind() && self.is_at_reference(meta)
     }
 }

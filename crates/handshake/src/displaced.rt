@@ -182,7 +182,7 @@ fn cut_by_act<L: LinkStore>(
         Act::Add(value, _) => cut_by_add(alloc, model, end, value),
         Act::Remove(index) => link_end_in(alloc, model, end, Some(*index)),
         Act::RemoveValue(value) => link_end_in(alloc, model, end, model.position(end, value)),
-        Act::Move { .. } => Ok(Vec::new(alloc)),
+        Act::Move { .. } => link_end_in(alloc, model, end, None),
         Act::Resolve(index) => link_ends_resolved(alloc, model, end, *index, target),
     }
 }

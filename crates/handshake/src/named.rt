@@ -32,12 +32,32 @@ pub fn early_refusal<L: LinkStore>(model: &ModelRef<L>, change: &Change) -> Opti
 fn act_early_refusal<L: LinkStore>(model: &ModelRef<L>, end: End, act: &Act) -> Option<Refused>
     ensures { result ≡ refusals.early_refusal (reading model.now) (At end act.now) }
 {
+    named_refusal(model, end, act).or(kind_refusal(model.meta(), end.feature, act))
+}
+
+/// Why an act at an end is refused: something that it names is not there.
+fn named_refusal<L: LinkStore>(model: &ModelRef<L>, end: End, act: &Act) -> Option<Refused>
+    ensures { result ≡ refusals.named_refusal (reading model.now) end act.now }
+{
     match act {
-        Act::Set(value) => set_early_refusal(model, end, value),
-        Act::Add(value, _) | Act::RemoveValue(value) => list_early_refusal(model, end, value),
-        Act::Unset | Act::Resolve(_) => end_refusal(model, end),
-        Act::Remove(_) | Act::Move { .. } => {
-            end_refusal(model, end).or(many_refusal(model.meta(), end.feature))
+        Act::Set(value) | Act::Add(value, _) | Act::RemoveValue(value) => {
+            value_refusal(model, end, value)
+        }
+        Act::Unset | Act::Remove(_) | Act::Move { .. } | Act::Resolve(_) => {
+            end_refusal(model, end)
+        }
+    }
+}
+
+/// Why an act doesn't fit a feature: the feature is single, or it is many-valued.
+fn kind_refusal(meta: &Meta, feature: FeatureNo, act: &Act) -> Option<Refused>
+    ensures { result ≡ refusals.kind_refusal meta.now feature act.now }
+{
+    match act {
+        Act::Set(_) => single_refusal(meta, feature),
+        Act::Unset | Act::Resolve(_) => None,
+        Act::Add(..) | Act::Remove(_) | Act::RemoveValue(_) | Act::Move { .. } => {
+            many_refusal(meta, feature)
         }
     }
 }

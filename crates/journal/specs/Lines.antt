@@ -53,7 +53,7 @@ abbrev pub CutsLine : Option (Bor (List ℕ) × Bor (List ℕ)) → List ℕ →
 CutsLine None bytes = ended bytes ≡ []
 CutsLine (Some p) bytes = IsCut bytes p.0.now p.1.now
 
--- Some bytes are the entry of a line, and a rest.
+-- Bytes that begin with the entry of a line; the other bytes are the rest.
 pub record IsEntry (bytes line rest : List ℕ) : Type 0 where
   pub bytes_are : bytes ≡ MARK ∷ line ++ NEWLINE ∷ rest
   pub in_line : IsLine line

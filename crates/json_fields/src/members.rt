@@ -37,7 +37,7 @@ pub fn has_only_keys(members: &Map<String, Value>, names: &[&str]) -> bool
     all_keys_among(members, names, &[])
 }
 
-/// Whether the keys of an object are all among some names and some more. Takes no memory.
+/// Whether each key of an object is among `names` or among `more`. Takes no memory.
 pub fn has_only_keys_of(members: &Map<String, Value>, names: &[&str], more: &[&str]) -> bool
     ensures { result ≡ only_keys (map (λ n. n.now) names.now ++ map (λ n. n.now) more.now) (members_view members.now.entries) }
 {

@@ -15,7 +15,7 @@ far_value (At d j) = node_value d.node
 far_value (Alone o) = value.Object o
 far_value (Proxy t) = value.Proxy t
 
--- the position of the far side in e, with the value v; none if the far side is not in e
+-- the value v with the position that the far side of a put has in e; none if the far side is not in e
 abbrev pub far_indexed : Far → Value → End → Option (ℕ × Value)
 far_indexed (At d j) v e = if same_end d e then Some (j, v) else None
 far_indexed (Alone o) v e = None

@@ -19,7 +19,7 @@ ghost use Rattle.links.specs.LegalSets.{AreKinds, AreOfKind, IsLegalSet, Kinds};
 ghost use Rattle.links.specs.Links.{In, Links, cut_value, end, no_links, put, without_nodes};
 ghost use Rattle.links.specs.Plans.{EditFits, IsPlanOfKind, MakesNoCycle, PlanFits, PlanMakesNoCycle, applied};
 
-/// No links are a legal set, of any kinds of features, without cycles.
+/// The empty set of links is legal, agrees with any kinds of features, and has no cycle.
 pub fn no_links_are_legal()
     ensures legal { IsLegalSet no_links }
     ensures kinds { (m : Kinds) → AreOfKind m no_links }
@@ -77,7 +77,7 @@ pub fn a_put_gives_each_end_and_holder()
     ensures { (s : Links) (e : End) (i : ℕ) (o : ObjectNo) (g c : Option FeatureNo) → IsLegalSet s → EditFits s (edit.Put e i o g c) → PutGives s e i o g c }
 {}
 
-/// A put that fits keeps a legal set legal, and its kinds. It makes no cycle if the containing node is neither the other node nor below it.
+/// A put that fits keeps a legal set legal, and its kinds. The put makes no cycle if the containing node is neither the other node nor below it.
 pub fn a_put_keeps_a_set_legal()
     ensures legal { (s : Links) (e : End) (i : ℕ) (o : ObjectNo) (g c : Option FeatureNo) → IsLegalSet s → EditFits s (edit.Put e i o g c) → IsLegalSet (put s e i o g c) }
     ensures kinds { (m : Kinds) → AreKinds m → (s : Links) (e : End) (i : ℕ) (o : ObjectNo) → AreOfKind m s → AreOfKind m (put s e i o (m.opposite e.feature) (m.container e.feature)) }

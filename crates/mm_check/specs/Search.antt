@@ -16,7 +16,7 @@ NoneBelow raw n = (l : Condition) (q : Place) → condition_number l < n → App
 abbrev pub NoneBefore : RawMetamodel → Condition → Type 0
 NoneBefore raw k = NoneBelow raw (condition_number k)
 
--- the least number of which P holds, or none if it holds of none
+-- the least number for which P holds; none if P holds for no number
 abbrev pub IsLeast : (ℕ → Type 0) → Option ℕ → Type 0
 IsLeast P found = MatchOption found ((i : ℕ) → P i → ⊥) (λ i. P i × HoldsOfNone P i)
 

@@ -15,8 +15,8 @@ use mm_types::{Class, ClassNo, Enumeration, Feature, FeatureNo, Kind, RawMeta, S
 use std::alloc::{AllocError, Global};
 use std::marker::Model;
 
-/// The greatest number of features of one name that a look-up goes through. If more features have a name, the feature of that name is kept
-/// for each class.
+/// The greatest number of features of one name that a look-up goes through. If more features have a name, a table has the feature
+/// of that name for each class.
 const FEW: usize = 8;
 
 /// A metamodel with its names resolved into numbers: always well-formed and within the limits. Classes
@@ -34,8 +34,8 @@ pub struct Meta {
     literal_tables: Vec<NameTable>,
     /// The names of all features, and for each name the features that have it.
     names: FeatureNames,
-    /// By the first feature of each name that many features have: the feature of that name, for each class. For any other feature there is
-    /// no list, or an empty one.
+    /// For each name that many features have, a list with the feature of that name for each class. The list is at the number of the first
+    /// feature of that name. For any other feature there is no list, or an empty one.
     common: Vec<Seq<Option<FeatureNo>>>,
     /// The default of a reference.
     null: Value,

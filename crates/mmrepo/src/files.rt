@@ -40,8 +40,8 @@ fn bytes_of(rt: &HostRuntime, asked: &Asked, path: &str) -> Result<Vec<u8>, Stop
     }
 }
 
-/// Why the resource of a file is not loaded or not saved. If that is asked for, with the explanation that a watch gives of the line that
-/// would do the same.
+/// Why the resource of a file is not loaded or not saved. With `--explain` the text has the explanation of the script line that would do
+/// the same.
 pub(crate) fn refused_form<L: LinkStore, A: Adapter>(
     rt: &HostRuntime,
     asked: &Asked,

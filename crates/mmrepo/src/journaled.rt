@@ -48,37 +48,42 @@ fn answer<D: Disk + Drop, A: Adapter>(
     Ok(run.outcome)
 }
 
-/// Runs the lines of the journal at a path again, and then answers the lines that come on standard input.
+/// The file of a journal, and the digest of the metamodel's document that its first line must have.
+#[derive(Clone, Copy)]
+struct JournalFile<'a> {
+    path: &'a str,
+    digest: &'a [u8],
+}
+
+/// Runs the lines of a journal again, and then answers the lines that come on standard input.
 fn answer_from<A: Adapter>(
     rt: &HostRuntime,
     asked: &Asked,
-    path: &str,
-    digest: &[u8],
+    file: JournalFile<'_>,
     session: &mut Journaled<SlotStore, A, Ear<'_>>,
     watch: Watching<'_>,
 ) -> Result<(), Stop> {
-    let head = head_of(rt.alloc(), digest)?;
-    let (disk, bytes) = match file_disk::open(rt, path) {
-        Ok(file) => file,
-        Err(fault) => return Err(explained_lock(rt, asked, path, fault)),
+    let head = head_of(rt.alloc(), file.digest)?;
+    let (disk, bytes) = match file_disk::open(rt, file.path) {
+        Ok(opened) => opened,
+        Err(fault) => return Err(explained_lock(rt, asked, file.path, fault)),
     };
     match answer(rt, head.as_slice(), disk, bytes, session, watch)? {
         Ok(()) => Ok(()),
-        Err(fault) => Err(explained_kept(rt, asked, path, fault)),
+        Err(fault) => Err(explained_kept(rt, asked, file.path, fault)),
     }
 }
 
-/// Runs the lines of the journal at a path again, answers the lines that come on standard input, and saves files. Returns whether a line
-/// was refused or bad.
+/// Runs the lines of a journal again, answers the lines that come on standard input, and saves files. Returns whether a line was refused or
+/// bad.
 fn run_session<A: Adapter>(
     rt: &HostRuntime,
     asked: &Asked,
-    path: &str,
-    digest: &[u8],
+    file: JournalFile<'_>,
     session: &mut Journaled<SlotStore, A, Ear<'_>>,
     watch: Watching<'_>,
 ) -> Result<bool, Stop> {
-    answer_from(rt, asked, path, digest, session, watch)?;
+    answer_from(rt, asked, file, session, watch)?;
     save_files(rt, asked, session.repository(), watch)?;
     Ok(session.is_faulty())
 }
@@ -95,5 +100,6 @@ pub(crate) fn run_journaled<A: Adapter>(
 ) -> Result<bool, Stop> {
     let meta = Box::into_inner(meta);
     let mut session = Journaled::new(rt.alloc(), meta, boxes, Ear::new(watch))?;
-    run_session(rt, asked, path, digest, &mut session, watch)
+    let file = JournalFile { path, digest };
+    run_session(rt, asked, file, &mut session, watch)
 }

@@ -6,7 +6,7 @@ use crate::stop::Stop;
 use crate::watched::Watching;
 use adapters::Adapter;
 use links::LinkStore;
-use mm_types::{Refused, ResourceNo, Text};
+use mm_types::{Read, Refused, ResourceNo, Text};
 use repository::Repository;
 use script_lines::Form;
 use script_streams::RunFault;
@@ -60,7 +60,7 @@ fn document_for<L: LinkStore, A: Adapter>(
     match repository.save(resource) {
         Ok(text) => Ok(text),
         Err(refused) => {
-            let form = Form::Save(resource);
+            let form = Form::Read(Read::Save(resource));
             let path = to.file.as_str();
             Err(refused_form(rt, asked, repository, watch, path, &form, refused)?)
         }

@@ -34,7 +34,7 @@ impl fmt::Display for JournalRefusal {
 /// Why the program stops before the end of the script.
 #[derive(Drop)]
 pub(crate) enum Stop {
-    /// The words are no arguments of the program, or ask for help.
+    /// The words are not valid arguments of the program, or they ask for help.
     Arguments(clap::Error),
     /// An argument is not UTF-8.
     NotUtf8,

@@ -1,4 +1,3 @@
-mod KeptNodeLemmas
 mod HeardLemmas
 mod ReplayLemmas
 mod ThereLemmas

@@ -1,6 +1,5 @@
 -- The ends of a node that exists before and after a command.
-use Rattle.std.proofs.Common.{◌≡◌, ◌&&◌, ◌||◌, ℕ, Bool, true, false, cond, IsTrue, List, [], ◌∷◌, map, Option, Some, None, Ok, Err, option_map, refl, sym, ap, ◌∙◌}
-use Rattle.std.specs.Prelude.{Result}
+use Rattle.std.proofs.Common.{◌≡◌, ◌&&◌, ◌||◌, Bool, true, false, cond, IsTrue, List, [], ◌∷◌, map, Option, Some, None, option_map, refl, sym, ap, ◌∙◌}
 use Rattle.std.specs.List.{list_any}
 use Rattle.std.specs.Option.{option_map_or}
 use Rattle.std.proofs.lemmas.Bool.{and_parts}
@@ -9,44 +8,34 @@ use Rattle.mm_types.specs.Same.{same_end, same_node}
 use Rattle.mm_types.specs.Shapes.{shape}
 use Rattle.mm_types.proofs.SameLemmas.{same_node-true}
 use Rattle.mm_types.specs.Resolved.{Metamodel}
-use Rattle.mm_types.specs.declared.document_fault.DocFault.{DocFault}
 use Rattle.mm_types.specs.declared.end.End.{End}
 use Rattle.mm_types.specs.declared.numbers.FeatureNo.{FeatureNo}
-use Rattle.mm_types.specs.declared.numbers.ResourceNo.{ResourceNo}
 use Rattle.mm_types.specs.declared.numbers.Node.{Node}
-use Rattle.mm_types.specs.declared.numbers.Node.TheVariants as node
 use Rattle.notice_chain.specs.Listed.{Above, Listed, brings_in, heard_of, hears}
 use Rattle.notice_chain.specs.Replay.{names, naming, replayed_all, replayed_each}
 use Rattle.notice_chain.specs.View.{View}
 use Rattle.notice_chain.specs.declared.notice.Notice.{Notice}
 use Rattle.notice_chain.specs.declared.target.Target.{Target}
 use Rattle.notice_chain.proofs.ReplayLemmas.{replayed_all-at}
-use Rattle.resource_docs.specs.declared.doc.Doc.{Doc}
-use Rattle.web_uris.specs.Joined.{joined}
 use Rattle.models.specs.Legal as models
 use Rattle.models.specs.Model.{Model, reading}
 use Rattle.models.specs.Reading.{Reading, all_features_of, at_end, held_at, is_within}
-use Rattle.models.specs.Existence.{node_refusal}
 use Rattle.handshake.specs.FeatureChange.{has_flag}
 use Rattle.handshake.specs.FeatureChanges as planned_chain
 use Rattle.handshake.specs.declared.change.Change.{Change}
-use Rattle.handshake.specs.declared.change.Change.TheVariants as change
 use Rattle.handshake.proofs.AllLemmas.{chain-replays}
-use Rattle.repository.specs.Loads.{load_of, load_refusal, reads_into}
-use Rattle.repository.specs.Refusals.{chain, change_of, early_refusal, late_refusal, resource_refusal}
+use Rattle.repository.specs.Refusals.{chain, change_of, early_refusal, late_refusal}
 use Rattle.mmrepo_lib.specs.Enough.{is_deep_of}
 use Rattle.repository.specs.State.{State, is_there, reads}
 use Rattle.repository.specs.Step.{model_after}
 use Rattle.repository.specs.declared.command.Command.{Command}
-use Rattle.repository.specs.declared.command.Command.TheVariants.{At, Create, Delete, CreateResource, Load, ResolveAll}
 use Rattle.mmrepo_lib.proofs.HeardLemmas.{AreOfNoFeature}
-use Rattle.repository.proofs.LoadLemmas.{text-read}
-use Rattle.repository.proofs.PlanLemmas.{uri-allowed}
 use Rattle.snapshots.specs.Replayed.{end_of}
 use Rattle.snapshots.specs.declared.snapshot.FeatureState.{FeatureState}
 use Rattle.snapshots.specs.declared.snapshot.NodeState.{NodeState}
 use Rattle.snapshots.specs.Snapshots.{class_at, feature_state, flag_of, node_state}
-use Rattle.mmrepo_lib.proofs.KeptNodeLemmas.{class-by, comes-none, features-by, goes-none, metamodel-by, model_by}
+use Rattle.repository.proofs.AllowedLemmas.{IsAllowed, change-allowed}
+use Rattle.repository.proofs.KeptNodeLemmas.{class-by, comes-by, features-by, goes-by, metamodel-by, model_by}
 use Rattle.snapshots.proofs.NodeLemmas.{feature_after, feature_after-flag, feature_after-plain, filter-filter, node_after, node_after-features, same_values-each}
 
 ---------------------------------------------------------------- one end
@@ -58,29 +47,20 @@ Replays s o d = replayed_all (has_flag s.metamodel) (held_at (reading s)) (optio
 abbrev IsThere : Model → Node → Type 0
 IsThere s n = IsTrue (is_there (reading s) n)
 
-resource-replays : (s : State) (t : List ℕ) (uri : Option (List ℕ)) → models.IsLegal s.model → resource_refusal (reads s) t uri ≡ None → (d : End) → Replays s.model (option_map change.NewResource uri) d
+-- of a change that is allowed, if there is one
+change-replays : (s : State) (o : Option Change) → models.IsLegal s.model → ((x : Change) → o ≡ Some x → IsAllowed s x)
+    → (d : End) → IsThere s.model d.node → IsThere (model_by s.model o) d.node → Replays s.model o d
 unfolding Replays
-resource-replays s t None legal late d = refl
-resource-replays s t (Some u) legal late d = chain-replays s.model (change.NewResource u) legal refl (uri-allowed (reads s) t u late) tt d refl refl
-
-load-replays : (s : State) (k : ResourceNo) (text : List ℕ) (read : Result Doc DocFault) → reads_into (reads s) k text ≡ read → models.IsLegal s.model → node_refusal (reads s) (node.Resource k) ≡ None → load_refusal (reads s) k read ≡ None
-    → (d : End) → IsThere s.model d.node → Replays s.model (load_of k read) d
-unfolding Replays
-load-replays s k text (Ok doc) is legal early late d before =
-    chain-replays s.model (change.Load k doc) legal early late (text-read (reads s) k text doc is) d refl (comes-none s.model k doc d.node before)
-load-replays s k text (Err f) is legal early late d before = refl
+change-replays s None legal allowed d before later = refl
+change-replays s (Some x) legal allowed d before later =
+    let a = allowed x refl in
+    chain-replays s.model x legal a.early a.late a.read d (goes-by s.model x d.node later) (comes-by s.model x d.node before)
 
 pub command-replays : (s : State) (c : Command View) → models.IsLegal s.model → early_refusal (reads s) s.adapters c ≡ None → late_refusal (reads s) s.adapters c ≡ None
     → (d : End) → IsThere s.model d.node → IsThere (model_after s.model c) d.node
     → replayed_all (has_flag s.model.metamodel) (held_at (reads s)) (chain (reads s) c) d ≡ held_at (reading (model_after s.model c)) d
 unfolding Replays
-command-replays s (At e a) legal early late d before later = chain-replays s.model (change.At e a) legal early late tt d refl refl
-command-replays s (Create c) legal early late d before later = chain-replays s.model (change.Create c) legal early late tt d refl refl
-command-replays s (Delete o) legal early late d before later = chain-replays s.model (change.Delete o) legal early late tt d (goes-none s.model o d.node later) refl
-command-replays s (CreateResource t) legal early late d before later = resource-replays s t (joined [] t) legal late d
-command-replays s (Load k text) legal early late d before later = load-replays s k text (reads_into (reads s) k text) refl legal early late d before
-command-replays s ResolveAll legal early late d before later = chain-replays s.model change.ResolveAll legal early late tt d refl refl
-command-replays s _ legal early late d before later = refl
+command-replays s c legal early late d before later = change-replays s (change_of (reads s) c) legal (λ x is. change-allowed s c x is early late) d before later
 
 ---------------------------------------------------------------- its notifications
 

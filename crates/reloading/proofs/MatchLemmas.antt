@@ -225,6 +225,7 @@ module _ (left : LeftProxy) where
 
   pub early-none : early_refusal (reading t) (At (at_end (node.Object p) f) (Resolve i)) ≡ None
   early-none = λ j.
-      (NoObject unless live j else_by
+      ((NoObject unless live j else_by
       NoResource unless true) else_by
-      NoFeature unless has j
+      NoFeature unless has j) else_by
+      None

@@ -24,8 +24,8 @@ is_lost r o e v = goes (gone r o) v && not (is_held_by r o e && same_value v (va
 abbrev pub loss : End → Value → ℕ → Loss
 loss e v k = record { end = e; value = v; position = k }
 
--- the losses among some values, each at the position that the value has after the lost values before it were taken out; k is the number of
--- values before that stay
+-- the losses of an end, for its values from some position on. Each lost value is taken out before the next loss, so its position is the
+-- number of earlier values that stay; k is that number for the first of these values
 abbrev pub lost_from : (Value → Bool) → End → List Value → ℕ → List Loss
 lost_from lost e [] k = []
 lost_from lost e (v ∷ vs) k = if lost v then loss e v k ∷ lost_from lost e vs k else lost_from lost e vs (suc k)

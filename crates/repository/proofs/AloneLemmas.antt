@@ -1,11 +1,12 @@
 -- Results on which adapters have no influence.
-use Rattle.std.proofs.Common.{◌≡◌, Bool, true, false, List, [], Option, Some, None, Ok, Err, refl, ap, sym, ◌∙◌}
+use Rattle.std.proofs.Common.{◌≡◌, Bool, true, false, List, [], Option, Some, None, Ok, refl, ap, ap₂, sym, subst, ◌∙◌}
+use Rattle.std.specs.Prelude.{MatchBool}
 use Rattle.mm_types.specs.Conditions.{◌where_so◌, ◌else_by◌}
 use Rattle.mm_types.specs.declared.refused.Refused.{Refused}
 use Rattle.notice_chain.specs.Listed.{Listed}
 use Rattle.notice_chain.specs.View.{View}
 use Rattle.repository.specs.Alone.{ComesBack, IsAloneToo, KeepsModel, is_change}
-use Rattle.repository.specs.Refusals.{early_refusal, late_refusal}
+use Rattle.repository.specs.Refusals.{early_refusal, full_refusal, late_refusal}
 use Rattle.repository.specs.State.{bare, State, reads}
 use Rattle.repository.specs.Step.{Stepped, adapters_after, done, refusal_of, refused, reply, step, step_unless}
 use Rattle.repository.specs.declared.command.Command.{Command}
@@ -27,35 +28,37 @@ both s c h k nobody = (
       ∙ sym (ap (λ (o : Option Refused). bare (step_unless s c o).after.model) h),
 )
 
+-- adapters have no influence on the refusals of a command, except for a full adapter, and without adapters it attaches none
+record HasNoInfluence (s : State) (c : Command View) : Type 0 where
+  pub early : early_refusal (reads s) s.adapters c ≡ early_refusal (reads s) [] c
+  pub late : late_refusal (reads s) s.adapters c ≡ late_refusal (reads s) [] c
+  pub nobody : adapters_after (reads s) [] c ≡ []
+
+-- they have no influence on a change, and any other command leaves the model
+abbrev ByKind : State → Command View → Bool → Type 0
+ByKind s c b = MatchBool b (HasNoInfluence s c) ((done s c).after.model ≡ s.model)
+
+by_kind : (s : State) (c : Command View) → ByKind s c (is_change c)
+by_kind s (command.Attach number target deep view) = refl
+by_kind s (command.Watch number target deep) = refl
+by_kind s (command.Unwatch number target) = refl
+by_kind s (command.Detach number) = refl
+by_kind s (command.Read q) = refl
+by_kind s _ = record { early = refl; late = refl; nobody = refl }
+
 pub alone_too : (s : State) (c : Command View) → IsAloneToo s c
-alone_too s (command.At e a) is h = both s (command.At e a) h (none_of (early_refusal (reads s) [] (command.At e a)) (late_refusal (reads s) [] (command.At e a)) _ _ h) refl
-alone_too s (command.Create c) is h = both s (command.Create c) h (none_of (early_refusal (reads s) [] (command.Create c)) (late_refusal (reads s) [] (command.Create c)) _ _ h) refl
-alone_too s (command.Delete o) is h = both s (command.Delete o) h (none_of (early_refusal (reads s) [] (command.Delete o)) (late_refusal (reads s) [] (command.Delete o)) _ _ h) refl
-alone_too s (command.CreateResource t) is h = both s (command.CreateResource t) h (none_of (early_refusal (reads s) [] (command.CreateResource t)) (late_refusal (reads s) [] (command.CreateResource t)) _ _ h) refl
-alone_too s (command.Load k text) is h = both s (command.Load k text) h (none_of (early_refusal (reads s) [] (command.Load k text)) (late_refusal (reads s) [] (command.Load k text)) _ _ h) refl
-alone_too s command.ResolveAll is h = both s command.ResolveAll h (none_of (early_refusal (reads s) [] command.ResolveAll) (late_refusal (reads s) [] command.ResolveAll) _ _ h) refl
-alone_too s (command.Attach number target deep view) is h = absurd (cc is)
-alone_too s (command.Watch number target deep) is h = absurd (cc is)
-alone_too s (command.Unwatch number target) is h = absurd (cc is)
-alone_too s (command.Detach number) is h = absurd (cc is)
-alone_too s (command.Read q) is h = absurd (cc is)
+alone_too s c is h =
+    let same : HasNoInfluence s c = subst (ByKind s c) is (by_kind s c) in
+    let free : (early_refusal (reads s) [] c else_by late_refusal (reads s) [] c else_by full_refusal (reads s) s.adapters c) ≡ None =
+    ap₂ (λ (x y : Option Refused). x else_by y else_by full_refusal (reads s) s.adapters c) (sym same.early) (sym same.late) ∙ h in
+    both s c h (none_of (early_refusal (reads s) [] c) (late_refusal (reads s) [] c) _ _ free) same.nobody
 
 kept : (s : State) (c : Command View) (o : Option Refused) → (done s c).after.model ≡ s.model → (step_unless s c o).after.model ≡ s.model
 kept s c (Some r) h = refl
 kept s c None h = h
 
 pub keeps_model : (s : State) (c : Command View) → KeepsModel s c
-keeps_model s (command.At e a) is = absurd (cc is)
-keeps_model s (command.Create c) is = absurd (cc is)
-keeps_model s (command.Delete o) is = absurd (cc is)
-keeps_model s (command.CreateResource t) is = absurd (cc is)
-keeps_model s (command.Load k text) is = absurd (cc is)
-keeps_model s command.ResolveAll is = absurd (cc is)
-keeps_model s (command.Attach number target deep view) is = kept s (command.Attach number target deep view) (refusal_of s (command.Attach number target deep view)) refl
-keeps_model s (command.Watch number target deep) is = kept s (command.Watch number target deep) (refusal_of s (command.Watch number target deep)) refl
-keeps_model s (command.Unwatch number target) is = kept s (command.Unwatch number target) (refusal_of s (command.Unwatch number target)) refl
-keeps_model s (command.Detach number) is = kept s (command.Detach number) (refusal_of s (command.Detach number)) refl
-keeps_model s (command.Read q) is = kept s (command.Read q) (refusal_of s (command.Read q)) refl
+keeps_model s c is = kept s c (refusal_of s c) (subst (ByKind s c) is (by_kind s c))
 
 again : (s : State) (c : Command View) (r : Reply View) (t : State) (o : Option Refused) → refusal_of s c ≡ o → is_change c ≡ true
     → (let y : Stepped = record { outcome = Ok r; after = t } in step s c ≡ y)

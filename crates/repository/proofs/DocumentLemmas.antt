@@ -12,8 +12,8 @@ use Rattle.models.specs.Legal.{is_short_text}
 use Rattle.repository.specs.Commands as commands
 use Rattle.repository.specs.State.{State, reads}
 use Rattle.repository.specs.Step.{Stepped, step}
-use Rattle.repository.specs.declared.read.Read.TheVariants.{ObjectAt, Of}
-use Rattle.repository.specs.declared.read.ObjectRead.TheVariants.{Fragment}
+use Rattle.mm_types.specs.declared.read.Read.TheVariants.{ObjectAt, Of}
+use Rattle.mm_types.specs.declared.read.ObjectRead.TheVariants.{Fragment}
 use Rattle.repository.specs.declared.reply.Answer.{Answer}
 use Rattle.repository.specs.declared.reply.Answer.TheVariants as answer
 use Rattle.repository.proofs.QuietLemmas.{read_done}

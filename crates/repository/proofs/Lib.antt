@@ -9,10 +9,12 @@ pub mod LoadLemmas
 pub mod PlanLemmas
 pub mod ValueLemmas
 pub mod LegalAdapterLemmas
+pub mod AllowedLemmas
 pub mod LegalLemmas
 pub mod ResourceLemmas
 pub mod DocumentLemmas
 pub mod ReadLemmas
+pub mod KeptNodeLemmas
 pub mod RunLemmas
 pub mod AloneLemmas
 pub mod RememberedLemmas

@@ -79,12 +79,16 @@ pub load_out_of_memory : (s : State) (k : ResourceNo) (text : List ℕ) → node
 unfolding loaded_as
 load_out_of_memory s k text there = record { may = ap not (loaded-not-plain s k (reads_into (reads s) k text) there); outcome = refl; state = refl }
 
+-- that a load is refused
+abbrev Refuses : State → ResourceNo → List ℕ → Refused → Type 0
+Refuses s k text r = Executed s (command.Load k text) (Err (record { refused = r; given_back = None })) s
+
 -- a fault is the answer if there is no other refusal
 pub load_faulty : (s : State) (k : ResourceNo) (text : List ℕ) (f : DocFault) (r : Refused) → node_refusal (reads s) (node.Resource k) ≡ None → reads_into (reads s) k text ≡ Err f → Some r ≡ load_refusal (reads s) k (Err f)
-    → Executed s (command.Load k text) (Err (record { refused = r; given_back = None })) s
+    → Refuses s k text r
 unfolding loaded_as
 load_faulty s k text f r there is answered =
-    elim (is_empty_resource (reads s) k) as (λ b. is_empty_resource (reads s) k ≡ b → Some r ≡ (NotEmpty unless b else_by Some (Document f)) → Executed s (command.Load k text) (Err (record { refused = r; given_back = None })) s) [
+    elim (is_empty_resource (reads s) k) as (λ b. is_empty_resource (reads s) k ≡ b → Some r ≡ (NotEmpty unless b else_by Some (Document f)) → Refuses s k text r) [
       | true ↦ λ empty said. as-said (Document f) refl (found (Document f) (rw empty refl)) (same_Some r (Document f) said)
       | false ↦ λ some said. as-said NotEmpty refl (found NotEmpty (rw some refl)) (same_Some r NotEmpty said)
     ] refl answered
@@ -92,5 +96,5 @@ load_faulty s k text f r there is answered =
     found : (q : Refused) → load_refusal (reads s) k (Err f) ≡ Some q → refusal_of s (command.Load k text) ≡ Some q
     found q h = ap (loaded_as s k) is ∙ rw (there, h) refl
 
-    as-said : (q : Refused) → is_memory_refusal q ≡ false → refusal_of s (command.Load k text) ≡ Some q → r ≡ q → Executed s (command.Load k text) (Err (record { refused = r; given_back = None })) s
-    as-said q other h same = subst (λ (x : Refused). Executed s (command.Load k text) (Err (record { refused = x; given_back = None })) s) (sym same) (rw other (ap (step_unless s (command.Load k text)) h))
+    as-said : (q : Refused) → is_memory_refusal q ≡ false → refusal_of s (command.Load k text) ≡ Some q → r ≡ q → Refuses s k text r
+    as-said q other h same = subst (Refuses s k text) (sym same) (rw other (ap (step_unless s (command.Load k text)) h))

@@ -1,5 +1,5 @@
 -- The step of a command, by its plan or the refusal of the plan.
-use Rattle.std.proofs.Common.{◌≡◌, inl, inr, Bool, true, false, not, IsTrue, List, [], ◌++◌, Option, Some, None, Ok, Err, if◌then◌else◌, refl, ap, sym, subst, ◌∙◌}
+use Rattle.std.proofs.Common.{◌≡◌, inl, inr, Bool, true, false, not, List, [], ◌++◌, Option, Some, None, Ok, Err, if◌then◌else◌, refl, ap, sym, subst, ◌∙◌}
 use Rattle.std.specs.Prelude.{MatchBool, Result, ◌&&◌, is_some, ℕ, option_map, IsFalse}
 use Rattle.std.specs.Option.{option_map_or}
 use Rattle.mm_types.specs.Conditions.{◌else_by◌, ◌unless◌, ◌where_so◌}
@@ -12,6 +12,7 @@ use Rattle.mm_types.specs.declared.numbers.Node.{Node}
 use Rattle.mm_types.specs.declared.numbers.Node.TheVariants as node
 use Rattle.mm_types.specs.declared.numbers.ResourceNo.{ResourceNo}
 use Rattle.mm_types.specs.Lookups as lookups
+use Rattle.mm_types.specs.Resolved.{Metamodel}
 use Rattle.mm_types.specs.Shapes.{shape}
 use Rattle.notice_chain.specs.Listed.{is_chain_full, tell_chain, told_list}
 use Rattle.notice_chain.specs.Released.{Released, released}
@@ -25,18 +26,20 @@ use Rattle.models.specs.Existence.{end_refusal, node_refusal, value_refusal}
 use Rattle.mm_types.specs.declared.end.End.{End}
 use Rattle.handshake.specs.Effects as effects
 use Rattle.change_plans.specs.Plans.{is_memory_refusal, looks_first}
-use Rattle.handshake.specs.Refusals.{early_refusal, late_refusal, many_refusal, uri_refusal}
+use Rattle.handshake.specs.Refusals.{early_refusal, kind_refusal, late_refusal, named_refusal, uri_refusal, value_of}
 use Rattle.handshake.specs.FeatureChanges.{chain}
 use Rattle.mm_types.specs.declared.document_fault.DocFault.{DocFault}
 use Rattle.resource_docs.specs.declared.doc.Doc.{Doc}
+use Rattle.handshake.specs.declared.act.Act.{Act}
+use Rattle.handshake.specs.declared.act.Act.TheVariants.{Set, Unset, Resolve}
 use Rattle.handshake.specs.declared.change.Change.{Change}
-use Rattle.handshake.specs.declared.change.Change.TheVariants.{At, Create, Delete, NewResource, Load, ResolveAll}
-use Rattle.handshake.specs.declared.act.Act.TheVariants.{Set, Unset, Add, Remove, RemoveValue, Move, Resolve}
+use Rattle.handshake.specs.declared.change.Change.TheVariants.{At, Create, Delete, NewResource, Load}
 use Rattle.repository.specs.Answers.{answer_of}
+use Rattle.repository.specs.declared.command.Command.{Command}
 use Rattle.repository.specs.declared.command.Command.TheVariants as command
 use Rattle.repository.specs.declared.reply.Answer.{Answer}
 use Rattle.repository.specs.declared.reply.Answer.TheVariants as answer
-use Rattle.repository.specs.Run.{Executed, is_plain, may_want_memory}
+use Rattle.repository.specs.Run.{Executed, is_plain}
 use Rattle.repository.specs.State.{State, reads}
 use Rattle.repository.specs.Step.{Stepped, done, refusal_of, step, step_unless}
 use Rattle.repository.specs.Views.{command_of}
@@ -46,6 +49,7 @@ use Rattle.web_uris.proofs.JoinFacts.{joined-web}
 use Rattle.repository.specs.Leaving.{going_with}
 use Rattle.repository.specs.Loads.{load_of, load_refusal, objects_of}
 use Rattle.repository.specs.Proper.{IsProper}
+use Rattle.repository.specs.Refusals as of_command
 use Rattle.repository.specs.Refusals.{IsPlanRefusal, resource_refusal}
 use Rattle.handshake.proofs.KnownLemmas.{none-else_by, none-unless}
 use Rattle.change_plans.proofs.RefusalLemmas.{IsNot, late-not, late-refused, later-not, unless-not, where-not}
@@ -97,8 +101,7 @@ unfolding full asked_of loaded_as
 refusal-planned s text (NewResource u) web early =
     ap (asked_of s u) (joined-web [] u web) ∙ ap (λ (o : Option Refused). o else_by full s (NewResource u)) (uri-refused (reads s) u)
 refusal-planned s text (Load k doc) proper early = ap (loaded_as s k) proper.0 ∙ rw early refl
-refusal-planned s text ResolveAll brought early = refl
-refusal-planned s text _ brought early = rw early refl
+refusal-planned s text c brought early = ap (λ (o : Option Refused). o else_by late_refusal (reads s) c else_by full s c) early
 
 -- if two conditions give none of these refusals, both one after the other give none
 ---------------------------------------------------------------- what is found first is not out of memory
@@ -115,17 +118,18 @@ end-not-memory r e = later-not no_memory _ _ (node-not-memory r e.node) (unless-
 value-not-memory : (r : Reading) (e : End) (v : Value) → IsNot no_memory (value_refusal r e v)
 value-not-memory r e v = later-not no_memory _ _ (unless-not no_memory NoObject (is_node_live r e.node && is_value_live r v) refl) (end-not-memory r e)
 
-many-not-memory : (r : Reading) (f : FeatureNo) (o : Option Refused) → IsNot no_memory o → IsNot no_memory (o else_by many_refusal r.metamodel f)
-many-not-memory r f o h = later-not no_memory _ _ h (where-not no_memory NotMany (shape r.metamodel f).is_single refl)
+named-not-memory : (r : Reading) (e : End) (q : Option Value) → IsNot no_memory (option_map_or (value_refusal r e) q (end_refusal r e))
+named-not-memory r e None = end-not-memory r e
+named-not-memory r e (Some v) = value-not-memory r e v
+
+kind-not-memory : (m : Metamodel) (f : FeatureNo) (a : Act) → IsNot no_memory (kind_refusal m f a)
+kind-not-memory m f (Set v) = unless-not no_memory NotSingle (shape m f).is_single refl
+kind-not-memory m f Unset = refl
+kind-not-memory m f (Resolve i) = refl
+kind-not-memory m f _ = where-not no_memory NotMany (shape m f).is_single refl
 
 early-not-memory : (r : Reading) (c : Change) → IsNot no_memory (early_refusal r c)
-early-not-memory r (At e (Set v)) = later-not no_memory _ _ (value-not-memory r e v) (unless-not no_memory NotSingle (shape r.metamodel e.feature).is_single refl)
-early-not-memory r (At e Unset) = end-not-memory r e
-early-not-memory r (At e (Add v i)) = many-not-memory r e.feature (value_refusal r e v) (value-not-memory r e v)
-early-not-memory r (At e (Remove i)) = many-not-memory r e.feature (end_refusal r e) (end-not-memory r e)
-early-not-memory r (At e (RemoveValue v)) = many-not-memory r e.feature (value_refusal r e v) (value-not-memory r e v)
-early-not-memory r (At e (Move to from)) = many-not-memory r e.feature (end_refusal r e) (end-not-memory r e)
-early-not-memory r (At e (Resolve i)) = end-not-memory r e
+early-not-memory r (At e a) = later-not no_memory (named_refusal r e a) (kind_refusal r.metamodel e.feature a) (named-not-memory r e (value_of a)) (kind-not-memory r.metamodel e.feature a)
 early-not-memory r (Create c) = later-not no_memory _ _ (unless-not no_memory NoClass (is_some (lookups.class r.metamodel c)) refl) (unless-not no_memory Abstract (lookups.is_concrete r.metamodel c) refl)
 early-not-memory r (Delete o) = node-not-memory r (node.Object o)
 early-not-memory r (Load k doc) = node-not-memory r (node.Resource k)
@@ -145,10 +149,6 @@ not-plain s text c brought early =
     ap (λ (o : Option Refused). not (option_map_or is_plain o false)) (refusal-planned s text c brought early)
     ∙ ap not (later-not is_plain (late_refusal (reads s) c) (full s c) (late-not-plain (reads s) c) (full-not-plain s c))
 
-may-want : (s : State) (text : List ℕ) (c : Change) → IsProper (reads s) text c → early_refusal (reads s) c ≡ None → IsTrue (may_want_memory s (command_of text c))
-may-want s text (At e a) brought early = not-plain s text (At e a) brought early
-may-want s text c brought early = not-plain s text c brought early
-
 ---------------------------------------------------------------- what is executed
 
 refused_as : (s : State) (text : List ℕ) (c : Change) (r : Refused) → is_memory_refusal r ≡ false → refusal_of s (command_of text c) ≡ Some r → Executed s (command_of text c) (Err (record { refused = r; given_back = None })) s
@@ -158,15 +158,16 @@ refused_as s text c r other found = rw other (ap (step_unless s (command_of text
 -- the refusal that is found first
 found-first : (s : State) (text : List ℕ) (c : Change) (r : Refused) → early_refusal (reads s) c ≡ Some r → refusal_of s (command_of text c) ≡ Some r
 found-first s text (NewResource u) r e = absurd (none-some r e)
-found-first s text ResolveAll r e = absurd (none-some r e)
-found-first s text _ r e = rw e refl
+found-first s text c r e =
+    let d : Command View = command_of text c in
+    ap (λ (o : Option Refused). o else_by of_command.late_refusal (reads s) s.adapters d else_by of_command.full_refusal (reads s) s.adapters d) e
 
 pub early_err : (s : State) (text : List ℕ) (c : Change) (r : Refused) → early_refusal (reads s) c ≡ Some r → Executed s (command_of text c) (Err (record { refused = r; given_back = None })) s
 early_err s text c r e = refused_as s text c r (subst (IsNot no_memory) e (early-not-memory (reads s) c)) (found-first s text c r e)
 
 pub out_of_memory : (s : State) (text : List ℕ) (c : Change) → IsProper (reads s) text c → early_refusal (reads s) c ≡ None → Executed s (command_of text c) (Err (record { refused = Memory; given_back = None })) s
-out_of_memory s text (At e a) brought early = record { may = may-want s text (At e a) brought early; outcome = refl; state = refl }
-out_of_memory s text c brought early = record { may = may-want s text c brought early; outcome = refl; state = refl }
+out_of_memory s text (At e a) brought early = record { may = not-plain s text (At e a) brought early; outcome = refl; state = refl }
+out_of_memory s text c brought early = record { may = not-plain s text c brought early; outcome = refl; state = refl }
 
 -- the refusal that planning returns in place of a plan is one of these
 pub plan_refusal : (s : Model) (c : Change) (r : Refused) → (IsFalse (is_memory_refusal r && looks_first c) → late_refusal (reading s) c ≡ (if is_memory_refusal r then None else Some r)) → IsPlanRefusal s c r

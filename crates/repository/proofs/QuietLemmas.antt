@@ -22,12 +22,12 @@ use Rattle.repository.specs.State.{State, reads}
 use Rattle.repository.specs.Step.{Stepped, step, step_unless}
 use Rattle.repository.specs.declared.command.Command.{Command}
 use Rattle.repository.specs.declared.command.Command.TheVariants as command
-use Rattle.repository.specs.declared.read.Read.{Read}
-use Rattle.repository.specs.declared.read.Read.TheVariants.{Adapter, At, Of, Save, Under}
-use Rattle.repository.specs.declared.read.EndRead.TheVariants.{Get, IsSet}
-use Rattle.repository.specs.declared.read.ObjectRead.TheVariants.{Class, Container, Resource, Validate}
-use Rattle.repository.specs.declared.read.NodeRead.TheVariants.{Contents, Snapshot}
-use Rattle.repository.specs.declared.read.Tally.TheVariants.{Kept, Told}
+use Rattle.mm_types.specs.declared.read.Read.{Read}
+use Rattle.mm_types.specs.declared.read.Read.TheVariants.{Adapter, At, Of, Save, Under}
+use Rattle.mm_types.specs.declared.read.EndRead.TheVariants.{Get, IsSet}
+use Rattle.mm_types.specs.declared.read.ObjectRead.TheVariants.{Class, Container, Resource, Validate}
+use Rattle.mm_types.specs.declared.read.NodeRead.TheVariants.{Contents, Snapshot}
+use Rattle.mm_types.specs.declared.read.Tally.TheVariants.{Kept, Told}
 use Rattle.repository.specs.declared.reply.Answer.{Answer}
 use Rattle.repository.proofs.AdapterLemmas.{is_chain_full-nil, tell_chain-nil}
 

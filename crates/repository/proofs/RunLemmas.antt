@@ -1,25 +1,17 @@
 -- A run, one command at a time.
-use Rattle.std.proofs.Common.{◌≡◌, Bool, true, false, List, [], ◌∷◌, ◌++◌, Option, Some, None, Ok, Err, refl, sym, ap, subst, ◌∙◌, if◌then◌else◌, ℕ, option_map}
-use Rattle.std.specs.Prelude.{MatchBool, Result}
+use Rattle.std.proofs.Common.{◌≡◌, Bool, true, false, List, [], ◌∷◌, ◌++◌, Option, Some, None, Ok, Err, refl, sym, ap, subst, ◌∙◌, if◌then◌else◌}
+use Rattle.std.specs.Prelude.{MatchBool}
 use Rattle.repository.specs.declared.command.Command.{Command}
-use Rattle.repository.specs.declared.command.Command.TheVariants.{CreateResource, Load}
 use Rattle.repository.specs.State.{State, reads}
-use Rattle.repository.specs.Loads.{load_of, reads_into}
-use Rattle.mm_types.specs.declared.document_fault.DocFault.{DocFault}
-use Rattle.mm_types.specs.declared.numbers.ResourceNo.{ResourceNo}
-use Rattle.models.specs.Model.{Model}
-use Rattle.resource_docs.specs.declared.doc.Doc.{Doc}
 use Rattle.notice_chain.specs.View.{View}
 use Rattle.repository.specs.Views.{Outcome, brought}
 use Rattle.repository.specs.declared.reply.Failure.{Failure}
 use Rattle.mm_types.specs.declared.refused.Refused.{Refused}
 use Rattle.change_plans.specs.Plans.{is_memory_refusal}
+use Rattle.repository.specs.Refusals.{change_of}
 use Rattle.repository.specs.Step.{Stepped, done, refusal_of, step, step_unless}
+use Rattle.repository.proofs.KeptNodeLemmas.{metamodel-by}
 use Rattle.repository.specs.Run.{AllExecuted, Executed, IsRun, IsWanting, Ran, commands_kept, is_memory, outcomes_kept, run}
-use Rattle.handshake.specs.declared.change.Change.TheVariants.{NewResource}
-use Rattle.std.specs.Option.{option_map_or}
-use Rattle.web_uris.specs.Joined.{joined}
-use Rattle.handshake.specs.Effects as effects
 
 pub AllExecuted-push : (cs : List (Command View)) (os : List Outcome) (s t u : State) (c : Command View) (o : Outcome) → AllExecuted s cs os t → Executed t c o u → AllExecuted s (cs ++ (c ∷ [])) (os ++ (o ∷ [])) u
 AllExecuted-push [] [] s t u c o h x = (u, subst (λ (q : State). Executed q c o u) (sym h) x, refl)
@@ -51,19 +43,9 @@ run-executed (c ∷ cs) (o ∷ os) s t h =
     ] in
     go (is_memory o) refl
 
-resource-metamodel : (s : State) (uri : Option (List ℕ)) → (option_map_or (effects.after s.model) (option_map NewResource uri) s.model).metamodel ≡ s.model.metamodel
-resource-metamodel s None = refl
-resource-metamodel s (Some u) = refl
-
-load-metamodel : (s : Model) (k : ResourceNo) (read : Result Doc DocFault) → (option_map_or (effects.after s) (load_of k read) s).metamodel ≡ s.metamodel
-load-metamodel s k (Ok doc) = refl
-load-metamodel s k (Err f) = refl
-
 -- no command edits the metamodel
 done-metamodel : (s : State) (c : Command View) → (done s c).after.model.metamodel ≡ s.model.metamodel
-done-metamodel s (CreateResource t) = resource-metamodel s (joined [] t)
-done-metamodel s (Load k text) = load-metamodel s.model k (reads_into (reads s) k text)
-done-metamodel s _ = refl
+done-metamodel s c = metamodel-by s.model (change_of (reads s) c)
 
 step-metamodel : (s : State) (c : Command View) → (step s c).after.model.metamodel ≡ s.model.metamodel
 step-metamodel s c = elim (refusal_of s c) as (λ r. (step_unless s c r).after.model.metamodel ≡ s.model.metamodel) [ Some r ↦ refl | None ↦ done-metamodel s c ]

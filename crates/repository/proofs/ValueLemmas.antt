@@ -1,8 +1,8 @@
 -- A change that edits only values, and a change that notifies no adapter: neither destroys a target.
-use Rattle.std.proofs.Common.{◌≡◌, ◌∙◌, ◌++◌, Bool, true, false, ℕ, List, [], length, nat_lt, Option, None, append-nil, if◌then◌else◌, sym, ap, subst}
+use Rattle.std.proofs.Common.{◌≡◌, ◌∙◌, ◌++◌, ◌||◌, Bool, true, false, not, ℕ, List, [], length, nat_lt, Option, None, append-nil, if◌then◌else◌, refl, sym, ap, subst}
 use Rattle.std.specs.Option.{option_map_or}
 use Rattle.std.specs.Prelude.{Ok, unwrap_or}
-use Rattle.std.proofs.lemmas.Bool.{false≢true}
+use Rattle.std.proofs.lemmas.Bool.{and_parts, false≢true, not-true}
 use Rattle.mm_types.specs.declared.numbers.AdapterNo.{AdapterNo}
 use Rattle.links.specs.declared.plan.Edit.{Edit}
 use Rattle.mm_values.specs.declared.edit.ValueEdit.{ValueEdit}
@@ -18,12 +18,11 @@ use Rattle.change_plans.proofs.ValueLemmas.{IsPlain, is-plain, is-plain-link}
 use Rattle.change_plans.specs.Plans.{IsPlanOf, of_links, of_values}
 use Rattle.change_plans.specs.declared.planned.Planned.{Planned}
 use Rattle.handshake.specs.Effects.{after}
-use Rattle.handshake.specs.Changes.{edits_links_alone, edits_values_alone}
+use Rattle.handshake.specs.Changes.{edits_links_alone, edits_one_kind, edits_values_alone, is_at_reference}
 use Rattle.handshake.specs.Refusals.{early_refusal, late_refusal}
-use Rattle.handshake.specs.FeatureChanges.{chain, destroyed_by}
+use Rattle.handshake.specs.FeatureChanges.{chain, destroyed_by, resolves_one}
 use Rattle.handshake.specs.declared.change.Change.{Change}
 use Rattle.handshake.specs.declared.change.Change.TheVariants.{At, Create}
-use Rattle.handshake.specs.declared.act.Act.TheVariants.{Resolve}
 use Rattle.repository.specs.Answers.{IsEarlyAnswer, answer_of, is_answered_late}
 use Rattle.repository.specs.Leaving.{going_with}
 use Rattle.repository.specs.Prepared.{IsReady, TellsAll}
@@ -36,18 +35,21 @@ use Rattle.repository.proofs.AdapterLemmas.{heard-tells, heard_where_attached, i
 use Rattle.repository.proofs.PlanLemmas.{changed_to}
 
 -- the change is answered before it is planned
+answered-early : (c : Change) → edits_one_kind c ≡ true → is_answered_late c ≡ false
+answered-early (Create k) h = refl
+answered-early (At e a) h = ap (λ (b : Bool). b || false) (not-true (resolves_one (At e a)) h)
+answered-early _ h = absurd (false≢true h)
+
+whole : (c : Change) (x : Answer) (q : Option Answer) (d : Answer) → edits_one_kind c ≡ true → IsEarlyAnswer (is_answered_late c) x q → unwrap_or q d ≡ x
+whole c x q d h is = ap (λ (y : Option Answer). unwrap_or y d) (subst (λ (b : Bool). IsEarlyAnswer b x q) (answered-early c h) is)
+
 pub early-whole : (r : Reading) (rs : List Listed) (text : List ℕ) (c : Change) (q : Option Answer) (d : Answer) → edits_values_alone r.metamodel c ≡ true
     → IsEarlyAnswer (is_answered_late c) (answer_of r rs (command_of text c)) q → unwrap_or q d ≡ answer_of r rs (command_of text c)
-early-whole r rs text (At e (Resolve i)) q d h is = absurd (false≢true h)
-early-whole r rs text (At e a) q d h is = ap (λ (x : Option Answer). unwrap_or x d) is
-early-whole r rs text (Create k) q d h is = ap (λ (x : Option Answer). unwrap_or x d) is
-early-whole r rs text _ q d h is = absurd (false≢true h)
+early-whole r rs text c q d h is = whole c (answer_of r rs (command_of text c)) q d (and_parts (edits_one_kind c) (not (is_at_reference r.metamodel c)) h).0 is
 
 pub early-whole-link : (r : Reading) (rs : List Listed) (text : List ℕ) (c : Change) (q : Option Answer) (d : Answer) → edits_links_alone r.metamodel c ≡ true
     → IsEarlyAnswer (is_answered_late c) (answer_of r rs (command_of text c)) q → unwrap_or q d ≡ answer_of r rs (command_of text c)
-early-whole-link r rs text (At e (Resolve i)) q d h is = absurd (false≢true h)
-early-whole-link r rs text (At e a) q d h is = ap (λ (x : Option Answer). unwrap_or x d) is
-early-whole-link r rs text _ q d h is = absurd (false≢true h)
+early-whole-link r rs text c q d h is = whole c (answer_of r rs (command_of text c)) q d (and_parts (edits_one_kind c) (is_at_reference r.metamodel c) h).0 is
 
 -- its result, for a reply and a state that are known by their parts
 pub changed-unheard : (s t : State) (text : List ℕ) (c : Change) (a : Answer) (told : List (AdapterNo × Notice)) (views : List (AdapterNo × View)) → IsUnheard (reads s).above (chain (reads s) c) s.adapters → destroyed_by c ≡ None → told ≡ [] → views ≡ [] → IsProper (reads s) text c → early_refusal (reads s) c ≡ None → late_refusal (reads s) c ≡ None

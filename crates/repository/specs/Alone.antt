@@ -10,17 +10,12 @@ use Rattle.repository.specs.declared.reply.Reply.{Reply}
 
 -- whether a command asks for a change of the model
 abbrev pub is_change : Command View → Bool
-is_change (command.At e a) = true
-is_change (command.Create c) = true
-is_change (command.Delete o) = true
-is_change (command.CreateResource t) = true
-is_change (command.Load k text) = true
-is_change command.ResolveAll = true
 is_change (command.Attach number target deep view) = false
 is_change (command.Watch number target deep) = false
 is_change (command.Unwatch number target) = false
 is_change (command.Detach number) = false
 is_change (command.Read q) = false
+is_change _ = true
 
 -- a change that is not refused is not refused without adapters either, and leaves the same model
 abbrev pub IsAloneToo : State → Command View → Type 0

@@ -1,5 +1,5 @@
 -- The answers of commands that are not refused.
-use Rattle.std.specs.Prelude.{◌≡◌, ℕ, ◌&&◌, ◌||◌, Bool, List, filter, length, not, pos, int_le, int_lt, Option, Some, None, unwrap_or, if◌then◌else◌, [], true, false}
+use Rattle.std.specs.Prelude.{◌≡◌, ℕ, ◌&&◌, ◌||◌, Bool, List, filter, length, not, pos, int_le, int_lt, Option, Some, None, is_some, unwrap_or, if◌then◌else◌, [], true, false}
 use Rattle.std.specs.Option.{option_map_or}
 use Rattle.mm_types.specs.declared.numbers.AdapterNo.{AdapterNo}
 use Rattle.notice_chain.specs.View.{View}
@@ -13,12 +13,12 @@ use Rattle.containment.specs.Above.{resource_of}
 use Rattle.containment.specs.Forest.{container, contents, subtree}
 use Rattle.repository.specs.declared.command.Command.{Command}
 use Rattle.repository.specs.declared.command.Command.TheVariants as command
-use Rattle.repository.specs.declared.read.Read.{Read}
-use Rattle.repository.specs.declared.read.Read.TheVariants as asks
-use Rattle.repository.specs.declared.read.EndRead.TheVariants.{Get, IsSet}
-use Rattle.repository.specs.declared.read.ObjectRead.TheVariants.{Class, Container, Resource, Validate, Fragment}
-use Rattle.repository.specs.declared.read.NodeRead.TheVariants.{Contents, Snapshot}
-use Rattle.repository.specs.declared.read.Tally.TheVariants.{Told, Kept}
+use Rattle.mm_types.specs.declared.read.Read.{Read}
+use Rattle.mm_types.specs.declared.read.Read.TheVariants as asks
+use Rattle.mm_types.specs.declared.read.EndRead.TheVariants.{Get, IsSet}
+use Rattle.mm_types.specs.declared.read.ObjectRead.TheVariants.{Class, Container, Resource, Validate, Fragment}
+use Rattle.mm_types.specs.declared.read.NodeRead.TheVariants.{Contents, Snapshot}
+use Rattle.mm_types.specs.declared.read.Tally.TheVariants.{Told, Kept}
 use Rattle.handshake.specs.declared.act.Act.{Act}
 use Rattle.handshake.specs.declared.act.Act.TheVariants as act
 use Rattle.repository.specs.declared.reply.Answer.{Answer}
@@ -37,7 +37,7 @@ use Rattle.proxies.specs.Resolving.{target_at}
 use Rattle.proxies.specs.ResolvingAll.{done, left}
 use Rattle.removal.specs.declared.gone.Removal.{Removal}
 use Rattle.handshake.specs.declared.change.Change.{Change}
-use Rattle.handshake.specs.declared.change.Change.TheVariants as change
+use Rattle.handshake.specs.FeatureChanges.{destroyed_by, resolves_all, resolves_one}
 use Rattle.proxies.specs.declared.resolved.Resolved.{Resolved}
 use Rattle.proxies.specs.declared.target.Target.{Target}
 
@@ -72,13 +72,12 @@ short_features r o = filter (λ f. is_too_few r (at_end (node.Object o) f)) (all
 -- `add` gives whether the list changed, `remove` and `move` the value, `remove_value` whether the value was there, and `resolve` the object
 -- that the proxy finds
 abbrev pub act_answer : Reading → End → Act → Answer
-act_answer r e (act.Set v) = answer.Done
-act_answer r e act.Unset = answer.Done
 act_answer r e (act.Add v i) = answer.Flag (not (is_repeat r e v))
 act_answer r e (act.Remove i) = answer.Value (value_in (r.values e) i)
 act_answer r e (act.RemoveValue v) = answer.Flag (has_value (r.values e) v)
 act_answer r e (act.Move to from) = answer.Value (value_in (r.values e) from)
 act_answer r e (act.Resolve i) = answer.Object (option_map_or (λ x. x.object) (target_at r e i) (record { 0 = 0 }))
+act_answer r e _ = answer.Done
 
 abbrev pub read_answer : Reading → List Listed → Read → Answer
 read_answer r rs (asks.At e Get) = got_answer (got r e)
@@ -103,19 +102,15 @@ answer_of r rs (command.Delete o) = answer.Destroyed (length (subtree r o))
 answer_of r rs (command.CreateResource t) = answer.Resource (record { 0 = length r.uris })
 answer_of r rs (command.Load k text) = answer.Loaded (objects_of (reads_into r k text))
 answer_of r rs command.ResolveAll = answer.Resolved (done r) (left r)
-answer_of r rs (command.Attach number target deep view) = answer.Done
 answer_of r rs (command.Watch number target deep) = answer.Flag (not (is_target number target rs))
 answer_of r rs (command.Unwatch number target) = answer.Flag (is_target number target rs)
-answer_of r rs (command.Detach number) = answer.Done
 answer_of r rs (command.Read q) = read_answer r rs q
+answer_of r rs _ = answer.Done
 
 -- whether the answer of a change is known only when it is planned: how many objects a deletion destroys, which object a proxy finds, how
 -- many proxies are resolved
 abbrev pub is_answered_late : Change → Bool
-is_answered_late (change.Delete o) = true
-is_answered_late (change.At e (act.Resolve i)) = true
-is_answered_late change.ResolveAll = true
-is_answered_late _ = false
+is_answered_late c = is_some (destroyed_by c) || resolves_one c || resolves_all c
 
 abbrev pub IsEarlyAnswer : Bool → Answer → Option Answer → Type 0
 IsEarlyAnswer false a q = q ≡ Some a

@@ -11,11 +11,11 @@ use Rattle.models.specs.Reading.{at_end}
 use Rattle.handshake.specs.declared.act.Act.TheVariants as act
 use Rattle.repository.specs.declared.command.Command.{Command}
 use Rattle.repository.specs.declared.command.Command.TheVariants as command
-use Rattle.repository.specs.declared.read.Read.TheVariants as asks
-use Rattle.repository.specs.declared.read.EndRead.TheVariants as end
-use Rattle.repository.specs.declared.read.ObjectRead.TheVariants as object
-use Rattle.repository.specs.declared.read.NodeRead.TheVariants as below
-use Rattle.repository.specs.declared.read.Tally.TheVariants as tally
+use Rattle.mm_types.specs.declared.read.Read.TheVariants as asks
+use Rattle.mm_types.specs.declared.read.EndRead.TheVariants as end
+use Rattle.mm_types.specs.declared.read.ObjectRead.TheVariants as object
+use Rattle.mm_types.specs.declared.read.NodeRead.TheVariants as below
+use Rattle.mm_types.specs.declared.read.Tally.TheVariants as tally
 
 ---------------------------------------------------------------- changes of what a feature has
 

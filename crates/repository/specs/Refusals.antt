@@ -21,9 +21,9 @@ use Rattle.handshake.specs.declared.change.Change.TheVariants as change
 use Rattle.repository.specs.Loads.{load_of, load_refusal, reads_into}
 use Rattle.repository.specs.declared.command.Command.{Command}
 use Rattle.repository.specs.declared.command.Command.TheVariants as command
-use Rattle.repository.specs.declared.read.Read.{Read}
-use Rattle.repository.specs.declared.read.Read.TheVariants as asks
-use Rattle.repository.specs.declared.read.ObjectRead.TheVariants.{Fragment}
+use Rattle.mm_types.specs.declared.read.Read.{Read}
+use Rattle.mm_types.specs.declared.read.Read.TheVariants as asks
+use Rattle.mm_types.specs.declared.read.ObjectRead.TheVariants.{Fragment}
 use Rattle.mm_types.specs.declared.limits.TheConstants.{RESOURCES}
 use Rattle.web_uris.specs.Joined.{joined}
 use Rattle.models.specs.Legal.{is_short_text}
@@ -56,20 +56,18 @@ early_read_refusal r rs (asks.At e q) = end_refusal r e
 early_read_refusal r rs (asks.Of o q) = object_refusal r o
 early_read_refusal r rs (asks.Under n q) = node_refusal r n
 early_read_refusal r rs (asks.Save k) = node_refusal r (node.Resource k)
-early_read_refusal r rs (asks.ObjectAt t) = None
 early_read_refusal r rs (asks.Adapter number q) = adapter_refusal rs number
+early_read_refusal r rs _ = None
 
 abbrev pub early_refusal : Reading → List Listed → Command View → Option Refused
-early_refusal r rs (command.At e a) = planned.early_refusal r (change.At e a)
-early_refusal r rs (command.Create c) = planned.early_refusal r (change.Create c)
-early_refusal r rs (command.Delete o) = planned.early_refusal r (change.Delete o)
+early_refusal r rs (command.CreateResource t) = None
 early_refusal r rs (command.Load k text) = node_refusal r (node.Resource k)
 early_refusal r rs (command.Attach number target deep view) = node_refusal r target
 early_refusal r rs (command.Watch number target deep) = node_refusal r target
 early_refusal r rs (command.Unwatch number target) = node_refusal r target else_by adapter_refusal rs number
 early_refusal r rs (command.Detach number) = adapter_refusal rs number
 early_refusal r rs (command.Read q) = early_read_refusal r rs q
-early_refusal r rs _ = None
+early_refusal r rs c = option_map_or (planned.early_refusal r) (change_of r c) None
 
 ---------------------------------------------------------------- what is found later
 
@@ -90,14 +88,12 @@ late_read_refusal r _ = None
 
 -- the refusals that planning finds, and those that the list of adapters finds
 abbrev pub late_refusal : Reading → List Listed → Command View → Option Refused
-late_refusal r rs (command.At e a) = planned.late_refusal r (change.At e a)
-late_refusal r rs (command.Create c) = planned.late_refusal r (change.Create c)
 late_refusal r rs (command.CreateResource t) = resource_refusal r t (joined [] t)
 late_refusal r rs (command.Load k text) = load_refusal r k (reads_into r k text)
 late_refusal r rs (command.Attach number target deep view) = attach_refusal rs number view
 late_refusal r rs (command.Watch number target deep) = watch_refusal rs number target
 late_refusal r rs (command.Read q) = late_read_refusal r q
-late_refusal r rs _ = None
+late_refusal r rs c = option_map_or (planned.late_refusal r) (change_of r c) None
 
 -- an adapter that the command notifies can't count its notifications
 abbrev pub full_refusal : Reading → List Listed → Command View → Option Refused

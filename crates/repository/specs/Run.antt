@@ -6,10 +6,10 @@ use Rattle.mm_types.specs.declared.refused.Refused.TheVariants.{NoObject, NoReso
 use Rattle.notice_chain.specs.View.{View}
 use Rattle.repository.specs.declared.command.Command.{Command}
 use Rattle.repository.specs.declared.command.Command.TheVariants as command
-use Rattle.repository.specs.declared.read.Read.{Read}
-use Rattle.repository.specs.declared.read.Read.TheVariants as asks
-use Rattle.repository.specs.declared.read.EndRead.TheVariants.{IsSet}
-use Rattle.repository.specs.declared.read.ObjectRead.TheVariants.{Class, Container, Resource}
+use Rattle.mm_types.specs.declared.read.Read.{Read}
+use Rattle.mm_types.specs.declared.read.Read.TheVariants as asks
+use Rattle.mm_types.specs.declared.read.EndRead.TheVariants.{IsSet}
+use Rattle.mm_types.specs.declared.read.ObjectRead.TheVariants.{Class, Container, Resource}
 use Rattle.repository.specs.declared.reply.Answer.{Answer}
 use Rattle.repository.specs.declared.reply.Reply.{Reply}
 use Rattle.repository.specs.State.{State}

@@ -1,8 +1,7 @@
 //! The calls of a repository, as values.
-use crate::read::Read;
 use adapters::Adapter;
 use handshake::Act;
-use mm_types::{AdapterNo, ClassNo, End, Node, ObjectNo, ResourceNo, Text};
+use mm_types::{AdapterNo, ClassNo, End, Node, ObjectNo, Read, ResourceNo, Text};
 
 /// A call of the repository, as a value.
 #[derive(Drop)]
@@ -35,13 +34,12 @@ pub enum Command<A = Box<dyn Adapter>> {
         target: Node,
         deep: bool,
     },
-    /// Takes one target from an adapter, and gives it back if that was its last one (EMF: Notifier.eAdapters().remove).
+    /// Takes one target from an adapter. If that was its last target, the adapter is given back (EMF: Notifier.eAdapters().remove).
     Unwatch {
         no: AdapterNo,
         target: Node,
     },
-    /// Detaches an adapter from all its targets, notifies it of that, and gives it back (EMF:
-    /// Notifier.eAdapters().remove).
+    /// Detaches an adapter from all its targets. The adapter is notified, and given back (EMF: Notifier.eAdapters().remove).
     Detach(AdapterNo),
     /// Asks for something, and changes nothing.
     Read(Read),

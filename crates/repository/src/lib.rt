@@ -7,7 +7,6 @@ mod command;
 mod leaving;
 mod lone_puts;
 mod preparing;
-mod read;
 mod remembered;
 mod replies;
 mod reply;
@@ -15,6 +14,6 @@ mod repository;
 
 pub use command::Command;
 pub use handshake::Act;
-pub use read::{EndRead, NodeRead, ObjectRead, Read, Tally};
+pub use mm_types::{EndRead, NodeRead, ObjectRead, Read, Tally};
 pub use reply::{Answer, Failure, FeatureValue, Reply};
 pub use repository::Repository;

@@ -36,7 +36,7 @@ pub(crate) struct ReadObjects {
     pub has_long: bool,
 }
 
-/// Nothing yet, with capacity for the contents of so many features.
+/// No contents, and capacity for the contents of `room` features.
 fn no_contents(alloc: Global, room: usize) -> Result<ReadContents, AllocError>
     ensures { IfOk result (λ r. r ≡ record { contents = []; is_lost = false; has_other = false; has_long = false }) }
 {

@@ -25,7 +25,7 @@ use mm_meta::Meta;
 use mm_types::{DocFault, Refused};
 use std::alloc::Global;
 
-/// How deep arrays and objects nest at most in JSON that is read.
+/// The greatest depth of nested arrays and objects in JSON that is read.
 const NESTING: usize = 127;
 
 /// The document whose objects were read; `has_first_format` says whether it has the first format.
@@ -108,7 +108,7 @@ fn read_top(alloc: Global, meta: &Meta, uri: &str, top: TopMembers) -> Result<Do
     }
 }
 
-/// Reads a document that nests no deeper than JSON may that is read.
+/// Reads a document whose arrays and objects nest at most `NESTING` levels deep.
 fn read_value(alloc: Global, meta: &Meta, uri: &str, json: &Json) -> Result<Doc, Refused>
     requires { depth (view json.now) ≤ NESTING }
     ensures { Answers result (reads meta.now (base_of uri.now) (view json.now)) }

@@ -31,7 +31,7 @@ fn uri_meant(alloc: Global, uri: &str, part: &str) -> Result<Option<String>, All
     }
 }
 
-/// What a path leads to after a URI: an object of the document itself if the URI is its own, as a text.
+/// The target of a path in the resource of a URI: an object of the document itself, if the URI is the document's own.
 fn target_in(
     alloc: Global,
     uri: &str,

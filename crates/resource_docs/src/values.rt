@@ -124,7 +124,7 @@ fn add_value(
     Ok(())
 }
 
-/// Nothing yet, with capacity for so many values.
+/// No values, and capacity for `room` values.
 fn no_values(alloc: Global, room: usize) -> Result<ReadValues, AllocError>
     ensures { IfOk result (λ r. r ≡ new_values [] false) }
 {

@@ -16,8 +16,8 @@ pub fn the_parts_of_a_saved_document_are_its_objects()
     ensures { (s : Model) → IsLegal s → (k : ResourceNo) → AreParts (reading s) k }
 {}
 
-/// Read in a resource, the text by which the resource refers to an object leads to that object's path, or to a proxy with its address if
-/// the object is in a different resource. The text of a proxy leads to that proxy.
+/// The text by which a resource refers to an object is read as the path of the object. If the object is in a different resource, it is
+/// read as a proxy with the address of the object. The text of a proxy is read as that proxy.
 pub fn a_reference_leads_to_its_object()
     ensures { (s : Model) → IsLegal s → HasSteadyTexts s → (k : ResourceNo) (uri : List ℕ) → slice_get (reading s).uris k.0 ≡ Some uri → LeadsBack (reading s) k uri }
 {}

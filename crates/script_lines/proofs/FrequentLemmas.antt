@@ -16,6 +16,9 @@ use Rattle.script_lines.specs.Forms.{line_of, line_with, text_line}
 use Rattle.script_lines.specs.Frequent.{ReadsFeature, ReadsValue, frequent_line, verb_text}
 use Rattle.script_lines.specs.Values.{name_in, node_in, object, object_in, value_in}
 use Rattle.script_lines.specs.Words.{is_space, words}
+use Rattle.mm_types.specs.declared.read.ObjectRead.TheVariants.{Container}
+use Rattle.mm_types.specs.declared.read.Read.TheVariants as read
+use Rattle.script_lines.specs.declared.form.FeatureForm.TheVariants as feature
 use Rattle.script_lines.specs.declared.form.Form.TheVariants as asks
 use Rattle.script_lines.specs.declared.frequent.Frequent.{Frequent}
 use Rattle.script_lines.specs.declared.frequent.Frequent.TheVariants as frequent
@@ -174,18 +177,18 @@ pub set_line : (o : ObjectNo) (f w rest : List ℕ) → ReadsValue o f w rest �
 unfolding verb_word
 set_line o f w rest r =
     verb_line verb.Set rest ∙ (ap (λ ws. line_of (codes "set" ∷ ws)) r.words_are
-    ∙ rw (node_is r.object o r.object_is, r.name_is) (ap line_with (zipped (λ p. asks.Set p.0.0 p.0.1 p.1) (node.Object o) f (value_in w))))
+    ∙ rw (node_is r.object o r.object_is, r.name_is) (ap line_with (zipped (λ p. asks.At p.0.0 p.0.1 (feature.Set p.1)) (node.Object o) f (value_in w))))
 
 pub add_line : (o : ObjectNo) (f w rest : List ℕ) → ReadsValue o f w rest → text_line (verb_text verb.Add ++ rest) ≡ frequent_line (frequent.Add o f w)
 unfolding verb_word
 add_line o f w rest r =
     verb_line verb.Add rest ∙ (ap (λ ws. line_of (codes "add" ∷ ws)) r.words_are
-    ∙ rw (node_is r.object o r.object_is, r.name_is) (ap line_with (zipped (λ p. asks.Add p.0.0 p.0.1 p.1 None) (node.Object o) f (value_in w))))
+    ∙ rw (node_is r.object o r.object_is, r.name_is) (ap line_with (zipped (λ p. asks.At p.0.0 p.0.1 (feature.Add p.1)) (node.Object o) f (value_in w))))
 
 pub container_line : (rest : List ℕ) (o : ObjectNo) → words rest ≡ rest ∷ [] → object_in rest ≡ Some o → text_line (codes "container " ++ rest) ≡ frequent_line (frequent.Container o)
 container_line rest o one h =
     other_line (codes "container " ++ rest) (no_load_begins (codes "container " ++ rest) refl)
-    ∙ (ap (λ ws. line_of (codes "container" ∷ ws)) one ∙ ap (λ x. line_with (option_map asks.Container x)) h)
+    ∙ (ap (λ ws. line_of (codes "container" ∷ ws)) one ∙ ap (λ x. line_with (option_map (λ y. asks.Read (read.Of y Container)) x)) h)
 
 pub ascii_container : (bytes : List ℕ) → bytes ≡ codes "container " ++ drop 10 bytes → (9 < length bytes) × (slice_index bytes 9 < 128)
 ascii_container bytes is = rw is (omega arith, omega arith)

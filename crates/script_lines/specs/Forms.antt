@@ -7,6 +7,13 @@ use Rattle.std.specs.Str.{bytes_eq, is_utf8}
 use Rattle.script_lines.specs.Words.{after_spaces, is_space, words}
 use Rattle.mm_types.specs.Integers.{natural}
 use Rattle.script_lines.specs.Values.{adapter_in, feature_in, feature_value_in, name_in, node_in, object_in, resource_in, string_in}
+use Rattle.mm_types.specs.declared.numbers.Node.TheVariants as node
+use Rattle.mm_types.specs.declared.read.EndRead.TheVariants.{Get, IsSet}
+use Rattle.mm_types.specs.declared.read.NodeRead.TheVariants.{Contents}
+use Rattle.mm_types.specs.declared.read.ObjectRead.{ObjectRead}
+use Rattle.mm_types.specs.declared.read.ObjectRead.TheVariants.{Class, Container, Fragment, Resource, Validate}
+use Rattle.mm_types.specs.declared.read.Read.TheVariants as read
+use Rattle.script_lines.specs.declared.form.FeatureForm.TheVariants as feature
 use Rattle.script_lines.specs.declared.form.Form.{Form}
 use Rattle.script_lines.specs.declared.form.Form.TheVariants as asks
 use Rattle.script_lines.specs.declared.line.Line.{Line}
@@ -16,37 +23,17 @@ use Rattle.script_lines.specs.declared.line.Line.TheVariants as line
 abbrev pub new_form : List ℕ → Option Form
 new_form c = option_map asks.New (name_in c)
 
--- `class OBJ`
-abbrev pub class_form : List ℕ → Option Form
-class_form o = option_map asks.Class (object_in o)
-
--- `container OBJ`
-abbrev pub container_form : List ℕ → Option Form
-container_form o = option_map asks.Container (object_in o)
-
--- `within OBJ`
-abbrev pub within_form : List ℕ → Option Form
-within_form o = option_map asks.Within (object_in o)
-
 -- `delete OBJ`
 abbrev pub delete_form : List ℕ → Option Form
 delete_form o = option_map asks.Delete (object_in o)
 
--- `validate OBJ`
-abbrev pub validate_form : List ℕ → Option Form
-validate_form o = option_map asks.Validate (object_in o)
-
--- `fragment OBJ`
-abbrev pub fragment_form : List ℕ → Option Form
-fragment_form o = option_map asks.Fragment (object_in o)
-
 -- `at STR`
 abbrev pub at_form : List ℕ → Option Form
-at_form t = option_map asks.At (string_in t)
+at_form t = option_map (λ x. asks.Read (read.ObjectAt x)) (string_in t)
 
 -- `save RES`
 abbrev pub save_form : List ℕ → Option Form
-save_form k = option_map asks.Save (resource_in k)
+save_form k = option_map (λ x. asks.Read (read.Save x)) (resource_in k)
 
 -- `resource STR`
 abbrev pub resource_form : List ℕ → Option Form
@@ -54,7 +41,7 @@ resource_form t = option_map asks.Resource (string_in t)
 
 -- `contents NODE`
 abbrev pub contents_form : List ℕ → Option Form
-contents_form n = option_map asks.Contents (node_in n)
+contents_form n = option_map (λ x. asks.Read (read.Under x Contents)) (node_in n)
 
 -- `detach AD`
 abbrev pub detach_form : List ℕ → Option Form
@@ -66,43 +53,43 @@ seen_form a = option_map asks.Seen (adapter_in a)
 
 -- `get NODE NAME`
 abbrev pub get_form : List ℕ → List ℕ → Option Form
-get_form n f = option_map (λ p. asks.Get p.0 p.1) (feature_in n f)
+get_form n f = option_map (λ p. asks.At p.0 p.1 (feature.Read Get)) (feature_in n f)
 
 -- `isset NODE NAME`
 abbrev pub isset_form : List ℕ → List ℕ → Option Form
-isset_form n f = option_map (λ p. asks.IsSet p.0 p.1) (feature_in n f)
+isset_form n f = option_map (λ p. asks.At p.0 p.1 (feature.Read IsSet)) (feature_in n f)
 
 -- `unset NODE NAME`
 abbrev pub unset_form : List ℕ → List ℕ → Option Form
-unset_form n f = option_map (λ p. asks.Unset p.0 p.1) (feature_in n f)
+unset_form n f = option_map (λ p. asks.At p.0 p.1 feature.Unset) (feature_in n f)
 
 -- `set NODE NAME VALUE`
 abbrev pub set_form : List ℕ → List ℕ → List ℕ → Option Form
-set_form n f v = option_map (λ p. asks.Set p.0.0 p.0.1 p.1) (feature_value_in n f v)
+set_form n f v = option_map (λ p. asks.At p.0.0 p.0.1 (feature.Set p.1)) (feature_value_in n f v)
 
--- `add NODE NAME VALUE`, and a position if there is one
-abbrev pub add_form : List ℕ → List ℕ → List ℕ → Option ℕ → Option Form
-add_form n f v index = option_map (λ p. asks.Add p.0.0 p.0.1 p.1 index) (feature_value_in n f v)
+-- `add NODE NAME VALUE`
+abbrev pub add_form : List ℕ → List ℕ → List ℕ → Option Form
+add_form n f v = option_map (λ p. asks.At p.0.0 p.0.1 (feature.Add p.1)) (feature_value_in n f v)
 
 -- `add NODE NAME VALUE N`
 abbrev pub add_at_form : List ℕ → List ℕ → List ℕ → List ℕ → Option Form
-add_at_form n f v i = option_and_then (λ k. add_form n f v (Some k)) (natural i)
+add_at_form n f v i = option_and_then (λ k. option_map (λ p. asks.At p.0.0 p.0.1 (feature.AddAt k p.1)) (feature_value_in n f v)) (natural i)
 
 -- `remove NODE NAME N`
 abbrev pub remove_form : List ℕ → List ℕ → List ℕ → Option Form
-remove_form n f i = option_map (λ p. asks.Remove p.0.0 p.0.1 p.1) (option_zip (feature_in n f) (natural i))
+remove_form n f i = option_map (λ p. asks.At p.0.0 p.0.1 (feature.Remove p.1)) (option_zip (feature_in n f) (natural i))
 
 -- `resolve OBJ NAME N`
 abbrev pub resolve_form : List ℕ → List ℕ → List ℕ → Option Form
-resolve_form o f i = option_map (λ p. asks.Resolve p.0.0 p.0.1 p.1) (option_zip (option_zip (object_in o) (name_in f)) (natural i))
+resolve_form o f i = option_map (λ p. asks.At (node.Object p.0.0) p.0.1 (feature.Resolve p.1)) (option_zip (option_zip (object_in o) (name_in f)) (natural i))
 
 -- `removevalue NODE NAME VALUE`
 abbrev pub removevalue_form : List ℕ → List ℕ → List ℕ → Option Form
-removevalue_form n f v = option_map (λ p. asks.RemoveValue p.0.0 p.0.1 p.1) (feature_value_in n f v)
+removevalue_form n f v = option_map (λ p. asks.At p.0.0 p.0.1 (feature.RemoveValue p.1)) (feature_value_in n f v)
 
 -- `move NODE NAME N N`: to, then from
 abbrev pub move_form : List ℕ → List ℕ → List ℕ → List ℕ → Option Form
-move_form n f to from = option_map (λ p. asks.Move p.0.0.0 p.0.0.1 p.0.1 p.1) (option_zip (option_zip (feature_in n f) (natural to)) (natural from))
+move_form n f to from = option_map (λ p. asks.At p.0.0.0 p.0.0.1 (feature.Move p.0.1 p.1)) (option_zip (option_zip (feature_in n f) (natural to)) (natural from))
 
 -- whether an adapter is deep: `flat` or `deep`
 abbrev pub depth_in : List ℕ → Option Bool
@@ -124,16 +111,21 @@ unwatch_form a n = option_map (λ p. asks.Unwatch p.0 p.1) (option_zip (adapter_
 abbrev pub alone : List ℕ → Option Form
 alone verb = if bytes_eq verb (codes "resolveall") then Some asks.ResolveAll else None
 
+-- the question about an object that a verb asks
+abbrev pub object_read : List ℕ → Option ObjectRead
+object_read verb =
+    if bytes_eq verb (codes "class") then Some Class
+    else if bytes_eq verb (codes "container") then Some Container
+    else if bytes_eq verb (codes "within") then Some Resource
+    else if bytes_eq verb (codes "validate") then Some Validate
+    else if bytes_eq verb (codes "fragment") then Some Fragment
+    else None
+
 -- the forms of a verb and an object
 abbrev pub with_object : List ℕ → List ℕ → Option Form
 with_object verb o =
-    if bytes_eq verb (codes "class") then class_form o
-    else if bytes_eq verb (codes "container") then container_form o
-    else if bytes_eq verb (codes "within") then within_form o
-    else if bytes_eq verb (codes "delete") then delete_form o
-    else if bytes_eq verb (codes "validate") then validate_form o
-    else if bytes_eq verb (codes "fragment") then fragment_form o
-    else None
+    if bytes_eq verb (codes "delete") then delete_form o
+    else option_and_then (λ q. option_map (λ x. asks.Read (read.Of x q)) (object_in o)) (object_read verb)
 
 -- the forms of a verb and one argument that is no string
 abbrev pub with_word : List ℕ → List ℕ → Option Form
@@ -166,7 +158,7 @@ abbrev pub with_three : List ℕ → List ℕ → List ℕ → List ℕ → Opti
 with_three verb a b c =
     if bytes_eq verb (codes "set") then set_form a b c
     else if bytes_eq verb (codes "attach") then attach_form a b c
-    else if bytes_eq verb (codes "add") then add_form a b c None
+    else if bytes_eq verb (codes "add") then add_form a b c
     else if bytes_eq verb (codes "remove") then remove_form a b c
     else if bytes_eq verb (codes "removevalue") then removevalue_form a b c
     else if bytes_eq verb (codes "resolve") then resolve_form a b c

@@ -1,10 +1,14 @@
 -- The most frequent kinds of lines: what each asks for, and how its words are read one after another.
-use Rattle.std.specs.Prelude.{◌≡◌, ℕ, List, [], ◌∷◌, None, Some, codes, option_map}
+use Rattle.std.specs.Prelude.{◌≡◌, ℕ, List, [], ◌∷◌, Some, codes, option_map}
 use Rattle.mm_types.specs.declared.numbers.Node.TheVariants as node
 use Rattle.mm_types.specs.declared.numbers.ObjectNo.{ObjectNo}
+use Rattle.mm_types.specs.declared.read.EndRead.TheVariants.{Get}
+use Rattle.mm_types.specs.declared.read.ObjectRead.TheVariants.{Container}
+use Rattle.mm_types.specs.declared.read.Read.TheVariants as read
 use Rattle.script_lines.specs.Forms.{line_with}
 use Rattle.script_lines.specs.Values.{name_in, object_in, value_in}
 use Rattle.script_lines.specs.Words.{words}
+use Rattle.script_lines.specs.declared.form.FeatureForm.TheVariants as feature
 use Rattle.script_lines.specs.declared.form.Form.TheVariants as asks
 use Rattle.script_lines.specs.declared.frequent.Frequent.{Frequent}
 use Rattle.script_lines.specs.declared.frequent.Frequent.TheVariants as frequent
@@ -22,10 +26,10 @@ verb_text verb.Add = codes "add "
 -- what a frequent line asks for; it is bad if its last word is no value
 abbrev pub frequent_line : Frequent → Line
 frequent_line (frequent.New c) = line.Form (asks.New c)
-frequent_line (frequent.Get o f) = line.Form (asks.Get (node.Object o) f)
-frequent_line (frequent.Set o f w) = line_with (option_map (λ v. asks.Set (node.Object o) f v) (value_in w))
-frequent_line (frequent.Add o f w) = line_with (option_map (λ v. asks.Add (node.Object o) f v None) (value_in w))
-frequent_line (frequent.Container o) = line.Form (asks.Container o)
+frequent_line (frequent.Get o f) = line.Form (asks.At (node.Object o) f (feature.Read Get))
+frequent_line (frequent.Set o f w) = line_with (option_map (λ v. asks.At (node.Object o) f (feature.Set v)) (value_in w))
+frequent_line (frequent.Add o f w) = line_with (option_map (λ v. asks.At (node.Object o) f (feature.Add v)) (value_in w))
+frequent_line (frequent.Container o) = line.Form (asks.Read (read.Of o Container))
 
 -- a text has as words an object, a name, and the words of the rest
 pub record ReadsFeature (o : ObjectNo) (f rest text : List ℕ) : Type 0 where

@@ -1,7 +1,30 @@
 //! What a line asks for.
 use crate::name::Name;
 use crate::written_value::WrittenValue;
-use mm_types::{AdapterNo, Node, ObjectNo, ResourceNo, Text};
+use mm_types::{AdapterNo, EndRead, Node, ObjectNo, Read, ResourceNo, Text};
+
+/// What a line asks of a feature, or does to it.
+#[derive(Drop)]
+pub enum FeatureForm<'a> {
+    /// A question about it.
+    Read(EndRead),
+    /// It gets a single value (EMF: EObject.eSet).
+    Set(WrittenValue<'a>),
+    /// It is taken back to its default (EMF: EObject.eUnset).
+    Unset,
+    /// A value is put at the end of its list (EMF: EList.add).
+    Add(WrittenValue<'a>),
+    /// A value is put into its list at an index, counted from 0 (EMF: EList.add at an index).
+    AddAt(u32, WrittenValue<'a>),
+    /// The value at an index of its list, counted from 0, is taken out (EMF: EList.remove of an index).
+    Remove(u32),
+    /// A value is taken out of its list, at its first occurrence (EMF: EList.remove of an object).
+    RemoveValue(WrittenValue<'a>),
+    /// A value of its list is moved to an index, from another; both are counted from 0 (EMF: EList.move).
+    Move { to: u32, from: u32 },
+    /// The proxy at an index of a reference, counted from 0, is replaced by the object at its address (EMF: EcoreUtil.resolve).
+    Resolve(u32),
+}
 
 /// What a line asks for. Classes and features are given by the names that are in the line.
 #[derive(Drop)]
@@ -10,51 +33,14 @@ pub enum Form<'a> {
     New {
         class: Name<'a>,
     },
-    /// A single value for a feature (EMF: EObject.eSet).
-    Set {
+    /// What is asked of a feature of a node, or done to it.
+    At {
         node: Node,
         feature: Name<'a>,
-        value: WrittenValue<'a>,
-    },
-    /// A feature taken back to its default (EMF: EObject.eUnset).
-    Unset {
-        node: Node,
-        feature: Name<'a>,
-    },
-    /// A value put into the list of a feature: at an index counted from 0, or at the end (EMF: EList.add).
-    Add {
-        node: Node,
-        feature: Name<'a>,
-        value: WrittenValue<'a>,
-        index: Option<u32>,
-    },
-    /// The value at an index of a list, counted from 0, taken out (EMF: EList.remove of an index).
-    Remove {
-        node: Node,
-        feature: Name<'a>,
-        index: u32,
-    },
-    /// A value taken out of a list, at its first occurrence (EMF: EList.remove of an object).
-    RemoveValue {
-        node: Node,
-        feature: Name<'a>,
-        value: WrittenValue<'a>,
-    },
-    /// A value of a list moved to an index, from another; both are counted from 0 (EMF: EList.move).
-    Move {
-        node: Node,
-        feature: Name<'a>,
-        to: u32,
-        from: u32,
+        form: FeatureForm<'a>,
     },
     /// A new resource of the URI that a text gives (EMF: ResourceSet.createResource).
     Resource(Text),
-    /// The proxy at a position of a reference, counted from 0, replaced by the object at its address (EMF: EcoreUtil.resolve).
-    Resolve {
-        object: ObjectNo,
-        feature: Name<'a>,
-        index: u32,
-    },
     /// Every proxy resolved, one after another; a proxy that can't be resolved is left (EMF: EcoreUtil.resolveAll).
     ResolveAll,
     /// An adapter attached to a node. A deep adapter is also notified of changes below the node (EMF: Notifier.eAdapters().add).
@@ -76,39 +62,15 @@ pub enum Form<'a> {
     },
     /// An adapter detached from all its targets (EMF: Notifier.eAdapters().remove).
     Detach(AdapterNo),
-    /// Whether a feature is set (EMF: EObject.eIsSet).
-    IsSet {
-        node: Node,
-        feature: Name<'a>,
-    },
-    /// The object that contains an object (EMF: EObject.eContainer).
-    Container(ObjectNo),
-    /// The resource that an object is in (EMF: EObject.eResource).
-    Within(ObjectNo),
-    /// The objects that a node directly contains (EMF: EObject.eContents).
-    Contents(Node),
     /// Destroys an object and all objects below it (EMF: EcoreUtil.delete, recursively).
     Delete(ObjectNo),
-    /// The features of an object that have fewer values than they should (EMF: Diagnostician.validate, of multiplicities).
-    Validate(ObjectNo),
-    /// The fragment of an object in its resource (EMF: Resource.getURIFragment).
-    Fragment(ObjectNo),
-    /// The object at an address (EMF: ResourceSet.getEObject).
-    At(Text),
-    /// The document of a resource (EMF: Resource.save).
-    Save(ResourceNo),
     /// A resource loaded from a document; the line has the text of the document as it is (EMF: Resource.load).
     Load {
         resource: ResourceNo,
         text: Text,
     },
-    /// The class of an object (EMF: EObject.eClass).
-    Class(ObjectNo),
-    /// What a feature holds (EMF: EObject.eGet).
-    Get {
-        node: Node,
-        feature: Name<'a>,
-    },
+    /// A question that names no feature: about an object, a resource, or an address. A question about a feature is a `FeatureForm`.
+    Read(Read),
     /// How many notifications an adapter got, and how many of them it keeps.
     Seen(AdapterNo),
 }

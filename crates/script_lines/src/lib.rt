@@ -20,7 +20,7 @@ mod word;
 mod words;
 mod written_value;
 
-pub use form::Form;
+pub use form::{FeatureForm, Form};
 pub use frequent::{Frequent, frequent_of};
 pub use line::{Line, parse_line, text_line_of};
 pub use lines::next_line;

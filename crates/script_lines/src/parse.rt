@@ -1,12 +1,13 @@
 //! The form that the words of a line fit.
 ghost use Rattle.std.specs.Prelude.{◌≡◌, IfOk, map};
-ghost use Rattle.script_lines.specs.Forms.{add_at_form, add_form, alone, at_form, class_form, container_form, contents_form, delete_form, form_of as the_form_of, fragment_form, get_form, isset_form, move_form, new_form, remove_form, removevalue_form, resolve_form, resource_form, save_form, set_form, unset_form, validate_form, with_four, with_object, with_one, with_three, with_two, with_word, within_form};
+ghost use Rattle.script_lines.specs.Forms.{add_at_form, add_form, alone, at_form, contents_form, delete_form, form_of as the_form_of, get_form, isset_form, move_form, new_form, object_read, remove_form, removevalue_form, resolve_form, resource_form, save_form, set_form, unset_form, with_four, with_object, with_one, with_three, with_two, with_word};
 
 use crate::adapter_forms::{attach_of, detach_of, seen_of, unwatch_of, watch_of};
-use crate::form::Form;
+use crate::form::{FeatureForm, Form};
 use crate::name::Name;
 use crate::numbers::natural_of;
 use crate::values::{feature_of, feature_value_of, node_of, object_of, resource_no_of, string_of};
+use mm_types::{EndRead, Node, NodeRead, ObjectRead, Read};
 use std::alloc::{AllocError, Global};
 
 /// `new NAME`
@@ -14,27 +15,6 @@ fn new_of(class: &str) -> Option<Form<'_>>
     ensures { result ≡ new_form class.now }
 {
     Name::from_word(class).map(|class| Form::New { class })
-}
-
-/// `class OBJ`
-fn class_of<'a>(object: &str) -> Option<Form<'a>>
-    ensures { result ≡ class_form object.now }
-{
-    Some(Form::Class(object_of(object)?))
-}
-
-/// `container OBJ`
-fn container_of<'a>(object: &str) -> Option<Form<'a>>
-    ensures { result ≡ container_form object.now }
-{
-    Some(Form::Container(object_of(object)?))
-}
-
-/// `within OBJ`
-fn within_of<'a>(object: &str) -> Option<Form<'a>>
-    ensures { result ≡ within_form object.now }
-{
-    Some(Form::Within(object_of(object)?))
 }
 
 /// `resource STR`
@@ -54,26 +34,12 @@ fn delete_of<'a>(object: &str) -> Option<Form<'a>>
     Some(Form::Delete(object_of(object)?))
 }
 
-/// `validate OBJ`
-fn validate_of<'a>(object: &str) -> Option<Form<'a>>
-    ensures { result ≡ validate_form object.now }
-{
-    Some(Form::Validate(object_of(object)?))
-}
-
-/// `fragment OBJ`
-fn fragment_of<'a>(object: &str) -> Option<Form<'a>>
-    ensures { result ≡ fragment_form object.now }
-{
-    Some(Form::Fragment(object_of(object)?))
-}
-
 /// `at STR`
 fn at_of<'a>(alloc: Global, text: &str) -> Result<Option<Form<'a>>, AllocError>
     ensures { IfOk result (λ o. o ≡ at_form text.now) }
 {
     match string_of(alloc, text)? {
-        Some(text) => Ok(Some(Form::At(text))),
+        Some(text) => Ok(Some(Form::Read(Read::ObjectAt(text)))),
         None => Ok(None),
     }
 }
@@ -82,35 +48,53 @@ fn at_of<'a>(alloc: Global, text: &str) -> Result<Option<Form<'a>>, AllocError>
 fn save_of<'a>(resource: &str) -> Option<Form<'a>>
     ensures { result ≡ save_form resource.now }
 {
-    Some(Form::Save(resource_no_of(resource)?))
+    Some(Form::Read(Read::Save(resource_no_of(resource)?)))
 }
 
 /// `contents NODE`
 fn contents_of<'a>(node: &str) -> Option<Form<'a>>
     ensures { result ≡ contents_form node.now }
 {
-    Some(Form::Contents(node_of(node)?))
+    Some(Form::Read(Read::Under(node_of(node)?, NodeRead::Contents)))
 }
 
 /// `get NODE NAME`
 fn get_of<'a>(node: &str, feature: &'a str) -> Option<Form<'a>>
     ensures { result ≡ get_form node.now feature.now }
 {
-    feature_of(node, feature).map(|(node, feature)| Form::Get { node, feature })
+    let (node, feature) = feature_of(node, feature)?;
+    let form = FeatureForm::Read(EndRead::Get);
+    Some(Form::At {
+        node,
+        feature,
+        form,
+    })
 }
 
 /// `isset NODE NAME`
 fn isset_of<'a>(node: &str, feature: &'a str) -> Option<Form<'a>>
     ensures { result ≡ isset_form node.now feature.now }
 {
-    feature_of(node, feature).map(|(node, feature)| Form::IsSet { node, feature })
+    let (node, feature) = feature_of(node, feature)?;
+    let form = FeatureForm::Read(EndRead::IsSet);
+    Some(Form::At {
+        node,
+        feature,
+        form,
+    })
 }
 
 /// `unset NODE NAME`
 fn unset_of<'a>(node: &str, feature: &'a str) -> Option<Form<'a>>
     ensures { result ≡ unset_form node.now feature.now }
 {
-    feature_of(node, feature).map(|(node, feature)| Form::Unset { node, feature })
+    let (node, feature) = feature_of(node, feature)?;
+    let form = FeatureForm::Unset;
+    Some(Form::At {
+        node,
+        feature,
+        form,
+    })
 }
 
 /// `set NODE NAME VALUE`
@@ -125,31 +109,31 @@ fn set_of<'a>(
     let Some(((node, feature), value)) = feature_value_of(alloc, node, feature, value)? else {
         return Ok(None);
     };
-    Ok(Some(Form::Set {
+    let form = FeatureForm::Set(value);
+    Ok(Some(Form::At {
         node,
         feature,
-        value,
+        form,
     }))
 }
 
-/// `add NODE NAME VALUE`, and a position if there is one.
+/// `add NODE NAME VALUE`
 fn add_of<'a>(
     alloc: Global,
     node: &str,
     feature: &'a str,
     value: &'a str,
-    index: Option<u32>,
 ) -> Result<Option<Form<'a>>, AllocError>
-    ensures { IfOk result (λ o. o ≡ add_form node.now feature.now value.now index) }
+    ensures { IfOk result (λ o. o ≡ add_form node.now feature.now value.now) }
 {
     let Some(((node, feature), value)) = feature_value_of(alloc, node, feature, value)? else {
         return Ok(None);
     };
-    Ok(Some(Form::Add {
+    let form = FeatureForm::Add(value);
+    Ok(Some(Form::At {
         node,
         feature,
-        value,
-        index,
+        form,
     }))
 }
 
@@ -166,7 +150,15 @@ fn add_at_of<'a>(
     let Some(index) = natural_of(index) else {
         return Ok(None);
     };
-    add_of(alloc, node, feature, value, Some(index))
+    let Some(((node, feature), value)) = feature_value_of(alloc, node, feature, value)? else {
+        return Ok(None);
+    };
+    let form = FeatureForm::AddAt(index, value);
+    Ok(Some(Form::At {
+        node,
+        feature,
+        form,
+    }))
 }
 
 /// `remove NODE NAME N`
@@ -174,11 +166,11 @@ fn remove_of<'a>(node: &str, feature: &'a str, index: &str) -> Option<Form<'a>>
     ensures { result ≡ remove_form node.now feature.now index.now }
 {
     let (node, feature) = feature_of(node, feature)?;
-    let index = natural_of(index)?;
-    Some(Form::Remove {
+    let form = FeatureForm::Remove(natural_of(index)?);
+    Some(Form::At {
         node,
         feature,
-        index,
+        form,
     })
 }
 
@@ -186,13 +178,13 @@ fn remove_of<'a>(node: &str, feature: &'a str, index: &str) -> Option<Form<'a>>
 fn resolve_of<'a>(object: &str, feature: &'a str, index: &str) -> Option<Form<'a>>
     ensures { result ≡ resolve_form object.now feature.now index.now }
 {
-    let object = object_of(object)?;
+    let node = Node::Object(object_of(object)?);
     let feature = Name::from_word(feature)?;
-    let index = natural_of(index)?;
-    Some(Form::Resolve {
-        object,
+    let form = FeatureForm::Resolve(natural_of(index)?);
+    Some(Form::At {
+        node,
         feature,
-        index,
+        form,
     })
 }
 
@@ -208,10 +200,11 @@ fn removevalue_of<'a>(
     let Some(((node, feature), value)) = feature_value_of(alloc, node, feature, value)? else {
         return Ok(None);
     };
-    Ok(Some(Form::RemoveValue {
+    let form = FeatureForm::RemoveValue(value);
+    Ok(Some(Form::At {
         node,
         feature,
-        value,
+        form,
     }))
 }
 
@@ -222,11 +215,11 @@ fn move_of<'a>(node: &str, feature: &'a str, to: &str, from: &str) -> Option<For
     let (node, feature) = feature_of(node, feature)?;
     let to = natural_of(to)?;
     let from = natural_of(from)?;
-    Some(Form::Move {
+    let form = FeatureForm::Move { to, from };
+    Some(Form::At {
         node,
         feature,
-        to,
-        from,
+        form,
     })
 }
 
@@ -241,25 +234,34 @@ fn alone_of<'a>(verb: &str) -> Option<Form<'a>>
     }
 }
 
+/// The question about an object that a verb asks.
+fn object_read_of(verb: &str) -> Option<ObjectRead>
+    ensures { result ≡ object_read verb.now }
+{
+    if verb == "class" {
+        Some(ObjectRead::Class)
+    } else if verb == "container" {
+        Some(ObjectRead::Container)
+    } else if verb == "within" {
+        Some(ObjectRead::Resource)
+    } else if verb == "validate" {
+        Some(ObjectRead::Validate)
+    } else if verb == "fragment" {
+        Some(ObjectRead::Fragment)
+    } else {
+        None
+    }
+}
+
 /// The form of a verb and an object.
 fn with_object_of<'a>(verb: &str, object: &str) -> Option<Form<'a>>
     ensures { result ≡ with_object verb.now object.now }
 {
-    if verb == "class" {
-        class_of(object)
-    } else if verb == "container" {
-        container_of(object)
-    } else if verb == "within" {
-        within_of(object)
-    } else if verb == "delete" {
-        delete_of(object)
-    } else if verb == "validate" {
-        validate_of(object)
-    } else if verb == "fragment" {
-        fragment_of(object)
-    } else {
-        None
+    if verb == "delete" {
+        return delete_of(object);
     }
+    let read = object_read_of(verb)?;
+    Some(Form::Read(Read::Of(object_of(object)?, read)))
 }
 
 /// The form of a verb and one argument that is no string.
@@ -326,7 +328,7 @@ fn with_three_of<'a>(
     } else if verb == "attach" {
         Ok(attach_of(a, b, c))
     } else if verb == "add" {
-        add_of(alloc, a, b, c, None)
+        add_of(alloc, a, b, c)
     } else if verb == "remove" {
         Ok(remove_of(a, b, c))
     } else if verb == "removevalue" {

@@ -18,12 +18,14 @@ use Rattle.repository.specs.declared.command.Command.{Command}
 use Rattle.repository.specs.declared.reply.Failure.{Failure}
 use Rattle.repository.proofs.RunLemmas.{refused-nothing}
 use Rattle.script_lines.specs.Forms.{form}
+use Rattle.script_lines.specs.declared.form.FeatureForm.{FeatureForm}
+use Rattle.script_lines.specs.declared.form.FeatureForm.TheVariants as feature
 use Rattle.script_lines.specs.declared.form.Form.TheVariants as asks
 use Rattle.script_lines.specs.declared.line.Line.{Line}
 use Rattle.script_lines.specs.declared.line.Line.TheVariants as line
 use Rattle.repository.specs.Alone.{is_change}
-use Rattle.script_program.specs.Bind.{attach_request}
-use Rattle.script_program.specs.Kept.{RunsJournaled, journal_printed, journal_turn, kept_lines, line_asks, model_after_line, model_after_request, model_if_done, model_of, replayed}
+use Rattle.script_program.specs.Bind.{at_command, attach_request, named_end}
+use Rattle.script_program.specs.Kept.{RunsJournaled, asks_change, journal_printed, journal_turn, kept_lines, line_asks, model_after_line, model_after_request, model_if_done, model_of, replayed}
 use Rattle.script_program.specs.Live.{live_text}
 use Rattle.script_program.specs.Pool.{box_of}
 use Rattle.script_program.specs.Script.{RunsCommand, RunsLine, RunsLines, RunsRequest, command_printed}
@@ -121,17 +123,16 @@ change_one s u c p is run =
 
 -- ---- a line
 
+at_one : (s u : Session) (n : Node) (name : List ℕ) (f : FeatureForm) (p : Printed) → RunsCommand s (at_command s.state.model.metamodel (named_end s.state n name) f) p u
+    → Counts s u (asks_change (asks.At n name f)) (model_after_line s.state.model (line.Form (asks.At n name f))) p.turn
+at_one s u n name (feature.Read q) p run = other_counts s u p.turn (other_one s u _ p refl run)
+at_one s u n name _ p run = change_one s u _ p refl run
+
 line_one : (s u : Session) (x : Line) (p : Printed) → RunsLine s x p u → Counts s u (line_asks x) (model_after_line s.state.model x) p.turn
 line_one s u line.Blank p run = other_counts s u p.turn (ap (λ (v : Session). v.state.model) run.1)
 line_one s u line.Bad p run = other_counts s u p.turn (ap (λ (v : Session). v.state.model) run.1)
+line_one s u (line.Form (asks.At n name f)) p run = at_one s u n name f p run
 line_one s u (line.Form (asks.New class)) p run = change_one s u _ p refl run
-line_one s u (line.Form (asks.Set n feature v)) p run = change_one s u _ p refl run
-line_one s u (line.Form (asks.Unset n feature)) p run = change_one s u _ p refl run
-line_one s u (line.Form (asks.Add n feature v index)) p run = change_one s u _ p refl run
-line_one s u (line.Form (asks.Remove n feature i)) p run = change_one s u _ p refl run
-line_one s u (line.Form (asks.RemoveValue n feature v)) p run = change_one s u _ p refl run
-line_one s u (line.Form (asks.Move n feature to from)) p run = change_one s u _ p refl run
-line_one s u (line.Form (asks.Resolve o feature i)) p run = change_one s u _ p refl run
 line_one s u (line.Form asks.ResolveAll) p run = change_one s u _ p refl run
 line_one s u (line.Form (asks.Load k text)) p run = change_one s u _ p refl run
 line_one s u (line.Form (asks.Resource t)) p run = change_one s u _ p refl run

@@ -6,6 +6,7 @@ use Rattle.std.specs.Option.{option_map_or, option_zip}
 use Rattle.std.proofs.lemmas.List.Elements.{All-cons, All-head, All-nil}
 use Rattle.notice_chain.specs.View.{View}
 use Rattle.notice_chain.specs.Listed.{Listed}
+use Rattle.mm_types.specs.declared.numbers.Node.{Node}
 use Rattle.mm_types.specs.declared.refused.Refused.{Refused}
 use Rattle.repository.specs.Run.{Executed, read_outcome}
 use Rattle.repository.specs.State.{State}
@@ -16,8 +17,10 @@ use Rattle.repository.specs.declared.command.Command.TheVariants.{Attach}
 use Rattle.repository.specs.declared.reply.Answer.{Answer}
 use Rattle.repository.proofs.RunLemmas.{refused-nothing}
 use Rattle.script_lines.specs.declared.form.Form.{Form}
+use Rattle.script_lines.specs.declared.form.FeatureForm.{FeatureForm}
+use Rattle.script_lines.specs.declared.form.FeatureForm.TheVariants as feature
 use Rattle.script_lines.specs.declared.form.Form.TheVariants as asks
-use Rattle.script_program.specs.Bind.{IsGiven, attach_request, bind}
+use Rattle.script_program.specs.Bind.{IsGiven, at_command, attach_request, bind, named_end}
 use Rattle.script_program.specs.Pool.{Pool, box_of, with_box, without}
 use Rattle.script_program.specs.Script.{Adds}
 use Rattle.script_program.specs.Session.{IsBrought, Session, brought_no, pool_after, returned, taken}
@@ -40,6 +43,10 @@ returned-after before s t c (Ok r) h x = refl
 returned-after before s t c (Err f) h x =
     ap (λ (back : Option View). option_map_or (with_box (taken before c)) (option_zip (brought_no c) back) (taken before c)) (refused-nothing s t c f x).1 ∙ undone before c h
 
+at-given : (s : Session) (n : Node) (name : List ℕ) (f : FeatureForm) → IsBrought s.pool (at_command s.state.model.metamodel (named_end s.state n name) f)
+at-given s n name (feature.Read q) = All-nil (λ (a : Listed). box_of s.pool a.no ≡ Ok a.view)
+at-given s n name _ = All-nil (λ (a : Listed). box_of s.pool a.no ≡ Ok a.view)
+
 -- the adapter that a form takes is in the pool
 pub bind-given : (s : Session) (f : Form) → IsGiven s.pool (bind s f)
 bind-given s (asks.Attach number target deep) =
@@ -48,6 +55,7 @@ bind-given s (asks.Attach number target deep) =
       | Err r ↦ λ e. tt
     ] refl
 bind-given s (asks.Seen number) = tt
+bind-given s (asks.At n name f) = at-given s n name f
 bind-given s _ = All-nil (λ (a : Listed). box_of s.pool a.no ≡ Ok a.view)
 
 -- a fact about an added text, in another form

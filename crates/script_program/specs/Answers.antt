@@ -13,7 +13,7 @@ use Rattle.notice_chain.specs.declared.notice.Notice.{Notice}
 use Rattle.repository.specs.Views.{Outcome}
 use Rattle.repository.specs.declared.command.Command.{Command}
 use Rattle.repository.specs.declared.command.Command.TheVariants as command
-use Rattle.repository.specs.declared.read.Read.TheVariants as read
+use Rattle.mm_types.specs.declared.read.Read.TheVariants as read
 use Rattle.repository.specs.declared.reply.Answer.{Answer}
 use Rattle.repository.specs.declared.reply.Answer.TheVariants as answer
 use Rattle.script_lines.specs.declared.grammar.TheConstants.{NEWLINE}

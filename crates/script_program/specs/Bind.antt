@@ -1,5 +1,5 @@
 -- The request of a form: its names are looked up in the metamodel, and its adapter in the pool.
-use Rattle.std.specs.Prelude.{ℕ, Bool, List, Option, option_and_then, unwrap_or, codes, Result, Ok, Err, if◌then◌else◌}
+use Rattle.std.specs.Prelude.{ℕ, Bool, List, Option, Some, None, option_and_then, unwrap_or, codes, Result, Ok, Err, if◌then◌else◌}
 use Rattle.std.specs.Str.{bytes_eq}
 use Rattle.mm_types.specs.Lookups as lookups
 use Rattle.mm_types.specs.Resolved.{Metamodel}
@@ -20,9 +20,9 @@ use Rattle.repository.specs.State.{State, reads}
 use Rattle.repository.specs.Views.{command_view}
 use Rattle.repository.specs.declared.command.Command.{Command}
 use Rattle.repository.specs.declared.command.Command.TheVariants as command
-use Rattle.repository.specs.Commands as commands
-use Rattle.repository.specs.declared.read.Read.TheVariants as read
-use Rattle.repository.specs.declared.read.EndRead.TheVariants.{Get, IsSet}
+use Rattle.mm_types.specs.declared.read.Read.TheVariants as read
+use Rattle.script_lines.specs.declared.form.FeatureForm.{FeatureForm}
+use Rattle.script_lines.specs.declared.form.FeatureForm.TheVariants as form
 use Rattle.script_lines.specs.declared.form.Form.{Form}
 use Rattle.script_lines.specs.declared.form.Form.TheVariants as asks
 use Rattle.script_lines.specs.declared.written_value.WrittenValue.{WrittenValue}
@@ -72,8 +72,17 @@ set_command s n name v = command.At (named_end s n name) (act.Set (named_value s
 abbrev pub add_command : {A : Type 0} → State → Node → List ℕ → WrittenValue → Option ℕ → Command A
 add_command s n name v index = command.At (named_end s n name) (act.Add (named_value s n name v) index)
 
-abbrev pub removevalue_command : {A : Type 0} → State → Node → List ℕ → WrittenValue → Command A
-removevalue_command s n name v = command.At (named_end s n name) (act.RemoveValue (named_value s n name v))
+-- the command by which something is asked of an end, or done to it
+abbrev pub at_command : {A : Type 0} → Metamodel → End → FeatureForm → Command A
+at_command m e (form.Read q) = command.Read (read.At e q)
+at_command m e (form.Set v) = command.At e (act.Set (value_in m e.feature v))
+at_command m e form.Unset = command.At e act.Unset
+at_command m e (form.Add v) = command.At e (act.Add (value_in m e.feature v) None)
+at_command m e (form.AddAt i v) = command.At e (act.Add (value_in m e.feature v) (Some i))
+at_command m e (form.Remove i) = command.At e (act.Remove i)
+at_command m e (form.RemoveValue v) = command.At e (act.RemoveValue (value_in m e.feature v))
+at_command m e (form.Move to from) = command.At e (act.Move to from)
+at_command m e (form.Resolve i) = command.At e (act.Resolve i)
 
 -- the request to attach an adapter of the pool; if the pool can't give it, the repository is not asked
 abbrev pub attach_request : Result View Refused → AdapterNo → Node → Bool → Request View
@@ -82,13 +91,7 @@ attach_request (Err r) number target deep = request.Refuse r
 
 abbrev pub bind : Session → Form → Request View
 bind s (asks.New class) = request.Execute (create_command s.state.model.metamodel class)
-bind s (asks.Set n feature v) = request.Execute (set_command s.state n feature v)
-bind s (asks.Unset n feature) = request.Execute (command.At (named_end s.state n feature) act.Unset)
-bind s (asks.Add n feature v index) = request.Execute (add_command s.state n feature v index)
-bind s (asks.Remove n feature i) = request.Execute (command.At (named_end s.state n feature) (act.Remove i))
-bind s (asks.RemoveValue n feature v) = request.Execute (removevalue_command s.state n feature v)
-bind s (asks.Move n feature to from) = request.Execute (command.At (named_end s.state n feature) (act.Move to from))
-bind s (asks.Resolve o feature i) = request.Execute (command.At (named_end s.state (node.Object o) feature) (act.Resolve i))
+bind s (asks.At n name f) = request.Execute (at_command s.state.model.metamodel (named_end s.state n name) f)
 bind s asks.ResolveAll = request.Execute command.ResolveAll
 bind s (asks.Load k text) = request.Execute (command.Load k text)
 bind s (asks.Resource t) = request.Execute (command.CreateResource t)
@@ -96,17 +99,8 @@ bind s (asks.Attach number target deep) = attach_request (box_of s.pool number) 
 bind s (asks.Watch number target deep) = request.Execute (command.Watch number target deep)
 bind s (asks.Unwatch number target) = request.Execute (command.Unwatch number target)
 bind s (asks.Detach number) = request.Execute (command.Detach number)
-bind s (asks.Get n feature) = request.Execute (command.Read (read.At (named_end s.state n feature) Get))
-bind s (asks.IsSet n feature) = request.Execute (command.Read (read.At (named_end s.state n feature) IsSet))
-bind s (asks.Container o) = request.Execute (commands.container o)
-bind s (asks.Within o) = request.Execute (commands.resource o)
-bind s (asks.Contents n) = request.Execute (commands.contents n)
 bind s (asks.Delete o) = request.Execute (command.Delete o)
-bind s (asks.Validate o) = request.Execute (commands.validate o)
-bind s (asks.Fragment o) = request.Execute (commands.fragment o)
-bind s (asks.At t) = request.Execute (commands.object_at t)
-bind s (asks.Save k) = request.Execute (commands.save k)
-bind s (asks.Class o) = request.Execute (commands.class o)
+bind s (asks.Read q) = request.Execute (command.Read q)
 bind s (asks.Seen number) = request.Seen number
 
 -- the pool without the adapter that a request takes

@@ -9,6 +9,8 @@ use Rattle.repository.specs.Step.{step}
 use Rattle.repository.specs.Views.{Outcome}
 use Rattle.script_lines.specs.Forms.{form}
 use Rattle.script_lines.specs.Lines.{lines}
+use Rattle.script_lines.specs.declared.form.FeatureForm.{FeatureForm}
+use Rattle.script_lines.specs.declared.form.FeatureForm.TheVariants as feature
 use Rattle.script_lines.specs.declared.form.Form.{Form}
 use Rattle.script_lines.specs.declared.form.Form.TheVariants as asks
 use Rattle.script_lines.specs.declared.line.Line.{Line}
@@ -33,16 +35,15 @@ use Rattle.script_program.specs.declared.request.Request.TheVariants as request
 use Rattle.script_answers.specs.declared.turn.Turn.{Turn}
 use Rattle.script_answers.specs.declared.turn.Turn.TheVariants as turned
 
+-- whether a feature is changed, and not read
+abbrev pub edits : FeatureForm → Bool
+edits (feature.Read q) = false
+edits _ = true
+
 -- whether a form asks for a change of the model
 abbrev pub asks_change : Form → Bool
+asks_change (asks.At n name f) = edits f
 asks_change (asks.New class) = true
-asks_change (asks.Set n feature v) = true
-asks_change (asks.Unset n feature) = true
-asks_change (asks.Add n feature v index) = true
-asks_change (asks.Remove n feature i) = true
-asks_change (asks.RemoveValue n feature v) = true
-asks_change (asks.Move n feature to from) = true
-asks_change (asks.Resolve o feature i) = true
 asks_change asks.ResolveAll = true
 asks_change (asks.Load k text) = true
 asks_change (asks.Resource t) = true

@@ -1,9 +1,10 @@
 //! What a form asks for.
 ghost use Rattle.std.specs.Prelude.{◌≡◌};
+ghost use Rattle.repository.specs.Views.{command_view};
 ghost use Rattle.repository.specs.declared.command.Command.TheVariants as command;
 ghost use Rattle.script_program.specs.Bind as b;
-ghost use Rattle.script_program.specs.Pool.{box_of};
-ghost use Rattle.script_program.specs.Session.{session};
+ghost use Rattle.script_program.specs.Pool.{Pool as PoolView, box_of};
+ghost use Rattle.script_program.specs.Session.{session, taken};
 ghost use Rattle.script_program.specs.declared.request.Request.TheVariants as request;
 
 use crate::pool::Pool;
@@ -12,8 +13,8 @@ use adapters::Adapter;
 use links::LinkStore;
 use mm_meta::Meta;
 use mm_types::{AdapterNo, ClassNo, End, FeatureNo, Node, Value};
-use repository::{Act, Command, EndRead, NodeRead, ObjectRead, Read, Repository};
-use script_lines::{Form, Name, WrittenValue};
+use repository::{Act, Command, Read, Repository};
+use script_lines::{FeatureForm, Form, Name, WrittenValue};
 use script_output::enum_of;
 
 /// A number that no class, no feature and no literal has.
@@ -31,52 +32,13 @@ pub(crate) fn bind<L: LinkStore, A: Adapter>(
 {
     match form {
         Form::New { class } => Request::Execute(create_command(repository.meta(), class)),
-        Form::Set {
+        Form::At {
             node,
             feature,
-            value,
-        } => Request::Execute(set_command(repository, node, feature, value)),
-        Form::Unset { node, feature } => {
-            Request::Execute(Command::At(named_end(repository, node, feature), Act::Unset))
-        }
-        Form::Add {
-            node,
-            feature,
-            value,
-            index,
-        } => Request::Execute(add_command(repository, node, feature, value, index)),
-        Form::Remove {
-            node,
-            feature,
-            index,
-        } => Request::Execute(Command::At(
-            named_end(repository, node, feature),
-            Act::Remove(index),
-        )),
-        Form::RemoveValue {
-            node,
-            feature,
-            value,
-        } => Request::Execute(removevalue_command(repository, node, feature, value)),
-        Form::Move {
-            node,
-            feature,
-            to,
-            from,
-        } => Request::Execute(Command::At(
-            named_end(repository, node, feature),
-            Act::Move { to, from },
-        )),
+            form,
+        } => Request::Execute(at_command(repository, node, feature, form)),
         Form::Resource(text) => Request::Execute(Command::CreateResource(text)),
         Form::Load { resource, text } => Request::Execute(Command::Load(resource, text)),
-        Form::Resolve {
-            object,
-            feature,
-            index,
-        } => Request::Execute(Command::At(
-            named_end(repository, Node::Object(object), feature),
-            Act::Resolve(index),
-        )),
         Form::ResolveAll => Request::Execute(Command::ResolveAll),
         Form::Attach { no, target, deep } => attach_request(pool, no, target, deep),
         Form::Watch { no, target, deep } => {
@@ -84,30 +46,10 @@ pub(crate) fn bind<L: LinkStore, A: Adapter>(
         }
         Form::Unwatch { no, target } => Request::Execute(Command::Unwatch { no, target }),
         Form::Detach(no) => Request::Execute(Command::Detach(no)),
-        Form::Get { node, feature } => {
-            read_request(Read::At(named_end(repository, node, feature), EndRead::Get))
-        }
-        Form::IsSet { node, feature } => {
-            read_request(Read::At(named_end(repository, node, feature), EndRead::IsSet))
-        }
-        Form::Container(object) => read_request(Read::Of(object, ObjectRead::Container)),
-        Form::Within(object) => read_request(Read::Of(object, ObjectRead::Resource)),
-        Form::Contents(node) => read_request(Read::Under(node, NodeRead::Contents)),
         Form::Delete(object) => Request::Execute(Command::Delete(object)),
-        Form::Validate(object) => read_request(Read::Of(object, ObjectRead::Validate)),
-        Form::Fragment(object) => read_request(Read::Of(object, ObjectRead::Fragment)),
-        Form::At(text) => read_request(Read::ObjectAt(text)),
-        Form::Save(resource) => read_request(Read::Save(resource)),
-        Form::Class(object) => read_request(Read::Of(object, ObjectRead::Class)),
+        Form::Read(read) => Request::Execute(Command::Read(read)),
         Form::Seen(no) => Request::Seen(no),
     }
-}
-
-/// The request to execute a read.
-fn read_request<A>(read: Read) -> Request<A>
-    ensures { result ≡ request.Execute (command.Read read) }
-{
-    Request::Execute(Command::Read(read))
 }
 
 fn attach_request<A: Adapter>(
@@ -136,44 +78,35 @@ fn create_command<A>(meta: &Meta, class: Name<'_>) -> Command<A>
     Command::Create(class_number(meta, class.as_str()))
 }
 
-fn set_command<L: LinkStore, A: Adapter>(
+/// The command by which something is asked of a named feature of a node, or done to it. It brings no adapter.
+fn at_command<L: LinkStore, A: Adapter>(
     repository: &Repository<L, A>,
     node: Node,
     name: Name<'_>,
-    written: WrittenValue<'_>,
+    form: FeatureForm<'_>,
 ) -> Command<A>
-    ensures { result ≡ b.set_command repository.now node name.entry written.entry }
+    ensures command { command_view A.heard result ≡ b.at_command repository.now.model.metamodel (b.named_end repository.now node name.entry) form.entry }
+    ensures pool { (pool : PoolView) → pool ≡ taken pool (command_view A.heard result) }
 {
     let end = named_end(repository, node, name);
-    let value = value_in(repository.meta(), end.feature, written);
-    Command::At(end, Act::Set(value))
-}
-
-fn add_command<L: LinkStore, A: Adapter>(
-    repository: &Repository<L, A>,
-    node: Node,
-    name: Name<'_>,
-    written: WrittenValue<'_>,
-    index: Option<u32>,
-) -> Command<A>
-    ensures { result ≡ b.add_command repository.now node name.entry written.entry index }
-{
-    let end = named_end(repository, node, name);
-    let value = value_in(repository.meta(), end.feature, written);
-    Command::At(end, Act::Add(value, index))
-}
-
-fn removevalue_command<L: LinkStore, A: Adapter>(
-    repository: &Repository<L, A>,
-    node: Node,
-    name: Name<'_>,
-    written: WrittenValue<'_>,
-) -> Command<A>
-    ensures { result ≡ b.removevalue_command repository.now node name.entry written.entry }
-{
-    let end = named_end(repository, node, name);
-    let value = value_in(repository.meta(), end.feature, written);
-    Command::At(end, Act::RemoveValue(value))
+    let (meta, feature) = (repository.meta(), end.feature);
+    match form {
+        FeatureForm::Read(read) => Command::Read(Read::At(end, read)),
+        FeatureForm::Set(value) => Command::At(end, Act::Set(value_in(meta, feature, value))),
+        FeatureForm::Unset => Command::At(end, Act::Unset),
+        FeatureForm::Add(value) => {
+            Command::At(end, Act::Add(value_in(meta, feature, value), None))
+        }
+        FeatureForm::AddAt(index, value) => {
+            Command::At(end, Act::Add(value_in(meta, feature, value), Some(index)))
+        }
+        FeatureForm::Remove(index) => Command::At(end, Act::Remove(index)),
+        FeatureForm::RemoveValue(value) => {
+            Command::At(end, Act::RemoveValue(value_in(meta, feature, value)))
+        }
+        FeatureForm::Move { to, from } => Command::At(end, Act::Move { to, from }),
+        FeatureForm::Resolve(index) => Command::At(end, Act::Resolve(index)),
+    }
 }
 
 /// The end of a named feature of a node.

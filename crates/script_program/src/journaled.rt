@@ -1,7 +1,7 @@
 //! Lines whose changes a journal keeps.
 ghost use Rattle.std.specs.Prelude.{◌≡◌, false, IfOk};
 ghost use Rattle.script_lines.specs.Forms.{form};
-ghost use Rattle.script_program.specs.Kept.{asks_change, has_fault, journal_turn, line_asks, lines_run, session_of};
+ghost use Rattle.script_program.specs.Kept.{asks_change, edits, has_fault, journal_turn, line_asks, lines_run, session_of};
 ghost use Rattle.script_program.specs.Session.{first_session};
 
 use crate::interpreter::Interpreter;
@@ -12,7 +12,7 @@ use links::LinkStore;
 use mm_meta::Meta;
 use repository::Repository;
 use script_answers::Turn;
-use script_lines::{Form, Line, parse_line};
+use script_lines::{FeatureForm, Form, Line, parse_line};
 use std::alloc::{AllocError, Global};
 
 /// An interpreter that tells for each line whether a journal has to keep it: whether it is a change of the model, and the change was done.
@@ -28,20 +28,24 @@ pub struct Journaled<L: LinkStore, A: Adapter, H: Listener> {
     is_faulty: bool,
 }
 
+/// Whether a feature is changed, and not read.
+fn is_edit(form: &FeatureForm<'_>) -> bool
+    ensures { result ≡ edits form.now }
+{
+    match form {
+        FeatureForm::Read(_) => false,
+        _ => true,
+    }
+}
+
 /// Whether a form asks for a change of the model.
 fn is_change(form: &Form<'_>) -> bool
     ensures { result ≡ asks_change form.now }
 {
     match form {
+        Form::At { form, .. } => is_edit(form),
         Form::New { .. }
-        | Form::Set { .. }
-        | Form::Unset { .. }
-        | Form::Add { .. }
-        | Form::Remove { .. }
-        | Form::RemoveValue { .. }
-        | Form::Move { .. }
         | Form::Resource(_)
-        | Form::Resolve { .. }
         | Form::ResolveAll
         | Form::Load { .. }
         | Form::Delete(_) => true,

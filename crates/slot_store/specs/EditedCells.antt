@@ -30,7 +30,7 @@ abbrev pub held : End → ObjectNo → Option FeatureNo → Option FeatureNo →
 held e o g None = None
 held e o g (Some h) = if same_feature e.feature h then Some (node.Object o, e) else held_far e o g h
 
--- the index of the row of the node that a link contains, chosen from the indexes of both nodes
+-- the index of the row of the node that a link contains: the row of its far node, or of its near node
 abbrev pub held_row_index : PutPlaces → End → Option FeatureNo → ℕ
 held_row_index p e None = p.near
 held_row_index p e (Some h) = if same_feature e.feature h then p.far else p.near

@@ -76,8 +76,8 @@ impl<A: Adapter> AdapterList<A> {
     /// Notifies the adapters of a round that fits them, each of its own notifications in turn. Returns which adapter was notified of what:
     /// the notifications in the order of the chain, each with its adapters in attach order. It takes no memory.
     ///
-    /// A round fits the adapters for which it was reserved. After an adapter was attached or detached it need not fit, since it names the
-    /// adapters by number and by index in attach order.
+    /// A round fits the adapters for which it was reserved. A round names the adapters by number and by index in attach order, so it
+    /// need not fit after an adapter was attached or detached.
     pub fn deliver(&mut self, round: Round) -> Vec<(AdapterNo, Notice)>
         requires reserved { RoundFits self.old.0 self.old.1 round }
         ensures heard { self.new.0 ≡ delivered round.copies self.old.0 }

@@ -43,7 +43,7 @@ fn keep(told: Vec<(AdapterNo, Notice)>, notices: &mut Vec<Notice>) -> Result<(),
     Ok(())
 }
 
-/// Names a book, and adds the notifications of that.
+/// Names a book, and adds the notifications of this change.
 fn name_book<L: LinkStore, A: Adapter>(
     alloc: Global,
     repository: &mut Repository<L, A>,
@@ -57,7 +57,7 @@ fn name_book<L: LinkStore, A: Adapter>(
     }
 }
 
-/// Names all books, and adds the notifications of that.
+/// Names all books, and adds the notifications of these changes.
 fn name_all<L: LinkStore, A: Adapter>(
     alloc: Global,
     repository: &mut Repository<L, A>,
@@ -91,7 +91,7 @@ fn nodes_of<L: LinkStore, A: Adapter>(
     }
 }
 
-/// Names all books, adds the notifications of that, and replays them over a snapshot from before. Returns how many nodes the view has, if
+/// Names all books, adds the notifications of these changes, and replays them over a snapshot from before. Returns how many nodes the view has, if
 /// it is the same as a new snapshot.
 fn viewed<L: LinkStore, A: Adapter>(
     alloc: Global,

@@ -42,7 +42,7 @@ fn documents(alloc: Global, features: &str) -> Result<Vec<Text>, AllocError> {
     Ok(vec![in alloc; Text::from_string(first), Text::from_str(alloc, SECOND)?]?)
 }
 
-/// Attaches an adapter to each of the five objects, and one deep to each of the two resources.
+/// Attaches an adapter to each of the five objects, and a deep adapter to each of the two resources.
 fn attach_to_each<L: LinkStore>(repository: &mut Network<L>) -> Result<(), Refused> {
     for no in 0..5 {
         attach(repository, no, object(no), false)?;

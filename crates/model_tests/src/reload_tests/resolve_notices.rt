@@ -96,12 +96,12 @@ fn each_end_that_is_resolved_is_told_once(rt: HostRuntime) -> Result<(), Fail> {
     Ok(())
 }
 
-/// How many notifications a counter has got that can get `room` more.
+/// The count of a counter that can count `room` more notifications.
 fn with_room(room: u64) -> u64 {
     u64::MAX - room
 }
 
-/// Attaches a counter to the second resource, and a counter that can get so many more to the first one; both are deep.
+/// Attaches two deep counters: one to the second resource, and one to the first resource, which can count `room` more notifications.
 fn attach_two<L: LinkStore>(repository: &mut Network<L>, room: u64) -> Result<(), Refused> {
     attach(repository, 1, resource(1), true, Counter::new())?;
     let counter = Counter::starting_at(with_room(room));
@@ -138,7 +138,8 @@ fn check_refused<L: LinkStore>(
     Ok(())
 }
 
-/// The first resource has six notifications, and the last notification is one more. With capacity for fewer, the command is refused.
+/// The adapter of the first resource is notified six times, and once more when it is detached. With capacity for fewer notifications, the
+/// command is refused.
 fn check_rooms<L: LinkStore>(alloc: Global, repository: &mut Network<L>) -> Result<(), Fail> {
     let texts = documents(alloc)?;
     reload(alloc, repository, texts.as_slice(), IN_ORDER)?;

@@ -38,7 +38,7 @@ fn a_live_run_at_a_byte_at_a_time_answers_each_line(rt: HostRuntime) -> Result<(
     Ok(())
 }
 
-/// How many bytes of the answers belong to the lines in the first so many bytes of the script.
+/// The length of the answers to the lines that are whole in the first `bytes` bytes of the script.
 fn answered(bytes: usize) -> usize {
     match bytes {
         0..=8 => 0,

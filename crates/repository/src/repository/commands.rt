@@ -4,17 +4,16 @@ ghost use Rattle.repository.specs.Run.{AllExecuted, Executed, IsRun, answered_ou
 ghost use Rattle.repository.specs.Views.{changed_view, command_view, outcome_view};
 ghost use Rattle.repository.specs.declared.command.Command.TheVariants as command;
 ghost use Rattle.repository.specs.declared.command.Command.TheVariants.{At};
-ghost use Rattle.repository.specs.declared.read.Read.TheVariants as asks;
+ghost use Rattle.mm_types.specs.declared.read.Read.TheVariants as asks;
 
 use super::Repository;
 use crate::command::Command;
-use crate::read::{EndRead, NodeRead, ObjectRead, Read, Tally};
 use crate::replies::{outcome, replied};
 use crate::reply::{Answer, Failure, Reply};
 use adapters::Adapter;
 use handshake::{Act, Change};
 use links::LinkStore;
-use mm_types::{End, ObjectNo, Refused};
+use mm_types::{End, EndRead, NodeRead, ObjectNo, ObjectRead, Read, Refused, Tally};
 
 impl<L: LinkStore, A: Adapter> Repository<L, A> {
     /// Does a command.

@@ -152,7 +152,7 @@ dropped (o ∷ os) v p h =
       | false ↦ λ _ more. dropped os w p more
     ] refl h
 
-pub goes-none : (s : Model) (o : ObjectNo) (n : Node) → IsTrue (is_there (reading (after s (change.Delete o))) n) → goes_with (reading s) (change.Delete o) n ≡ false
+goes-none : (s : Model) (o : ObjectNo) (n : Node) → IsTrue (is_there (reading (after s (change.Delete o))) n) → goes_with (reading s) (change.Delete o) n ≡ false
 goes-none s o (node.Resource k) later = refl
 goes-none s o (node.Object p) later =
     elim (list_any (same_object p) (subtree (reading s) o)) as (λ b. list_any (same_object p) (subtree (reading s) o) ≡ b → b ≡ false) [
@@ -163,6 +163,15 @@ goes-none s o (node.Object p) later =
 not-behind : (m n : ℕ) → n < m → nat_le m n ≡ false
 not-behind m n h = grind (arith, nat_tests)
 
-pub comes-none : (s : Model) (k : ResourceNo) (doc : Doc) (n : Node) → IsTrue (is_there (reading s) n) → comes_with (reading s) (change.Load k doc) n ≡ false
+comes-none : (s : Model) (k : ResourceNo) (doc : Doc) (n : Node) → IsTrue (is_there (reading s) n) → comes_with (reading s) (change.Load k doc) n ≡ false
 comes-none s k doc (node.Object o) before = not-behind (length s.values.objects) o.0 (live-made s o (there-live (reading s) o before))
 comes-none s k doc (node.Resource j) before = refl
+
+-- of any change
+pub goes-by : (s : Model) (x : Change) (n : Node) → IsTrue (is_there (reading (after s x)) n) → goes_with (reading s) x n ≡ false
+goes-by s (change.Delete o) n later = goes-none s o n later
+goes-by s _ n later = refl
+
+pub comes-by : (s : Model) (x : Change) (n : Node) → IsTrue (is_there (reading s) n) → comes_with (reading s) x n ≡ false
+comes-by s (change.Load k doc) n before = comes-none s k doc n before
+comes-by s _ n before = refl

@@ -1,5 +1,7 @@
 //! The reads of a repository, as values: a name, and the question about it.
-use mm_types::{AdapterNo, End, Node, ObjectNo, ResourceNo, Text};
+use crate::end::End;
+use crate::numbers::{AdapterNo, Node, ObjectNo, ResourceNo};
+use crate::text::Text;
 
 /// A read of the repository, as a value.
 #[derive(Drop)]
