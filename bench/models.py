@@ -1,4 +1,4 @@
-"""Folders of models that are made for measurements: files of libraries, whose objects refer to one another across files."""
+"""Makes folders of models for measurements: files of libraries, whose objects refer to one another across files."""
 
 import json
 import os
@@ -9,8 +9,8 @@ from pathlib import Path
 
 
 def library(number, files, objects):
-    """The document of a file: a library with books and members. One book in ten is followed by one of the next file, which names it
-    back; each member likes a book of its file and one of a file that is further on."""
+    """The document of a file: a library with books and members. One book in ten is followed by a book of the next file, which names it
+    back. Each member likes a book of its own file and a book of a file further on."""
     members = objects // 4
     books = objects - 1 - members
     after, before, far = [f'../{it % files // 100:04}/{it % files:06}.json' for it in (number + 1, number - 1, number + 7)]
@@ -33,7 +33,7 @@ def library(number, files, objects):
 
 
 def make(top, files, objects):
-    """Makes a folder of files with so many objects each, a hundred in a folder. Nothing is wrong with them."""
+    """Makes a folder of `files` files with `objects` objects each, a hundred files in a subfolder. The files have no fault."""
     for number in range(files):
         path = Path(top, f'{number // 100:04}', f'{number:06}.json')
         path.parent.mkdir(exist_ok=True)
@@ -41,7 +41,7 @@ def make(top, files, objects):
 
 
 def family(pid):
-    """The processes that a process has started, itself included, each with its resident bytes."""
+    """A process and the processes that it has started, each with its resident memory in bytes."""
     found, waiting = {}, [pid]
     while waiting:
         one = waiting.pop()
@@ -56,7 +56,8 @@ def family(pid):
 
 
 class Peak:
-    """The most memory that this process and those that it started had together, and the most that one of them had."""
+    """Measures memory while a block runs: the most that this process and all processes that it started had together, and the most that one
+    of them had, in bytes."""
 
     def __init__(self, *others):
         self.total = self.one = self.here = 0

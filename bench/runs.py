@@ -1,4 +1,4 @@
-"""A program is run on a script, and what it takes is measured."""
+"""Runs a program on a script, and measures time, memory and instructions."""
 import re
 import subprocess
 import sys
@@ -8,12 +8,13 @@ COUNTED = re.compile(rb'Collected : (\d+)')
 
 
 def run(words, script):
+    """Runs a command on a script; returns the finished process."""
     with open(script, 'rb') as file:
         return subprocess.run(words, stdin=file, capture_output=True, check=True)
 
 
 def best_time(command, script, runs, wanted):
-    """The least wall time of some runs, in seconds. Each has to print what is wanted."""
+    """The least elapsed time of some runs, in seconds. Each run must print what is wanted."""
     times = []
     for _ in range(runs):
         start = time.perf_counter()
@@ -31,6 +32,6 @@ def peak_memory(command, script):
 
 
 def instructions(command, script):
-    """The instructions of a run, which are the same each time."""
+    """The number of instructions of a run; it is the same in each run."""
     ran = run(['valgrind', '--tool=callgrind', '--callgrind-out-file=/dev/null', *command], script)
     return int(COUNTED.search(ran.stderr)[1])

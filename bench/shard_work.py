@@ -1,4 +1,4 @@
-"""What the workers of a measurement do with a shard. It is a module, so that each worker can import it."""
+"""The work of bench/shards on a shard. It is in a module of its own, so that each worker process can import it."""
 
 import hashlib
 import json
@@ -6,8 +6,8 @@ from collections import Counter
 
 
 def digest(repo, resources):
-    """For each resource its file, the counts of its classes, how many references of some persons lead to books of other files, the sum of all
-    pages, and what identifies its document."""
+    """For each resource its file, the number of objects of each class, how many references of some persons lead to books of other files,
+    the sum of all pages, and a hash of its document."""
     found = []
     for resource in resources:
         text = resource.save()

@@ -1,5 +1,5 @@
-"""The workloads that are measured: each is a function of a size, which gives each line of a script with the line that it prints, or None
-where it prints nothing. What is at random is so by a fixed seed."""
+"""The workloads that are measured. Each is a function of a size; it yields the lines of a script, each with the line that the script prints
+for it, or None if it prints none. Random choices have a fixed seed."""
 import pathlib
 import random
 
@@ -11,7 +11,7 @@ WATCHED = 1_000
 
 
 def attributes(size):
-    """Books with a name and a number of pages, each of which is set and then read."""
+    """`size` books; each gets a name and a number of pages, which are then read."""
     for i in range(size):
         yield 'new Book', f'#{i}'
         yield f'set #{i} name "Book {i}"', 'ok'
@@ -21,7 +21,7 @@ def attributes(size):
 
 
 def watched(size):
-    """One book with seven adapters, whose pages are set again and again."""
+    """The pages of one book with seven adapters are set again and again."""
     yield 'new Book', '#0'
     for no in range(1, 8):
         yield f'attach A{no} #0 flat', 'ok'
@@ -33,7 +33,7 @@ def watched(size):
 
 
 def elsewhere(size):
-    """Eight adapters at other books than the one whose pages are set again and again."""
+    """The pages of one book are set again and again, while eight adapters are attached to other books."""
     yield 'new Book', '#0'
     for no in range(1, 9):
         yield 'new Book', f'#{no}'
@@ -43,14 +43,14 @@ def elsewhere(size):
 
 
 def alone(size):
-    """One book without adapters, whose pages are set again and again."""
+    """The pages of one book without adapters are set again and again."""
     yield 'new Book', '#0'
     for i in range(size):
         yield f'set #0 pages {i % 100}', 'ok'
 
 
 def far_below(size):
-    """A chain of 500 folders, with a deep adapter at the top that only counts; the size of the lowest is set again and again."""
+    """A chain of 500 folders, with a deep adapter at the top that only counts. A feature of the lowest folder is set again and again."""
     for folder in range(LEVELS):
         yield 'new Folder', f'#{folder}'
     for folder in range(1, LEVELS):
@@ -63,42 +63,42 @@ def far_below(size):
 
 
 def appended(size):
-    """One book, whose list of tags, which repeats nothing, gets so many at its end."""
+    """`size` tags are appended to the unique list of one book."""
     yield 'new Book', '#0'
     for i in range(size):
         yield f'add #0 tags "{i}"', 'true'
 
 
 def inserted(size):
-    """One book, whose list of tags gets so many at its front."""
+    """`size` tags are inserted at the front of the list of one book."""
     yield 'new Book', '#0'
     for i in range(size):
         yield f'add #0 tags "{i}" 0', 'true'
 
 
 def moved(size):
-    """The tags of `appended`, each of which is then moved from the front to the end."""
+    """The tags of `appended`, each of which is moved from the front to the end."""
     yield from appended(size)
     for i in range(size):
         yield f'move #0 tags {size - 1} 0', f'"{i}"'
 
 
 def removed(size):
-    """The tags of `appended`, each of which is then removed from the front."""
+    """The tags of `appended`, each of which is removed from the front."""
     yield from appended(size)
     for i in range(size):
         yield f'remove #0 tags 0', f'"{i}"'
 
 
 def repeated(size):
-    """The tags of `appended`, each of which is then added again, which changes nothing."""
+    """The tags of `appended`, each of which is added again; this changes nothing."""
     yield from appended(size)
     for i in range(size):
         yield f'add #0 tags "{i}"', 'false'
 
 
 def stocked(size):
-    """A resource with one library, which gets so many books and so many members, each of whom likes one book."""
+    """A resource with one library, to which `size` books and as many members are added; each member likes one book."""
     yield 'resource "http://m.example/library"', 'r0'
     yield 'new Library', '#0'
     yield 'add r0 contents #0', 'true'
@@ -119,20 +119,20 @@ def stock(size):
 
 
 def saved(size):
-    """The resource of `stocked`, which is then saved."""
+    """The resource of `stocked` is saved."""
     yield from stocked(size)
     yield 'save r0', stock(size)
 
 
 def loaded(size):
-    """The document of `saved`, which is loaded, and saved again as it was."""
+    """The document of `saved` is loaded, and saved again as the same text."""
     yield 'resource "http://m.example/library"', 'r0'
     yield f'load r0 {stock(size)}', f'loaded {2 * size + 1}'
     yield 'save r0', stock(size)
 
 
 def kept(size):
-    """A library of so many books, each with a name and a number of pages, which is saved, and loaded into another resource."""
+    """A library of `size` books with names and numbers of pages is saved, and loaded into another resource."""
     yield 'resource "http://m.example/library"', 'r0'
     yield 'resource "http://m.example/copy"', 'r1'
     yield 'new Library', '#0'
@@ -149,8 +149,8 @@ def kept(size):
 
 
 def paired(size):
-    """A person in one resource who follows so many others in another, each of whom has that person at the opposite end: saved, taken away,
-    loaded, and resolved in the order of the list."""
+    """A person in one resource follows `size` persons in another one, each of whom has the first person at the opposite end. Both resources
+    are saved, emptied and loaded, and the links are resolved in the order of the list."""
     yield 'resource "http://m.example/a"', 'r0'
     yield 'resource "http://m.example/b"', 'r1'
     yield 'new Person', '#0'
@@ -174,7 +174,7 @@ def paired(size):
 
 
 def reload_text(k, size):
-    """The document of one of the five resources of `reloaded`."""
+    """The document of the resource of number `k` in `reloaded`."""
     half = size // 2
     after, before = 'abcde'[(k + 1) % 5], 'abcde'[(k - 1) % 5]
     books = [f'{{"class":"Book","features":{{"next":"http://m/{after}#/{i}","prev":"http://m/{before}#/{i}"}}}}' for i in range(half)]
@@ -183,8 +183,8 @@ def reload_text(k, size):
 
 
 def reloaded(size):
-    """Five resources of so many objects: books, each with the next one and the one before it in other resources, and people, each with a
-    favourite in another resource. They are saved and emptied, loaded in another order, all resolved, and saved as they were."""
+    """Five resources of `size` objects each: books, each with the next and the previous book in other resources, and persons, each with a
+    favourite in another resource. They are saved and emptied, loaded in another order, all resolved, and saved again as the same texts."""
     half = size // 2
     for k, name in enumerate('abcde'):
         yield f'resource "http://m/{name}"', f'r{k}'
@@ -209,13 +209,13 @@ def reloaded(size):
 
 
 def deleted(size):
-    """The library of `stocked`, which is then deleted with all that it contains."""
+    """The library of `stocked` is deleted with all that it contains."""
     yield from stocked(size)
     yield 'delete #0', f'deleted {2 * size + 1}'
 
 
 def wide_added(size):
-    """A folder that gets so many others, added to it one after another."""
+    """`size` folders are added to one folder, one after another."""
     yield 'new Folder', '#0'
     for i in range(1, size + 1):
         yield 'new Folder', f'#{i}'
@@ -223,7 +223,7 @@ def wide_added(size):
 
 
 def wide_set(size):
-    """The same, by `set` of the parent."""
+    """The links of `wide_added`, made by `set` of the parent."""
     yield 'new Folder', '#0'
     for i in range(1, size + 1):
         yield 'new Folder', f'#{i}'
@@ -231,7 +231,7 @@ def wide_set(size):
 
 
 def tree(size):
-    """Folders in a tree, two in each: each new one is added to its parent, asked for its container, and its parent is read."""
+    """A binary tree of folders. Each new folder is added to its parent, its container is asked for, and its parent is read."""
     yield 'new Folder', '#0'
     for i in range(1, size + 1):
         yield 'new Folder', f'#{i}'
@@ -241,7 +241,7 @@ def tree(size):
 
 
 def tree_up(size):
-    """The same tree, by `set` of the parent; each new folder is asked for its container."""
+    """The same tree, made by `set` of the parent; the container of each new folder is asked for."""
     yield 'new Folder', '#0'
     for i in range(1, size + 1):
         yield 'new Folder', f'#{i}'
@@ -250,7 +250,7 @@ def tree_up(size):
 
 
 def books(size):
-    """A library for each 100 books: each new book has a name, is added to the library, and is linked to the book before it."""
+    """A library for each 100 books. Each new book gets a name, is added to its library, and is linked to the book before it."""
     library = 0
     for i in range(size):
         first = i % 100 == 0
@@ -265,7 +265,7 @@ def books(size):
 
 
 def deep_added(size):
-    """Folders one in another: each gets a new one."""
+    """A chain of folders, built from the top: a new folder is added to the lowest one."""
     yield 'new Folder', '#0'
     for i in range(1, size + 1):
         yield 'new Folder', f'#{i}'
@@ -273,7 +273,7 @@ def deep_added(size):
 
 
 def deep_set(size):
-    """The same, by `set` of the parent."""
+    """The same chain, made by `set` of the parent."""
     yield 'new Folder', '#0'
     for i in range(1, size + 1):
         yield 'new Folder', f'#{i}'
@@ -281,7 +281,7 @@ def deep_set(size):
 
 
 def deep_filled(size):
-    """Folders one in another: each new one gets a folder of its own, and is then put in the lowest."""
+    """A chain of folders, built from the top: each new folder gets a folder of its own, and is then added to the lowest one."""
     yield 'new Folder', '#0'
     lowest = 0
     for i in range(1, size + 1):
@@ -293,7 +293,7 @@ def deep_filled(size):
 
 
 def deep_raised(size):
-    """Folders one in another, from below: each new one gets all that there is."""
+    """A chain of folders, built from below: the chain so far is added to each new folder."""
     yield 'new Folder', '#0'
     for i in range(1, size + 1):
         yield 'new Folder', f'#{i}'
@@ -301,13 +301,13 @@ def deep_raised(size):
 
 
 def deep_deleted(size):
-    """The folders of `deep_raised`, of which the highest is then deleted."""
+    """The highest folder of `deep_raised` is deleted."""
     yield from deep_raised(size)
     yield f'delete #{size}', f'deleted {size + 1}'
 
 
 def two_libraries(size):
-    """Two libraries, of which the first gets so many books."""
+    """Two libraries, of which the first gets `size` books."""
     yield 'new Library', '#0'
     yield 'new Library', '#1'
     for i in range(2, size + 2):
@@ -316,28 +316,28 @@ def two_libraries(size):
 
 
 def stolen_front(size):
-    """The books of the first of two libraries, each of which the second then gets, from the front."""
+    """The books of the first of two libraries are added to the second one, from the front."""
     yield from two_libraries(size)
     for i in range(2, size + 2):
         yield f'add #1 books #{i}', 'true'
 
 
 def stolen_back(size):
-    """The same, from the back."""
+    """The same, from the end."""
     yield from two_libraries(size)
     for i in reversed(range(2, size + 2)):
         yield f'add #1 books #{i}', 'true'
 
 
 def stolen_random(size):
-    """The same, at random."""
+    """The same, in a random order."""
     yield from two_libraries(size)
     for i in random.Random(SEED).sample(range(2, size + 2), size):
         yield f'add #1 books #{i}', 'true'
 
 
 def books_inserted(size):
-    """One library, which gets so many books at its front."""
+    """`size` books are inserted at the front of one library's list."""
     yield 'new Library', '#0'
     for i in range(1, size + 1):
         yield 'new Book', f'#{i}'
@@ -345,7 +345,7 @@ def books_inserted(size):
 
 
 def books_moved(size):
-    """One library with so many books, which are moved as often, from and to places at random."""
+    """The `size` books of one library are moved `size` times between random indexes."""
     yield 'new Library', '#0'
     for i in range(1, size + 1):
         yield 'new Book', f'#{i}'
@@ -359,7 +359,7 @@ def books_moved(size):
 
 
 def joined(size):
-    """One library, which gets so many members, by a list without an opposite."""
+    """`size` members are added to one library, by a list without an opposite."""
     yield 'new Library', '#0'
     for i in range(1, size + 1):
         yield 'new Person', f'#{i}'
@@ -367,7 +367,7 @@ def joined(size):
 
 
 def liked_by_all(size):
-    """One book, which so many people like."""
+    """`size` persons like one book."""
     yield 'new Book', '#0'
     for i in range(1, size + 1):
         yield 'new Person', f'#{i}'
@@ -375,13 +375,13 @@ def liked_by_all(size):
 
 
 def liked_deleted(size):
-    """The book of `liked_by_all`, which is then deleted."""
+    """The book of `liked_by_all` is deleted."""
     yield from liked_by_all(size)
     yield 'delete #0', 'deleted 1'
 
 
 def shuffled_deleted(size):
-    """A book that so many people like, who came to it in a random order; it is then deleted."""
+    """A book that `size` persons came to like in a random order is deleted."""
     yield 'new Book', '#0'
     for i in range(1, size + 1):
         yield 'new Person', f'#{i}'
@@ -393,21 +393,21 @@ def shuffled_deleted(size):
 
 
 def unliked(size):
-    """The book of `liked_by_all`, which each of them then likes no more."""
+    """The persons of `liked_by_all` remove the book again, in order."""
     yield from liked_by_all(size)
     for i in range(1, size + 1):
         yield f'removevalue #{i} likes #0', 'true'
 
 
 def unliked_random(size):
-    """The same, at random."""
+    """The same, in a random order."""
     yield from liked_by_all(size)
     for i in random.Random(SEED).sample(range(1, size + 1), size):
         yield f'removevalue #{i} likes #0', 'true'
 
 
 def library_deleted(size):
-    """A library with so many books, each of which somebody outside likes; it is then deleted."""
+    """A library with `size` books, each liked by a person outside of the library, is deleted."""
     yield 'new Library', '#0'
     for book in range(1, 2 * size, 2):
         yield 'new Book', f'#{book}'
@@ -418,7 +418,7 @@ def library_deleted(size):
 
 
 def wide_fragments(size):
-    """The folders of `wide_added` in a resource, for each of which its fragment is asked, and what is at its address."""
+    """The folders of `wide_added` in a resource: the fragment of each is asked for, and then the object at its address."""
     yield from wide_added(size)
     yield 'resource "http://m.example/a"', 'r0'
     yield 'add r0 contents #0', 'true'
@@ -428,7 +428,7 @@ def wide_fragments(size):
 
 
 def wide_contents(size):
-    """The folder of `wide_added`, whose contents are asked for ten times."""
+    """The contents of the folder of `wide_added` are asked for ten times."""
     yield from wide_added(size)
     contents = ' '.join(f'#{i}' for i in range(1, size + 1))
     for _ in range(10):
@@ -436,7 +436,7 @@ def wide_contents(size):
 
 
 def deep_fragments(size):
-    """The folders of `deep_raised` in a resource; the fragment of the lowest is asked ten times."""
+    """The folders of `deep_raised` in a resource: the fragment of the lowest is asked for ten times."""
     yield from deep_raised(size)
     yield 'resource "http://m.example/a"', 'r0'
     yield f'add r0 contents #{size}', 'true'
@@ -445,7 +445,7 @@ def deep_fragments(size):
 
 
 def fragment_again(size):
-    """A folder 40 levels deep in a resource, whose fragment is asked for again and again."""
+    """The fragment of a folder 40 levels deep in a resource is asked for again and again."""
     yield 'resource "http://m.example/a"', 'r0'
     for i in range(40):
         yield 'new Folder', f'#{i}'
@@ -457,7 +457,7 @@ def fragment_again(size):
 
 
 def watched_deep(size):
-    """One book in a library in a resource, with seven deep adapters above it, whose pages are set again and again."""
+    """The pages of one book, in a library in a resource, are set again and again, while seven deep adapters are attached above it."""
     yield 'resource "http://m.example/a"', 'r0'
     yield 'new Library', '#0'
     yield 'new Book', '#1'
@@ -473,7 +473,7 @@ def watched_deep(size):
 
 
 def watched_many(size):
-    """A thousand books, each of which seven adapters have as a target, whose pages are set in turn."""
+    """A thousand books, each of which is a target of seven adapters; their pages are set in turn."""
     for book in range(WATCHED):
         yield 'new Book', f'#{book}'
     for no in range(1, 8):
@@ -487,7 +487,7 @@ def watched_many(size):
 
 
 def targets_deleted(size):
-    """The folder of `wide_added`, with an adapter that has each of those below it as a target; it is then deleted."""
+    """The folder of `wide_added`, whose contents are all targets of one adapter, is deleted."""
     yield from wide_added(size)
     yield 'attach A7 #1 flat', 'ok'
     for i in range(2, size + 1):
@@ -497,8 +497,8 @@ def targets_deleted(size):
 
 
 def written(size, is_linked):
-    """A library, so many books and as many authors. With links each book is in the library and has an author; without, as many spaces
-    are in their place."""
+    """A library, `size` books and as many authors. If `is_linked`, each book is in the library and has an author; else the lines for these
+    links are replaced by spaces of the same length."""
     yield 'new Library', '#0'
     for book in range(1, 2 * size, 2):
         yield 'new Book', f'#{book}'
@@ -508,7 +508,7 @@ def written(size, is_linked):
 
 
 def linked(size):
-    """A library with so many books, each with an author."""
+    """A library with `size` books, each with an author."""
     return written(size, True)
 
 
@@ -518,14 +518,14 @@ def unlinked(size):
 
 
 def inherited(size):
-    """An object of the lowest class of `chain`, of whose features one is set that each of the classes declares."""
+    """An object of the lowest class of `chain`, of whose features one for each class is set."""
     yield f'new C{size - 1}', '#0'
     for c in range(size):
         yield f'set #0 f{c}_0 {c}', 'ok'
 
 
 def chain(size):
-    """The metamodel of `inherited`: so many classes, 1,000 at most, each with 40 features of its own and those of the one before."""
+    """The metamodel of `inherited`: `size` classes, at most 1,000, each with 40 features of its own and those of the class before it."""
     for c in range(size):
         features = ','.join(f'{{"name":"f{c}_{i}","kind":"attribute","type":"EInt"}}' for i in range(40))
         supers = f'"C{c - 1}"' if c else ''
@@ -547,9 +547,9 @@ METAMODELS = {name: TOP / 'bench/authors.json' for name in ('linked', 'unlinked'
     'paired': TOP / 'crates/cases/data/club.json',
 }
 
-# The classes, for a size, of the metamodels that grow with it.
+# The metamodels that grow with the size of the workload.
 CLASSES = {'inherited': chain}
 
-# What no script asks for is done by the program `cases`, which takes the size: a view takes a snapshot of so many books, is notified that
-# each is named, and replays its notifications.
+# The program `cases` measures calls that no script makes. It takes the size as its argument: a view takes a snapshot of `size` books, is
+# notified that each gets a name, and replays the notifications.
 PROGRAMS = {'followed': TOP / 'crates/cases/out/cases'}

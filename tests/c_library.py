@@ -1,4 +1,4 @@
-"""The static library for C, as the tests and `tools/package` take it: built over the libraries that `rt ci` proved and left."""
+"""The static library for C, for the tests and for `tools/package`. It is built over the crates that `rt ci` has proved and left."""
 
 import os
 import subprocess
@@ -15,13 +15,13 @@ from packing.building import NotBuilt, kit  # noqa: E402
 
 
 def below(crates, name):
-    """The crates of this repository below a crate."""
+    """The crates of this repository on which a crate depends, directly or not."""
     found = [part for part in crates[name] if part in crates]
     return set(found).union(*(below(crates, part) for part in found))
 
 
 def build_words(folder):
-    """The words with which the compiler proves and builds the library over the libraries that `rt ci` proved and left."""
+    """The command line that proves and builds the library over the crates that `rt ci` has proved and left."""
     lines = [line.split(':') for line in (TOP / 'crates.txt').read_text().splitlines() if ':' in line and not line.startswith('#')]
     crates = {name.split()[0]: parts.split() for name, parts in lines}
     rlibs = {part: TOP / f'crates/{part}/out/rlib/{part}.rlib' for part in below(crates, 'mmrepo_c')}
@@ -34,13 +34,14 @@ def build_words(folder):
 
 
 def is_built(made):
-    """Whether the library is there, and was built of the sources as they are now."""
+    """Whether the library is there and was built from the sources as they are now."""
     found = proved.recorded(made)
     return found is not None and made.exists() and found['sources'] == proved.sources() and found['made'] == proved.digest_of(made)
 
 
 def library():
-    """The library, built if no other one is named; None if it is not proved, and what is wrong is printed."""
+    """The path of the library: the one that MMREPO_C names, or the one that is built here. If a crate is not proved, says so and returns
+    None."""
     if os.environ.get('MMREPO_C'):
         return Path(os.environ['MMREPO_C']).resolve()
     made = CRATE / 'out/libmmrepo_c.a'

@@ -1,4 +1,4 @@
-"""Runs the test files of a folder by unittest, and counts the tests that pass, fail and are skipped."""
+"""Runs the unittest files of a folder, and counts the tests that pass, fail and are skipped."""
 
 import signal
 import sys
@@ -6,27 +6,25 @@ import unittest
 
 
 class Counting(unittest.TextTestResult):
-    """A result that counts the tests that pass, whatever they say by parts."""
+    """A test result that also counts the tests that pass. A test with subtests counts once."""
 
     passed = 0
 
     def addSuccess(self, test):
-        """Counts a test."""
+        """Counts a test that has passed."""
         super().addSuccess(test)
         self.passed += 1
 
 
 def whole(test):
-    """The name of a test, also of a part of it."""
+    """The name of a test, or of the test to which a subtest belongs."""
     return getattr(test, 'test_case', test).id()
 
 
 def run(folder, names):
-    """Runs the files test_NAME.py that are named, or all of the folder, and gives the status.
-
-    The last line is 'N passed, M failed', and behind it how many were skipped, if any were.
-    """
-    # A shell that starts the tests in the background has them ignore Ctrl-C, and so every program that a test interrupts.
+    """Runs the files test_NAME.py of a folder, all of them if no names are given, and returns the exit status. The last line is 'N passed,
+    M failed', followed by the number of skipped tests if there are any."""
+    # A shell that starts the tests in the background makes them ignore Ctrl-C, and also each program that a test would interrupt by it.
     signal.signal(signal.SIGINT, signal.default_int_handler)
     sys.path.insert(0, str(folder))
     names = names or sorted(file.stem[len('test_'):] for file in folder.glob('test_*.py'))

@@ -1,6 +1,6 @@
-"""Dialogues with a built program in live mode: over pipes, on a terminal, and with callers that go away.
+"""Dialogues with the program in live mode: over pipes, on a terminal, and with callers that close their end.
 
-Each function below `DIALOGUES` has one dialogue, and returns whether the program kept to docs/SCRIPT.md.
+Each function named in `DIALOGUES` has one dialogue, and returns whether the program kept to docs/SCRIPT.md.
 """
 import os
 import pathlib
@@ -11,18 +11,18 @@ import tempfile
 
 LIBRARY = pathlib.Path(__file__).resolve().parent.parent / 'examples/library.json'
 LONGEST = 16_777_216  # bytes of a line
-SECONDS = 60  # the most that an answer may take to come
+SECONDS = 60  # the longest wait for an answer
 STOPPED = 'run stopped: {}\n'.format
 
 
 def started(program, stdin=subprocess.PIPE, options=()):
-    """The program in live mode over the library, with pipes."""
+    """Starts the program in live mode over the library, with pipes."""
     words = [program, '--meta', LIBRARY, '--live', *options]
     return subprocess.Popen(words, stdin=stdin, stdout=subprocess.PIPE, stderr=subprocess.PIPE, bufsize=0)
 
 
 def received(stream, count):
-    """The next bytes of a stream, so many of them, or those that come in time."""
+    """The next bytes of a stream: `count` of them, or fewer if the stream ends or is silent for SECONDS."""
     text = b''
     while len(text) < count and select.select([stream], [], [], SECONDS)[0]:
         piece = os.read(stream.fileno(), count - len(text))
@@ -33,24 +33,24 @@ def received(stream, count):
 
 
 def is_silent(stream):
-    """Whether nothing comes on a stream for a moment."""
+    """Whether nothing comes on a stream for 0.2 seconds."""
     return not select.select([stream], [], [], 0.2)[0]
 
 
 def answers(running, line, answer):
-    """Whether the program answers a line, or the rest of one, with the answer, and then waits."""
+    """Whether the program answers a line, or the rest of a line, with exactly this answer, and then waits."""
     running.stdin.write(line)
     return received(running.stdout, len(answer)) == answer and is_silent(running.stdout)
 
 
 def ends(running, status, said, printed=b''):
-    """Whether a program whose input has ended prints the rest, says this on standard error, and has this status."""
+    """Whether a program whose input has ended prints the rest, prints this on standard error, and ends with this status."""
     out, err = running.communicate(timeout=SECONDS)
     return (running.returncode, err.decode(), out) == (status, said, printed)
 
 
 def each_line_is_answered(program):
-    """An answer is there before the next line is sent, notifications and released adapters included."""
+    """Each line is answered before the next is sent; an answer includes the lines of notified and released adapters."""
     running = started(program)
     told = b'ok\ntold A9 SET #0.pages 100 5 -1\n\n'
     released = b'ok\ntold A9 REMOVING_ADAPTER #0 A9 null 0\nreleased A9 told 2 kept 0\n\n'
@@ -60,20 +60,20 @@ def each_line_is_answered(program):
 
 
 def half_a_line_waits(program):
-    """What was answered is there while the rest of a line is waited for, and a line may come in pieces."""
+    """Whole lines are answered while the rest of a line is still missing; a line may come in pieces."""
     running = started(program)
     pieces = [(b'new Book\nnew B', b'#0\n\n'), (b'oo', b''), (b'k\nnew Book\nget #0', b'#1\n\n#2\n\n'), (b' pages\n', b'100\n\n')]
     return all(answers(running, piece, answer) for piece, answer in pieces) and ends(running, 0, '')
 
 
 def last_line_needs_no_newline(program):
-    """The end of the input ends a line, and the run."""
+    """The end of the input ends the last line, and the run."""
     running = started(program)
     return answers(running, b'new Book\nnew Book', b'#0\n\n') and ends(running, 0, '', b'#1\n\n')
 
 
 def caller_stops_listening(program):
-    """A program that nobody listens to stops at its next answer."""
+    """If the caller closes its end of the output, the program stops at its next answer."""
     running = started(program)
     if not answers(running, b'new Book\n', b'#0\n\n'):
         return False
@@ -83,14 +83,14 @@ def caller_stops_listening(program):
 
 
 def caller_takes_one_line(program):
-    """A caller takes the first line of many answers and goes."""
+    """The program stops if a caller reads only the first of many answers."""
     words = f'yes "new Book" | {{ "{program}" --meta "{LIBRARY}" --live; echo $? >&2; }} | head -n 1'
     done = subprocess.run(['bash', '-c', words], stdout=subprocess.PIPE, stderr=subprocess.PIPE, timeout=SECONDS)
     return done.stdout == b'#0\n' and done.stderr.decode().endswith(STOPPED('WRITE') + '3\n')
 
 
 def line_never_ends(program):
-    """A line that does not end is read no further than it may be long, and the lines before it were answered."""
+    """A line without an end is read only to the longest length of a line; the lines before it were answered."""
     running = started(program)
     if not answers(running, b'new Book\n', b'#0\n\n'):
         return False
@@ -106,7 +106,7 @@ def line_never_ends(program):
 
 
 def terminal_is_prompted(program):
-    """On a terminal a prompt is on standard error whenever a line is waited for."""
+    """On a terminal there is a prompt on standard error whenever the program waits for a line."""
     master, slave = pty.openpty()
     running = started(program, slave)
     os.close(slave)
@@ -120,7 +120,7 @@ def terminal_is_prompted(program):
 
 
 def examples_are_answered_alike(program):
-    """Live mode answers a script as a batch does, with one empty line for each line of the script, and no other."""
+    """Live mode answers a script as a batch does, with one empty line more for each line of the script."""
     for file in LIBRARY.parent.glob('*.txt'):
         script = file.read_bytes()
         done = subprocess.run([program, '--meta', LIBRARY, '--live'], input=script, stdout=subprocess.PIPE, timeout=SECONDS)
@@ -133,7 +133,7 @@ def examples_are_answered_alike(program):
 
 
 def journal_comes_back(program):
-    """With a journal each line is answered before the next is sent, and what was answered is there when the program starts again."""
+    """With a journal each line is answered before the next is sent, and the next start has all that was answered."""
     with tempfile.TemporaryDirectory() as room:
         options = ('--journal', f'{room}/journal')
         running = started(program, options=options)
@@ -159,5 +159,5 @@ DIALOGUES = (
 
 
 def hold(program):
-    """Whether each dialogue goes as it should, by its name."""
+    """Runs each dialogue; returns by its name whether it held."""
     return {talk.__name__: program.exists() and talk(program) for talk in DIALOGUES}

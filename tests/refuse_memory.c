@@ -1,5 +1,5 @@
-/* Loaded before a program, refuses one of its allocations: the one of the number REFUSED_ALLOCATION, counted from 1. At the program's
-   end the number of allocations that it asked for is written to the file that ALLOCATIONS names. */
+/* A library that is loaded before a program. It refuses one allocation of the program, by the number REFUSED_ALLOCATION, counted from 1. At
+   the end of the program it writes the number of allocations to the file that ALLOCATIONS names. */
 #include <stddef.h>
 #include <stdio.h>
 #include <stdlib.h>

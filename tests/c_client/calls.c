@@ -1,4 +1,4 @@
-/* Each call at its edges. Prints a line for each test, and what failed in it. The status is 0. */
+/* Tests each call at its limits. Prints a line for each test, and what failed in it. The status is 0. */
 #include <mmrepo.h>
 #include <stdio.h>
 #include <stdlib.h>

@@ -1,4 +1,4 @@
-/* Refuses a session its allocations, in each run the next one, until a run asks for no more. The linker wraps the three functions of the
+/* Refuses the allocations of a session: one in each run, from the first allocation to the last. The linker wraps the three functions of the
    allocator. Prints a line for each test, and what failed in it. The status is 0. */
 #include <mmrepo.h>
 #include <stdio.h>

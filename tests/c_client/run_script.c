@@ -1,5 +1,5 @@
-/* run_script METAMODEL: runs the lines on standard input over the metamodel of a file, and prints what each of them prints. The status is
-   0 where all lines were run, whatever they answered; else it is that of the call that was not. */
+/* run_script METAMODEL: runs the lines on standard input over the metamodel of a file, and prints what each line prints. The exit status is
+   0 if all lines were run, whatever they answered; otherwise it is the status of the call that failed. */
 #include <mmrepo.h>
 #include <stdio.h>
 #include <stdlib.h>

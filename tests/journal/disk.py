@@ -1,4 +1,4 @@
-"""What a disk may have after a crash, by the calls that a program made of a file."""
+"""Which contents a file may have on the disk after a crash, given the system calls that the program made."""
 
 import re
 import subprocess
@@ -7,34 +7,35 @@ from typing import NamedTuple
 from journaled import SECONDS, command
 
 CALL = re.compile(r'^\d+ +(\w+)\((.*)\) += (-?\d+)')
-SECTORS = (512, 16, 1)  # the sizes of what is written whole; one of a byte is the worst
+SECTORS = (512, 16, 1)  # bytes that a disk writes at once; a sector of one byte is the worst case
 
 
 class Write(NamedTuple):
-    """Bytes are written from an offset on."""
+    """Bytes were written at an offset."""
 
     at: int
     data: bytes
 
 
 class Cut(NamedTuple):
-    """The file is cut to a length."""
+    """The file was truncated to a length."""
 
     length: int
 
 
 class Sync(NamedTuple):
-    """The file is put on the disk."""
+    """The file was synced: its content is on the disk."""
 
 
 class Answer(NamedTuple):
-    """Bytes are written on standard output."""
+    """Bytes were written to standard output."""
 
     data: bytes
 
 
 def recorded(strace, room, journal, lines, together):
-    """Runs lines under strace, so many at once, and gives the calls that the program made of its journal and of standard output."""
+    """Runs the program over lines under strace, `together` of them at a time, and returns its calls on the journal and on standard output.
+    """
     log = room / 'log'
     names = 'openat,pwrite64,ftruncate,fsync,fdatasync,write'
     words = [strace, '-f', '-qq', '-xx', '-s', '1000000', '-o', log, '-e', f'trace={names}']
@@ -76,12 +77,12 @@ def calls_of(log, journal):
 
 
 def data_of(word):
-    """The bytes that strace writes as \\x.."""
+    """The bytes of a string that strace has written as hexadecimal escapes"""
     return bytes.fromhex(word.strip('"').replace('\\x', ''))
 
 
 def written(file, call):
-    """The bytes of a file after a call."""
+    """The content of a file after a call."""
     if isinstance(call, Write):
         return file[:call.at].ljust(call.at, b'\0') + call.data + file[call.at + len(call.data):]
     if isinstance(call, Cut):
@@ -90,7 +91,8 @@ def written(file, call):
 
 
 def torn(chance, file, call):
-    """What a crash may leave of a file and a call that was not synced: any of its sectors, garbage, and any length between."""
+    """A content that a crash may leave of a call that was not synced: some sectors are old, new or garbage, and the length is anything
+    between the old and the new one."""
     if isinstance(call, Cut):
         return file[:chance.randint(min(call.length, len(file)), len(file))]
     whole = bytearray(written(file, call))
@@ -109,14 +111,14 @@ def torn(chance, file, call):
 
 
 def garbage(chance, count):
-    """Bytes that might look like a journal."""
+    """Random bytes, of which some look like lines of a journal."""
     if chance.randrange(2):
         return bytes(chance.choice(b' \n ' + bytes([chance.randrange(256)])) for _ in range(count))
     return (b'\n new Book\n set #0 name "of nobody"\n' * (1 + count // 30))[chance.randrange(9):][:count].ljust(count)
 
 
 def after_crash(chance, start, calls):
-    """A file that a crash after some calls may leave."""
+    """A content that a crash after some calls may leave."""
     durable, waiting = start, []
     for call in calls:
         if isinstance(call, Sync):

@@ -1,4 +1,4 @@
-"""The program with a journal, random lines for it, and what it must have after a crash."""
+"""Runs the program with a journal, makes random lines for it, and checks which model it must have after a crash."""
 
 import os
 import select
@@ -9,7 +9,7 @@ TOP = Path(__file__).resolve().parent.parent.parent
 PROGRAM = Path(os.environ.get('MMREPO', TOP / 'crates/mmrepo/out/mmrepo')).resolve()
 LIBRARY = TOP / 'examples/library.json'
 SEED = int(os.environ.get('JOURNAL_SEED', '1'))
-SECONDS = 60  # the most that the program may take for anything here
+SECONDS = 60  # the longest wait for the program
 CHANGES = {
     'new', 'set', 'unset', 'add', 'remove', 'removevalue', 'move', 'delete', 'resource', 'load', 'resolve', 'resolveall',
 }
@@ -22,13 +22,13 @@ FEATURES = {
 
 
 def command(journal=None, *options):
-    """The words that start the program in live mode."""
+    """The command line that starts the program in live mode."""
     words = [str(PROGRAM), '--meta', str(LIBRARY), '--live', *options]
     return words + (['--journal', str(journal)] if journal else [])
 
 
 def blocks(text):
-    """The answers in what was written, as bytes; what is not ended by an empty line is not an answer yet."""
+    """The answers in an output, as bytes. What no empty line ends is not yet an answer."""
     found, answer = [], b''
     for line in text.splitlines(keepends=True):
         if line == b'\n':
@@ -40,7 +40,7 @@ def blocks(text):
 
 
 def run(lines, journal=None, *options):
-    """The answers to some lines, the status, and what is said on standard error."""
+    """Runs the program over lines; returns its answers, its status, and its standard error."""
     text = b''.join(line + b'\n' for line in lines)
     done = subprocess.run(
         command(journal, *options), input=text, stdout=subprocess.PIPE, stderr=subprocess.PIPE, timeout=SECONDS
@@ -49,18 +49,19 @@ def run(lines, journal=None, *options):
 
 
 def is_kept(line, answer):
-    """Whether a line asked for a change that was done."""
+    """Whether the journal keeps a line: whether the line asked for a change, and the change was done."""
     words = line.split()
     return bool(words) and words[0].decode() in CHANGES and not answer.startswith((b'refused ', b'bad line'))
 
 
 def kept(lines, answers):
-    """Those of some lines that are to be kept, by their answers."""
+    """The lines that the journal keeps, by their answers."""
     return [line for line, answer in zip(lines, answers) if is_kept(line, answer)]
 
 
 def has(ask):
-    """What a program has: the class and each feature of its objects, and each document. `ask` gives the answers to lines."""
+    """The model that a program has: the class and each feature of its objects, and the document of each resource. `ask` returns the answers
+    to lines."""
     count = int(ask([b'new Folder'])[0][1:])
     classes = ask([b'class #%d' % number for number in range(count)])
     questions = [b'%s r%d%s' % (verb, number, what) for number in range(4) for verb, what in ((b'get', b' contents'), (b'save', b''))]
@@ -72,7 +73,8 @@ def has(ask):
 
 
 def lines_of(file):
-    """The lines that a file stands for, by docs/JOURNAL.md: those that begin with a space and are ended, up to the first other one."""
+    """The lines that a journal stands for, by docs/JOURNAL.md: those that begin with a space and end with a newline, up to the first other
+    line."""
     found = []
     for line in file.split(b'\n')[:-1]:
         if not line.startswith(b' '):
@@ -82,7 +84,7 @@ def lines_of(file):
 
 
 class Lines:
-    """Random lines over the library: most are done, some refused, some bad, and some only ask."""
+    """Random lines over the library: most are done, some are refused, some are bad, and some only ask."""
 
     def __init__(self, chance):
         self.chance = chance
@@ -90,11 +92,11 @@ class Lines:
         self.resources = 0
 
     def object(self):
-        """A number of an object, seldom of none."""
+        """The number of an object, rarely of one that is not there."""
         return b'#%d' % self.chance.randrange(max(1, self.objects) + 1)
 
     def next(self):
-        """One more line."""
+        """Makes one line."""
         chance = self.chance
         kind = chance.randrange(20)
         if kind < 4 or self.objects < 4:
@@ -127,28 +129,30 @@ class Lines:
         return b'load r%d {"format":1,"roots":[{"class":"Book","features":{"name":"of a document %d"}}]}' % (chance.randrange(4), chance.randrange(99))
 
     def some(self, count):
-        """So many more lines."""
+        """Makes `count` lines."""
         return [self.next() for _ in range(count)]
 
 
 def read_some(stream, seconds):
-    """What comes on a stream in some seconds: nothing at its end, None if it stays silent."""
+    """What comes on a stream within some seconds: no bytes at its end, None if it is silent."""
     if not select.select([stream], [], [], seconds)[0]:
         return None
     return os.read(stream.fileno(), 65_536)
 
 
 class Check:
-    """What must hold after a crash: the model is that of the lines that were answered, and perhaps of some that followed them."""
+    """Checks a journal after crashes: its model must be that of the lines that were answered, and perhaps of some of the lines after them.
+    """
 
     def __init__(self, test, journal):
         self.test = test
         self.journal = Path(journal)
         self.before = []  # the lines that the journal is known to have
-        self.more = 0  # how often it had lines that were not answered
+        self.more = 0  # how often the journal had lines that were not answered
 
     def after(self, lines, answered, whole=True):
-        """Looks at the journal after a crash, of which some lines were sent and some of these answered. Gives the lines that it has."""
+        """Checks the journal after a crash: `lines` were sent, and `answered` are the answers that came. Returns the lines that the journal
+        has."""
         test = self.test
         wanted = run([*self.before, *lines])[0][len(self.before):]
         test.assertEqual(answered, wanted[:len(answered)], 'an answer is another one than without a journal')
@@ -169,7 +173,7 @@ class Check:
             self.same_model()
 
     def same_model(self):
-        """Compares what the program has with what the same lines give without a journal."""
+        """Checks that the model of the journal is the model that its lines make without a journal."""
         data, copy = self.journal.read_bytes(), self.journal.with_name('copy')
 
         def from_journal(lines):

@@ -1,4 +1,4 @@
-"""The program begins with each of the files that a disk may have after a crash, at random."""
+"""The program starts with random files that a disk may have after a crash."""
 
 import os
 import random
@@ -12,12 +12,12 @@ from journaled import FEATURES, SEED, Lines, blocks, kept, lines_of, run
 
 STRACE = shutil.which('strace')
 IMAGES = int(os.environ.get('JOURNAL_IMAGES', '600'))
-AGAIN = 5  # files of a crash while the program recovers from one
+AGAIN = 5  # files tried for each crash during a recovery
 
 
 @unittest.skipUnless(STRACE, 'no strace: the package strace is not installed')
 class Disks(unittest.TestCase):
-    """Files that keep any part of what was written since the last sync, or garbage in its place."""
+    """Files in which any part of what was written since the last sync is lost or is garbage."""
 
     def setUp(self):
         room = tempfile.TemporaryDirectory()
@@ -26,7 +26,7 @@ class Disks(unittest.TestCase):
         self.chance = random.Random(SEED)
 
     def begins(self, image):
-        """Runs the program over a file, and gives what it has, and the lines of the file then."""
+        """Starts the program with a file; returns what it has, and the lines of the journal afterwards."""
         copy = self.room / 'image'
         copy.write_bytes(image)
         found = run(self.questions, copy)
@@ -34,13 +34,14 @@ class Disks(unittest.TestCase):
         return found[0], lines_of(copy.read_bytes())[1:]
 
     def given(self, count):
-        """What the program has after the first lines that are kept, so many of them."""
+        """What the program has after the first `count` lines that the journal keeps."""
         if count not in self.known:
             self.known[count] = run([*self.kept[:count], *self.questions])[0][count:]
         return self.known[count]
 
     def crashes(self, lines, together, images):
-        """Records a dialogue, and begins again with files that crashes at random moments leave. Counts what came up."""
+        """Records a dialogue, starts the program with files that crashes at random moments leave, and returns how many files of each kind
+        there were."""
         calls = recorded(STRACE, self.room, self.room / 'journal', lines, together)
         answers = run(lines)[0]
         made = int(run([*lines, b'new Folder'])[0][-1][1:])
@@ -58,7 +59,7 @@ class Disks(unittest.TestCase):
         return counts
 
     def crash(self, calls, lines, answers, counts):
-        """Begins with a file that a crash after some calls may leave."""
+        """Starts the program with a file that a crash after some calls may leave, and checks its lines and its model."""
         image = after_crash(self.chance, b'', calls)
         answered = len(blocks(b''.join(call.data for call in calls if isinstance(call, Answer))))
         had, found = self.begins(image)
@@ -72,7 +73,7 @@ class Disks(unittest.TestCase):
             self.crash_again(image, found, counts)
 
     def crash_again(self, image, found, counts):
-        """Crashes while the program recovers from a file, and begins with what that leaves."""
+        """Crashes while the program recovers from a file, and starts it with a file that this crash may leave."""
         copy = self.room / 'again'
         copy.write_bytes(image)
         calls = recorded(STRACE, self.room, copy, [], 1)
@@ -87,9 +88,9 @@ class Disks(unittest.TestCase):
         print('one by one:', self.crashes(Lines(self.chance).some(40), 1, IMAGES // 3))
 
     def test_lines_that_come_together(self):
-        """Lines are sent many at once, so that a commit has several."""
+        """Eight lines are sent at a time, so that a commit has several lines."""
         print('eight at once:', self.crashes(Lines(self.chance).some(120), 8, IMAGES // 3))
 
     def test_a_commit_of_many_sectors(self):
-        """A commit is longer than a sector of the disk."""
+        """160 lines are sent at a time, so that a commit is longer than a sector."""
         print('all at once:', self.crashes(Lines(self.chance).some(160), 160, IMAGES // 3))

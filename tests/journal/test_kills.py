@@ -10,14 +10,14 @@ import unittest
 from journaled import SEED, Check, Lines, blocks, command, read_some
 
 KILLS = int(os.environ.get('JOURNAL_KILLS', '40'))
-A_FILE = 10  # kills of a program that goes on with the same journal
+A_FILE = 10  # kills with one journal
 
 
 class Kills(unittest.TestCase):
-    """Kills at random moments, one after another over one journal."""
+    """Kills at random moments, one after another with one journal."""
 
     def test_nothing_that_was_answered_is_lost(self):
-        """What was answered is there after each kill, and what was not is there as a front."""
+        """After each kill the journal has all lines that were answered, and perhaps some of the lines after them, in order."""
         chance, more = random.Random(SEED), 0
         for first in range(0, KILLS, A_FILE):
             with tempfile.TemporaryDirectory() as room:
@@ -31,7 +31,7 @@ class Kills(unittest.TestCase):
 
 
 def killed(chance, journal, lines):
-    """Sends lines one by one and many at once, and kills the program. Gives the lines that were sent, and the answers that came."""
+    """Sends lines, some one by one and some together, and kills the program; returns the lines that were sent and the answers that came."""
     running = subprocess.Popen(command(journal), stdin=subprocess.PIPE, stdout=subprocess.PIPE, bufsize=0)
     sent, text = [], b''
     for _ in range(chance.randrange(12)):

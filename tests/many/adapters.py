@@ -1,4 +1,4 @@
-"""The adapters of a pool, and which are notified of what, by the rules of docs/ADAPTERS.md and docs/SCRIPT.md."""
+"""Simulates a pool of adapters and decides which of them are notified, by the rules of docs/ADAPTERS.md and docs/SCRIPT.md."""
 
 from collections import Counter, defaultdict
 
@@ -10,43 +10,43 @@ ROOMS = {5: 2, 6: 100, **dict.fromkeys((1, 2, 3, 4), float('inf'))}  # how many 
 
 
 class Adapter:
-    """An adapter of the pool, attached where it has targets: each node, and whether it is deep, in the order in which it got them."""
+    """An adapter of the pool. If it is attached, it has targets in the order in which it got them: nodes, each flat or deep."""
 
     def __init__(self, no):
-        """One that was notified of nothing; A8 can count two notifications."""
+        """A free adapter without notifications; A8 can count two notifications."""
         self.no, self.targets, self.order = no, {}, 0
         self.told = MOST_TOLD - 2 if no == 8 else 0
 
     @property
     def heard(self):
-        """How many times it was notified, and how many notifications it keeps."""
+        """How many notifications it got, and how many it keeps."""
         return f'{self.told} kept {min(self.told, ROOMS.get(self.no, 0))}'
 
     def reserve(self, places):
-        """Refuses more notifications than it can count."""
+        """Refuses a change that needs more notifications than the adapter can count."""
         if self.told + places > MOST_TOLD:
             raise Refused('27 ADAPTER_FULL')
 
     def hear(self, notice):
-        """The line of its notification."""
+        """Counts a notification, and returns the line that a script prints for it."""
         self.told += 1
         return f'told A{self.no} {notice}'
 
 
 class Adapters:
-    """The pool of a session, those of it that are attached, and for each node those that have it as a target."""
+    """The pool of a session, its attached adapters, and for each node the adapters that have it as a target."""
 
     def __init__(self, size):
-        """None is attached."""
+        """A pool of `size` adapters, none of them attached."""
         self.pool = {no: Adapter(no) for no in range(1, size + 1)}
         self.attached, self.at, self.count, self.order = {}, defaultdict(set), 0, 0
 
     def is_free(self, no):
-        """Whether an adapter is in the pool."""
+        """Whether an adapter is in the pool and not attached."""
         return no in self.pool and no not in self.attached
 
     def take(self, no):
-        """An adapter of the pool."""
+        """A free adapter, to be attached; refused if there is none of that number."""
         if no not in self.pool:
             raise Refused('25 NO_ADAPTER')
         if no in self.attached:
@@ -54,18 +54,18 @@ class Adapters:
         return self.pool[no]
 
     def of(self, no):
-        """An adapter that is attached."""
+        """An attached adapter; refused if it is not attached."""
         if no not in self.attached:
             raise Refused('25 NO_ADAPTER')
         return self.attached[no]
 
     def check_limit(self):
-        """Refuses one target more than there may be."""
+        """Refuses a target beyond the greatest number of targets."""
         if self.count >= MOST_TARGETS:
             raise Refused('14 LIMIT')
 
     def aim(self, adapter, node, is_deep):
-        """Gives an adapter a target; with its first one it is last in attach order."""
+        """Adds a target to an adapter. With its first target the adapter becomes the last one in attach order."""
         adapter.reserve(len(adapter.targets) + 1)
         if adapter.no not in self.attached:
             self.order += 1
@@ -76,7 +76,7 @@ class Adapters:
         self.count += 1
 
     def drop(self, adapter, node):
-        """Takes a target from an adapter, and gives the line of its last notification from there."""
+        """Takes a target from an adapter; returns the line of the last notification from that target."""
         index = sorted(it.order for it in self.at[node]).index(adapter.order)
         del adapter.targets[node]
         self.at[node].remove(adapter)
@@ -84,17 +84,17 @@ class Adapters:
         return adapter.hear(f'REMOVING_ADAPTER {node} A{adapter.no} null {index}')
 
     def audience(self, node, above):
-        """The adapters that are notified of changes at a node, in attach order."""
+        """The adapters that are notified of a change at a node, in attach order; `above` are the nodes that contain it."""
         deep = {adapter for up in above for adapter in self.at[up] if adapter.targets[up]}
         return sorted(self.at[node] | deep, key=lambda adapter: adapter.order)
 
     def reserve(self, hearing):
-        """Refuses a change that notifies some adapter more often than it can count, since one count is kept for each target."""
+        """Refuses a change that notifies some adapter more often than the adapter can count."""
         for adapter, notices in Counter(adapter for some in hearing for adapter in some).items():
             adapter.reserve(notices + len(adapter.targets))
 
     def release(self):
-        """The lines of those that have no target left, in attach order; each is back in the pool."""
+        """Puts the adapters without targets back into the pool; returns their lines in attach order."""
         released = [adapter for adapter in self.attached.values() if not adapter.targets]
         for adapter in released:
             del self.attached[adapter.no]

@@ -1,8 +1,8 @@
-"""Makes scripts at random, by a seed, for a pool of adapters that have many targets among many objects."""
+"""Makes random scripts by a seed, for a pool of adapters that have many targets among many objects."""
 
 import random
 
-# How often an object of a class is made, is edited, and is picked as a target.
+# Weights by class: how often an object is made, edited, and chosen as a target.
 MADE = {'Folder': 7, 'Book': 9, 'Library': 3, 'Person': 2}
 EDITED = {'Folder': 2, 'Book': 9, 'Library': 4, 'Person': 3}
 AIMED = {'Folder': 7, 'Book': 5, 'Library': 6, 'Person': 1}
@@ -15,20 +15,20 @@ VERBS = {
     'set': 30, 'unset': 4, 'add': 16, 'remove': 5, 'removevalue': 4, 'move': 8, 'new': 5, 'delete': 3,
     'watch': 12, 'unwatch': 7, 'attach': 8, 'detach': 2, 'seen': 2, 'get': 2,
 }
-LARGEST = 12  # objects that a delete mostly destroys at most
+LARGEST = 12  # most deletes destroy at most so many objects
 
 
 class Commands:
-    """The lines of a script and what they print, by the model of a session."""
+    """The lines of a script, and what each must print by the model of a session."""
 
     def __init__(self, session, views, seed):
         """An empty script."""
         self.session, self.model, self.adapters, self.views = session, session.model, session.adapters, views
         self.random, self.lines, self.answers = random.Random(seed), [], []
-        self.last = None  # the node that a line edited last; many lines are about it or its adapters, since the adapters that it notifies may be remembered
+        self.last = None  # the node of the last edit; many lines name it or its adapters, since the program may remember whom it notifies
 
     def run(self, line):
-        """The script gets a line."""
+        """Adds a line to the script, and its answer by the model."""
         answer = self.session.run(line)
         self.views.follow(len(self.lines), line, answer)
         self.lines.append(line)
@@ -37,11 +37,11 @@ class Commands:
     # Words.
 
     def once_in(self, times=30):
-        """Once in so many times."""
+        """True once in `times` calls, on average."""
         return not self.random.randrange(times)
 
     def one(self, weights):
-        """A key by its weight."""
+        """A random key, by its weight."""
         return self.random.choices(list(weights), weights.values())[0]
 
     def live(self, name):
@@ -51,57 +51,57 @@ class Commands:
         return self.last if self.is_last(name) else self.random.choice(self.model.live[name])
 
     def is_last(self, name):
-        """Whether the last node is taken where an object of a class is wanted."""
+        """Whether the last node is taken for an object of a class."""
         return self.once_in(3) and self.model.class_of.get(self.last) == name
 
     def named(self, node):
-        """A node, but rarely one that is not there, or no more. The other words of the line come first, since they may make an object."""
+        """A node, rarely one that is not there or is deleted. The other words of a line are made first, since they may make an object."""
         gone = f'#{self.random.randrange(self.model.objects)}'
         strays = [f'#{self.model.objects}', f'r{len(RESOURCES)}', *([] if gone in self.model.ends else [gone])]
         return self.random.choice(strays) if self.once_in(60) else node
 
     def target(self):
-        """A node for an adapter, often the last one."""
+        """A node for an adapter, often the last node."""
         if self.once_in(2) and self.last in self.model.ends:
             return self.last
         return self.named(self.random.choice(RESOURCES) if self.once_in(100) else self.live(self.one(AIMED)))
 
     def depth(self):
-        """What a target brings in."""
+        """The depth of a target: `flat` or `deep`."""
         return self.random.choice(('flat', 'deep'))
 
     def value(self, feature):
-        """A value of a feature, but rarely an object that is not there."""
+        """A value for a feature, rarely an object that is not there."""
         if feature.is_reference:
             value = self.live(self.one(MADE) if feature.name == 'contents' else feature.type_name)
             return f'#{self.model.objects}' if self.once_in(100) else value
         return str(self.random.randrange(1000)) if feature.type == 'EInt' else f'"{self.random.choice("abcdefgh")}"'
 
     def place(self, end):
-        """A place among so many values, but rarely one past them."""
+        """An index below `end`, rarely `end` itself, which is one too high."""
         return self.random.randrange(end + self.once_in() or 1)
 
     def end(self, features):
-        """An end, as its node and its feature, which is one of these by class."""
+        """An end: a node and a feature. `features` has the features to choose from, by class."""
         if self.last not in self.model.class_of or not self.once_in(3):
             self.last = self.live(self.one(EDITED))
         return self.last, self.model.feature(self.last, self.random.choice(features[self.model.class_of[self.last]]))
 
     def list_end(self):
-        """The end of a list."""
+        """An end that is a list."""
         if self.once_in(15):
             node = self.random.choice(RESOURCES)
             return node, self.model.feature(node, 'contents')
         return self.end(LISTS)
 
     def filled(self):
-        """The end of a list, mostly one that has a value, as its words, and its values."""
+        """An end that is a list, mostly one with a value: its words, and its values."""
         ends = [self.list_end() for _ in range(20)]
         node, feature = next(((node, it) for node, it in ends if self.model.ends[node][it.name]), ends[0])
         return f'{self.named(node)} {feature.name}', self.model.ends[node][feature.name]
 
     def adapter(self, is_free=False):
-        """An adapter that is attached, often at the last node, or one that is free, but rarely any."""
+        """An attached adapter, often one at the last node, or a free one; rarely any number."""
         size, near = len(self.adapters.pool), sorted(it.no for it in self.adapters.at[self.last])
         if near and not is_free and self.once_in(3):
             return f'A{self.random.choice(near)}'
@@ -112,71 +112,71 @@ class Commands:
     # The words of a line, by its verb.
 
     def set(self):
-        """A set, sometimes to null."""
+        """The words of a set, sometimes to null."""
         node, feature = self.end(SINGLE)
         value = 'null' if self.once_in(6) and feature.name != 'pages' else self.value(feature)
         return f'{self.named(node)} {feature.name} {value}'
 
     def unset(self):
-        """An unset, mostly of a feature of one value."""
+        """The words of an unset, mostly of a feature of one value."""
         node, feature = self.list_end() if self.once_in(8) else self.end(SINGLE)
         return f'{self.named(node)} {feature.name}'
 
     def add(self):
-        """An addition, half of them at a place."""
+        """The words of an addition, half of the times with an index."""
         node, feature = self.list_end()
         value, end = self.value(feature), len(self.model.ends[node][feature.name]) + 1
         return f'{self.named(node)} {feature.name} {value}' + (f' {self.place(end)}' if self.once_in(2) else '')
 
     def remove(self):
-        """A removal by place."""
+        """The words of a removal by index."""
         end, values = self.filled()
         return f'{end} {self.place(len(values))}'
 
     def removevalue(self):
-        """A removal by value, mostly of one that is there."""
+        """The words of a removal by value, mostly of a value that is there."""
         node, feature = self.list_end()
         values = self.model.ends[node][feature.name]
         value = self.random.choice(values) if values else self.value(feature)
         return f'{self.named(node)} {feature.name} {value}'
 
     def move(self):
-        """A move."""
+        """The words of a move."""
         end, values = self.filled()
         return f'{end} {self.place(len(values))} {self.place(len(values))}'
 
     def get(self):
-        """A read."""
+        """The words of a read."""
         node, feature = self.list_end() if self.once_in(2) else self.end(SINGLE)
         return f'{self.named(node)} {feature.name}'
 
     def new(self):
-        """A new object."""
+        """The class of a new object."""
         return self.one(MADE)
 
     def delete(self):
-        """A delete, mostly of few objects."""
+        """The object of a delete, mostly one that contains few objects."""
         nodes = [self.live(self.one(MADE)) for _ in range(4)]
         small = next((node for node in nodes if len(self.model.below(node)) <= LARGEST), nodes[0])
         self.last = self.model.holder.get(small, (self.last,))[0]
         return f'#{self.model.objects}' if self.once_in(60) else small
 
     def attach(self):
-        """An attach."""
+        """The words of an attach."""
         return f'{self.adapter(is_free=True)} {self.target()} {self.depth()}'
 
     def watch(self):
-        """One target more, or one again."""
+        """The words of a watch: a new target, or one that the adapter has already."""
         name = self.adapter()
         return f'{name} {self.own_target(name) if self.once_in(8) else self.target()} {self.depth()}'
 
     def unwatch(self):
-        """One target less, mostly one that is there."""
+        """The words of an unwatch, mostly of a target that the adapter has."""
         name = self.adapter()
         return f'{name} {self.target() if self.once_in(8) else self.own_target(name)}'
 
     def own_target(self, name):
-        """A target of an adapter, if it has one, often the last node."""
+        """A target of an adapter if it has one, often the last node."""
         attached = self.adapters.attached.get(int(name[1:]))
         if attached and self.last in attached.targets and self.once_in(2):
             return self.last
@@ -187,7 +187,7 @@ class Commands:
     # Scripts.
 
     def place_object(self, name):
-        """A new object, mostly in an object, and else in a resource."""
+        """Makes an object, and adds it mostly to an object, else to a resource."""
         self.run(f'new {name}')
         part = f'#{self.model.objects - 1}'
         if name in HOLDERS and not self.once_in(12):
@@ -196,14 +196,14 @@ class Commands:
         return self.run(f'add {self.random.choice(RESOURCES)} contents {part}')
 
     def build(self, objects):
-        """Resources, and so many objects."""
+        """Makes the resources, and `objects` objects."""
         for name in RESOURCES:
             self.run(f'resource "http://m.example/{name}"')
         for _ in range(objects):
             self.place_object(self.one(MADE))
 
     def aim(self, more):
-        """Each adapter gets another object as its target, and up to so many targets more."""
+        """Attaches each adapter to an object of its own, and gives it up to `more` further targets."""
         nodes = self.random.sample(sorted(self.model.class_of), len(self.adapters.pool))
         for no, node in zip(self.adapters.pool, nodes):
             self.run(f'attach A{no} {node} {self.depth()}')
@@ -211,7 +211,7 @@ class Commands:
                 self.run(f'watch A{no} {self.target()} {self.depth()}')
 
     def change(self, count, verbs):
-        """So many commands, by the weights of their verbs. After one that is about targets mostly comes one that notifies."""
+        """Adds `count` commands, by the weights of their verbs. A command on targets is mostly followed by one that notifies."""
         for _ in range(count):
             verb = self.one(verbs)
             self.run(f'{verb} {getattr(self, verb)()}')
@@ -219,7 +219,7 @@ class Commands:
                 self.run(f'unset {self.last} {self.random.choice(SINGLE[self.model.class_of[self.last]])}')
 
     def read_all(self):
-        """Each feature of each node is read; answers the lines' places, by the node and the feature."""
+        """Reads each feature of each node; returns the number of each line, by node and feature."""
         places = {}
         for node, name in [(node, name) for node in self.model.ends for name in self.model.ends[node]]:
             places[node, name] = len(self.lines)
@@ -227,7 +227,7 @@ class Commands:
         return places
 
     def detach_all(self):
-        """Each adapter is asked how often it was notified, and detached."""
+        """Adds `seen` and `detach` for each adapter."""
         for no in list(self.adapters.attached):
             self.run(f'seen A{no}')
             self.run(f'detach A{no}')

@@ -1,6 +1,7 @@
-"""A model of a repository, by the rules of docs/SCRIPT.md and docs/ADAPTERS.md: what each end has, and the notifications of a change.
+"""A simulation of a repository, by the rules of docs/SCRIPT.md and docs/ADAPTERS.md: the values of each end, and the notifications of a
+change.
 
-Nodes and values are kept as a script prints them. An end of one value has a list of one, which is null where it has none.
+Nodes and values are kept as a script prints them. An end of one value has a list of one value, which is null if the end has none.
 """
 
 from collections import defaultdict
@@ -13,12 +14,12 @@ CONTENTS = MFeature('contents', MClass('Resource'), MClass('Any'), upper=-1, con
 
 
 class Refused(Exception):
-    """A command is refused; the text is the number and the name."""
+    """A refused command; the text is the number and the name of the refusal."""
 
 
 class Telling(NamedTuple):
-    """A notification at one end. The value of SET and UNSET is the new one, of MOVE the old index. For ADD and REMOVE the index may be left
-    open: then it is the end of the list, or the index of the value."""
+    """A notification at one end. Its value is the new one of SET and UNSET, and the old index of MOVE. The index of ADD and REMOVE may be
+    left open: then it is the end of the list, or the index of the value."""
 
     node: str
     feature: MFeature
@@ -33,24 +34,24 @@ def number(node):
 
 
 def lost(node, feature, value):
-    """An end loses a value."""
+    """The notification that an end loses a value."""
     return Telling(node, feature, 'REMOVE', value) if feature.is_many else Telling(node, feature, 'SET', 'null')
 
 
 def gained(node, feature, value):
-    """An end gains a value, a list at its end."""
+    """The notification that an end gains a value, at its end if it is a list."""
     return Telling(node, feature, 'ADD' if feature.is_many else 'SET', value)
 
 
 def default(feature):
-    """The value of an end of one value that was never set."""
+    """The value of an end of one value that is not set."""
     if isinstance(feature.type, MEnum):
         return f':{feature.default or feature.type.literals[0]}'
     return 'null' if feature.is_reference or feature.type == 'EString' else feature.default or '0'
 
 
 class Model:
-    """The objects, their ends, and the end that contains each."""
+    """The objects, the values of their ends, and the end that contains each object."""
 
     def __init__(self, metamodel):
         """A repository without objects."""
@@ -59,10 +60,10 @@ class Model:
         self.numbers = {feature: place for place, feature in enumerate(feature for it in classes for feature in it.features)}
         self.class_of, self.ends, self.holder, self.live = {}, {}, {}, defaultdict(list)
         self.objects = self.resources = 0
-        self.left = []  # each container that an object left, and the object
+        self.left = []  # pairs of a container and an object that has left it
 
     def create(self, name):
-        """A new object of a class."""
+        """Makes an object of a class."""
         node = f'#{self.objects}'
         self.objects += 1
         self.class_of[node] = name
@@ -71,14 +72,14 @@ class Model:
         return node
 
     def create_resource(self):
-        """A new resource."""
+        """Makes a resource."""
         node = f'r{self.resources}'
         self.resources += 1
         self.ends[node] = {'contents': []}
         return node
 
     def named(self, *nodes):
-        """Refuses nodes that are not there."""
+        """Refuses a command that names a node that is not there."""
         if any(node[0] == '#' and node not in self.ends for node in nodes):
             raise Refused('1 NO_OBJECT')
         if any(node[0] == 'r' and node not in self.ends for node in nodes):
@@ -89,7 +90,7 @@ class Model:
         return CONTENTS if node[0] == 'r' else self.features[self.class_of[node]][name]
 
     def above(self, node):
-        """The nodes above a node, the nearest first."""
+        """The nodes that contain a node, the nearest first."""
         found = []
         while node in self.holder:
             node = self.holder[node][0]
@@ -97,7 +98,7 @@ class Model:
         return found
 
     def below(self, node):
-        """A node and all that is below it."""
+        """A node and all objects that it contains."""
         found = [node]
         for at in found:
             parts = (self.ends[at][name] for name in self.ends[at] if self.feature(at, name).containment)
@@ -112,7 +113,7 @@ class Model:
         return [telling(value, feature.opposite, node) for value in values if has_far and value != 'null']
 
     def in_the_way(self, node, feature, value):
-        """The links that a new one displaces, each by one of its ends and what is there."""
+        """The links that a new link displaces, each by one of its ends and the value there."""
         ends = [(node, feature), (value, feature.opposite)]
         links = [(*end, self.ends[end[0]][end[1].name][0]) for end in ends if end[1] and not end[1].is_many]
         part = value if feature.containment else node if feature.is_container else None
@@ -120,7 +121,7 @@ class Model:
         return [link for link in links if link[2] != 'null']
 
     def link(self, node, feature, value):
-        """The notifications of a new link that come before that of the named end."""
+        """The notifications of a new link that come before the notification of the named end."""
         told = {}
         for at, by, other in self.in_the_way(node, feature, value):
             sides = [(at, by, other)] + ([(other, by.opposite, at)] if by.opposite else [])
@@ -130,7 +131,7 @@ class Model:
         return losses + self.far(feature, node, [value], gained)
 
     def check_link(self, node, feature, value):
-        """Refuses a link for which an end is full, or by which an object would become a part of itself."""
+        """Refuses a link if an end is full, or if an object would contain itself."""
         ends = [(node, feature)] + ([(value, feature.opposite)] if feature.opposite else [])
         if any(1 < by.upper <= len(self.ends[at][by.name]) for at, by in ends):
             raise Refused('12 BOUND')
@@ -139,7 +140,7 @@ class Model:
             raise Refused('13 RECURSIVE')
 
     def set(self, node, feature, value):
-        """A set of a feature of one value."""
+        """The notifications of a set of a feature of one value."""
         named, now = Telling(node, feature, 'SET', value), self.ends[node][feature.name]
         if not feature.is_reference or now == [value]:
             return [named]
@@ -149,7 +150,7 @@ class Model:
         return [*self.link(node, feature, value), named]
 
     def unset(self, node, feature):
-        """The way back to the default, or to an empty list."""
+        """The notifications of an unset: back to the default value, or to an empty list."""
         values = self.ends[node][feature.name]
         far = self.far(feature, node, reversed(values), lost)
         if not feature.is_many:
@@ -157,7 +158,7 @@ class Model:
         return [*far, *(Telling(node, feature, 'REMOVE', values[place], place) for place in reversed(range(len(values))))]
 
     def add(self, node, feature, value, place):
-        """An addition; nothing where the list has the value."""
+        """The notifications of an addition; none if the list has the value already."""
         values = self.ends[node][feature.name]
         if place is not None and place > len(values):
             raise Refused('10 INDEX')
@@ -172,20 +173,20 @@ class Model:
         return [*self.link(node, feature, value), named]
 
     def remove(self, node, feature, place):
-        """The value at a place is taken out."""
+        """The notifications of a removal by index."""
         values = self.ends[node][feature.name]
         if place >= len(values):
             raise Refused('10 INDEX')
         return [*self.far(feature, node, [values[place]], lost), Telling(node, feature, 'REMOVE', values[place], place)]
 
     def move(self, node, feature, to, place):
-        """A value changes its place."""
+        """The notification of a move."""
         if max(to, place) >= len(self.ends[node][feature.name]):
             raise Refused('10 INDEX')
         return [Telling(node, feature, 'MOVE', str(place), to)]
 
     def delete(self, node):
-        """What the ends of other nodes lose with an object and all that is below it; the end that contains the object last."""
+        """The notifications of a delete: what the ends of other nodes lose with the object and all objects below it, its container last."""
         gone, losses = set(self.below(node)), []
         for at in self.class_of.keys() - gone:
             for name, values in self.ends[at].items():
@@ -195,10 +196,10 @@ class Model:
         last = [lost(*self.holder[node], node)] if node in self.holder else []
         return [loss[3] for loss in sorted(losses, key=lambda loss: loss[:3])] + last
 
-    # What a change does.
+    # The effects of a change.
 
     def tell(self, it):
-        """Makes the change of one end, and gives its notification as a script prints it."""
+        """Makes the change of one end, and returns its notification as a script prints it."""
         values, end = self.ends[it.node][it.feature.name], f'{it.node}.{it.feature.name}'
         if it.kind in ('SET', 'UNSET'):
             old, values[:] = values[0], [it.value]
@@ -220,7 +221,7 @@ class Model:
         return f'REMOVE {end} {values.pop(place)} null {place}'
 
     def destroy(self, gone):
-        """The objects are no more."""
+        """Removes objects from the model."""
         for node in gone:
             self.live[self.class_of.pop(node)].remove(node)
             del self.ends[node]

@@ -1,18 +1,18 @@
-"""What a script prints, by the models of a repository and of its adapters."""
+"""What a script prints, by the simulations of a repository and of its adapters."""
 
 from adapters import Adapters
 from model import Model, Refused
 
 
 class Session:
-    """Answers the lines of a script, one after another. Strings in them have no spaces."""
+    """Answers the lines of a script one after another. Strings in the lines have no spaces."""
 
     def __init__(self, metamodel, adapters):
-        """An empty repository, and a pool of so many adapters."""
+        """An empty repository, and a pool of `adapters` adapters."""
         self.model, self.adapters = Model(metamodel), Adapters(adapters)
 
     def run(self, line):
-        """All that is printed for a line."""
+        """All that a line prints."""
         verb, *words = line.split()
         try:
             return getattr(self, verb)(*words)
@@ -20,14 +20,14 @@ class Session:
             return [f'refused {refused}']
 
     def change(self, answer, tellings):
-        """An answer, and the adapters that are notified of a change: those of the state before it."""
+        """An answer, with the lines of the adapters that are notified of a change: those that are attached to the state before it."""
         hearing = [self.adapters.audience(it.node, self.model.above(it.node)) for it in tellings]
         self.adapters.reserve(hearing)
         notices = [self.model.tell(it) for it in tellings]
         return [answer, *(adapter.hear(notice) for notice, some in zip(notices, hearing) for adapter in some)]
 
     def at(self, node, name, value='null'):
-        """A feature of a node that is there, where the value is."""
+        """A feature of a node; refused if the node or the value is not there."""
         self.model.named(node, *([value] if value[0] == '#' else []))
         return self.model.feature(node, name)
 
@@ -45,7 +45,7 @@ class Session:
         return [self.printed(node, name, self.model.ends[node][name])]
 
     def printed(self, node, name, values):
-        """What an end has, as it is printed."""
+        """The values of an end, as a script prints them."""
         return f'[{" ".join(values)}]' if self.model.feature(node, name).is_many else values[0]
 
     def set(self, node, name, value):

@@ -4,14 +4,14 @@ from collections import defaultdict
 
 
 class View:
-    """A deep target: what each node below it has by the notifications, and the nodes that were below it all along."""
+    """A view of a deep target: the values of each node by the notifications, and the nodes that have been below the target all along."""
 
     def __init__(self, no, target, values):
-        """A snapshot, as the features of each node."""
+        """A view that begins with a snapshot: the values of the features of each node."""
         self.no, self.target, self.values, self.stayed = no, target, values, set(values)
 
     def replay(self, kind, end, old, new, place):
-        """What a notification makes of one end; it is skipped if the view has no such end or index."""
+        """Makes the change of a notification at one end; does nothing if the view has no such end or index."""
         node, _, name = end.partition('.')
         values, place = self.values.get(node, {}).get(name), int(place)
         if values is None or place > len(values):
@@ -30,11 +30,11 @@ class Views:
     """The views of a session."""
 
     def __init__(self, session):
-        """None is there."""
+        """No views."""
         self.session, self.at, self.begun = session, defaultdict(list), defaultdict(list)
 
     def follow(self, place, line, answer):
-        """Takes note of what the line at a place did: which nodes left which targets, and which view begins."""
+        """Follows a line of the script: notes which nodes have left which targets, and begins a view if the line adds a deep target."""
         model, words = self.session.model, line.split()
         for container, part in model.left:
             self.leave([container, *model.above(container)], part)
@@ -46,7 +46,8 @@ class Views:
             self.begun[place].append(view)
 
     def leave(self, up, part):
-        """An object is no longer below these nodes, unless one of them is above it still. What is destroyed is left out at the end."""
+        """Notes that an object is no longer below the nodes `up`, except those that still contain it. The nodes that are destroyed are left
+        out at the end."""
         model = self.session.model
         left = set(up).difference(model.above(part)) if part in model.ends else ()
         gone = model.below(part) if any(self.at[node] for node in left) else ()
@@ -54,7 +55,7 @@ class Views:
             view.stayed.difference_update(gone)
 
     def replayed(self, blocks):
-        """The views that are left after some answers, each after the notifications of its adapter."""
+        """The views that exist after some answers, each with the notifications of its adapter replayed."""
         views = defaultdict(dict)
         for place, block in enumerate(blocks):
             self.hear(views, [line.split() for line in block if line.startswith('told ')])
@@ -64,7 +65,7 @@ class Views:
 
     @staticmethod
     def hear(views, told):
-        """The views of each adapter replay its notifications; the one of a target goes with the last notification from there."""
+        """Replays notifications in the views of their adapters; a view ends with the last notification from its target."""
         for _, no, kind, *words in told:
             if kind == 'REMOVING_ADAPTER':
                 views[no].pop(words[0], None)
@@ -72,12 +73,12 @@ class Views:
                 view.replay(kind, *words)
 
     def printed(self, view, node, name):
-        """What a view has at an end, as a script prints it."""
+        """The values of an end by a view, as a script prints them."""
         return [self.session.printed(node, name, view.values[node][name])]
 
     def differing(self, blocks, places):
-        """How many views are left after some answers, and which ends differ in one from what is read at these places, each with the adapter
-        and the target of the view."""
+        """How many views exist after some answers, and the ends at which a view differs from what the lines at `places` read; each end is
+        named with the adapter and the target of its view."""
         views = self.replayed(blocks)
         ends = [(view, end, place) for view in views for end, place in places.items() if end[0] in view.stayed]
         return len(views), [(view.no, view.target, *end) for view, end, place in ends if self.printed(view, *end) != blocks[place]]

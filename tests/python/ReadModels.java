@@ -15,8 +15,8 @@ import org.eclipse.emf.ecore.xmi.impl.EcoreResourceFactoryImpl;
 import org.eclipse.emf.ecore.xmi.impl.XMIResourceFactoryImpl;
 
 /**
- * Reads models by EMF: first Ecore files, then after "--" the files of their instances. Of each instance it prints the name of the file, how
- * many objects it has, how many errors, how many proxies are left, and the value of the first root's first attribute that is set.
+ * Reads models by EMF: first Ecore files, then after "--" the files of their instances. For each instance it prints the name of the file, the
+ * numbers of objects, of errors and of unresolved proxies, and the value of the first root's first attribute that is set.
  */
 public class ReadModels {
     public static void main(String[] words) {

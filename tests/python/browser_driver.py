@@ -1,5 +1,6 @@
-"""Drives Chromium by selenium. Each line of standard input is a command, `[name, argument ..]` as JSON, and is answered by a line: what it
-gives, or an error. It runs by the Python that has selenium, which need not be that of the tests."""
+"""Drives Chromium by selenium. Each line of standard input is a command: a JSON array of its name and its arguments. The driver answers
+each command by a line of JSON, with the result or with an error. It runs under a Python that has selenium, which may differ from the Python
+that runs the tests."""
 
 import json
 import sys
@@ -23,7 +24,7 @@ SIZE = (1280, 860)  # of the page
 
 
 class Commands:
-    """The commands. An element is named by a selector of CSS: the first one."""
+    """The commands of the driver. A selector is a CSS selector, and names the first element that matches it."""
 
     def __init__(self, chromium, driver, room):
         options = webdriver.ChromeOptions()
@@ -36,7 +37,7 @@ class Commands:
         self.driver.set_script_timeout(60)
 
     def find(self, selector):
-        """An element, in sight."""
+        """The first element that matches a selector."""
         return self.driver.find_element(By.CSS_SELECTOR, selector)
 
     def go(self, address):
@@ -44,26 +45,27 @@ class Commands:
         self.driver.get(address)
 
     def window(self, address):
-        """Opens an address in a new window, which is the one that is driven, and gives the name of the window."""
+        """Opens an address in a new window, drives that window from then on, and returns its name."""
         self.driver.switch_to.new_window('window')
         self.driver.get(address)
         return self.driver.current_window_handle
 
     def name(self):
-        """The name of the window."""
+        """The name of the window that is driven."""
         return self.driver.current_window_handle
 
     def switch(self, name):
-        """Drives a different window."""
+        """Drives the window of a name."""
         self.driver.switch_to.window(name)
 
     def close(self):
-        """Closes the window, and drives the first one."""
+        """Closes the window that is driven, and drives the first one."""
         self.driver.close()
         self.driver.switch_to.window(self.driver.window_handles[0])
 
     def begin(self):
-        """Has one window alone, as it is at first, with an empty page and nothing on its console."""
+        """Resets the browser between tests: closes all windows but one, and gives that one its first size, an empty page and an empty
+        console."""
         while len(self.driver.window_handles) > 1:
             self.driver.switch_to.window(self.driver.window_handles[-1])
             self.driver.close()
@@ -74,7 +76,7 @@ class Commands:
         self.log()
 
     def run(self, code, *words):
-        """What the body of an asynchronous function gives."""
+        """Runs the body of an asynchronous function in the page, and returns its result."""
         whole = f'const done = arguments[arguments.length - 1]; const words = [...arguments].slice(0, -1); (async () => {{ {code} }})()'
         found = self.driver.execute_async_script(f'{whole}.then((it) => done([it ?? null]), (error) => done([null, String(error)]));', *words)
         if len(found) > 1:
@@ -82,14 +84,14 @@ class Commands:
         return found[0]
 
     def click(self, selector):
-        """Presses an element. One that the page has drawn anew in the meantime is looked for again."""
+        """Clicks an element. If the page redraws the element in the meantime, the element is looked up again."""
         try:
             self.find(selector).click()
         except StaleElementReferenceException:
             self.find(selector).click()
 
     def double(self, selector):
-        """Presses an element twice."""
+        """Double-clicks an element."""
         ActionChains(self.driver).double_click(self.find(selector)).perform()
 
     def type(self, selector, *words):
@@ -97,11 +99,11 @@ class Commands:
         self.find(selector).send_keys(*[_key(it) for it in words])
 
     def choose(self, selector, text):
-        """Chooses the option with a text."""
+        """Selects the option of a list by its text."""
         Select(self.find(selector)).select_by_visible_text(text)
 
     def keys(self, *words):
-        """Types into what has the focus. `Ctrl+x` holds a key down."""
+        """Types into the element that has the focus. A word such as `Ctrl+x` holds the first key down while it presses the second."""
         chain = ActionChains(self.driver)
         for word in words:
             *held, key = word.split('+') if len(word) > 1 else [word]
@@ -113,7 +115,8 @@ class Commands:
         chain.perform()
 
     def drag(self, one, other, part=0.5, drop=True):
-        """Drags an element to a part of the height of another."""
+        """Drags an element onto another one, at a fraction of its height (0 is the top, 1 the bottom). Without `drop` the button stays
+        pressed."""
         self.run('await new Promise((done) => requestAnimationFrame(() => requestAnimationFrame(() => done())));')
         target = self.find(other)
         height = target.size['height']
@@ -122,25 +125,25 @@ class Commands:
         (chain.release() if drop else chain.send_keys(Keys.ESCAPE).release()).perform()
 
     def file(self, selector, path):
-        """Chooses a file."""
+        """Chooses a file in a file field."""
         self.find(selector).send_keys(path)
 
     def size(self, width, height):
-        """Sets the size of the page."""
+        """Sets the size of the page in pixels."""
         self.driver.execute_cdp_cmd(
             'Emulation.setDeviceMetricsOverride', {'width': width, 'height': height, 'deviceScaleFactor': 1, 'mobile': False}
         )
 
     def scheme(self, name):
-        """Has the page be `light` or `dark`."""
+        """Sets the preferred colour scheme to `light` or `dark`."""
         self.driver.execute_cdp_cmd('Emulation.setEmulatedMedia', {'features': [{'name': 'prefers-color-scheme', 'value': name}]})
 
     def shot(self, path):
-        """Makes a picture of the page."""
+        """Saves a screenshot of the page as a file."""
         self.driver.save_screenshot(path)
 
     def log(self):
-        """What the console of the browser said, from warnings on."""
+        """The messages on the browser's console, from warnings upwards."""
         return [it['message'] for it in self.driver.get_log('browser')]
 
 
@@ -148,11 +151,12 @@ HELD = {'Ctrl': Keys.CONTROL, 'Alt': Keys.ALT, 'Shift': Keys.SHIFT}
 
 
 def _key(word):
-    """A key that is named, or a text."""
+    """The key that a word names, or the word itself as a text."""
     return getattr(Keys, word[5:]) if word.startswith('Keys.') else word
 
 
 def main():
+    """Starts the browser, and runs the commands of standard input until it ends."""
     commands = Commands(*sys.argv[1:])
     try:
         print('[]', flush=True)

@@ -1,4 +1,5 @@
-"""dask_cluster.py FOLDER METAMODEL OBJECTS: prints, as JSON, what two worker processes of Dask on this machine make of a folder."""
+"""dask_cluster.py FOLDER METAMODEL OBJECTS: processes a folder by two worker processes of Dask on this machine, and prints the results as
+JSON. OBJECTS is how many objects a shard has at most."""
 
 import json
 import os
@@ -12,13 +13,14 @@ from mmrepo import shards
 
 
 def checked(folder, metamodel, executor, *options):
-    """The status of the check, and what it printed: on standard error if there is something."""
+    """Runs the `check` command; returns its status, and its standard error, or its standard output if standard error is empty."""
     command = [sys.executable, '-m', 'mmrepo', 'check', metamodel, folder, '--executor', executor, *options]
     done = subprocess.run(command, stdout=subprocess.PIPE, stderr=subprocess.PIPE, env={**os.environ, 'DASK_DISTRIBUTED__COMM__TIMEOUTS__CONNECT': '2s'})
     return done.returncode, (done.stderr or done.stdout).decode()
 
 
 def main(folder, metamodel, objects):
+    """Starts the cluster, and runs the shards once without a fault and once while a worker dies; then runs `check` over the cluster."""
     options = {'metamodel': metamodel, 'objects': int(objects)}
     with LocalCluster(
         n_workers=2, threads_per_worker=1, processes=True, host='127.0.0.1', dashboard_address=None, memory_limit=0

@@ -1,4 +1,4 @@
-"""What the tests of the editor share: servers, and a browser that is driven."""
+"""Shared by the tests of the editor: servers of the editor, and a browser that the tests drive."""
 
 import atexit
 import json
@@ -30,7 +30,7 @@ MODEL_JAR, WORKBENCH_JAR = [Path(f'/usr/share/java/eclipse-{name}.jar') for name
 
 @lru_cache()
 def python_of_selenium():
-    """The Python that has selenium, or None."""
+    """A Python interpreter that has selenium, or None."""
     for python in PYTHONS:
         if shutil.which(python) and subprocess.run([python, '-c', 'import selenium'], stderr=subprocess.DEVNULL).returncode == 0:
             return python
@@ -38,7 +38,7 @@ def python_of_selenium():
 
 
 def lacks_browser():
-    """What is not installed of that which drives a browser."""
+    """What a test in a browser needs and this machine lacks; empty if nothing is missing."""
     absent = [name for name in ('chromium', 'chromedriver') if not shutil.which(name)]
     return ', '.join(absent + ([] if python_of_selenium() else ['python3-selenium']))
 
@@ -47,7 +47,7 @@ with_browser = unittest.skipIf(lacks_browser(), f'not installed: {lacks_browser(
 
 
 class Browser:
-    """Headless Chromium. A command is a method of the driver: `click`, `type`, `run`, .."""
+    """Headless Chromium in a process of its own. Its methods are the commands of `browser_driver.Commands`: `click`, `type`, `run`, .."""
 
     def __init__(self):
         self.room = tempfile.mkdtemp()
@@ -71,7 +71,7 @@ class Browser:
         return do
 
     def end(self):
-        """Ends the browser, and whatever of its processes is left: they are a group of their own."""
+        """Ends the browser with all its processes, which form a process group of their own."""
         self._process.stdin.close()
         with suppress(subprocess.TimeoutExpired):
             self._process.wait(20)
@@ -87,7 +87,7 @@ class EditorTest(ClientTest):
     """A test with a server of the editor."""
 
     def start(self, *words, meta=LIBRARY):
-        """Starts the editor over a metamodel, in the folder of the test; gives its address."""
+        """Starts the editor over a metamodel, in the folder of the test; returns its address."""
         environment = {**os.environ, 'PYTHONPATH': str(CLIENT), 'MMREPO': str(PROGRAM), 'PYTHONDONTWRITEBYTECODE': '1'}
         command = [sys.executable, '-W', 'error', '-m', 'mmrepo', 'edit', str(meta), *map(str, words), '--no-browser']
         self.server = subprocess.Popen(
@@ -100,7 +100,7 @@ class EditorTest(ClientTest):
         return self.address
 
     def stop(self):
-        """Ends the server by Ctrl-C; gives what it said on standard error."""
+        """Ends the server by Ctrl-C; returns what it wrote to standard error."""
         if self.server.poll() is None:
             self.server.send_signal(signal.SIGINT)
         if self.server.stdout.closed:
@@ -110,7 +110,7 @@ class EditorTest(ClientTest):
         return said
 
     def call(self, do, **words):
-        """What a call of a window gives. A refusal is a text, as `BOUND: at most 2 staff`."""
+        """Makes a call as a window does, and returns its result. A refusal is returned as a text, for instance `BOUND: at most 2 staff`."""
         words = {key.rstrip('_'): value for key, value in words.items()}
         body = json.dumps({'do': do, **words}).encode()
         request = urllib.request.Request(f'{self.address}call', body, {'Content-Type': 'application/json'})
@@ -122,14 +122,14 @@ class EditorTest(ClientTest):
                 return json.load(refused)['text']
 
     def write(self, name, document):
-        """Writes a file below the folder `models`, and gives the path of that folder."""
+        """Writes a file below the folder `models`, and returns the path of that folder."""
         path = Path(self.room.name, 'models', name)
         path.parent.mkdir(parents=True, exist_ok=True)
         path.write_text(document if isinstance(document, str) else json.dumps(document), encoding='utf-8')
         return Path(self.room.name, 'models')
 
     def taken(self, jar, suffix, folder):
-        """The files of a jar with a suffix, in a folder."""
+        """Extracts the files of a jar that have a suffix into a folder, and returns their paths."""
         Path(folder).mkdir(parents=True, exist_ok=True)
         with zipfile.ZipFile(jar) as read:
             names = [name for name in read.namelist() if name.endswith(suffix)]
@@ -138,7 +138,7 @@ class EditorTest(ClientTest):
         return sorted(Path(folder, Path(name).name) for name in names)
 
     def meta(self, ecore):
-        """The metamodel of Ecore files."""
+        """The metamodel document that `tools/ecore2mm` makes of Ecore files."""
         path = Path(self.room.name, 'meta.json')
         command = [sys.executable, str(TOP / 'tools/ecore2mm'), *map(str, ecore), '-o', str(path)]
         subprocess.run(command, check=True, stderr=subprocess.PIPE)
@@ -146,7 +146,7 @@ class EditorTest(ClientTest):
 
 
 class Way:
-    """A way from the browser to a server, which can be cut."""
+    """A TCP proxy between the browser and a server, by which a test breaks their connections."""
 
     def __init__(self, address):
         self._server = address.split('/')[2].encode()
@@ -158,7 +158,7 @@ class Way:
         threading.Thread(target=self._accept, daemon=True).start()
 
     def _accept(self):
-        """Takes connections until it ends."""
+        """Accepts connections until the proxy ends."""
         with suppress(OSError):
             while True:
                 near = self._listening.accept()[0]
@@ -172,7 +172,8 @@ class Way:
                 threading.Thread(target=self._pump, args=(far, near), daemon=True).start()
 
     def _pump(self, one, other):
-        """Gives what one says to the other. The server knows its own Host and Origin alone."""
+        """Copies the bytes of one connection to the other. The server accepts its own address alone as Host and Origin, so the address of
+        the proxy is replaced by it."""
         with one, suppress(OSError):
             while True:
                 data = one.recv(65536)
@@ -183,28 +184,28 @@ class Way:
             other.shutdown(socket.SHUT_RDWR)
 
     def cut(self, is_cut):
-        """Breaks all connections, and takes no new ones; or takes some again."""
+        """Breaks all connections and accepts no new ones; with False it accepts connections again."""
         self._is_cut = is_cut
         while is_cut and self._open:
             with suppress(OSError):
                 self._open.pop().shutdown(socket.SHUT_RDWR)
 
     def end(self):
-        """Takes no more connections."""
+        """Stops accepting connections."""
         self.cut(True)
         self._listening.close()
 
 
 @lru_cache()
 def the_browser():
-    """The browser, which all tests share. It ends with the process of the tests."""
+    """The one browser that all tests share. It ends with the test process."""
     browser = Browser()
     atexit.register(browser.end)
     return browser
 
 
 class BrowserTest(EditorTest):
-    """A test in a browser."""
+    """A test in the browser."""
 
     def setUp(self):
         super().setUp()
@@ -219,15 +220,16 @@ class BrowserTest(EditorTest):
         self.settle()
 
     def check_console(self):
-        """No script has failed. A call that is refused, and a server that is gone, are reported there too."""
+        """Checks that no script of the page has failed. The console also reports refused calls and lost connections, which the check leaves
+        out."""
         self.assertEqual([it for it in self.browser.log() if 'Failed to load resource' not in it], [])
 
     def js(self, code, *words):
-        """What a piece of code gives in the page."""
+        """The result of JavaScript code that runs in the page."""
         return self.browser.run(code, *words)
 
     def settle(self):
-        """Waits until nothing is asked for any more, and what is known is drawn."""
+        """Waits until the page has no open request and has drawn all that it knows."""
         self.js('''
             const wait = (time) => new Promise((done) => setTimeout(done, time));
             for (let tries = 0; tries < 1000 && !(window.mmrepo && document.querySelector('.row')); tries += 1) await wait(10);
@@ -238,7 +240,7 @@ class BrowserTest(EditorTest):
         ''')
 
     def until(self, code, *words, seconds=10):
-        """Waits until an expression is true, and gives it."""
+        """Waits until a JavaScript expression is true, and returns its value. Fails after some seconds."""
         end = time.monotonic() + seconds
         while True:
             found = self.js(f'return {code};', *words)
@@ -249,15 +251,15 @@ class BrowserTest(EditorTest):
             time.sleep(0.02)
 
     def texts(self, selector):
-        """The texts of elements."""
+        """The texts of all elements that match a selector."""
         return self.js('return [...document.querySelectorAll(words[0])].map((it) => it.textContent);', selector)
 
     def rows(self):
-        """The labels of the rows of the tree, each after two spaces for each level."""
+        """The labels of the rows of the tree, each indented by two spaces for each level."""
         self.settle()
         return self.js('''return mmrepo.tree.rows.map((row) => '  '.repeat(row.level - 1) + mmrepo.model.label(row.id));''')
 
     def select(self, number):
-        """Selects an object, wherever it is."""
+        """Selects an object by its number, and opens the nodes that contain it."""
         self.js('const [found] = await mmrepo.call("hits", {nodes: [words[0]]}); await mmrepo.tree.reveal(found.path);', number)
         self.settle()

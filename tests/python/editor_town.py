@@ -1,4 +1,4 @@
-"""What the tests of the editor in a browser share: a folder of a town, opened in a window."""
+"""Shared by the tests of the editor in a browser: a folder with the model of a town, opened in a window."""
 
 from editor_support import BrowserTest
 
@@ -16,7 +16,7 @@ DORA, TOWN_LIBRARY, EMMA, PERSUASION, ANN, BOB, CID = range(7)
 
 
 class TownTest(BrowserTest):
-    """A test over the folder of a town."""
+    """A test whose window shows the folder of a town."""
 
     def setUp(self):
         super().setUp()
@@ -27,9 +27,9 @@ class TownTest(BrowserTest):
         self.settle()
 
     def value(self, number, feature):
-        """What an object has, as the program says."""
+        """The value of a feature of an object, as the program returns it."""
         return self.call('asked', nodes=[number])['nodes'][str(number)]['values'].get(feature)
 
     def refusal(self, feature):
-        """The refusal that is shown at a field."""
+        """The text of the refusal that the page shows at a field."""
         return self.until('document.querySelector(`[data-feature="${words[0]}"] .refusal`).textContent', feature)

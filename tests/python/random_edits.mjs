@@ -1,5 +1,5 @@
 // @ts-nocheck
-// Edits at random, by what the page has for them: `words` has a list of seeds. It runs in a page, as the body of a function.
+// Makes random edits by the calls of the page; `words` has a list of seeds. The code runs in the page, as the body of a function.
 
 let state = 0;
 const random = (size) => {

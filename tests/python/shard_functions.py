@@ -1,10 +1,12 @@
-"""What the workers of a test do with a shard. It is a module, so that each worker can import it."""
+"""Functions that the workers of the tests run on a shard. They are in a module of their own, so that each worker process can import them.
+"""
 
 import os
 
 
 def described(repo, resources):
-    """For each resource its file and, for each person of it, the names of the books that are liked, with the resources of the books."""
+    """For each resource its file and its persons; for each person the names of the liked books, with the resources that contain these
+    books."""
     found = []
     for resource in resources:
         library, = resource.contents
@@ -15,17 +17,17 @@ def described(repo, resources):
 
 
 def names(repo, resources):
-    """The names of the files of a shard, and the greatest of the resources and objects of the repository."""
+    """The names of the files of a shard, and how many resources or objects the repository has, whichever is more."""
     return [it.path.name for it in resources], len(repo.resources)
 
 
 def fails(repo, resources):
-    """An error of the user's function."""
+    """Raises an error, as a faulty function of the user does."""
     raise LookupError(resources[0].path.name)
 
 
 def dies_once(repo, resources):
-    """Kills its process the first time that a file is there; then it does the work."""
+    """Kills its own process if a certain file is there, and deletes the file; otherwise it does the work of `described`."""
     marker = os.environ['DIES_ONCE']
     if any(it.path.name == '000004.json' for it in resources) and os.path.exists(marker):
         os.unlink(marker)
@@ -34,7 +36,7 @@ def dies_once(repo, resources):
 
 
 def edits(repo, resources):
-    """Edits, and tries to save."""
+    """Edits the model, and tries to save it."""
     resources[0].contents[0].name = 'edited'
     try:
         repo.save_all(force=True)

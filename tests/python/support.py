@@ -1,4 +1,4 @@
-"""What the tests of the client share: repositories of the program, and programs that do wrong."""
+"""Shared by the tests of the client: repositories over the engine that is tested, and fake programs with faults."""
 
 import os
 import subprocess
@@ -10,7 +10,7 @@ from pathlib import Path
 
 TOP = Path(__file__).resolve().parent.parent.parent
 ENGINE = os.environ.get('TEST_ENGINE', 'program')
-ROOM = os.environ.get('TEST_ROOM', '')  # a folder with the package as it is installed, if there is the library
+ROOM = os.environ.get('TEST_ROOM', '')  # the folder of the installed package, if the library was built
 CLIENT = TOP / 'clients/python' if ENGINE == 'program' else Path(ROOM)
 PROGRAM = Path(os.environ.get('MMREPO') or TOP / 'crates/mmrepo/out/mmrepo').resolve()
 LIBRARY = TOP / 'examples/library.json'
@@ -21,7 +21,7 @@ os.environ['MMREPO'] = str(PROGRAM)
 
 from mmrepo import Refused, Repository  # noqa: E402
 
-# A class with a feature of each type, one that is named as a method, and one that is named as a part of a line.
+# A class with a feature of each type. The names of some features are those of methods, or are words of a script.
 KINDS = """
 {"enums": [{"name": "Colour", "literals": ["RED", "BLUE"]}],
  "classes": [
@@ -57,7 +57,7 @@ say('\\n')
 
 
 class ClientTest(unittest.TestCase):
-    """A test that has a folder, and repositories that are closed after it."""
+    """A test with a temporary folder. The repositories that it opens are closed at its end."""
 
     maxDiff = None
 
@@ -66,7 +66,7 @@ class ClientTest(unittest.TestCase):
         self.addCleanup(self.room.cleanup)
 
     def file(self, name, content):
-        """The path of a file that is made of a text or of bytes."""
+        """Writes a file from a text or from bytes, and returns its path."""
         path = Path(self.room.name, name)
         path.write_bytes(content if isinstance(content, bytes) else content.encode())
         return path
@@ -83,13 +83,13 @@ class ClientTest(unittest.TestCase):
         return self.opened(self.file('kinds.json', KINDS))
 
     def fake(self, body, begin=BEGIN):
-        """The path of a program that accepts the metamodel and then runs a body of Python."""
+        """Writes a fake program in Python, which accepts the metamodel and then runs a body; returns its path."""
         path = self.file('fake', f'#!{sys.executable}\n{begin}\n{body}\n')
         path.chmod(0o755)
         return path
 
     def run_code(self, code, folder):
-        """What a piece of Python prints in a folder, with the client and the program at hand."""
+        """Runs Python code in a process of its own, with the client and the program at hand, and returns what it prints."""
         environment = {**os.environ, 'PYTHONPATH': str(CLIENT), 'MMREPO': str(PROGRAM), 'PYTHONDONTWRITEBYTECODE': '1'}
         command = [sys.executable, '-W', 'error', '-c', code]
         done = subprocess.run(command, cwd=folder, env=environment, stdout=subprocess.PIPE, stderr=subprocess.PIPE)
@@ -98,7 +98,7 @@ class ClientTest(unittest.TestCase):
 
     @contextmanager
     def refused(self, number, name, cause=None):
-        """Checks that a command is refused so."""
+        """A context that checks that its body raises `Refused` with a number, a name and, if it is given, a cause."""
         with self.assertRaises(Refused) as found:
             yield
         self.assertEqual((found.exception.number, found.exception.name, found.exception.cause), (number, name, cause))
@@ -112,5 +112,5 @@ class LibraryTest(ClientTest):
         self.repo = self.opened()
 
     def made(self, *classes):
-        """An object of each class."""
+        """New objects, one of each class that is named."""
         return [self.repo.create(name) for name in classes]

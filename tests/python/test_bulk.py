@@ -1,4 +1,4 @@
-"""Commands that are collected in a batch."""
+"""Batches: commands that are collected and sent together."""
 
 import time
 
@@ -7,13 +7,14 @@ from support import LibraryTest
 from mmrepo import Refused
 
 MANY = 100_000
-SECONDS = 10  # for many objects: a bound for a machine that does other work; bench/python_client measures
+SECONDS = 10  # a bound for MANY objects on a busy machine; bench/python_client measures the time
 
 
 class Batches(LibraryTest):
     """`batch` of a repository."""
 
     def test_answers(self):
+        """`send` returns the answers in the order of the commands, and an empty batch sends nothing."""
         library, = self.made('Library')
         batch = self.repo.batch()
         first = batch.create('Book', name='Emma', pages=3, tags=['a', 'b'], genre='POEM')
@@ -32,6 +33,7 @@ class Batches(LibraryTest):
         self.assertEqual(batch.send(), [])
 
     def test_with(self):
+        """A `with` block sends its batch at its end, and sends nothing if it raises an error."""
         with self.repo.batch() as batch:
             books = [batch.create('Book', pages=page) for page in range(10)]
         self.assertEqual([book.pages for book in books], list(range(10)))
@@ -42,6 +44,7 @@ class Batches(LibraryTest):
         self.assertEqual(books[0].pages, 0)
 
     def test_refused(self):
+        """A refused command raises its error after the batch has run, and the other commands are done all the same."""
         book, = self.made('Book')
         with self.assertRaises(Refused) as found:
             with self.repo.batch() as batch:
@@ -53,6 +56,7 @@ class Batches(LibraryTest):
         self.assertEqual(book.pages, 7)
 
     def test_nothing_is_sent(self):
+        """A wrong argument raises an error at once."""
         other = self.opened().create('Book')
         batch = self.repo.batch()
         for wrong in ('Nothing', 'Named'):
@@ -64,6 +68,7 @@ class Batches(LibraryTest):
             batch.create('Book', name=3.5)
 
     def test_views(self):
+        """Views get the notifications of a batch in the order of its commands."""
         library, = self.made('Library')
         heard = []
         self.repo.attach(heard.append, library)
@@ -74,6 +79,7 @@ class Batches(LibraryTest):
         self.assertEqual([(it.kind.name, it.notifier is library) for it in heard], [('ADD', True), ('SET', False)] * 3)
 
     def test_many(self):
+        """A batch makes MANY objects in at most SECONDS."""
         began = time.perf_counter()
         with self.repo.batch() as batch:
             books = [batch.create('Book', name='A book', pages=page) for page in range(MANY)]
@@ -81,6 +87,7 @@ class Batches(LibraryTest):
         self.assertEqual((books[-1]._word, books[-1].name, books[-1].pages), (f'#{MANY - 1}', 'A book', MANY - 1))
 
     def test_extend(self):
+        """`extend` sends its values as a batch: a refused value leaves the others in the list."""
         library, = self.made('Library')
         books = self.made(*['Book'] * 2_000)
         library.books.extend(books)
@@ -90,6 +97,7 @@ class Batches(LibraryTest):
         self.assertEqual(list(books[0].tags), ['a', 'b'])
 
     def test_create_with_features(self):
+        """`create` with features destroys the new object again if a feature is refused."""
         library = self.repo.create('Library', name='Town')
         book = self.repo.create('Book', name='Emma', library=library, tags=['a', 'b'])
         self.assertEqual((book.name, list(book.tags), list(library.books)), ('Emma', ['a', 'b'], [book]))

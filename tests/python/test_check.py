@@ -1,4 +1,4 @@
-"""`python3 -m mmrepo check`: what it finds, how it prints it, and its statuses."""
+"""`python3 -m mmrepo check`: its findings, how it prints them, and its statuses."""
 
 import json
 import os
@@ -21,20 +21,20 @@ from mmrepo.shards import models_of  # noqa: E402
 
 
 def book(features):
-    """A document of one book, or of several."""
+    """A document of one book for each text of features."""
     made = ','.join(f'{{"class":"Book","features":{{{it}}}}}' for it in features)
     return f'{{"format":2,"roots":[{made}]}}'
 
 
 def nested(levels):
-    """A document of folders in folders."""
+    """A document of folders that contain one another, to a depth of so many levels."""
     text = '{"class":"Folder","features":{}}'
     for _ in range(levels - 1):
         text = f'{{"class":"Folder","features":{{"subs":[{text}]}}}}'
     return f'{{"format":2,"roots":[{text}]}}'
 
 
-# The name of a file, its document, and the lines that are printed after the name; the texts are those of docs/SCRIPT.md and docs/FOLDERS.md.
+# For each file its name, its document, and the findings after the name, in the words of docs/SCRIPT.md and docs/FOLDERS.md.
 FAULTS = [
     ('01.json', '{"format":2,"roots":[}', ['from byte 22 on the document is no JSON: "}"']),
     ('02.json', '{"format":2,"root":[]}', ['the key "roots" is absent', 'unknown key "root"; is "roots" meant?']),
@@ -64,7 +64,7 @@ FAULTS = [
 
 
 class CheckTest(ClientTest):
-    """A test with a folder, in which the command runs."""
+    """A test with a folder in which the command runs."""
 
     def setUp(self):
         super().setUp()
@@ -79,11 +79,11 @@ class CheckTest(ClientTest):
         path.write_bytes(content if isinstance(content, bytes) else content.encode())
 
     def command(self, *words, meta=LIBRARY):
-        """The command for some words."""
+        """The command line for some arguments."""
         return [sys.executable, '-m', 'mmrepo', 'check', str(meta), *map(str, words)]
 
     def check(self, *words, **options):
-        """The status, the lines on standard output, and the text on standard error."""
+        """Runs the command; returns its status, the lines of its standard output, and the text of its standard error."""
         done = subprocess.run(
             self.command(*words, **options), cwd=self.room.name, env=self.environment, stdout=subprocess.PIPE, stderr=subprocess.PIPE
         )
@@ -91,16 +91,17 @@ class CheckTest(ClientTest):
 
 
 class Finding(CheckTest):
-    """What is found."""
+    """Which findings the command makes."""
 
     def test_nothing(self):
+        """Files without a fault give no findings, by any number of processes."""
         make(self.top, 12, 20)
         for jobs in (1, 2):
             self.assertEqual(self.check('models', '--jobs', jobs), (0, ['no findings in 12 files with 240 objects'], ''))
         self.assertEqual(self.check(self.top / '0000/000003.json', '--root', self.top)[:2], (0, ['no findings in 1 file with 20 objects']))
 
     def test_planted(self):
-        """Each fault among files that are right, and nothing else. The faulty files are referred to, and that is no finding."""
+        """Each planted fault gives its findings, and files without a fault give none. A reference to a faulty file is no finding."""
         make(self.top, 12, 20)
         for name, document, _ in FAULTS:
             self.write(name, document)
@@ -112,7 +113,7 @@ class Finding(CheckTest):
             self.assertEqual(lines[-1], '17 findings in 15 of 28 files with 247 objects')
 
     def test_proxies(self):
-        """Each reason for which a proxy is left."""
+        """Each reason for which a proxy can't be resolved has a text of its own."""
         self.write('a.json', book(['', '"prev":"b.json#/0"', '']))
         self.write('b.json', book(['"next":"a.json#/1"', '"next":"a.json#/0"']))
         self.write('c.json', '{"format":2,"roots":[{"class":"Person","features":{"favourite":"a.json#/0","likes":["a.json#/","a.json#/00",'
@@ -134,7 +135,7 @@ class Finding(CheckTest):
         self.assertEqual(len(self.check('models', '--accept', 'http://m.example/', '--accept', 'http://o.example/')[1]), 6)
 
     def test_short(self):
-        """Lists, attributes and container references with a lower bound."""
+        """Lists, attributes and container references with fewer values than their lower bound are findings."""
         meta = self.file('meta.json', json.dumps({'classes': [
             {'name': 'Box', 'features': [
                 {'name': 'parts', 'kind': 'reference', 'type': 'Part', 'upper': -1, 'lower': 2, 'containment': True, 'opposite': 'box'},
@@ -162,6 +163,7 @@ class Finding(CheckTest):
         ])
 
     def test_files_that_are_none(self):
+        """Files that are no regular files, are empty or are not UTF-8 are findings."""
         self.write('latin.json', b'\xff')
         self.write('empty.json', '')
         (self.top / 'link.json').symlink_to('/etc/passwd')
@@ -177,12 +179,13 @@ class Finding(CheckTest):
         ])
 
     def test_too_long(self):
+        """A document that is longer than a load accepts is a finding."""
         self.write('long.json', b'{"format":2,"roots":[' + b' ' * 16_777_216 + b']}')
         self.assertEqual(self.check('models')[1][0],
                          'models/long.json: it has 16777239 bytes; a document that is loaded has at most 16777204 (docs/FOLDERS.md)')
 
     def test_more_targets_than_there_is_room(self):
-        """What the files of a group lead to is more than a repository holds."""
+        """A group is checked even if the files that it refers to have more objects than a repository takes."""
         many = book([''] * 400_001)
         for name in 'abc':
             self.write(f'{name}.json', many)
@@ -197,7 +200,7 @@ class Finding(CheckTest):
 
 
 class Printing(CheckTest):
-    """Formats, paths and progress."""
+    """The output formats, the paths of files, and the progress bar."""
 
     def setUp(self):
         super().setUp()
@@ -205,6 +208,7 @@ class Printing(CheckTest):
         self.write('good.json', book(['']))
 
     def test_json(self):
+        """`--format json` prints one JSON object with the findings and the counts."""
         status, lines, _ = self.check('models', '--format', 'json')
         self.assertEqual((status, json.loads('\n'.join(lines))), (1, {
             'findings': [{
@@ -216,18 +220,21 @@ class Printing(CheckTest):
         self.assertEqual((status, json.loads('\n'.join(lines))), (0, {'findings': [], 'count': 0, 'faulty': 0, 'files': 1, 'objects': 1}))
 
     def test_github(self):
+        """`--format github` prints findings as workflow commands, and escapes the characters that end a property."""
         self.assertEqual(self.check('models', '--format', 'github')[1], [
             '::error file=models/a%25%2C%3A.json,title=FEATURE::roots[0].features: "titel" is no feature of Book',
             '1 finding in 1 of 2 files with 1 object',
         ])
 
     def test_bytes_in_a_name(self):
+        """Bytes of a file name that are not UTF-8, and newlines, are printed as escapes."""
         self.write(os.fsdecode(b'\xff\n.json'), '')
         self.assertEqual(self.check('models')[1][1:], [
             'models/\\udcff\\n.json: the document ends within the JSON', '2 findings in 2 of 3 files with 1 object'
         ])
 
     def test_paths(self):
+        """Paths are printed as they were given, and references lead to files below `--root` or below the paths given."""
         self.write('sub/a.json', book(['"next":"../good.json#/"']))
         line = 'sub/a.json: roots[0].features.next: "../good.json#/" does not name it back: its prev lacks "sub/a.json#/"'
         alone = 'models/sub/a.json: roots[0].features.next: "good.json#/" leads to no file of the folder'
@@ -242,6 +249,7 @@ class Printing(CheckTest):
             self.assertIn(f'1 finding in 1 of {files} file', lines[1])
 
     def test_metamodel_is_no_document(self):
+        """A metamodel that is in the folder is not read as a document, and a reference to it is a finding."""
         self.write('library.json', LIBRARY.read_bytes())
         self.assertEqual(self.check('models', meta='models/library.json')[1][-1], '1 finding in 1 of 2 files with 1 object')
         self.write('good.json', '{"format":2,"roots":[{"class":"Person","features":{"favourite":"library.json#/"}}]}')
@@ -251,7 +259,7 @@ class Printing(CheckTest):
         ])
 
     def test_progress(self):
-        """On a terminal there is a bar, and it is gone at the end."""
+        """On a terminal the command shows a progress bar, and erases it at the end."""
         ours, theirs = pty.openpty()
         with subprocess.Popen(self.command('models'), cwd=self.room.name, env=self.environment, stdout=subprocess.PIPE, stderr=theirs) as run:
             os.close(theirs)
@@ -269,9 +277,10 @@ class Printing(CheckTest):
 
 
 class Statuses(CheckTest):
-    """What is wrong use, and what can't be finished."""
+    """The statuses for wrong arguments, and for checks that can't be finished."""
 
     def test_wrong_use(self):
+        """Wrong arguments give status 2 and a line that names the argument."""
         self.write('good.json', book(['']))
         cases = [
             (['none'], 'error: no file or folder none'), (['models', '--jobs', '0'], 'error: --jobs 0: at least one process is needed'),
@@ -288,18 +297,20 @@ class Statuses(CheckTest):
         self.assertEqual(self.check('models/good.json', '--root', 'models/sub')[2], 'error: models/good.json is not below models/sub\n')
 
     def test_metamodel(self):
+        """A refused or missing metamodel gives status 2 with the explanation."""
         status, _, said = self.check('models', meta=self.file('meta.json', '{"classes":[{"nam":"A"}]}'))
         self.assertEqual(status, 2)
         self.assertIn('metamodel refused: 2 LAYOUT\nclasses[0]: the key "name" is absent\n', said)
         self.assertEqual(self.check('models', meta='none.json')[::2], (2, 'error: no file none.json\n'))
 
     def test_no_program(self):
+        """A missing program gives status 2."""
         self.environment['MMREPO'] = '/none'
         status, _, said = self.check('models')
         self.assertEqual((status, said.partition(':')[0]), (2, 'error'))
 
     def test_program_dies(self):
-        """A program that ends in the middle: the check was not finished, and says so."""
+        """If the program ends in the middle, the check says that it was not finished, and has status 3."""
         self.write('good.json', book(['']))
         fake = self.fake('for line in lines():\n    if line.startswith("load"): sys.exit(3)\n    say("r0\\n\\n" if line.strip() else "\\n")')
         self.environment['MMREPO'] = str(fake)
@@ -309,6 +320,7 @@ class Statuses(CheckTest):
             self.assertTrue(said.startswith('error: the check was not finished: the program ended'), said)
 
     def test_nobody_reads(self):
+        """If the reader of standard output goes away, the status is 3 and nothing is printed on standard error."""
         for number in range(3):
             self.write(f'{number}.json', 'x')
         with subprocess.Popen(self.command('models'), cwd=self.room.name, env=self.environment, stdout=subprocess.PIPE, stderr=subprocess.PIPE) as run:
@@ -317,6 +329,7 @@ class Statuses(CheckTest):
         self.assertEqual(run.returncode, 3)
 
     def test_interrupted(self):
+        """Ctrl-C gives status 130 and no output."""
         self.write('pages.json', book(['']))
         begun = Path(self.room.name, 'begun')
         fake = self.fake(

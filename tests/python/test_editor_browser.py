@@ -1,4 +1,4 @@
-"""The editor in headless Chromium: windows on one model, hostile texts, files, and layouts."""
+"""The editor in headless Chromium: several windows on one model, hostile texts, files, and layouts."""
 
 import json
 import time
@@ -7,7 +7,7 @@ from pathlib import Path
 from editor_support import BrowserTest, Way, with_browser
 from editor_town import DORA, EMMA, TOWN_LIBRARY, TownTest
 
-# The colours of texts, and those of their grounds.
+# The colours of texts and of their backgrounds.
 PAIRS = [
     'text on panel', 'text on page', 'text on selected', 'soft on panel', 'soft on page', 'faint on panel', 'faint on page', 'faint on selected',
     'wrong on panel', 'wrong on wrong-back', 'warning on panel', 'accent-text on accent', 'good on panel',
@@ -16,10 +16,10 @@ PAIRS = [
 
 @with_browser
 class Views(TownTest):
-    """Windows on one model."""
+    """Several windows on one model."""
 
     def test_two_windows(self):
-        """What one does the other shows, without asking for what it has."""
+        """An edit in one window appears in the other by its event, and the other makes no call for it."""
         first = self.browser.name()
         second = self.browser.window(self.address)
         self.settle()
@@ -37,7 +37,7 @@ class Views(TownTest):
         self.assertEqual({count for _, count in asked}, {1})
 
     def test_verify(self):
-        """Verify says that all is equal; and where not, if a notification is dropped."""
+        """Verify reports that the window equals the model; after a lost notification it reports the difference."""
         self.select(EMMA)
         self.browser.click('#verify')
         self.assertEqual(self.until("document.querySelector('dialog h2')?.textContent"), 'Equal')
@@ -53,7 +53,8 @@ class Views(TownTest):
         self.assertEqual(self.texts('dialog .lines li'), ['Heard (2).pages: here the default, there 474'])
 
     def test_away(self):
-        """A window that was away says so, and gets what it has missed, without asking for what it has."""
+        """A window without a connection says so, and refuses edits. Connected again, it gets the events that it has missed, and asks for
+        nothing else."""
         way = Way(self.address)
         self.addCleanup(way.end)
         self.browser.go(way.address)
@@ -76,15 +77,17 @@ class Views(TownTest):
         self.until("document.querySelector('#connection').className === 'open'")
 
     def test_server_that_ends(self):
+        """If the server ends, the window shows that the connection is lost."""
         self.stop()
         self.until("['waiting', 'ended'].includes(document.querySelector('#connection').className)")
 
 
 @with_browser
 class Hostile(BrowserTest):
-    """A model that is full of what a page could read as something else."""
+    """A model whose texts could be read as HTML, script or CSS."""
 
     def test_texts_are_texts(self):
+        """The page shows each text as it is, and runs none of it."""
         evil = [
             '<script>window.evil = 1</script>', '"&<img src=x onerror="window.evil = 1">', "'); window.evil = 1; ('", '\u202e\u0000 \u2028</title>',
             '__proto__',
@@ -109,10 +112,10 @@ class Hostile(BrowserTest):
 
 @with_browser
 class Files(TownTest):
-    """Saving, new files, and what comes in and goes out."""
+    """Saving, new files, import and export."""
 
     def test_save(self):
-        """What has changed is marked, and written by Ctrl+S; and a file that others have changed by force alone."""
+        """A changed file is marked, and Ctrl+S saves it. A file that was changed on the disk is overwritten only by force."""
         town = self.models / 'town.json'
         self.select(EMMA)
         self.browser.type('#f-name', '!', 'Keys.ENTER')
@@ -133,7 +136,7 @@ class Files(TownTest):
         self.assertEqual(json.loads(town.read_text())['roots'][0]['features']['books'][0]['features']['name'], 'Mine')
 
     def test_new_file(self):
-        """From nothing to a file that is saved."""
+        """A new file is made, filled and saved."""
         self.browser.click('#new-file')
         self.until("document.querySelector('#file-name')")
         self.browser.keys('Ctrl+a', 'more/village.json', 'Keys.ENTER')
@@ -146,7 +149,7 @@ class Files(TownTest):
         self.assertEqual(json.loads((self.models / 'more/village.json').read_text()), {'format': 2, 'roots': [{'class': 'Library', 'features': {}}]})
 
     def test_import_and_export(self):
-        """A document comes in, and one goes out."""
+        """A document is imported, and a document is exported."""
         late = self.file('late.json', json.dumps({'format': 2, 'roots': [{'class': 'Book', 'features': {'name': 'Late'}}]}))
         self.browser.click('#import')
         self.until("document.querySelector('#file-in')")
@@ -173,7 +176,7 @@ class Files(TownTest):
         self.assertEqual(self.js('return mmrepo.model.files.length;'), 3)
 
     def test_pictures(self):
-        """The metamodel, what is near a class, and the selection."""
+        """Diagrams show the metamodel, the neighbours of a class, and the selection."""
         self.select(TOWN_LIBRARY)
         self.browser.click('#picture')
         self.until("document.querySelectorAll('.picture .box').length === 6")
@@ -190,9 +193,10 @@ class Files(TownTest):
 
 @with_browser
 class Layouts(TownTest):
-    """Dark and light, and a narrow screen."""
+    """Dark and light schemes, and a narrow screen."""
 
     def test_narrow(self):
+        """On a screen of 360 pixels nothing is wider than the page, and the tree is still visible."""
         self.browser.size(360, 640)
         self.select(EMMA)
         self.assertEqual(self.js('return [document.documentElement.scrollWidth, document.querySelector("#tree").clientHeight > 100];'), [360, True])
@@ -200,7 +204,7 @@ class Layouts(TownTest):
             .filter((it) => it.getBoundingClientRect().right > innerWidth).map((it) => it.id);'''), [])
 
     def test_contrast(self):
-        """Texts on their grounds, in both schemes: at least 4.5 to 1, as WCAG has it for AA."""
+        """Each text has a contrast of at least 4.5 to 1 with its background in both schemes, as WCAG level AA requires."""
         self.select(EMMA)
         for scheme in ('light', 'dark'):
             self.browser.scheme(scheme)

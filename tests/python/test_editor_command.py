@@ -1,4 +1,4 @@
-"""The command of the editor, and what is installed."""
+"""The command that starts the editor, and the files of the editor that are installed."""
 
 import os
 import re
@@ -19,16 +19,17 @@ FUNCTION = re.compile(r'( *)(?:async )?(?:export )?(?:async )?(?:def|function) |
 
 
 class Command(EditorTest):
-    """The command, and what is installed."""
+    """The arguments of the command, and its files."""
 
     def run_edit(self, *words):
-        """The status of a command that does not serve, and what it says."""
+        """Runs a command that ends without serving; returns its status and its standard error."""
         environment = {**os.environ, 'PYTHONPATH': str(CLIENT), 'MMREPO': str(PROGRAM), 'PYTHONDONTWRITEBYTECODE': '1'}
         command = [sys.executable, '-W', 'error', '-m', 'mmrepo', 'edit', *map(str, words), '--no-browser']
         done = subprocess.run(command, cwd=self.room.name, env=environment, stdout=subprocess.PIPE, stderr=subprocess.PIPE)
         return done.returncode, done.stderr.decode()
 
     def test_wrong_use(self):
+        """Wrong arguments give status 2 and a line that names the argument."""
         self.assertEqual(self.run_edit('none.json')[0], 2)
         self.assertIn('metamodel refused', self.run_edit(self.file('bad.json', '{"classes":7}'))[1])
         self.assertEqual(self.run_edit(LIBRARY, self.file('a-file', ''))[0], 2)
@@ -39,7 +40,7 @@ class Command(EditorTest):
             self.assertIn('Address already in use', self.run_edit(LIBRARY, '--port', taken.getsockname()[1])[1])
 
     def test_no_folder(self):
-        """Without a folder a model is made all the same; it goes out by export."""
+        """Without a folder a model can be made, and leaves the editor by export."""
         self.start()
         self.call('new', class_='Book', node='r0', feature='contents')
         self.assertRegex(self.call('save', force=False), '^no folder is open: ')
@@ -48,7 +49,7 @@ class Command(EditorTest):
         self.assertEqual(self.stop(), 'not saved: http://models.example/model.json\n')
 
     def test_folders(self):
-        """A folder that is not there is made. Folders beside each other refer to one another as their files do."""
+        """A folder that is missing is made. References between the files of several folders that are beside each other are resolved."""
         self.write('a/one.json', {'format': 2, 'roots': [{'class': 'Person', 'features': {'favourite': '../b/two.json#/'}}]})
         top = self.write('b/two.json', {'format': 2, 'roots': [{'class': 'Book', 'features': {}}]})
         self.start(top / 'a', top / 'b', top / 'new')
@@ -62,14 +63,14 @@ class Command(EditorTest):
 
     @unittest.skipUnless(shutil.which('node'), 'node is not installed')
     def test_scripts(self):
-        """Each script is one, says that its types are checked, and is no longer than a reader likes."""
+        """Each script of the page is valid JavaScript, and begins with the mark that has its types checked."""
         for file in PAGE.glob('*.mjs'):
             done = subprocess.run(['node', '--check', str(file)], stderr=subprocess.PIPE)
             self.assertEqual(done.stderr.decode(), '', file.name)
             self.assertTrue(file.read_text().startswith('// @ts-check\n'), file.name)
 
     def test_lengths(self):
-        """No file has more than 400 lines, and no function more than 40."""
+        """No file of the editor has more than 400 lines, and no function more than 40."""
         for file in [*PAGE.iterdir(), *PAGE.parent.glob('*.py')]:
             lines = file.read_text().splitlines()
             self.assertLessEqual(len(lines), LONGEST_FILE, file.name)
@@ -82,7 +83,7 @@ class Command(EditorTest):
                     self.assertLess(length, 40, f'{file.name}: {line}')
 
     def test_installed(self):
-        """The wheel of the package has the page, as it is in the tree."""
+        """The wheel of the package has the files of the page, byte by byte."""
         code = f'import backend; print(backend.build_wheel({self.room.name!r}))'
         done = subprocess.run([sys.executable, '-B', '-c', code], cwd=TOP / 'clients/python', stdout=subprocess.PIPE, check=True)
         with zipfile.ZipFile(Path(self.room.name, done.stdout.decode().strip())) as wheel:

@@ -1,5 +1,6 @@
-"""The editor with 100,000 objects: only what is seen is in the page, and it stays quick. Measured in the browser; EDITOR_MEASURES=1 prints
-the times, which docs/EDITOR.md has. A machine that does other work too may take SLOWER times as long."""
+"""The editor with 100,000 objects: the page has elements only for visible rows, and each step takes a bounded time. The times are measured
+in the browser; EDITOR_MEASURES=1 prints them for docs/EDITOR.md. Without it a step may take SLOWER times as long, since the machine may be
+busy."""
 
 import json
 import os
@@ -18,7 +19,7 @@ OBJECTS = int(os.environ.get('EDITOR_OBJECTS', 100_000))
 SLOWER = 5
 FIRST_VIEW, STEP = 1000, 100  # milliseconds
 
-# Code of the page: how long something takes until what it changes is painted.
+# Code for the page: the time from an action until its effect is painted.
 BEGIN = '''
     const painted = () => new Promise((done) => requestAnimationFrame(() => setTimeout(done)));
     const wait = (time) => new Promise((done) => setTimeout(done, time));
@@ -73,7 +74,7 @@ SEARCH = BEGIN + '''
 
 
 def alone(document):
-    """A document whose members like no books of other files."""
+    """A document of bench/models.py without references to other files."""
     for member in document['roots'][0]['features']['members']:
         del member['features']['likes'][1:]
     return document
@@ -81,15 +82,17 @@ def alone(document):
 
 @with_browser
 class Large(BrowserTest):
-    """One library with all objects."""
+    """One file with all objects."""
 
     def timed(self, what, times, limit=STEP):
-        """Checks times, of which the first is the median, and prints them if that is wanted."""
+        """Checks that the first of some times, their median, is below a limit in milliseconds; prints the times if EDITOR_MEASURES is set.
+        """
         if os.environ.get('EDITOR_MEASURES'):
             print(f'{what}: {" / ".join(f"{it:,.0f}" for it in times)} ms')
         self.assertLess(times[0], limit * SLOWER, what)
 
     def test_large(self):
+        """Opening, scrolling, an edit, a new object, a search and verifying stay below their limits, and so do the elements in the page."""
         models = self.write('town.json', json.dumps(alone(library(0, 1, OBJECTS)), separators=(',', ':')))
         begun = time.monotonic()
         self.start(models)

@@ -1,4 +1,4 @@
-"""The page docs/EDITOR.md: its options, its commands as a new user gives them, and its pictures, which EDITOR_SHOTS=1 makes anew."""
+"""The page docs/EDITOR.md: its options, its steps for a new user, and its pictures, which EDITOR_SHOTS=1 makes anew."""
 
 import argparse
 import json
@@ -42,17 +42,17 @@ VILLAGE['roots'][1]['features']['favourite'] = '/0/@books.0'
 
 
 class Words(ClientTest):
-    """What the page says."""
+    """The text of the page."""
 
     def test_options(self):
-        """Each option of the command, and each file of the page that is made for it."""
+        """The page names each option of the command, and each picture that is made for it."""
         parser = argparse.ArgumentParser(conflict_handler='resolve')
         command.add_arguments(parser)
         for option in set(parser._option_string_actions) - {'-h', '--help'}:
             self.assertIn(f'`{option}', PAGE)
 
     def test_pictures(self):
-        """They are there, and small."""
+        """The pictures are there, and are smaller than LARGEST."""
         named = re.findall(r'!\[[^\]]+\]\(([\w-]+\.png)\)', PAGE)
         self.assertEqual(len(named), 2)
         for name in named:
@@ -62,7 +62,7 @@ class Words(ClientTest):
         self.assertIn(f'](docs/{named[0]})', (TOP / 'README.md').read_text())
 
     def test_calls(self):
-        """The page of the browser makes no call that there is not."""
+        """Each call that the scripts of the browser make is a call of the server."""
         scripts = ''.join(content.decode() for kind, content in read_page().values() if kind.startswith('text/javascript'))
         made = set(re.findall(r"\bcall\('([a-z ]+)'", scripts)) | set(re.findall(r"\.edit\('([a-z ]+)'", scripts))
         self.assertLessEqual(made, set(CALLS))
@@ -71,10 +71,10 @@ class Words(ClientTest):
 
 @with_browser
 class Pictures(BrowserTest):
-    """The pictures, and the commands."""
+    """The pictures and the steps of the page."""
 
     def shot(self, name):
-        """Makes a picture, and keeps it if that is wanted."""
+        """Takes a screenshot, and keeps it if EDITOR_SHOTS is set."""
         path = Path(self.room.name, name)
         self.browser.run('document.activeElement?.blur(); await new Promise((done) => setTimeout(done, 300));')
         self.browser.shot(str(path))
@@ -85,7 +85,7 @@ class Pictures(BrowserTest):
             shutil.copyfile(path, TOP / 'docs' / name)
 
     def test_pictures(self):
-        """One of an edit that is refused, and one of the metamodel, in the dark."""
+        """Takes the pictures: a refused edit, and the metamodel in the dark scheme."""
         self.browser.size(*SIZE)
         self.write('town.json', TOWN)
         self.open(self.write('more/village.json', VILLAGE))
@@ -104,7 +104,7 @@ class Pictures(BrowserTest):
         self.shot('editor-picture.png')
 
     def test_as_a_new_user(self):
-        """From a folder with nothing but the metamodel to a model that is saved, by the command of the page."""
+        """The command of the page leads from a folder with only a metamodel to a saved model."""
         words = re.search(r'^python3 -m mmrepo edit (\S+) (\S+)$', PAGE, re.M).groups()
         self.assertEqual(words, ('examples/library.json', 'models'))
         self.open('models', meta=LIBRARY)

@@ -1,4 +1,4 @@
-"""The properties of the editor: a field for each type of feature, and problems."""
+"""The properties in the editor: a field for each type of feature, and the problems of objects."""
 
 import json
 
@@ -9,9 +9,10 @@ from support import KINDS
 
 @with_browser
 class Properties(TownTest):
-    """The properties of an object: a field for each type of feature."""
+    """The properties of an object."""
 
     def test_text_and_number(self):
+        """A number is edited, refused beyond its range, restored by Escape, and set back to its default."""
         self.select(EMMA)
         self.assertEqual(self.texts('.feature label'), ['name', 'pages', 'genre', 'tags', 'scores', 'note', 'library', 'next', 'prev'])
         default = "[...document.querySelectorAll('.feature.default')].map((it) => it.dataset.feature)"
@@ -30,7 +31,7 @@ class Properties(TownTest):
         self.until("document.querySelector('#f-pages').value === '100'")
 
     def test_null_and_unset(self):
-        """An unsettable text: unset, null, empty, and a text of two lines."""
+        """The field of an unsettable text tells apart unset, null and the empty text, and takes a text of two lines."""
         self.select(EMMA)
         note = "document.querySelector('#f-note')"
         self.assertEqual(self.js(f'return {note}.placeholder;'), 'null')
@@ -49,6 +50,8 @@ class Properties(TownTest):
         self.until('mmrepo.model.nodes.get(2).values.note === "x\\ny"')
 
     def test_enumeration_and_lists(self):
+        """A literal is chosen; values of lists are added, moved, dragged and removed; a repeated value and one past the upper bound are
+        refused."""
         self.select(EMMA)
         self.browser.choose('#f-genre', 'POEM')
         self.until('mmrepo.model.nodes.get(2).values.genre === "POEM"')
@@ -72,7 +75,7 @@ class Properties(TownTest):
         self.assertEqual(self.value(EMMA, 'scores'), [7, 7, -3])
 
     def test_references(self):
-        """A picker with what conforms, filtered as one types; the opposite end follows."""
+        """The picker offers the objects that conform to the type, and filters them while the user types; the opposite end changes too."""
         self.select(EMMA)
         self.browser.click('[data-feature="next"] [aria-label="Choose next"]')
         self.until("document.querySelectorAll('#choices li').length === 2")
@@ -91,7 +94,7 @@ class Properties(TownTest):
         self.until('!("next" in mmrepo.model.nodes.get(2).values)')
 
     def test_full(self):
-        """A list that is full, at its own end and at the opposite one."""
+        """A value past the upper bound of a list is refused, at the end of the list and at the opposite end."""
         self.select(TOWN_LIBRARY)
         for count in (1, 2):
             self.browser.click('[data-feature="staff"] [aria-label="Add to staff"]')
@@ -110,7 +113,7 @@ class Properties(TownTest):
         self.assertEqual(self.refusal('job'), 'BOUND: at most 2 staff')
 
     def test_proxies_and_problems(self):
-        """Proxies are resolved once their file is there; the counts are kept."""
+        """A proxy is refused until its file is there, and then resolved; the counts of problems follow each edit."""
         count = "document.querySelector('#problem-count').textContent"
         self.assertEqual(self.js(f'return {count};'), '4 objects with problems: 3 too short, 2 proxies left')
         self.browser.click('#problems')
@@ -140,7 +143,7 @@ class Properties(TownTest):
         self.assertEqual(self.call('problems')['found'], [{'object': it, 'short': ['favourite'], 'proxies': []} for it in (ANN, BOB, CID)])
 
     def test_each_type(self):
-        """A feature of each type, and names that mean something in Python."""
+        """A feature of each type can be edited, and so can features whose names mean something in Python or JavaScript."""
         self.stop()
         self.open(meta=self.file('kinds.json', KINDS))
         kind = self.call('new', class_='Kind', node='r0', feature='contents')['done']

@@ -1,4 +1,4 @@
-"""Edits at random over two windows on models of Eclipse: both windows, a fresh one and the saved document agree."""
+"""Random edits in two windows on models of Eclipse. Afterwards both windows, a fresh window and the saved documents must agree."""
 
 import json
 import os
@@ -11,10 +11,10 @@ from editor_support import ECORE_JAR, MODEL_JAR, WORKBENCH_JAR, BrowserTest, wit
 from support import TOP
 
 EDITS = int(os.environ.get('EDITOR_EDITS', 150))  # on each of the two models
-TOGETHER = 5  # edits in a window, before the other one goes on
+TOGETHER = 5  # edits in one window, before the other window goes on
 SEED = int(os.environ.get('EDITOR_SEED', 1))
 NO_MODELS = 'the packages libeclipse-e4-ui-model-workbench-java and libeclipse-ui-workbench-java are not installed'
-SMALL = (640, 420)  # of the page: what is painted takes most of the time
+SMALL = (640, 420)  # size of the page in pixels: painting takes most of the time
 CODE = (Path(__file__).parent / 'random_edits.mjs').read_text()
 
 # Opens all nodes, and waits until they are known.
@@ -41,7 +41,7 @@ OPEN_ALL = '''
 
 
 class Window:
-    """What a window knows, as the documents of its resources."""
+    """What a window knows of the model, written as the documents of its resources."""
 
     def __init__(self, nodes, start):
         self.nodes = dict((json.dumps(id), state) for id, state in nodes)
@@ -55,7 +55,7 @@ class Window:
                 self._place(root, word, '/' if len(roots) == 1 else f'/{index}')
 
     def _features(self, name):
-        """All features of a class, by name."""
+        """All features of a class by name, inherited ones included."""
         found = {}
         for above in self.classes[name]['supers']:
             for key, feature in self._features(above).items():
@@ -63,11 +63,11 @@ class Window:
         return {**found, **{it['name']: it for it in self.classes[name]['features']}}
 
     def state(self, id):
-        """What a node has."""
+        """The state that the window has of a node."""
         return self.nodes[json.dumps(id)]
 
     def _place(self, id, word, fragment):
-        """Finds the place of an object and of those below it."""
+        """Writes down the resource and the fragment of an object and of each object below it."""
         self.places[id] = (word, fragment)
         state = self.state(id)
         for name, feature in self.features[state['class']].items():
@@ -77,11 +77,11 @@ class Window:
                     self._place(part, word, f'{fragment}/@{name}' + (f'.{index}' if feature['many'] else ''))
 
     def document(self, word):
-        """The document of a resource, by docs/DOCUMENTS.md."""
+        """The document of a resource, by the rules of docs/DOCUMENTS.md."""
         return {'format': 2, 'roots': [self._written(it, word) for it in self.state(word)['values'].get('contents', [])]}
 
     def _written(self, id, word):
-        """An object as a document has it."""
+        """An object as its document has it."""
         state = self.state(id)
         features = {}
         for name, feature in self.features[state['class']].items():
@@ -93,7 +93,7 @@ class Window:
         return {'class': state['class'], 'features': features}
 
     def _value(self, feature, value, word):
-        """A value as a document has it."""
+        """A value of a feature as the document has it: an object, a fragment, an address or a plain value."""
         if feature['contains']:
             return self._written(value, word)
         if not feature['refers']:
@@ -105,10 +105,10 @@ class Window:
 
 
 class RandomTest(BrowserTest):
-    """A test of edits at random, on a folder of documents."""
+    """A test of random edits on a folder of documents."""
 
     def converted(self, ecore, file, name):
-        """The folder of the document of an XMI file, and the metamodel."""
+        """Converts an XMI file to a document; returns the folder of the document, and the metamodel."""
         meta = self.meta(ecore)
         models = self.write(name, '')
         words = [word for it in ecore for word in ('--ecore', str(it))]
@@ -117,7 +117,7 @@ class RandomTest(BrowserTest):
         return models, meta
 
     def edit(self, models, meta):
-        """Edits over two windows, and compares what they know with a fresh one and with the saved documents."""
+        """Makes random edits in two windows by turns, and then compares the windows."""
         self.browser.size(*SMALL)
         self.open(models, meta=meta)
         first = self.browser.name()
@@ -135,7 +135,7 @@ class RandomTest(BrowserTest):
         self.compare(models, number, [first, second])
 
     def compare(self, models, number, names):
-        """Compares windows and documents."""
+        """Compares what the windows know with a fresh window and with the saved documents."""
         known = []
         for name in names:
             self.browser.switch(name)
@@ -162,17 +162,17 @@ class RandomTest(BrowserTest):
 
 @with_browser
 class Random(RandomTest):
-    """Edits at random."""
+    """Random edits of two models of Eclipse."""
 
     @unittest.skipUnless(ECORE_JAR.exists(), 'the package libeclipse-emf-ecore-java is not installed')
     def test_ecore(self):
-        """Ecore's own metamodel, as a model."""
+        """The model is Ecore's own metamodel."""
         ecore = [it for it in self.taken(ECORE_JAR, '.ecore', Path(self.room.name, 'ecore')) if it.name == 'Ecore.ecore']
         self.edit(*self.converted(ecore, ecore[0], 'Ecore.json'))
 
     @unittest.skipUnless(MODEL_JAR.exists() and WORKBENCH_JAR.exists(), NO_MODELS)
     def test_application(self):
-        """The application model of Eclipse."""
+        """The model is the application model of Eclipse."""
         room = Path(self.room.name, 'ecore')
         ecore = [self.taken(MODEL_JAR, name, room)[0] for name in ('UIElements.ecore', 'ModelFragment.ecore')]
         file, = self.taken(WORKBENCH_JAR, '.e4xmi', room)

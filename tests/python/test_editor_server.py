@@ -1,4 +1,4 @@
-"""The server of the editor: what may be asked, and hostile requests."""
+"""The server of the editor: its calls and events, and hostile requests."""
 
 import json
 import os
@@ -19,7 +19,7 @@ PARTS = [('Book', 0, 'books'), ('Person', 0, 'members'), ('Folder', 'r0', 'conte
 
 
 class ServerTest(EditorTest):
-    """A test that speaks to the server byte by byte."""
+    """A test that sends bytes to the server and reads its answers."""
 
     def setUp(self):
         super().setUp()
@@ -28,13 +28,13 @@ class ServerTest(EditorTest):
         self.token = self.address.split('/')[3]
 
     def connected(self):
-        """A connection."""
+        """A new connection to the server."""
         made = socket.create_connection(('127.0.0.1', self.port), 30)
         self.addCleanup(made.close)
         return made
 
     def sent(self, data):
-        """The status and the body that come back for bytes."""
+        """Sends bytes on a new connection; returns the status and the body of the answer."""
         made = self.connected()
         made.sendall(data)
         answer = b''
@@ -52,26 +52,27 @@ class ServerTest(EditorTest):
         return int(head.split(b' ')[1]), body.decode()
 
     def request(self, line, body=b'', **headers):
-        """A request, whose headers may be changed or left out."""
+        """The bytes of a request. Headers can be replaced, or left out by None."""
         given = {'Host': f'127.0.0.1:{self.port}', 'Content-Type': 'application/json', 'Content-Length': len(body)}
         given.update({name.replace('_', '-'): value for name, value in headers.items()})
         lines = ''.join(f'{name}: {value}\r\n' for name, value in given.items() if value is not None)
         return f'{line} HTTP/1.1\r\n{lines}\r\n'.encode() + body
 
     def post(self, body, **headers):
-        """The status and the text for the body of a call."""
+        """Sends a call with a body; returns the status and the text of the answer."""
         status, answer = self.sent(self.request(f'POST /{self.token}/call', body, **headers))
         return status, json.loads(answer).get('text')
 
     def assert_well(self):
-        """The server goes on."""
+        """Checks that the server still answers."""
         self.assertEqual(self.call('nodes', nodes=[1])['nodes']['1']['values']['name'], 'Emma')
 
 
 class Hostile(ServerTest):
-    """Requests that no window makes."""
+    """Requests that a window of the editor never makes."""
 
     def test_token_and_host(self):
+        """A request needs the token, and its Host and Origin must be the server's own."""
         get = f'GET /{self.token}/'
         wrong = 'the token is wrong: open the address that the editor printed'
         cases = [
@@ -96,7 +97,7 @@ class Hostile(ServerTest):
         self.assert_well()
 
     def test_paths(self):
-        """Nothing but the files of the page is served, and no file is made outside of the folder."""
+        """The server serves only the files of the page, and makes no file outside of the folder."""
         Path(self.room.name, 'secret.json').write_text('{}')
         for path in ('../secret.json', '..%2fsecret.json', '%2e%2e/secret.json', '../../../../etc/passwd', '/etc/passwd', 'town.json', '.',
                      'page/../main.mjs', 'main.mjs%00', 'events/..', '\\..\\secret.json', 'call/x', 'editor/model.py', '__init__.py', 'main.mjs/'):
@@ -115,7 +116,7 @@ class Hostile(ServerTest):
         self.assertEqual(sorted(Path(self.room.name).rglob('*')), before)
 
     def test_methods_and_heads(self):
-        """Each is answered clearly."""
+        """Unknown methods, long request lines and bad headers each get the status that HTTP has for them, and a text."""
         get, big = f'GET /{self.token}/', 'x' * 70_000
         cases = [
             (b'nonsense\r\n\r\n', 400), (self.request(f'PUT /{self.token}/call'), 501), (self.request(f'DELETE /{self.token}/'), 501),
@@ -133,7 +134,7 @@ class Hostile(ServerTest):
         self.assert_well()
 
     def test_bodies(self):
-        """Broken JSON, wrong kinds, and lengths that are none."""
+        """Bodies that are no JSON, arguments of wrong kinds, and bad lengths are refused with a status and a text."""
         deep = b'[' * 100_000 + b']' * 100_000
         for body in (b'', b'{', b'nul', b'\xff\xfe', b'{"do":"start"', deep, b'1e999999', b'9' * 10_000):
             with self.subTest(body=body[:40]):
@@ -165,7 +166,7 @@ class Hostile(ServerTest):
         self.assert_well()
 
     def test_lines_in_texts(self):
-        """No text of a window is a line of the program."""
+        """No text of a window can become a line of the program: it is stored as a value, or refused."""
         for text in ('a\nset #0 name "evil"', 'a\r\n', '"', '\\', '\0', '\u2028', '#0', ':NOVEL', 'null', '\ud800'):
             with self.subTest(text=text):
                 said = self.call('set', object=1, feature='name', value=text)
@@ -197,7 +198,7 @@ class Hostile(ServerTest):
         self.assert_well()
 
     def test_connections_that_hang(self):
-        """Fifty that say nothing, and fifty that say half: the server goes on, and ends them with a word."""
+        """Fifty connections that send nothing and fifty that send half a request don't block the server; it ends them with status 408."""
         hanging = [self.connected() for _ in range(100)]
         for made in hanging[:50]:
             made.sendall(f'GET /{self.token}/ HTTP/1.1\r\nHost: '.encode())
@@ -213,7 +214,7 @@ class Hostile(ServerTest):
         self.assert_well()
 
     def test_too_many(self):
-        """Connections that are too many get an answer that says so, and so do windows."""
+        """Connections and windows beyond their limits get status 503 with a text."""
         hanging = [self.connected() for _ in range(200)]
         time.sleep(0.3)
         self.assertEqual(self.sent(self.request(f'GET /{self.token}/'))[0], 503)
@@ -231,7 +232,7 @@ class Hostile(ServerTest):
             self.assertEqual(self.sent(self.request(f'GET /{self.token}/events?after={after}'))[0], 400)
 
     def test_headers(self):
-        """What the headers say to the browser: nothing of the page may come from elsewhere."""
+        """The headers forbid the page to load anything from elsewhere, and no file of the page does."""
         with urllib.request.urlopen(self.address) as answer:
             self.assertIn("default-src 'none'; script-src 'self'", answer.headers['Content-Security-Policy'])
             names = ('X-Content-Type-Options', 'Referrer-Policy', 'Cache-Control')
@@ -251,10 +252,10 @@ class Hostile(ServerTest):
 
 
 class Streams(ServerTest):
-    """The events."""
+    """The stream of events that a window reads."""
 
     def events(self, after, count):
-        """Some events after one."""
+        """The first events after the event of a number."""
         found = []
         with urllib.request.urlopen(f'{self.address}events?after={after}') as stream:
             while len(found) < count:
@@ -264,7 +265,8 @@ class Streams(ServerTest):
         return found
 
     def test_events(self):
-        """One for each edit, with its notifications; also after a number."""
+        """Each edit makes one event with its notifications, its deleted objects and the new problems; a stream can begin after any event.
+        """
         self.call('set', object=1, feature='pages', value='7')
         self.call('new', class_='Person', node=0, feature='members')
         self.call('delete', object=1)
@@ -278,12 +280,12 @@ class Streams(ServerTest):
         self.assertEqual([it['number'] for it in self.events(1, 2)], [2, 3])
 
     def test_missed(self):
-        """A window that asks for what is not kept any more, or for what is not there yet, begins again."""
+        """A window that asks for events that are not there begins again."""
         with urllib.request.urlopen(f'{self.address}events?after=7') as stream:
             self.assertIn(b'event: lost', stream.read())
 
     def test_refused_edits(self):
-        """What is refused changes nothing, and no window gets an event."""
+        """A refused edit changes nothing, and makes no event."""
         self.assertEqual(self.call('new', class_='Person', node=0, feature='books'), 'TYPE: books takes objects of class Book')
         self.assertEqual(self.call('new', class_='Named', node=0, feature='books'), 'ABSTRACT: the class is abstract')
         self.assertRegex(self.call('set', object=1, feature='library', value=None), '^HELD: library is changed in the tree, so that no object is lost')
@@ -305,7 +307,7 @@ class Streams(ServerTest):
         self.assertEqual(self.call('compared'), {'objects': 2, 'differences': []})
 
     def test_faster(self):
-        """An edit of a place that an other window has changed in the meantime is refused."""
+        """An edit of a position that another window has changed in the meantime is refused."""
         for text in ('a', 'b', 'c'):
             self.call('add', object=1, feature='tags', value=text)
         self.call('add', object=1, feature='tags', value='first', at=0)
@@ -317,7 +319,7 @@ class Streams(ServerTest):
         self.assertEqual(self.call('nodes', nodes=[1])['nodes']['1']['values']['tags'], ['first', 'b', 'c'])
 
     def test_program_that_ends(self):
-        """If the program ends, each call says so, and the server stays."""
+        """If the program ends, each call is refused with a text, and the server goes on."""
         children = Path(f'/proc/{self.server.pid}/task/{self.server.pid}/children').read_text().split()
         os.kill(int(children[0]), signal.SIGKILL)
         for _ in range(2):
@@ -326,10 +328,10 @@ class Streams(ServerTest):
 
 
 class RandomCalls(EditorTest):
-    """Calls at random: what the server knows by notifications is what the program has."""
+    """Random calls: what the server keeps by notifications must equal what the program has."""
 
     def calls(self, random, numbers):
-        """A call with its arguments. Most of them are refused for some reason."""
+        """A random call with its arguments. Most calls are refused for some reason."""
         number, node = random.choice(numbers), random.choice(['r0', *numbers])
         feature = random.choice('name books members staff pages tags note next prev job likes favourite subs contents'.split())
         at, to = random.randrange(3), random.randrange(3)
@@ -346,7 +348,7 @@ class RandomCalls(EditorTest):
         ])
 
     def test_random(self):
-        """Each value, each container, and each problem, after many calls."""
+        """Each value, each container and each problem is right after many calls."""
         self.start(self.write('town.json', TOWN))
         random = Random(1)
         numbers = [0, 1]

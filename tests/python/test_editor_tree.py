@@ -1,4 +1,4 @@
-"""The tree of the editor, by pointer and by keys, and its edits."""
+"""The tree of the editor, by pointer and by keyboard, and the edits that it makes."""
 
 from editor_support import with_browser
 from editor_town import ANN, BOB, CID, DORA, EMMA, PERSUASION, TOWN_LIBRARY, TREE, TownTest
@@ -6,9 +6,10 @@ from editor_town import ANN, BOB, CID, DORA, EMMA, PERSUASION, TOWN_LIBRARY, TRE
 
 @with_browser
 class Tree(TownTest):
-    """The tree, by pointer and by keys."""
+    """The tree of a town."""
 
     def test_rows(self):
+        """Rows are closed and opened by their arrow and by a double click."""
         self.assertEqual(self.rows(), TREE)
         self.browser.click(f'#row-{TOWN_LIBRARY} .twist')
         self.assertEqual(self.rows(), TREE[:4])
@@ -17,7 +18,7 @@ class Tree(TownTest):
         self.assertEqual(self.texts('.row .kind')[:2], ['', 'Person'])
 
     def test_keys(self):
-        """The tree pattern of ARIA."""
+        """The keys move as ARIA's tree pattern requires, and each row has its level, position and label for a screen reader."""
         self.browser.click(f'#row-{EMMA}')
         visited = []
         keys = 'ARROW_DOWN ARROW_UP END HOME ARROW_DOWN ARROW_DOWN ARROW_DOWN ARROW_LEFT ARROW_LEFT ARROW_RIGHT ARROW_RIGHT ARROW_RIGHT'
@@ -37,7 +38,7 @@ class Tree(TownTest):
         self.assertEqual(self.js(row), ['treeitem', '2', '1', '1', 'true', 'true', 'Town library, Library'])
 
     def test_labels_of_fields(self):
-        """Each field, and each button, has a name for a reader."""
+        """Each field and each button has a name for a screen reader."""
         for number in (TOWN_LIBRARY, EMMA, DORA):
             self.select(number)
             self.assertEqual(self.js('''
@@ -48,6 +49,7 @@ class Tree(TownTest):
             '''), [])
 
     def test_search(self):
+        """Objects are found by a text and by a class, and a hit is selected in the tree."""
         self.browser.type('#search-text', 'LOVE')
         self.until("document.querySelector('#hits .count')?.textContent === '1 found'")
         self.assertEqual(self.texts('.hit .label'), ['Emma'])
@@ -60,7 +62,7 @@ class Tree(TownTest):
         self.assertEqual(self.texts('#properties h2 span:last-child'), ['Bob'])
 
     def test_new(self):
-        """A new child by feature and class, and a new root."""
+        """A new child is made by feature and class, and a new root by class."""
         self.browser.click(f'#row-{TOWN_LIBRARY} .label')
         self.browser.click('#new-child')
         self.until("document.querySelectorAll('#choices li').length === 2")
@@ -78,7 +80,7 @@ class Tree(TownTest):
         self.assertEqual(self.rows()[:3], ['sub/persons.json', '  Dora', '  Folder 8'])
 
     def test_delete(self):
-        """It is said how many go."""
+        """A delete says how many objects it destroys, and does nothing if it is cancelled."""
         self.browser.click(f'#row-{TOWN_LIBRARY} .label')
         self.browser.keys('Keys.DELETE')
         self.until("document.querySelector('dialog')")
@@ -93,7 +95,7 @@ class Tree(TownTest):
         self.assertEqual(self.rows(), TREE[:3])
 
     def test_drag(self):
-        """To a place in the list, to a different container, and into itself, which is refused."""
+        """An object is dragged to an index of its list and into a different container; a container without a feature for it refuses it."""
         self.browser.drag(f'#row-{EMMA} .label', f'#row-{PERSUASION} .label', 0.95)
         self.until('mmrepo.model.nodes.get(1).values.books[1] === 2')
         self.assertEqual(self.value(TOWN_LIBRARY, 'books'), [PERSUASION, EMMA])
@@ -108,7 +110,7 @@ class Tree(TownTest):
         self.assertEqual(self.value('r0', 'contents'), [DORA, CID])
 
     def test_cycle(self):
-        """A container can't be put into itself. Cut and paste do what dragging does."""
+        """An object can't be dragged into itself. Cut and paste move an object as dragging does."""
         top = self.call('new', class_='Folder', node='r0', feature='contents')['done']
         below = self.call('new', class_='Folder', node=top, feature='subs')['done']
         self.select(below)

@@ -1,4 +1,4 @@
-"""XMI in the editor: the application model of Eclipse is opened, edited, saved, exported and imported, by the tools."""
+"""XMI in the editor: the application model of Eclipse is opened, edited, saved, exported and imported by the tools."""
 
 import base64
 import unittest
@@ -13,7 +13,7 @@ NO_ECORE = 'the package libeclipse-emf-ecore-java is not installed'
 @with_browser
 @unittest.skipUnless(MODEL_JAR.exists() and WORKBENCH_JAR.exists(), NO_MODELS)
 class Application(BrowserTest):
-    """The application model."""
+    """The application model of Eclipse as an XMI file."""
 
     def setUp(self):
         super().setUp()
@@ -26,7 +26,7 @@ class Application(BrowserTest):
         self.open(self.models, *words, '--suffix', '.e4xmi', meta=self.meta(ecore))
 
     def test_save(self):
-        """What was left out when the file was read is a finding, and is overwritten only if that is wanted."""
+        """What the tool left out when it read the file is a finding, and the file is overwritten only by force."""
         self.assertEqual(self.texts('#findings button'), ['1 finding'])
         self.browser.click('#findings button')
         self.assertIn('24 ids left out', self.until("document.querySelector('dialog .lines')?.textContent"))
@@ -42,7 +42,7 @@ class Application(BrowserTest):
         self.assertIn(b'.edited"', self.file.read_bytes())
 
     def test_import_and_export(self):
-        """What goes out as XMI comes in as a document of the same objects."""
+        """A model that is exported as XMI is imported as a document of the same objects."""
         made = self.call('export', node='r0', xmi=True)
         self.assertEqual(made['name'], 'LegacyIDE.e4xmi')
         before = self.call('export', node='r0', xmi=False)['text']
@@ -58,7 +58,7 @@ class Application(BrowserTest):
         self.assertEqual(sorted(it.name for it in self.models.iterdir()), ['LegacyIDE.e4xmi', 'copy.e4xmi'])
 
     def test_large_metamodel(self):
-        """Of many classes a part is drawn, around that of the selection; new children are filtered."""
+        """A diagram of many classes shows those around the selection, and the list of new children can be filtered."""
         self.select(0)
         self.browser.click('#picture')
         self.until("document.querySelector('.picture .box')")
@@ -75,10 +75,10 @@ class Application(BrowserTest):
 @with_browser
 @unittest.skipUnless(ECORE_JAR.exists(), NO_ECORE)
 class Ecore(BrowserTest):
-    """Ecore files as models of Ecore."""
+    """Ecore files, opened as models of Ecore."""
 
     def test_ecore_files(self):
-        """EMF's own files are opened in place, a class of one is renamed, and the others stay."""
+        """EMF's own files are opened in place; a class of one is renamed, and the other files stay as they were."""
         models = Path(self.room.name, 'models')
         files = self.taken(ECORE_JAR, '.ecore', models)
         ecore = [it for it in self.taken(ECORE_JAR, '.ecore', Path(self.room.name, 'ecore')) if it.name == 'Ecore.ecore']

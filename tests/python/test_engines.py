@@ -1,4 +1,4 @@
-"""Which engine a repository takes, and what is the same over each of them."""
+"""The engines of a repository: which one it takes, and that all of them behave alike."""
 
 import json
 import os
@@ -11,29 +11,31 @@ from support import CLIENT, ENGINE, LIBRARY, PROGRAM, ClientTest, LibraryTest
 from mmrepo import MetamodelRefused, NotStarted, Refused, Repository
 
 VALUES = 10_000
-SECONDS = 5  # for all indexes of a long list: a bound for a machine that does other work
+SECONDS = 5  # a bound for all indexes of a long list on a busy machine
 
 
 class Choice(ClientTest):
-    """`engine` of a repository."""
+    """Which engine a repository takes."""
 
     def engine(self, *given, **environment):
-        """The engine of a repository, in an environment."""
+        """The engine that a repository takes in an environment."""
         environment = {'MMREPO_ENGINE': '', **environment}
         with mock.patch.dict(os.environ, environment), Repository(LIBRARY, *given) as repo:
             return repo.engine
 
     def test_by_default(self):
-        """The library beside the package is taken first, and the extension module if it is there."""
+        """The library beside the package is taken first, by the extension module if that is there."""
         has_extension = (CLIENT / 'mmrepo/_native.abi3.so').exists()
         wanted = 'program' if ENGINE == 'program' else 'extension' if has_extension else 'ctypes'
         self.assertEqual(self.engine(), wanted)
 
     def test_a_program_that_is_given(self):
+        """A program that is given is taken, whatever the environment says."""
         self.assertEqual(self.engine(PROGRAM), 'program')
         self.assertEqual(self.engine(PROGRAM, MMREPO_ENGINE='ctypes'), 'program')
 
     def test_environment(self):
+        """MMREPO_ENGINE and MMREPO_LIBRARY choose the engine; an unknown engine or a bad library is an error."""
         self.assertEqual(self.engine(MMREPO_LIBRARY=''), 'program')
         self.assertEqual(self.engine(MMREPO_ENGINE='program'), 'program')
         with self.assertRaises(NotStarted):
@@ -46,12 +48,14 @@ class Choice(ClientTest):
             self.engine(None, self.file('library.so', 'no library'))
 
     def test_a_library_of_another_system(self):
+        """If the library beside the package can't be loaded, the program is taken, unless the environment asks for the library."""
         with mock.patch('mmrepo.engines._beside', lambda: str(self.file('libmmrepo.so', 'of another system'))):
             self.assertEqual(self.engine(), 'program')
             with self.assertRaises(NotStarted):
                 self.engine(MMREPO_ENGINE='ctypes')
 
     def test_a_library_that_is_given(self):
+        """A library that is given is taken before that of the environment."""
         if ENGINE == 'program':
             return
         library = CLIENT / 'mmrepo/libmmrepo.so'
@@ -61,9 +65,10 @@ class Choice(ClientTest):
 
 
 class Refusals(ClientTest):
-    """What is refused is explained in the same words by each engine."""
+    """Each engine explains a refusal in the same words."""
 
     def test_metamodel(self):
+        """A refused metamodel."""
         for document, fault, explained in (
             ('{"classes":[{"nam":"A"}]}', '2 LAYOUT', ('classes[0]: the key "name" is absent', 'classes[0]: unknown key "nam"; is "name" meant?')),
             ('{"classes":[{"name":"A","supers":["B"]},{"name":"B","supers":["A"]}]}', '7 CYCLE class 0', None),
@@ -76,6 +81,7 @@ class Refusals(ClientTest):
                 self.assertEqual(found.exception.explained, explained)
 
     def test_document(self):
+        """A refused document."""
         town = self.opened().resource('http://m.example/a')
         with self.assertRaises(Refused) as found:
             town.load('{"format":2,\n"roots":[{"class":"Book","features":{"pages":"1","titel":"Emma"}}]}')
@@ -83,6 +89,7 @@ class Refusals(ClientTest):
         self.assertEqual(found.exception.explained, ('roots[0].features: "titel" is no feature of Book',))
 
     def test_without_a_program(self):
+        """Without the program a refusal has its number and name, and no explanation."""
         if ENGINE == 'program':
             return
         with mock.patch.dict(os.environ, {'MMREPO': '/none'}):
@@ -94,6 +101,7 @@ class Refusals(ClientTest):
             self.assertEqual(found.exception.explained, ())
 
     def test_lines(self):
+        """A text that can't be sent is a ValueError, and any other text comes back as it was."""
         book = self.opened().create('Book')
         for call in (lambda: book.eSet('name', 'a\ud800'), lambda: book.eSet('name', 'x' * 16_777_217)):
             with self.assertRaises(ValueError):
@@ -106,6 +114,7 @@ class Lists(LibraryTest):
     """Reads of long lists."""
 
     def test_places(self):
+        """All values of a list of VALUES objects are read by their indexes in at most SECONDS, if the engine reads single values."""
         library, = self.made('Library')
         with self.repo.batch() as batch:
             books = [batch.create('Book', library=library) for _ in range(VALUES)]
@@ -126,6 +135,7 @@ class Lists(LibraryTest):
                 library.books[place]
 
     def test_values(self):
+        """Values, lengths and membership of an attribute's list, and of one whose object is deleted."""
         book, = self.made('Book')
         book.tags.extend(['a b', '"', 'é'])
         self.assertEqual([book.tags[place] for place in range(3)], ['a b', '"', 'é'])
@@ -136,19 +146,21 @@ class Lists(LibraryTest):
                 call()
 
     def test_proxies(self):
+        """Membership in a list that has proxies."""
         town, book = self.repo.resource('http://m.example/a'), self.repo.create('Book')
         town.load('{"format":2,"roots":[{"class":"Person","features":{"likes":["b#/0","/1"]}},{"class":"Book","features":{}}]}')
         person, liked = town.contents
         self.assertEqual((liked in person.likes, book in person.likes, person.likes[0] in person.likes), (True, False, True))
 
     def test_resource(self):
+        """Values, lengths and membership of the roots of a resource."""
         town = self.repo.resource('http://m.example/a')
         books = self.made('Book', 'Book')
         town.contents.extend(books)
         self.assertEqual((len(town.contents), town.contents[1], books[0] in town.contents), (2, books[1], True))
 
     def test_long_document(self):
-        """A document of more bytes than a line has is saved and loaded again."""
+        """A document that is longer than a line is saved by each engine; the engines in the process load it again."""
         town, copy = self.repo.resource('http://m.example/a'), self.repo.resource('http://m.example/b')
         with self.repo.batch() as batch:
             for _ in range(300):
@@ -165,8 +177,9 @@ class Lists(LibraryTest):
 
 
 class Files(ClientTest):
-    """The package that is tested is the one that is installed."""
+    """The package under test."""
 
     def test_package(self):
+        """The package that is imported is the one in the folder for the tests."""
         import mmrepo
         self.assertEqual(Path(mmrepo.__file__).parent, CLIENT / 'mmrepo')

@@ -1,4 +1,4 @@
-"""Faults: of a metamodel, of a callable, and of a program that dies or answers nonsense. After the last the process is ended."""
+"""Faults of a metamodel, of a view's callable and of the program. If the program dies or breaks the protocol, its process is ended."""
 
 import os
 import pickle
@@ -24,10 +24,10 @@ from mmrepo import (
     RepositoryClosed,
 )
 
-# What the first answer to a line may be, which is none of any command.
+# First lines of an answer that no command has.
 NONSENSE = ['', 'nonsense', '#', '#01', '#x', 'r0', 'A9', 'null', '[#0]', 'refused', 'refused x', '#0 #1', ' #0', '#0 ', '"', '#0\\ntold']
 
-# What may come after an answer if no view is attached.
+# Further lines of an answer, which are wrong if no view is attached.
 BEHIND = [
     'nonsense',
     'told A9 SET #0.pages 100 1 -1',
@@ -37,7 +37,7 @@ BEHIND = [
     '#1',
 ]
 
-# What is no notification of a view that is attached as A9.
+# Lines that are no notification of a view that is attached as A9.
 NOTICES = [
     'told A10 SET #0.pages 100 1 -1',
     'told A9 SOMETHING #0.pages 100 1 -1',
@@ -56,7 +56,7 @@ NOTICES = [
 
 
 class Starting(ClientTest):
-    """What may go wrong before the first command."""
+    """Faults before the first command."""
 
     def test_no_program(self):
         with self.assertRaises(NotStarted):
@@ -69,6 +69,7 @@ class Starting(ClientTest):
             Repository(LIBRARY, broken)
 
     def test_where_the_program_is(self):
+        """The program is found by MMREPO, and then on the PATH."""
         folder = os.path.dirname(self.fake('for line in lines(): say("#0\\n\\n")'))
         os.rename(f'{folder}/fake', f'{folder}/mmrepo')
         with mock.patch.dict(os.environ, {'PATH': folder, 'MMREPO': ''}):
@@ -116,6 +117,7 @@ class Starting(ClientTest):
                 repo.create('Book')
 
     def test_repeated_keys(self):
+        """Of a repeated key the last value counts, for the client as for the program."""
         document = '{"classes":[],"classes":[{"name":"X","name":"A"}]}'
         with Repository(self.file('meta.json', document), PROGRAM) as repo:
             self.assertEqual(repo.create('A').eClass.name, 'A')
@@ -128,19 +130,20 @@ class Starting(ClientTest):
             self.assertEqual((found.exception.status, found.exception.said), (status, 'run stopped: READ'))
 
     def test_speaks_first(self):
+        """A program that prints before it is asked is refused."""
         with self.assertRaises(ReplyNotUnderstood):
             Repository(LIBRARY, self.fake('import time\nprint("hello\\n", flush=True)\ntime.sleep(60)', ''))
 
 
 class Dying(ClientTest):
-    """Programs that die."""
+    """Programs that die, hang or print what is no answer."""
 
     def begun(self, body):
-        """A repository whose program does what a body says."""
+        """A repository over a fake program with a body."""
         return Repository(LIBRARY, self.fake(body))
 
     def assert_ended(self, repo, kind, call):
-        """Checks that a call raises an error of a kind, and that the process is ended. Gives the error."""
+        """Checks that a call raises an error of a kind, and that the process is ended; returns the error."""
         with self.assertRaises(kind) as found:
             call()
         self.assertIs(type(found.exception), kind)
@@ -170,6 +173,7 @@ class Dying(ClientTest):
         self.assertEqual(error.status, -signal.SIGKILL)
 
     def test_cut(self):
+        """A program that ends within an answer."""
         for part in ('#', '#0', '#0\\n', '#0\\ntold A9 SET', '#0\\ntold A9 SET #0.pages 100 1 -1\\n'):
             with self.subTest(part):
                 repo = self.begun(f'next(lines())\nsay("{part}")\nsys.exit(3)')
@@ -177,12 +181,14 @@ class Dying(ClientTest):
                 self.assertEqual(error.status, 3)
 
     def test_closes_its_output(self):
+        """A program that closes its output and hangs is killed."""
         with mock.patch('mmrepo.process.SECONDS_TO_END', 0.1):
             repo = self.begun('import time\nnext(lines())\nos.close(1)\ntime.sleep(60)')
             error = self.assert_ended(repo, ProgramEnded, lambda: repo.create('Book'))
         self.assertIsNone(error.status)
 
     def test_ends_badly(self):
+        """A status other than 0 after the last command is an error of `close`."""
         repo = self.begun('list(lines())\nsys.stderr.write("run stopped: WRITE\\n")\nsys.exit(3)')
         with self.assertRaises(ProgramEnded) as found:
             repo.close()
@@ -190,6 +196,7 @@ class Dying(ClientTest):
         repo.close()
 
     def test_does_not_end(self):
+        """A program that does not end when its input ends is killed."""
         repo = self.begun('import time\nlist(lines())\ntime.sleep(60)')
         with mock.patch('mmrepo.process.SECONDS_TO_END', 0.1), self.assertRaises(ProgramEnded):
             repo.close()
@@ -207,10 +214,12 @@ class Dying(ClientTest):
                 self.assert_ended(repo, ReplyNotUnderstood, lambda: repo.create('Book'))
 
     def test_no_text(self):
+        """An answer that is not UTF-8."""
         repo = self.begun('os.write(1, b"#0\\xff\\n\\n")\nnext(lines())')
         self.assert_ended(repo, ReplyNotUnderstood, lambda: repo.create('Book'))
 
     def test_nonsense_behind(self):
+        """A line after an answer that is no notification and no released adapter."""
         for line in BEHIND:
             with self.subTest(line):
                 repo = self.begun(f"for line in lines(): say('#0\\n{line}\\n\\n')")
@@ -259,6 +268,7 @@ class Dying(ClientTest):
                 self.assert_ended(repo, ReplyNotUnderstood, lambda: book.eSet('pages', 1))
 
     def test_an_older_program(self):
+        """A command that the program does not know is a BadLine, and the repository goes on."""
         with Repository(LIBRARY, self.fake("for line in lines(): say('bad line\\n\\n')")) as repo:
             with self.assertRaises(BadLine) as found:
                 repo.resolve_all()
@@ -268,13 +278,14 @@ class Dying(ClientTest):
 
 
 class Callables(LibraryTest):
-    """Callables that fail."""
+    """Callables of views that raise errors."""
 
     def setUp(self):
         super().setUp()
         self.book, = self.made('Book')
 
     def test_error(self):
+        """The other views are notified, then CallableFailed is raised, and the change stays."""
         def wrong(notice):
             raise KeyError('x')
 
@@ -331,7 +342,7 @@ class Callables(LibraryTest):
 
 
 class Closing(ClientTest):
-    """How a repository is closed."""
+    """How a repository is closed, and its process with it."""
 
     def test_closed(self):
         with Repository(LIBRARY, PROGRAM) as repo:
@@ -343,13 +354,15 @@ class Closing(ClientTest):
         repo.close()
 
     def test_error_inside(self):
+        """An error in a `with` block closes the repository."""
         with self.assertRaises(ZeroDivisionError):
             with Repository(LIBRARY, PROGRAM) as repo:
                 1 / 0
         self.assertIsNotNone(repo._session.engine._process.returncode)
 
     def test_interrupted_in_an_exchange(self):
-        # A program that does not answer for long is left by a second Ctrl-C.
+        # The fake program presses Ctrl-C twice, and does not answer.
+        """A second Ctrl-C kills a program that does not answer."""
         body = 'import time\nnext(lines())\nos.kill(os.getppid(), 2)\ntime.sleep(1.5)\nos.kill(os.getppid(), 2)\ntime.sleep(60)'
         self.addCleanup(signal.signal, signal.SIGINT, signal.signal(signal.SIGINT, signal.default_int_handler))
         with self.assertRaises(KeyboardInterrupt):
@@ -358,6 +371,7 @@ class Closing(ClientTest):
         self.assertEqual(repo._session.engine._process.returncode, -signal.SIGKILL)
 
     def test_the_program_goes_with_its_client(self):
+        """The program ends if the process of the client ends without closing."""
         code = f'import os, mmrepo\nrepo = mmrepo.Repository({str(LIBRARY)!r}, {str(PROGRAM)!r})\nrepo.create("Book")\n'
         code += 'print(repo._session.engine._process.pid, flush=True)\nos._exit(0)'
         done = subprocess.run(
@@ -375,7 +389,7 @@ class Closing(ClientTest):
 
 
 class Errors(ClientTest):
-    """The errors as values."""
+    """The errors as values: their texts, and pickling."""
 
     def test_texts(self):
         self.assertEqual(str(Refused('set #0 pages "x"', 8, 'TYPE')), 'refused 8 TYPE: set #0 pages "x"')
@@ -389,7 +403,7 @@ class Errors(ClientTest):
 
 
 def is_running(process):
-    """Whether a process runs, and is no zombie."""
+    """Whether a process runs and is no zombie."""
     try:
         with open(f'/proc/{process}/stat') as file:
             return file.read().rpartition(')')[2].split()[0] != 'Z'

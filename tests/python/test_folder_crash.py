@@ -1,4 +1,4 @@
-"""Crashes and full disks while `save_all` writes: each file has its old content or its new one, whichever call was the last."""
+"""Crashes and full disks while `save_all` writes: after any system call each file has its old content or its new one."""
 
 import errno
 import os
@@ -21,7 +21,7 @@ from mmrepo import NotSaved
 STRACE = shutil.which('strace')
 CALLS = ['openat', 'mkdirat', 'write', 'fchmod', 'fsync', 'rename', 'renameat', 'renameat2', 'unlink', 'unlinkat', 'linkat', 'close']
 
-# It changes two files and makes one in a new folder. The first write to the standard output says that the saving begins.
+# A script that changes two files and makes one in a new folder. It prints `saving` before it saves, and `saved` afterwards.
 SAVES = f"""
 import os, sys
 sys.path.insert(0, {str(CLIENT)!r})
@@ -40,7 +40,7 @@ os._exit(0)
 
 
 def is_whole(name):
-    """Whether a file is one that counts: the files beside them are left by a crash."""
+    """Whether a file belongs to the model; a crash may leave temporary files beside it."""
     return not os.path.basename(name).startswith('.mmrepo-')
 
 
@@ -49,7 +49,8 @@ class Killed(FolderTest):
     """The process is killed at each system call that writes, one after another."""
 
     def run_traced(self, top, *words):
-        """Runs the script under strace; gives its output, and the calls by name before and after the saving begins."""
+        """Runs the script under strace. Returns its output, the names of its calls before and after saving begins, and the trace of the
+        latter."""
         trace = Path(self.room.name, 'trace')
         command = [STRACE, '-o', trace, '-e', 'trace=' + ','.join(CALLS), *words, sys.executable, '-I', '-S', '-c', SAVES, top]
         done = subprocess.run(command, stdout=subprocess.PIPE, stderr=subprocess.PIPE)
@@ -57,23 +58,25 @@ class Killed(FolderTest):
         return done.stdout, [re.findall(r'^(\w+)\(', text, re.M) for text in (before, after)], after
 
     def fresh(self):
-        """A copy of the folder."""
+        """A copy of the folder of the test."""
         top = Path(self.room.name, 'copy')
         shutil.rmtree(top, ignore_errors=True)
         shutil.copytree(self.top, top)
         return top
 
     def contents_of(self, top):
+        """The bytes of each file of the model below a folder."""
         return {str(it.relative_to(top)): it.read_bytes() for it in top.rglob('*') if it.is_file() and is_whole(it.name)}
 
     def test_each_call(self):
+        """After a kill at any call each file has its old content or its new one."""
         top = self.fresh()
         said, (before, after), _ = self.run_traced(top)
         self.assertEqual(said, b'savingsaved')
         old, new = self.contents(), self.contents_of(top)
         self.assertEqual(sorted(new), ['alone.json', 'new/x.json', 'sub/b.json', 'town.json'])
         earlier, later = Counter(before), Counter(after)
-        earlier['write'] += 1  # that the saving begins
+        earlier['write'] += 1  # the one that prints `saving`
         self.assertGreaterEqual(later['fsync'] + later['write'], 9)
         kills, outcomes = 0, set()
         for call, count in later.items():
@@ -87,12 +90,12 @@ class Killed(FolderTest):
                         self.assertIn(found.get(name), (old.get(name), new.get(name)))
                 outcomes.add(tuple(sorted(name for name in found if found[name] != old.get(name))))
         self.assertGreaterEqual(kills, 20)
-        # Nothing, all, and some of the files are new, depending on the call.
+        # Depending on the call, none, some or all of the files are new.
         self.assertLessEqual({(), ('new/x.json', 'sub/b.json', 'town.json')}, outcomes)
         self.assertGreaterEqual(len(outcomes), 3)
 
     def test_order(self):
-        """Each content is on the disk before its file gets its name, and the names are on the disk at the end."""
+        """All contents are synced before the first rename, and the folders after the last one."""
         _, _, text = self.run_traced(self.fresh(), '-y')
         calls = [line for line in text.splitlines() if re.match(r'fsync|rename', line)]
         steps = [
@@ -105,10 +108,10 @@ class Killed(FolderTest):
 
 
 class Failing(FolderTest):
-    """A call of the system fails."""
+    """A system call fails."""
 
     def failing(self, name, number):
-        """A function of `os` whose call of a number fails."""
+        """A patch with which the call of a number of a function of `os` fails, and the list of its calls."""
         real, calls = getattr(os, name), []
 
         def called(*words, **options):
@@ -120,7 +123,8 @@ class Failing(FolderTest):
         return mock.patch(f'os.{name}', called), calls
 
     def saved_with(self, name, number):
-        """What is in the folder after a save in which a call fails, and whether it failed."""
+        """Saves while a call fails. Returns the contents after the failure, None if the call was not made, and the contents after saving
+        again."""
         with self.opened() as repo:
             folder = repo.open(self.top, strict=True)
             folder.resources[2].contents[0].books.insert(0, repo.create('Book'))
@@ -131,11 +135,12 @@ class Failing(FolderTest):
                 except (OSError, NotSaved) as error:
                     self.assertIn('No space left on device', str(error))
                     failed = self.contents()
-                    repo.save_all()  # what was not written is written now
+                    repo.save_all()  # writes the rest
                     return failed, self.contents()
             return None, self.contents()
 
     def test_each_call(self):
+        """After any failed call each file has its old content or its new one, no other file is left, and saving again succeeds."""
         old, failures = self.contents(), 0
         with self.opened() as repo:
             repo.open(self.top).resources[2].contents[0].books.insert(0, repo.create('Book'))
@@ -151,14 +156,14 @@ class Failing(FolderTest):
                     break
                 failures += 1
                 with self.subTest(name=name, number=number):
-                    self.assertEqual(set(failed), set(old))  # no file is left beside them
+                    self.assertEqual(set(failed), set(old))  # no temporary file is left
                     for file in old:
                         self.assertIn(failed[file], (old[file], new[file]))
                     self.assertTrue(name == 'rename' or number > 2 or failed == old)
         self.assertGreaterEqual(failures, 8)
 
     def test_full_disk(self):
-        """A file that can't be written to its end."""
+        """If a file can't be written to its end, all files stay as they were."""
         old = self.contents()
         folder = self.repo.open(self.top, strict=True)
         folder.resources[2].contents[0].name = 'x' * 60_000

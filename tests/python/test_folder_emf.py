@@ -1,4 +1,4 @@
-"""XMI files in folders: those of Debian's EMF packages are opened, edited and saved, and EMF reads them again."""
+"""XMI files in folders: the files of Debian's EMF packages are opened, edited and saved, and EMF reads them again."""
 
 import os
 import shutil
@@ -42,14 +42,14 @@ SECOND = """<?xml version="1.0" encoding="UTF-8"?>
 
 @lru_cache()
 def reader():
-    """The folder of the reader's class, compiled once."""
+    """The folder of the compiled class of ReadModels.java; it is compiled once."""
     room = tempfile.TemporaryDirectory()
     subprocess.run(['javac', '-cp', ':'.join(map(str, JARS)), '-d', room.name, str(READER)], check=True)
     return room
 
 
 def read_by_emf(ecore, models):
-    """What EMF says of models: for each its file, and counts of objects, errors and proxies, and the first value."""
+    """What EMF reads of models: for each file the counts of its objects, errors and proxies, and its first value."""
     command = ['java', '-cp', ':'.join(map(str, [reader().name, *JARS])), 'ReadModels', *map(str, ecore), '--', *map(str, models)]
     done = subprocess.run(command, stdout=subprocess.PIPE, stderr=subprocess.PIPE)
     assert done.returncode == 0, done.stderr.decode()
@@ -70,7 +70,7 @@ class Emf(ClientTest):
         self.top.mkdir()
 
     def taken(self, jar, suffix, folder):
-        """The files of a jar with a suffix, in a folder."""
+        """Extracts the files of a jar that have a suffix into a folder, and returns their paths."""
         with zipfile.ZipFile(jar) as read:
             names = [name for name in read.namelist() if name.endswith(suffix)]
             for name in names:
@@ -78,20 +78,20 @@ class Emf(ClientTest):
         return sorted(Path(folder, Path(name).name) for name in names)
 
     def meta(self, ecore):
-        """The metamodel of Ecore files."""
+        """The metamodel document that `tools/ecore2mm` makes of Ecore files."""
         path = Path(self.room.name, 'meta.json')
         command = [sys.executable, str(TOP / 'tools/ecore2mm'), *map(str, ecore), '-o', str(path)]
         subprocess.run(command, check=True, stderr=subprocess.PIPE)
         return path
 
     def ecore(self):
-        """The Ecore file of Ecore, outside of the folder."""
+        """The Ecore file of Ecore itself, in a folder outside of the model."""
         room = Path(self.room.name, 'ecore')
         room.mkdir()
         return next(file for file in self.taken(JARS[1], '.ecore', room) if file.name == 'Ecore.ecore')
 
     def test_ecore_files(self):
-        """Each of EMF's own Ecore files, as an instance of Ecore, is renamed."""
+        """Each of EMF's own Ecore files is opened as an instance of Ecore, renamed and saved, and EMF reads the new names."""
         files = self.taken(JARS[1], '.ecore', self.top)
         self.assertGreaterEqual(len(files), 6)
         before, texts = read_by_emf([], files), {file: file.read_bytes() for file in files}
@@ -99,7 +99,7 @@ class Emf(ClientTest):
         with Repository(self.meta([ecore]), PROGRAM) as repo:
             folder = repo.open(self.top, ecore=[ecore], suffixes=['.ecore'])
             self.assertEqual(len(folder.resources), len(files))
-            # They refer to Ecore and XMLType by the URIs of the packages.
+            # The files refer to Ecore and XMLType by the URIs of these packages.
             self.assertEqual({it.kind for it in folder.findings}, {'OUTSIDE'})
             self.assertEqual(repo.save_all(), [])
             self.assertEqual({file: file.read_bytes() for file in files}, texts)
@@ -111,14 +111,14 @@ class Emf(ClientTest):
         self.assertEqual({counts[1:3] for counts in after.values()}, {(0, 0)})
 
     def check(self, meta, *words):
-        """The status of `check` on the folder, and its lines."""
+        """Runs `check` on the folder; returns its status and its lines."""
         command = [sys.executable, '-m', 'mmrepo', 'check', str(meta), 'models', '--jobs', '2', *map(str, words)]
         environment = {**os.environ, 'PYTHONPATH': str(CLIENT), 'MMREPO': str(PROGRAM)}
         done = subprocess.run(command, cwd=self.room.name, env=environment, stdout=subprocess.PIPE)
         return done.returncode, done.stdout.decode().splitlines()
 
     def test_ecore_files_checked(self):
-        """Nothing is wrong with EMF's own files but that they lead outside; then with one of them."""
+        """EMF's own files have no findings if references to EMF's packages are accepted; a planted fault is found."""
         files = self.taken(JARS[1], '.ecore', self.top)
         ecore = self.ecore()
         words = ['--ecore', ecore, '--suffix', '.ecore', '--accept', 'http://www.eclipse.org/emf/']
@@ -135,7 +135,7 @@ class Emf(ClientTest):
         self.assertEqual(len(lines), 2)
 
     def test_across_files(self):
-        """Names become positions, which follow an edit of the other file."""
+        """References by name become references by position, which follow an edit of the other file."""
         first, second = self.top / 'first.ecore', self.top / 'sub/second.ecore'
         second.parent.mkdir()
         first.write_text(FIRST)
@@ -155,7 +155,7 @@ class Emf(ClientTest):
 
     @unittest.skipUnless(MODELS.exists() and WORKBENCH.exists(), NO_MODELS)
     def test_application(self):
-        """The application model of Eclipse, which has ids: they are left out, so only force overwrites it."""
+        """The application model of Eclipse has ids. They are left out, so the file is overwritten only by force."""
         ecore = [self.taken(MODELS, name, self.room.name)[0] for name in ('UIElements.ecore', 'ModelFragment.ecore')]
         file, = self.taken(WORKBENCH, '.e4xmi', self.top)
         before, text = read_by_emf(ecore, [file]), file.read_bytes()
@@ -175,7 +175,7 @@ class Emf(ClientTest):
         self.assertEqual(read_by_emf(ecore, [file]), {'LegacyIDE.e4xmi': (*before['LegacyIDE.e4xmi'][:3], 'edited')})
 
     def test_faulty(self):
-        """What the tool refuses, and what the program does."""
+        """A file that the tool or the program refuses is a finding."""
         (self.top / 'a.xmi').write_text('no XML')
         (self.top / 'b.xmi').write_text(FIRST.replace('name="A"', 'naem="A"'))
         (self.top / 'c.json').write_text('{"format":2,"roots":[{"class":"EClass","features":{"name":"C"}}]}')
@@ -188,6 +188,7 @@ class Emf(ClientTest):
             self.assertEqual([it.path.name for it in folder.resources], ['c.json'])
 
     def test_no_tools(self):
+        """Without the tools an XMI file is a finding that says how to name their folder."""
         (self.top / 'a.xmi').write_text(FIRST)
         with Repository(LIBRARY, PROGRAM) as repo, mock.patch.dict(os.environ, {'MMREPO_TOOLS': self.room.name}):
             folder = repo.open(self.top, ecore=['none.ecore'])

@@ -1,4 +1,4 @@
-"""No path leads out of a folder: names with `..`, absolute ones, and symbolic links, also those that come while it is open."""
+"""No path leads out of a folder: neither names with `..`, nor absolute names, nor symbolic links, even if they appear while it is open."""
 
 import errno
 import os
@@ -15,9 +15,10 @@ FOLDER = '{"format":2,"roots":[{"class":"Folder","features":{}}]}'
 
 
 class Names(FolderTest):
-    """Names that a caller gives."""
+    """Names of files that a caller gives."""
 
     def test_refused(self):
+        """A name that is not a normalised relative path to a document is refused, and nothing is made."""
         folder = self.repo.open(self.top)
         outside = Path(self.room.name, 'x.json')
         for name in ('../x.json', 'sub/../../x.json', str(outside), '/x.json', '', '.', '..', 'sub/', 'sub//x.json', './x.json', 'a\0.json'):
@@ -32,7 +33,7 @@ class Names(FolderTest):
         self.assertFalse(outside.exists())
 
     def test_references_out(self):
-        """A reference with too many `..` stays below the base, as the URL Standard has it."""
+        """A reference with too many `..` stays below the base, as the URL Standard resolves it."""
         self.write('out.json', '{"format":2,"roots":[{"class":"Person","features":{"likes":["../../../etc/x.json#/"]}}]}')
         self.assertEqual(self.lines(self.repo.open(self.top)), [
             'out.json: roots[0].features.likes[0]: "etc/x.json#/" leads to no file of the folder'
@@ -40,7 +41,7 @@ class Names(FolderTest):
 
 
 class Links(FolderTest):
-    """Symbolic links in the folder, and what is no file."""
+    """Symbolic links in the folder, and entries that are no regular files."""
 
     def setUp(self):
         super().setUp()
@@ -49,6 +50,7 @@ class Links(FolderTest):
         (self.outside / 'secret.json').write_text(FOLDER)
 
     def test_not_followed(self):
+        """Links and pipes are findings, and are not read."""
         (self.top / 'link.json').symlink_to(self.outside / 'secret.json')
         (self.top / 'inner.json').symlink_to('town.json')
         (self.top / 'nothing.json').symlink_to('none')
@@ -64,7 +66,7 @@ class Links(FolderTest):
         self.assertEqual(len(folder.resources), 3)
 
     def test_folder_itself(self):
-        """The path that is given may be a link."""
+        """The path of the folder may itself be a link."""
         link = Path(self.room.name, 'link')
         link.symlink_to(self.top)
         folder = self.repo.open(link)
@@ -73,6 +75,7 @@ class Links(FolderTest):
         self.assertIn('ours', (self.top / 'town.json').read_text())
 
     def test_unreadable(self):
+        """A file or a folder that can't be read is a finding."""
         real = os.open
 
         def refuse(path, *words, **options):
@@ -85,6 +88,7 @@ class Links(FolderTest):
         self.assertEqual(found[:2], ["alone.json: it can't be read: Permission denied", "sub: it can't be read: Permission denied"])
 
     def test_reading_by_name(self):
+        """Reading by name follows no link and opens no pipe."""
         (self.top / 'link.json').symlink_to(self.outside / 'secret.json')
         (self.top / 'folder').symlink_to(self.outside)
         os.mkfifo(self.top / 'pipe.json')
@@ -95,7 +99,7 @@ class Links(FolderTest):
         self.assertEqual(directory.read('sub/b.json'), (self.top / 'sub/b.json').read_bytes())
 
     def test_file_becomes_a_link(self):
-        """Neither `save_all` nor its force writes through a link."""
+        """If a file becomes a link, `save_all` does not write through it, even by force."""
         folder = self.repo.open(self.top)
         folder.resources[0].contents.clear()
         target = self.outside / 'secret.json'
@@ -108,6 +112,7 @@ class Links(FolderTest):
         self.assertEqual(target.read_text(), FOLDER)
 
     def test_folder_becomes_a_link(self):
+        """If a folder becomes a link, `save_all` does not write through it."""
         folder = self.repo.open(self.top)
         folder.resources[1].contents[0].name = 'ours'
         shutil.move(self.top / 'sub', self.outside / 'sub')

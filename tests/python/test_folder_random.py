@@ -1,4 +1,4 @@
-"""Random models in files: a shard has of its files what the whole model has, and what was edited and saved is read again."""
+"""Random models in files: a shard has the same as the whole model has of its files, and what was edited and saved is read again."""
 
 import json
 import random
@@ -12,19 +12,19 @@ MODELS, FILES = 25, 6
 
 
 def address(node):
-    """The URI of its resource, and the fragment there."""
+    """The address of a node: the URI of its resource, and its fragment."""
     return f'{node.eResource.uri}#{node.fragment()}'
 
 
 def shown(value):
-    """A value that can be compared between repositories."""
+    """A value in a form that can be compared between repositories."""
     if isinstance(value, EObject):
         return ['object', address(value), value.eClass.name, value.eClass.name == 'Book' and value.pages]
     return ['proxy', value.address] if isinstance(value, Proxy) else value
 
 
 def snapshot(repo, resources):
-    """For each resource its file, and its objects with their addresses, containers, values and set flags."""
+    """For each resource its file and its objects, with their addresses, containers, values and set flags."""
     found = []
     for resource in resources:
         nodes = [it for root in resource.contents for it in (root, *root.eAllContents())]
@@ -41,8 +41,8 @@ def snapshot(repo, resources):
 
 
 class Maker:
-    """Makes the documents of a model. Links inside of a file are right, since the program refuses others. Of those across files some are
-    wrong, unless the model `is_right`."""
+    """Makes the documents of a random model. References within a file are always right, since the program refuses wrong ones. Some
+    references between files are wrong, unless the model is to be right."""
 
     def __init__(self, ways, is_right):
         self.ways, self.is_right = ways, is_right
@@ -60,17 +60,18 @@ class Maker:
         ]
 
     def values(self):
-        """Values of a book, some of them the default."""
+        """Values of a book; some are the default values."""
         wanted = {'pages': self.ways.choice([100, 7]), 'note': self.ways.choice([None, 'http://models.example/0.json#/']), 'tags': ['a', '#/']}
         return {name: value for name, value in wanted.items() if self.ways.random() < 0.5}
 
     def text(self, to_file, fragment):
-        """A reference from file to file, relative or whole. A whole one would lead outside under a different base."""
+        """A reference to another file, relative or absolute. Right models have relative ones alone, since they are opened again with
+        another base."""
         is_whole = not self.is_right and self.ways.random() < 0.5
         return f'{"http://models.example/" if is_whole else ""}{to_file}.json#{fragment}'
 
     def any_book(self):
-        """A file, and the fragment of a book there. In a model that is not right there may be none, or a library."""
+        """A file, and the fragment of a book in it. In a model that may be wrong, the fragment can lead to no object, or to a library."""
         wrong = 0 if self.is_right else 1
         number = self.ways.randrange(FILES + wrong)
         libraries, books, _ = self.sizes[number % FILES]
@@ -79,7 +80,7 @@ class Maker:
         return number, f'{head}/@books.{self.ways.randrange(books + wrong)}' if self.ways.random() < 0.95 or self.is_right else head
 
     def link(self):
-        """Adds references across files: likes and favourites at random, and chains of books, some of which one end alone names."""
+        """Adds references between files: likes and favourites, and chains of books. Some links of chains are written at one end alone."""
         for number, roots in enumerate(self.made):
             for library in roots:
                 for person in library['features']['members']:
@@ -98,32 +99,32 @@ class Maker:
                     self.chain('prev', other, one)
 
     def book(self, end):
-        """What is written of a book."""
+        """The features of a book, as they are written in its document."""
         return self.made[end[0]][end[1]]['features']['books'][end[2]]['features']
 
     def chain(self, feature, one, other):
-        """Has a book name another one, unless it names one."""
+        """Sets a reference of a book to another one, unless it is set already."""
         self.book(one).setdefault(feature, self.text(other[0], f'/{other[1]}/@books.{other[2]}'))
 
     def write(self, top):
-        """Writes the files."""
+        """Writes the documents as files."""
         self.link()
         for number, roots in enumerate(self.made):
             Path(top, f'{number}.json').write_text(json.dumps({'format': 2, 'roots': roots}, indent=self.ways.choice([None, 1])))
 
 
 class Random(ClientTest):
-    """Models by fixed seeds."""
+    """Random models, made by fixed seeds."""
 
     def folder(self, seed, is_right):
-        """A folder with a model."""
+        """A folder with the model of a seed."""
         top = Path(self.room.name, str(seed))
         top.mkdir()
         Maker(random.Random(seed), is_right).write(top)
         return top
 
     def test_shards(self):
-        """Each group has what the whole model has of its files, proxies that lead nowhere included."""
+        """Each group of files has the same as the whole model has of these files, unresolved proxies included."""
         left = resolved = 0
         for seed in range(MODELS):
             top = self.folder(seed, seed % 5 == 0)
@@ -139,8 +140,7 @@ class Random(ClientTest):
         self.assertGreater(min(left, resolved), 10 * MODELS)
 
     def test_saved_and_read_again(self):
-        """After random edits of a model that is right, the files whose documents have changed are written, and a repository with a
-        different base has the same model."""
+        """After random edits the changed files are written, and a repository with another base reads the same model."""
         written = 0
         for seed in range(MODELS):
             top, ways = self.folder(1000 + seed, True), random.Random(seed)
@@ -160,7 +160,7 @@ class Random(ClientTest):
         self.assertGreater(written, 2 * MODELS)
 
     def edit(self, ways, resources):
-        """Changes a model: values, positions, and links across files."""
+        """Makes random edits: values, indexes in lists, and links between files."""
         library = ways.choice(ways.choice(resources).contents)
         books = list(library.books)
         way = ways.randrange(5)

@@ -1,4 +1,4 @@
-"""Folders: opened, reported on, and saved to their files again."""
+"""Folders: opening them, their findings, and saving to the same files."""
 
 import json
 import os
@@ -13,7 +13,7 @@ from mmrepo.xmi import tool_file
 
 BASE = 'http://models.example/'
 
-# Each file, and the references across files, are written by hand; what they mean is in docs/DOCUMENTS.md.
+# The files and the references between them are written by hand, by the rules of docs/DOCUMENTS.md.
 TOWN = """{
   "format": 2,
   "roots": [
@@ -32,7 +32,7 @@ SUB = """{"format": 2, "roots": [
 
 
 class FolderTest(LibraryTest):
-    """A test with a folder of two files that refer to each other, and a third that is alone."""
+    """A test with a folder of three files; two of them refer to each other."""
 
     def setUp(self):
         super().setUp()
@@ -53,14 +53,15 @@ class FolderTest(LibraryTest):
         return {str(it.relative_to(self.top)): it.read_bytes() for it in self.top.rglob('*') if it.is_file()}
 
     def lines(self, folder):
-        """The lines of its findings."""
+        """The lines of the findings of a folder."""
         return [it.line for it in folder.findings]
 
 
 class Opening(FolderTest):
-    """What `open` makes."""
+    """What `open` makes of a folder."""
 
     def test_resources(self):
+        """Each document becomes a resource with its URI and its path, and references between files are resolved."""
         folder = self.repo.open(self.top)
         self.assertEqual(folder.findings, [])
         alone, sub, town = folder.resources
@@ -84,6 +85,7 @@ class Opening(FolderTest):
         self.assertEqual((again.findings, len(self.repo.resources)), ([], 6))
 
     def test_no_base(self):
+        """A base that is no normalised http URI of a folder is a ValueError."""
         wrong = [
             '', 'models', 'http://m.example', 'http://M.example/', 'ftp://m.example/', 'http://m.example/a', 'http://m.example/a b/',
             'http://m.example/../', 'http://m.example/./a/', 'http://m.example/#/', 'http://m.example/?/', 'http://m.example:80/',
@@ -95,7 +97,7 @@ class Opening(FolderTest):
         self.assertEqual(self.repo.resources, [])
 
     def test_names_of_files(self):
-        """What the URL Standard writes otherwise is no other file: references lead to each name."""
+        """Each name of a file has a URI of its own, even if the URL Standard escapes some of its characters."""
         names = ['a b.json', 'é.json', 'a%20b.json', 'a#b.json', 'a?b.json', 'a\\b.json', 'a^b|[c]{d}.json', "~!$&'()*+,;=:@`<>.json", '\t\n.json']
         for name in names:
             self.write(name, '{"format":2,"roots":[{"class":"Book","features":{}}]}')
@@ -110,6 +112,7 @@ class Opening(FolderTest):
         self.assertIs(person.favourite, resources['a b.json'].contents[0])
 
     def test_bytes_in_a_name(self):
+        """The bytes of a name that are not UTF-8 are escaped in the URI."""
         name = os.fsdecode(b'\xff.json')
         self.write(name, '{"format":2,"roots":[{"class":"Book","features":{}}]}')
         resource = self.repo.open(self.top).resources[-1]
@@ -117,10 +120,11 @@ class Opening(FolderTest):
         self.assertIs(self.repo.at(BASE + '%FF.json#/'), resource.contents[0])
 
     def test_findings(self):
+        """Faulty documents and proxies that can't be resolved are findings, each with its file, location and kind."""
         self.write('bad.json', '{"format":2,"roots":[{"class":"Book","features":{"titel":"x"}},{"class":"Boook","features":{}}]}')
         self.write('feature.json', '{"format":2,"roots":[{"class":"Book","features":{"titel":"x"}}]}')
         self.write('latin.json', b'{"format":2,"roots":[{"class":"Book","features":{"name":"\xe9"}}]}')
-        is_short = self.repo._session.engine.load is None  # whether a document has to be a line
+        is_short = self.repo._session.engine.load is None  # whether the engine loads a document as a line
         if is_short:
             self.write('long.json', b' ' * 16_777_216)
         self.write('lost.json', '{"format":2,"roots":[{"class":"Person","features":{"likes":["nope.json#/","bad.json#/","town.json#/",'
@@ -147,6 +151,7 @@ class Opening(FolderTest):
         self.assertEqual([it.path.name for it in folder.resources], ['alone.json', 'lost.json', 'b.json', 'town.json'])
 
     def test_strict(self):
+        """With `strict` findings are an error."""
         self.assertEqual(self.repo.open(self.top, strict=True).findings, [])
         self.write('bad.json', 'no JSON')
         with self.opened() as other, self.assertRaises(NotOpened) as found:
@@ -155,12 +160,14 @@ class Opening(FolderTest):
         self.assertIn('1 finding\nbad.json: from byte', str(found.exception))
 
     def test_taken(self):
+        """A file whose URI a resource has already is a finding."""
         self.repo.open(self.top)
         self.assertEqual(self.lines(self.repo.open(self.top)), [
             f'{name}: the repository has a resource of its URI; give a different base' for name in ('alone.json', 'sub/b.json', 'town.json')
         ])
 
     def test_no_room(self):
+        """Files whose objects are more than a repository makes are findings."""
         roots = ','.join(['{"class":"Book","features":{}}'] * 400_001)
         for name in 'xyz':
             self.write(f'{name}.json', f'{{"format":2,"roots":[{roots}]}}')
@@ -189,13 +196,13 @@ class Opening(FolderTest):
         self.assertEqual(self.lines(self.repo.open(self.top)), ['empty.json: the document ends within the JSON'])
 
     def test_other_files(self):
-        """Only documents are read, and XMI files by Ecore files alone."""
+        """Other files than documents are left out; XMI files are read only if Ecore files are given."""
         self.write('town.xmi', 'nothing')
         self.write('town.txt', 'nothing')
         self.assertEqual(len(self.repo.open(self.top).resources), 3)
 
     def test_objects_of_before(self):
-        """The places of findings are right in a repository that has objects."""
+        """The locations in findings are right if the repository has objects already."""
         self.made('Book', 'Book', 'Library')[0].delete()
         self.write('lost.json', '{"format":2,"roots":[{"class":"Book","features":{}},{"class":"Person","features":{"likes":["/","x.json#/"]}}]}')
         self.assertEqual(self.lines(self.repo.open(self.top)), ['lost.json: roots[1].features.likes[1]: "x.json#/" leads to no file of the folder'])
@@ -228,18 +235,20 @@ class Saving(FolderTest):
         self.assertEqual((self.folder.changed(), self.repo.save_all()), ([], []))
 
     def test_set_back(self):
+        """A resource whose document is the old one again is not written."""
         self.library.name = 'x'
         self.library.name = 'Town library'
         self.assertEqual(self.repo.save_all(), [])
 
     def test_positions_of_others(self):
-        """A book that comes first shifts the positions that the other file names."""
+        """An insert shifts the positions that the references of the other file contain."""
         self.library.books.insert(0, self.repo.create('Book'))
         self.assertEqual(self.repo.save_all(), [self.top / 'sub/b.json', self.top / 'town.json'])
         person = json.loads((self.top / 'sub/b.json').read_text())['roots'][0]['features']
         self.assertEqual((person['likes'], person['favourite']), (['../town.json#//@books.2'], '../town.json#//@books.1'))
 
     def test_read_again(self):
+        """What was saved is read again under another base."""
         self.library.books.insert(0, self.repo.create('Book'))
         self.library.books[0].name = 'é "\\ \n\x01\u2028\U0001f600 ' + BASE + 'sub/b.json#/'
         self.repo.save_all()
@@ -263,6 +272,7 @@ class Saving(FolderTest):
             self.folder.resource('new/deep/x.json')
 
     def test_changed_by_others(self):
+        """A file that others have changed is overwritten only by force, and without force nothing is written."""
         before = self.contents()
         self.library.name = 'ours'
         self.alone.contents.clear()
@@ -277,14 +287,14 @@ class Saving(FolderTest):
         self.assertEqual((self.top / 'alone.json').read_text(), '{"format":2,"roots":[]}\n')
 
     def test_changed_by_others_alone(self):
-        """A file that we have not changed stays as others wrote it."""
+        """A file that others have changed and the caller has not stays as it is."""
         self.write('alone.json', 'theirs')
         self.library.name = 'ours'
         self.assertEqual(self.repo.save_all(), [self.top / 'town.json'])
         self.assertEqual((self.top / 'alone.json').read_text(), 'theirs')
 
     def test_same_size_and_time(self):
-        """A change shows whatever the times of the file say."""
+        """A change is found by content, even if size and time of the file are the same."""
         path, times = self.top / 'alone.json', os.stat(self.top / 'alone.json')
         self.write('alone.json', path.read_text().replace('Folder', 'Person'))
         os.utime(path, ns=(times.st_atime_ns, times.st_mtime_ns))
@@ -302,7 +312,7 @@ class Saving(FolderTest):
         self.assertEqual([(it.file, it.kind) for it in found.exception.findings], [('alone.json', 'CHANGED'), ('new.json', 'CHANGED')])
 
     def test_changed_while_it_is_written(self):
-        """A change after the first look is seen before any file is put in its place."""
+        """A change after the first comparison is found before any file is replaced."""
         self.library.name = 'ours'
         self.alone.contents.clear()
         before = self.contents()
@@ -328,7 +338,8 @@ class Saving(FolderTest):
         self.assertEqual(self.folder.changed(), [self.sub, self.town])
 
     def test_a_proxy_of_an_address_that_an_object_has(self):
-        """The document would have one text twice, and would not be read again."""
+        """A list with an object and a proxy of the same address is refused: its document would have one text twice, and could not be loaded
+        again."""
         self.write('likes.json', '{"format":2,"roots":[{"class":"Person","features":{"likes":["town.json#//@books.1","town.json#//@books.2"]}}]}')
         before = self.contents()
         with self.opened() as repo:
@@ -358,6 +369,7 @@ class Saving(FolderTest):
         self.assertEqual((self.top / 'bad.json').read_text(), 'no JSON')
 
     def test_mode(self):
+        """A file keeps its permissions."""
         (self.top / 'town.json').chmod(0o640)
         self.library.name = 'ours'
         self.repo.save_all()
@@ -367,7 +379,7 @@ class Saving(FolderTest):
         self.assertEqual(self.opened().save_all(), [])
 
     def test_a_long_document(self):
-        """It is written, and is read again in the process, but not by a line."""
+        """A document longer than a line is written; the engines in the process read it again, and the program reports it as a finding."""
         for index in range(280):
             self.library.books.append(self.repo.create('Book'))
             self.library.books[-1].name = str(index) + 'x' * 60_000
@@ -378,15 +390,17 @@ class Saving(FolderTest):
 
 
 class Uris(LibraryTest):
-    """Names and references as URIs."""
+    """The URIs of files, and relative references."""
 
     def test_there_and_back(self):
+        """A name leads to a URI and back; a URI that no file has leads to no name."""
         for name in ('a', 'a/b.json', 'a b', '%', '%41', 'é', '\udcff', '\\', '?#', '^', '|', '~'):
             self.assertEqual(name_of(BASE, uri_of(BASE, name)), name)
         for uri in ('http://other.example/a', BASE + '%41', BASE + 'a b', BASE + '%c3%a9'):
             self.assertIsNone(name_of(BASE, uri))
 
     def test_shortened(self):
+        """An address below the base is written as a relative reference if that leads back to it."""
         own = BASE + 'a/b/c.json'
         cases = [
             (BASE + 'a/b/d.json#/', 'd.json#/'), (BASE + 'a/d.json#/1', '../d.json#/1'), (BASE + 'd.json#//@x.0', '../../d.json#//@x.0'),

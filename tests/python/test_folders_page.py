@@ -1,4 +1,4 @@
-"""The examples of docs/FOLDERS.md do what the page says."""
+"""The examples of docs/FOLDERS.md print what the page shows."""
 
 import argparse
 import os
@@ -14,12 +14,12 @@ PAGE = (TOP / 'docs/FOLDERS.md').read_text()
 
 
 def blocks(language):
-    """The texts of the blocks of a language, in order."""
+    """The code blocks of a language on the page, in order."""
     return re.findall(rf'^```{language}\n(.*?)^```$', PAGE, re.M | re.S)
 
 
 class Opening(ClientTest):
-    """The program that opens a folder."""
+    """The examples on one folder."""
 
     def setUp(self):
         super().setUp()
@@ -31,16 +31,18 @@ class Opening(ClientTest):
         (models / 'sub/persons.json').write_text(blocks('json')[1])
 
     def test_example(self):
+        """The Python program of the page."""
         self.assertEqual(self.run_code(blocks('python')[0], self.room.name), blocks('text')[0])
 
     def test_check(self):
+        """The `check` command of the page."""
         command, printed = re.search(r'^```\npython3 (-m mmrepo check.*)\n```\n\nprints\n\n```\n(.*?)^```$', PAGE, re.M | re.S).groups()
         environment = {**os.environ, 'PYTHONPATH': str(CLIENT), 'MMREPO': str(PROGRAM), 'PYTHONDONTWRITEBYTECODE': '1'}
         done = subprocess.run([sys.executable, *command.split()], cwd=self.room.name, env=environment, stdout=subprocess.PIPE)
         self.assertEqual((done.returncode, done.stdout.decode()), (1, printed))
 
     def test_shell(self):
-        """The lines are answered so, and nothing was changed."""
+        """The lines for the shell get the answers of the page, and change no file."""
         typed, answered = re.search(r'^```\n(tree\n.*?)^```$\n\nare answered by\n\n```\n(.*?)^```$', PAGE, re.M | re.S).groups()
         environment = {**os.environ, 'PYTHONPATH': str(CLIENT), 'MMREPO': str(PROGRAM), 'PYTHONDONTWRITEBYTECODE': '1'}
         done = subprocess.run(
@@ -50,7 +52,7 @@ class Opening(ClientTest):
         self.assertEqual((done.returncode, done.stdout.decode()), (0, answered))
 
     def test_options(self):
-        """Each option of the commands is on the page, and so is each kind of a finding in the package."""
+        """The page names each option of the commands, and each kind of finding of the package."""
         parser = argparse.ArgumentParser(conflict_handler='resolve')
         check.add_arguments(parser)
         shell.add_arguments(parser)

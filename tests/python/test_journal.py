@@ -1,4 +1,4 @@
-"""A repository with a journal: what it had is found again by the next one."""
+"""A repository with a journal: the next repository with the same journal has the same model."""
 
 import os
 import signal
@@ -11,7 +11,7 @@ from mmrepo import JournalRefused, ProgramError, Refused, Repository
 
 
 class JournalTest(ClientTest):
-    """Repositories that begin with the same journal, one after another."""
+    """Repositories that are opened one after another with the same journal."""
 
     def setUp(self):
         super().setUp()
@@ -20,7 +20,7 @@ class JournalTest(ClientTest):
         self.journal = Path(room.name) / 'journal'
 
     def begun(self):
-        """A repository that begins with the journal."""
+        """Opens a repository with the journal."""
         return Repository(LIBRARY, PROGRAM, journal=self.journal)
 
     def test_objects_come_back(self):
@@ -47,7 +47,7 @@ class JournalTest(ClientTest):
             self.assertEqual(repo.resource('http://m.example/c')._word, 'r2')
 
     def test_a_killed_program_loses_nothing(self):
-        """What was done is there after a kill."""
+        """What was answered before the program is killed is in the next repository."""
         repo = self.begun()
         book = repo.create('Book')
         book.pages = 7
@@ -58,7 +58,7 @@ class JournalTest(ClientTest):
             self.assertEqual(repo.object(0).pages, 7)
 
     def test_a_journal_that_is_not_taken(self):
-        """A file that is in use, or no journal, is a fault of its own."""
+        """A journal that is in use, and a file that is no journal, raise JournalRefused with a fault of their own."""
         with self.begun():
             with self.assertRaises(JournalRefused) as caught:
                 self.begun()

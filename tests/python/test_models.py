@@ -1,4 +1,4 @@
-"""What a user of PyEcore looks for: all objects, copies, the feature that contains an object, snapshots."""
+"""What users of PyEcore look for: all objects, copies, the feature that contains an object, and snapshots."""
 
 from support import LibraryTest
 
@@ -8,9 +8,10 @@ URI = 'http://m.example/a'
 
 
 class Objects(LibraryTest):
-    """`objects` of a repository, and what an object is asked."""
+    """All objects of a repository, and what the client knows of an object."""
 
     def test_objects(self):
+        """`objects` returns the live objects in the order of their numbers, those of one class and its subclasses if a class is named."""
         library, book, person = self.made('Library', 'Book', 'Person')
         other = self.repo.create('Book')
         self.assertEqual(self.repo.objects(), [library, book, person, other])
@@ -29,6 +30,7 @@ class Objects(LibraryTest):
             self.repo.objects('Nothing')
 
     def test_number(self):
+        """`number` is the number of an object, unless its class has a feature of that name."""
         meta = self.file('meta.json', '{"classes":[{"name":"Order","features":[{"name":"number","kind":"attribute","type":"EInt"}]}]}')
         order = self.opened(meta).create('Order', number=4)
         self.assertEqual((order.number, self.made('Book', 'Book')[1].number), (4, 1))
@@ -36,6 +38,7 @@ class Objects(LibraryTest):
             self.repo.create('Book').number = 3
 
     def test_containing_feature(self):
+        """The feature that contains an object, None if nothing does."""
         library, book, person = self.made('Library', 'Book', 'Person')
         self.assertIsNone(book.eContainmentFeature())
         library.books.append(book)
@@ -46,9 +49,10 @@ class Objects(LibraryTest):
 
 
 class Uris(LibraryTest):
-    """`uri` of a resource."""
+    """The URIs of resources."""
 
     def test_as_the_repository_has_it(self):
+        """`uri` is normalised as the program does it, so an address that begins with it leads to the root."""
         for uri in ('HTTP://M.Example', 'http://m.example/a/../b c', 'https://m.example:443/\u00e9?x=\u00e9', 'http://m.example/\t%7e'):
             resource = self.repo.resource(uri)
             book = self.repo.create('Book')
@@ -58,9 +62,11 @@ class Uris(LibraryTest):
 
 
 class Copies(LibraryTest):
-    """`copy` of a repository."""
+    """Copies of objects."""
 
     def test_tree(self):
+        """A copy has copies of all contained objects; references between them lead to copies, other references to the same objects, if they
+        can."""
         library, first, second, person = self.made('Library', 'Book', 'Book', 'Person')
         library.name = 'Town'
         library.books.extend([first, second])
@@ -82,6 +88,7 @@ class Copies(LibraryTest):
         self.assertEqual(len({it.number for it in (library, first, second, person, outer, copy, one, two, member)}), 9)
 
     def test_both_ends_of_lists(self):
+        """A copy keeps the order of both ends of a many-to-many association."""
         meta = self.file('meta.json', """{"classes":[{"name":"A","features":[
             {"name":"parts","kind":"reference","type":"A","upper":-1,"containment":true},
             {"name":"there","kind":"reference","type":"A","upper":-1,"opposite":"back"},
@@ -100,6 +107,7 @@ class Copies(LibraryTest):
             self.assertEqual([place[it] for it in old.back], [placed[it] for it in new.back])
 
     def test_proxies(self):
+        """An object with a proxy can't be copied, and then no object is made."""
         town = self.repo.resource(URI)
         town.load('{"format":2,"roots":[{"class":"Person","features":{"favourite":"b#/"}}]}')
         before = len(self.repo.objects())
@@ -109,9 +117,10 @@ class Copies(LibraryTest):
 
 
 class Snapshots(LibraryTest):
-    """`snapshot` of a repository."""
+    """Snapshots of what is below a node, kept up to date by notifications."""
 
     def test_replay(self):
+        """A snapshot that replays the notifications equals a new snapshot."""
         library, first, second = self.made('Library', 'Book', 'Book')
         town = self.repo.resource(URI)
         town.append(library)
@@ -134,6 +143,7 @@ class Snapshots(LibraryTest):
             first.next = None
 
     def test_resolved(self):
+        """A snapshot replays RESOLVE notifications."""
         town = self.repo.resource(URI)
         town.load('{"format":2,"roots":[{"class":"Person","features":{"likes":["b#/0","b#/1"],"favourite":"b#/1"}}]}')
         person = town.contents[0]

@@ -1,4 +1,5 @@
-"""Random calls: a list does what a list of Python does, and a view that replays its notifications has what the repository has."""
+"""Random calls: a list of the client does what a Python list does, and a view that replays its notifications has what the repository has.
+"""
 
 import random
 
@@ -11,7 +12,7 @@ CALLS = 300
 
 
 def change(values, ways):
-    """Makes a random change of a list by its methods, which a list of the client and one of Python both have."""
+    """Makes a random change of a list, by methods that a list of the client and a Python list both have."""
     length = len(values)
     way = ways.choice(['append', 'append', 'append', 'insert', 'remove', 'pop', 'del', 'slice', 'extend', 'clear'])
     text, place = ways.choice('abcdefgh'), ways.randint(-length, max(length - 1, 0))
@@ -32,9 +33,10 @@ def change(values, ways):
 
 
 class Lists(ClientTest):
-    """Two lists of texts, which may repeat."""
+    """Random changes of a list of texts that may repeat."""
 
     def test_same_as_python(self):
+        """After each change the list equals the Python list with the same changes."""
         wanted, ways, again = [], random.Random(SEED), random.Random(SEED)
         found = self.kinds().create('Kind').texts
         for _ in range(CALLS):
@@ -43,6 +45,7 @@ class Lists(ClientTest):
             self.assertEqual(found, wanted)
 
     def test_moves(self):
+        """`move` does what `pop` and `insert` do on a Python list."""
         ways, texts = random.Random(SEED), self.kinds().create('Kind').texts
         wanted = list('abcdefgh')
         texts.extend(wanted)
@@ -55,7 +58,7 @@ class Lists(ClientTest):
 
 
 class Replays(LibraryTest):
-    """A view that takes a snapshot and then only replays, as docs/ADAPTERS.md has it."""
+    """A view that takes a snapshot and then only replays notifications, by the rules of docs/ADAPTERS.md."""
 
     def setUp(self):
         super().setUp()
@@ -66,7 +69,7 @@ class Replays(LibraryTest):
         self.library.members.extend(self.persons)
 
     def snapshot(self):
-        """The values of each feature of the library and of all below it."""
+        """The values of each feature of the library and of all objects below it."""
         nodes = [self.library, *self.library.eAllContents()]
         found = {}
         for node in nodes:
@@ -76,7 +79,7 @@ class Replays(LibraryTest):
         return found
 
     def replay(self, notice):
-        """Changes the one end that a notification names."""
+        """Makes the change of a notification in the snapshot."""
         values = self.view[notice.notifier, notice.feature]
         if notice.kind in (Kind.SET, Kind.UNSET):
             self.assertEqual(values, [notice.old])
@@ -90,7 +93,7 @@ class Replays(LibraryTest):
             values.insert(notice.position, values.pop(notice.old))
 
     def command(self):
-        """Gives a random command that takes nobody out of the library."""
+        """Makes a random change that leaves all objects below the library."""
         ways = self.ways
         book, other, person = ways.choice(self.books), ways.choice(self.books), ways.choice(self.persons)
         ways.choice([
@@ -112,6 +115,7 @@ class Replays(LibraryTest):
         ])()
 
     def test_notices_are_enough(self):
+        """After many changes the snapshot equals a new one."""
         self.view = self.snapshot()
         self.repo.attach(self.replay, self.library)
         for _ in range(CALLS):

@@ -1,4 +1,4 @@
-"""Resources: roots, documents, addresses and proxies."""
+"""Resources: their roots, documents, addresses and proxies."""
 
 import json
 
@@ -8,7 +8,7 @@ from mmrepo import Proxy, Refused
 
 URI = 'http://m.example/a'
 
-# The document and what it says are in docs/DOCUMENTS.md.
+# The example of docs/DOCUMENTS.md, which explains it.
 TOWN = """{
   "format": 2,
   "roots": [
@@ -29,9 +29,10 @@ TOWN = """{
 
 
 class Roots(LibraryTest):
-    """The list of a resource."""
+    """The roots of a resource."""
 
     def test_contents(self):
+        """The roots are a list that can be changed but not assigned."""
         town = self.repo.resource(URI)
         library, folder = self.made('Library', 'Folder')
         self.assertEqual((town.contents, town.eContents), ([], []))
@@ -50,6 +51,7 @@ class Roots(LibraryTest):
         self.assertEqual(town.contents, [])
 
     def test_leaves_the_other_resource(self):
+        """A root that is added to another resource leaves its old one."""
         first, second = self.repo.resource(URI), self.repo.resource('http://m.example/b')
         library, = self.made('Library')
         first.append(library)
@@ -58,6 +60,7 @@ class Roots(LibraryTest):
         self.assertIs(library.eResource, second)
 
     def test_refused(self):
+        """A URI that exists, is no http URI of a resource, or is too long is refused."""
         self.assertEqual(self.repo.resource(URI).uri, URI)
         with self.refused(16, 'RESOURCE_EXISTS'):
             self.repo.resource(URI)
@@ -70,12 +73,13 @@ class Roots(LibraryTest):
             self.repo.resource(None)
 
     def test_newline_in_a_uri(self):
-        """The URL Standard leaves newlines out."""
+        """Newlines are removed from a URI, as the URL Standard requires."""
         self.repo.resource('http://m.example/\nb')
         with self.refused(16, 'RESOURCE_EXISTS'):
             self.repo.resource('http://m.example/b')
 
     def test_no_features_of_objects(self):
+        """A resource has no features but its roots."""
         town = self.repo.resource(URI)
         with self.assertRaises(AttributeError):
             town.name
@@ -83,9 +87,10 @@ class Roots(LibraryTest):
 
 
 class Addresses(LibraryTest):
-    """The way to an object, and what is at it."""
+    """Fragments and addresses."""
 
     def test_fragment_and_at(self):
+        """`fragment` and `at` are inverse, and a fragment follows the changes of the roots."""
         town = self.repo.resource(URI)
         library, book, folder = self.made('Library', 'Book', 'Folder')
         library.books.append(book)
@@ -103,9 +108,10 @@ class Addresses(LibraryTest):
 
 
 class Documents(LibraryTest):
-    """Resources are saved and loaded."""
+    """Saving and loading."""
 
     def test_saved(self):
+        """The text of a saved document."""
         town = self.repo.resource(URI)
         library, book, person = self.made('Library', 'Book', 'Person')
         town.append(library)
@@ -120,11 +126,13 @@ class Documents(LibraryTest):
         self.assertEqual(town.save(), wanted)
 
     def test_empty(self):
+        """An empty resource is saved, and an empty document is loaded."""
         town = self.repo.resource(URI)
         self.assertEqual(town.save(), '{"format":2,"roots":[]}')
         self.assertEqual(town.load('{"format":2,"roots":[]}'), 0)
 
     def test_loaded(self):
+        """A load makes the objects, values and links of its document, and is refused if the resource has roots."""
         town = self.repo.resource(URI)
         self.assertEqual(town.load(TOWN), 4)
         library, = town.contents
@@ -140,6 +148,7 @@ class Documents(LibraryTest):
             town.load(TOWN)
 
     def test_saved_and_loaded(self):
+        """What was saved is loaded and saved again as the same text."""
         town = self.repo.resource(URI)
         town.load(TOWN)
         text = town.save()
@@ -150,6 +159,7 @@ class Documents(LibraryTest):
         self.assertEqual(texts['roots'][0]['features']['members'][0]['features']['likes'], ['//@books.1', 'http://m.example/b#//@books.7'])
 
     def test_any_text(self):
+        """A text of any characters is saved and loaded."""
         text = ''.join(map(chr, range(32))) + '"\\é\u2028\U0001f600'
         book, = self.made('Book')
         book.name = text
@@ -162,6 +172,7 @@ class Documents(LibraryTest):
         self.assertEqual(other.contents[0].name, text)
 
     def test_refused(self):
+        """Each fault of a document has its cause, and makes no object."""
         town = self.repo.resource(URI)
         cases = [
             ('', (1, 'SYNTAX')),
@@ -188,7 +199,7 @@ class Documents(LibraryTest):
         self.assertEqual(town.load(TOWN), 4)
 
     def test_explained(self):
-        """An error says what is wrong, and of its own document alone."""
+        """An error explains the faults of its own document, and of no earlier one."""
         town = self.repo.resource(URI)
         cases = [
             ('{"format":2,"roots":[{"class":"Boook","features":{}},{"class":"Named","features":{}}]}', (
@@ -206,6 +217,7 @@ class Documents(LibraryTest):
         self.assertEqual(found.exception.explained, ())
 
     def test_not_saved(self):
+        """A resource with a reference to an object outside of all resources is not saved."""
         town = self.repo.resource(URI)
         person, book = self.made('Person', 'Book')
         town.append(person)
@@ -214,7 +226,7 @@ class Documents(LibraryTest):
             town.save()
 
     def test_a_long_document(self):
-        """One that no pipe holds at once."""
+        """A document longer than a pipe holds is loaded and saved."""
         name = 'a' * 60_000
         roots = ','.join(f'{{"class":"Book","features":{{"name":"{name}","pages":{i}}}}}' for i in range(101, 121))
         text = f'{{"format":2,"roots":[{roots}]}}'
@@ -233,7 +245,7 @@ class Proxies(LibraryTest):
         self.ann = self.town.contents[0].members[0]
 
     def other(self, books):
-        """The resource that the proxy leads to, with a library of so many books."""
+        """Makes the resource that the proxy leads to, with a library of so many books; returns the library."""
         made = self.repo.resource('http://m.example/b')
         library, = self.made('Library')
         library.books.extend(self.made(*['Book'] * books))
@@ -241,15 +253,18 @@ class Proxies(LibraryTest):
         return library
 
     def test_resolved(self):
+        """`resolve` puts the object in the place of its proxy."""
         library = self.other(8)
         self.assertIs(self.ann.resolve('likes', 1), library.books[7])
         self.assertIs(self.ann.likes[1], library.books[7])
 
     def test_resolved_by_the_list(self):
+        """`resolve` of a list counts negative indexes from the end."""
         library = self.other(8)
         self.assertIs(self.ann.likes.resolve(-1), library.books[7])
 
     def test_refused(self):
+        """A proxy that can't be resolved, and what is no proxy, are refused."""
         with self.refused(10, 'INDEX'):
             self.ann.resolve('likes', 2)
         with self.refused(8, 'TYPE'):
@@ -265,9 +280,11 @@ class Proxies(LibraryTest):
             self.ann.resolve('likes', 1)
 
     def test_taken_out(self):
+        """A proxy is removed from a list as any value is."""
         self.assertEqual(self.ann.likes.pop(), Proxy('http://m.example/b#//@books.7'))
 
     def test_heard(self):
+        """A view gets a RESOLVE notification with the proxy, the object and the position."""
         heard = []
         self.repo.attach(heard.append, self.ann)
         library = self.other(8)
@@ -278,6 +295,7 @@ class Proxies(LibraryTest):
         self.assertIs(notice.new, library.books[7])
 
     def test_all(self):
+        """`resolve_all` returns how many proxies it has resolved, and how many are left."""
         self.assertEqual(self.repo.resolve_all(), (0, 1))
         self.other(8)
         self.assertEqual(self.repo.resolve_all(), (1, 0))

@@ -1,4 +1,4 @@
-"""What goes wrong in a view, by Ctrl-C and in another thread costs no model: the repository goes on, in the state of its commands."""
+"""Errors in views, Ctrl-C and other threads leave the repository in the state of its commands, and it can be used further."""
 
 import copy
 import os
@@ -16,11 +16,11 @@ from support import CLIENT, LIBRARY, LibraryTest
 from mmrepo import CallableFailed, NotOwner, Refused, RepositoryClosed
 
 MOMENTS = 200
-SECONDS = 60  # for as many: a bound for a machine that does other work
+SECONDS = 60  # a bound for MOMENTS interrupts on a busy machine
 
 
 class Views(LibraryTest):
-    """Callables that fail."""
+    """Views whose callables raise errors."""
 
     def setUp(self):
         super().setUp()
@@ -28,6 +28,7 @@ class Views(LibraryTest):
         self.library.books.append(self.book)
 
     def test_each_other_view_hears(self):
+        """Each other view gets its notifications, and the error of the first failing callable is raised."""
         heard, wrong = [[], []], []
 
         def fails(notice):
@@ -51,6 +52,7 @@ class Views(LibraryTest):
         self.assertEqual(self.book.pages, 3)
 
     def test_refused_in_a_view(self):
+        """A refusal in a callable is the cause of CallableFailed; the commands that the callable gave before it are done."""
         def gives(notice):
             if notice.feature == 'pages':
                 self.library.name = 'heard'
@@ -66,6 +68,8 @@ class Views(LibraryTest):
         self.assertEqual((self.book.pages, self.library.name, list(self.library.books)), (1, 'heard', [self.book]))
 
     def test_ends_of_python(self):
+        """KeyboardInterrupt, SystemExit and GeneratorExit in a callable are raised as they are, after the other views have been notified.
+        """
         for kind in (KeyboardInterrupt, SystemExit, GeneratorExit):
             def fails(notice):
                 raise kind
@@ -80,6 +84,7 @@ class Views(LibraryTest):
             other.detach()
 
     def test_batch(self):
+        """An error in a callable does not stop a batch."""
         def fails(notice):
             raise ValueError
 
@@ -103,14 +108,14 @@ class Interrupts(LibraryTest):
         super().setUp()
 
     def handle(self, number, frame):
-        """Raises a KeyboardInterrupt in the middle of the work, and nowhere else."""
+        """Raises KeyboardInterrupt during the work, and at no other time."""
         if self.is_inside:
             self.is_inside = False
             self.came += 1
             raise KeyboardInterrupt
 
     def press(self):
-        """Presses Ctrl-C at random moments, until so many have interrupted the work. Some come while one waits, and count as one."""
+        """Presses Ctrl-C at random moments until so many have interrupted the work. Presses that come while one is pending count as one."""
         moments, until = random.Random(76), time.monotonic() + SECONDS
         while self.came < MOMENTS and time.monotonic() < until:
             time.sleep(moments.uniform(0.0001, 0.004))
@@ -118,7 +123,7 @@ class Interrupts(LibraryTest):
         self.is_over = True
 
     def interrupt(self, work):
-        """Does work again and again while Ctrl-C is pressed."""
+        """Repeats work while Ctrl-C is pressed."""
         thread = threading.Thread(target=self.press)
         self.addCleanup(thread.join)
         thread.start()
@@ -135,7 +140,7 @@ class Interrupts(LibraryTest):
         self.assertGreaterEqual(self.came, MOMENTS)
 
     def test_sets_that_are_heard(self):
-        """The view is notified of each change, once and in order, so its notifications lead from the first value to the last."""
+        """A view gets each notification once and in order: each old value is the new value of the notification before it."""
         library, book = self.made('Library', 'Book')
         library.books.append(book)
         heard = []
@@ -154,7 +159,7 @@ class Interrupts(LibraryTest):
         self.assertLessEqual(given[0] - len(heard) + 1, self.came)
 
     def test_all_kinds(self):
-        """Objects, lists, resources, views and documents: the state is that which the repository says it has."""
+        """After interrupted commands of all kinds the client and the repository agree on objects, lists, resources, views and documents."""
         library = self.repo.create('Library')
         count = [0]
 
@@ -183,7 +188,7 @@ class Interrupts(LibraryTest):
         view.detach()
 
     def test_in_a_long_load(self):
-        """A Ctrl-C in a call that takes long waits for its end: all is loaded, or nothing if it came before the call."""
+        """Ctrl-C in a long load takes effect at its end: all objects are loaded, or none if it came before the call."""
         books = ','.join(['{"class":"Book","features":{"name":"a"}}'] * 30_000)
         resource = self.repo.resource('http://m.example/a')
         text = '{"format":2,"roots":[%s]}' % books
@@ -198,6 +203,7 @@ class Interrupts(LibraryTest):
         self.assertEqual(self.repo.create('Book').eClass.name, 'Book')
 
     def test_a_handler_of_ones_own(self):
+        """A handler of the caller is called."""
         handled = []
         before = signal.signal(signal.SIGINT, lambda number, frame: handled.append(number))
         self.addCleanup(signal.signal, signal.SIGINT, before)
@@ -209,10 +215,10 @@ class Interrupts(LibraryTest):
 
 
 class Owners(LibraryTest):
-    """Other threads, other processes, copies and pickles."""
+    """Other threads and processes, copies and pickles."""
 
     def test_three_threads(self):
-        """Two threads that are not the owner give commands while it does. Each of theirs is refused at once, and none is sent."""
+        """While the owner gives commands, each command of two other threads raises NotOwner at once, and is not sent."""
         book, = self.made('Book')
         heard = []
         self.repo.attach(heard.append, book)
@@ -247,6 +253,7 @@ class Owners(LibraryTest):
         self.assertEqual(self.repo.create('Book')._word, '#1')
 
     def test_each_call_in_another_thread(self):
+        """Each call of another thread raises NotOwner."""
         book, library = self.made('Book', 'Library')
         view = self.repo.attach(print, library)
         resource = self.repo.resource('http://m.example/a')
@@ -273,7 +280,7 @@ class Owners(LibraryTest):
         self.assertEqual(self.repo.create('Book')._word, '#2')
 
     def test_fork(self):
-        """In the child of a fork each call is an error, and the repository of the parent goes on."""
+        """In the child of a fork each call raises NotOwner, and the parent's repository goes on."""
         code = f"""
 import os, mmrepo
 repo = mmrepo.Repository({str(LIBRARY)!r})
@@ -296,6 +303,7 @@ repo.close()
         self.assertEqual(told, 'the repository belongs to the process that was forked\n<Library #0>\nNone <Book #1>\n')
 
     def test_copies_and_pickles(self):
+        """Copying and pickling are TypeErrors that name `save`."""
         book, = self.made('Book')
         resource = self.repo.resource('http://m.example/a')
         for thing in (book, resource, self.repo, book.tags):
@@ -306,10 +314,10 @@ repo.close()
 
 
 class Closing(LibraryTest):
-    """What closing leaves."""
+    """What is left of a closed repository."""
 
     def test_memory(self):
-        """Repositories that are opened, filled and closed again and again take no more memory in the end than one."""
+        """Repositories that are opened, filled and closed, or collected without closing, give their memory back."""
         if self.repo.engine == 'program':
             return  # the memory of the program ends with its process
         code = f"""
@@ -343,6 +351,7 @@ for close in (True, False):
         self.assertEqual(self.run_code(code, self.room.name), 'True True\nTrue True\n')
 
     def test_closed(self):
+        """Each call on a closed repository raises RepositoryClosed."""
         book, = self.made('Book')
         self.repo.close()
         for call in (lambda: book.name, lambda: book.tags[0], lambda: len(book.tags), lambda: self.repo.create('Book')):
@@ -351,7 +360,7 @@ for close in (True, False):
         self.repo.close()
 
     def test_handler_of_ctrl_c(self):
-        """When all repositories are closed, Ctrl-C is handled as before."""
+        """When the last repository is closed, the old handler of Ctrl-C is there again."""
         code = f"""
 import signal, mmrepo
 repos = [mmrepo.Repository({str(LIBRARY)!r}) for _ in range(2)]
@@ -363,6 +372,7 @@ print(signal.getsignal(signal.SIGINT) is signal.default_int_handler)
         self.assertEqual(self.run_code(code, self.room.name), 'False\nTrue\n')
 
     def test_exit_without_closing(self):
+        """A Python process ends with status 0 if it leaves a repository open."""
         code = f'import mmrepo\nrepo = mmrepo.Repository({str(LIBRARY)!r})\nprint(repo.create("Book"))'
         done = subprocess.run(
             [sys.executable, '-c', code], env={**os.environ, 'PYTHONPATH': str(CLIENT)}, stdout=subprocess.PIPE, stderr=subprocess.PIPE

@@ -1,4 +1,4 @@
-"""The same scripts, made at random, through the program, through the library by C, and through Python over each engine: the same texts."""
+"""Random scripts print the same text by the program, by the library from C, and by Python over each engine."""
 
 import os
 import random
@@ -20,23 +20,26 @@ DOCUMENTS = ['{"format":2,"roots":[{"class":"Book","features":{"name":"a","next"
 
 
 class Scripts:
-    """Makes scripts at random. The adapters from A9 on are used, which both the program and the library have."""
+    """Makes random scripts. They use the adapters from A9 on, which both the program and the library have."""
 
     def __init__(self, seed):
         self.random = random.Random(seed)
 
     def node(self):
+        """A word for a node, which need not be there."""
         return f'#{self.random.randrange(12)}' if self.random.random() < 0.85 else f'r{self.random.randrange(3)}'
 
     def value(self):
+        """A word for a value, which need not fit its feature."""
         return self.random.choice(['null', 'true', '0', '-7', '474', '99999999999', '"a"', '"b c"', '"\\u00e9\\""', ':POEM', ':NONE', '1x', '"']) \
             if self.random.random() < 0.4 else f'#{self.random.randrange(12)}'
 
     def number(self):
+        """A word for an index."""
         return self.random.choice(['0', '0', '1', '2', '5', '01'])
 
     def line(self):
-        """A line of any kind."""
+        """A line of any form."""
         pick, node, feature = self.random.choice, self.node(), self.random.choice(FEATURES)
         adapter = f'A{self.random.randrange(9, 12)}'
         return pick([
@@ -57,15 +60,15 @@ class Scripts:
 
 
 class Random(ClientTest):
-    """Scripts at random."""
+    """Random scripts by fixed seeds."""
 
     def printed(self, words, lines):
-        """What a program prints of the lines on its standard input."""
+        """What a program prints for lines on its standard input."""
         done = subprocess.run(list(map(str, words)), input='\n'.join(lines).encode() + b'\n', stdout=subprocess.PIPE, check=True)
         return done.stdout.decode()
 
     def test_the_same_texts(self):
-        """Each script runs by the program itself and by Python over the engine; and, where the engine is the program, by C."""
+        """Each script is run by the program and by Python over the engine; if the engine is the program, by C too."""
         scripts, by_c = Scripts(SEED), Path(ROOM, 'run_script')
         for number in range(SCRIPTS):
             lines = scripts.script()
@@ -78,7 +81,7 @@ class Random(ClientTest):
                     self.assertEqual(self.printed([by_c, LIBRARY], lines).split('\n')[:-1], wanted)
 
     def by_python(self, lines, is_one_by_one):
-        """What the lines print by Python, all at once or one by one."""
+        """What Python prints for lines, which it sends together or one by one."""
         with Repository(LIBRARY) as repo:
             session = repo._session
             texts = [session.raw(line) for line in lines] if is_one_by_one else session.raw_all(lines)

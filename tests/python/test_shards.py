@@ -1,4 +1,4 @@
-"""Shards: groups of files, and the same results from each executor."""
+"""Shards: how files are grouped, and the same results by each executor."""
 
 import json
 import os
@@ -21,12 +21,12 @@ from mmrepo import NotLoaded, shards  # noqa: E402
 
 HERE = Path(__file__).resolve().parent
 FILES, OBJECTS = 10, 24
-# Which Python has Dask: this one, or that of Debian.
+# The Python interpreters that may have Dask: this one, and that of Debian.
 PYTHONS = [sys.executable, '/usr/bin/python3']
 
 
 def python_of_dask():
-    """A Python that has Dask, or None."""
+    """A Python interpreter that has Dask, or None."""
     for python in PYTHONS:
         if shutil.which(python) and subprocess.run([python, '-c', 'import distributed'], stderr=subprocess.DEVNULL).returncode == 0:
             return python
@@ -47,12 +47,12 @@ class ShardTest(ClientTest):
         (self.top / name).write_text(content)
 
     def mapped(self, function, executor=None, objects=3 * OBJECTS, **options):
-        """The results of a function on the folder."""
+        """The results of `shards.map` for a function on the folder."""
         return list(shards.map(function, self.top, executor, metamodel=LIBRARY, objects=objects, program=PROGRAM, **options))
 
 
 def wanted(number, below):
-    """What `described` gives of a file: written from the rule of bench/models.py, by which the files are made."""
+    """What `described` returns for a file, by the rule by which bench/models.py makes the files."""
     members = OBJECTS // 4
     far, after, before = [(number + it) % FILES for it in (7, 1, -1)]
     books = OBJECTS - 1 - members
@@ -65,7 +65,7 @@ class Mapping(ShardTest):
     """`shards.map`."""
 
     def test_results(self):
-        """Each reference leads to its object, in groups of each size and by each executor, in the order of the files."""
+        """For each size of group and each executor, references lead to their objects, and results have the order of the files."""
         right = [wanted(number, 'http://models.example/') for number in range(FILES)]
         for objects in (1, OBJECTS, 3 * OBJECTS, 1_000_000):
             found = self.mapped(shard_functions.described, None, objects)
@@ -76,20 +76,22 @@ class Mapping(ShardTest):
                 self.assertEqual(sum(self.mapped(shard_functions.described, executor), []), right)
 
     def test_base(self):
+        """`base` is the URI of the folder."""
         found = self.mapped(shard_functions.described, base='https://m.example/x/')
         self.assertEqual(sum(found, [])[3], wanted(3, 'https://m.example/x/'))
 
     def test_what_is_loaded(self):
-        """A group, and in one step what its proxies lead to: the file after, that before, and the seventh further on."""
+        """A shard loads its group and the files to which the group's proxies lead, and no further files. A file refers to the next one, to
+        the one before it, and to the seventh after it."""
         found = self.mapped(shard_functions.names)
         self.assertEqual([names for names, _ in found], [[f'{it:06}.json' for it in group] for group in ([0, 1, 2], [3, 4, 5], [6, 7, 8], [9])])
-        # Files 0 to 2 lead to 3, 9, 7 and 8; 3 to 5 to 6, 2, 0 and 1; 6 to 8 to 9, 5, 3 and 4; and 9 to 0, 8 and 6.
+        # The group of files 0 to 2 refers to 3, 7, 8 and 9; that of 3 to 5 to 0, 1, 2 and 6; that of 6 to 8 to 3, 4, 5 and 9; 9 to 0, 6 and 8.
         self.assertEqual([count for _, count in found], [3 + 4, 3 + 4, 3 + 4, 1 + 3])
 
     def test_order_of_a_slow_group(self):
-        """Results wait for those of the files before."""
+        """A result waits for the results of all files before it."""
         class Late(Executor):
-            """Gives the results of the last calls first."""
+            """An executor that finishes the last calls first."""
 
             def __init__(self):
                 self.pool, self.calls = ThreadPoolExecutor(1), []
@@ -107,6 +109,7 @@ class Mapping(ShardTest):
         self.assertTrue(late.calls[-1].cancelled())
 
     def test_errors(self):
+        """An error of the user's function is raised, and wrong arguments are errors before anything runs."""
         with self.assertRaises(LookupError) as found:
             self.mapped(shard_functions.fails)
         self.assertEqual(found.exception.args, ('000000.json',))
@@ -121,7 +124,7 @@ class Mapping(ShardTest):
             list(shards.map(shard_functions.names, self.top / 'none', None, metamodel=LIBRARY))
 
     def test_not_loaded(self):
-        """A faulty file of a group, one that a group leads to, and a link."""
+        """A faulty file of a group, or one that a group refers to, raises NotLoaded; so does a symbolic link."""
         self.write('0000/000009.json', '{"format":2,"roots":[{"class":"Boook","features":{}}]}')
         with ProcessPoolExecutor(2) as pool, self.assertRaises(NotLoaded) as found:
             self.mapped(shard_functions.names, pool)
@@ -132,7 +135,7 @@ class Mapping(ShardTest):
         self.assertEqual([it.kind for it in found.exception.findings], ['FILE'])
 
     def test_proxies_that_lead_nowhere(self):
-        """They stay proxies."""
+        """Proxies that can't be resolved stay proxies."""
         text = json.loads((self.top / '0000/000000.json').read_text())
         text['roots'][0]['features']['members'][0]['features']['likes'] = ['none.json#/', 'http://m.example/#/', '000001.json#//@books.77']
         self.write('0000/000000.json', json.dumps(text))
@@ -147,29 +150,33 @@ class Mapping(ShardTest):
         found.close()
 
     def test_nothing_is_saved(self):
+        """A shard can't be saved."""
         before = [it.read_bytes() for it in sorted(self.top.rglob('*.json'))]
         said = self.mapped(shard_functions.edits)
         self.assertEqual(said, ['the files of a shard are not written: open the folder for it (docs/SHARDS.md)'] * 4)
         self.assertEqual([it.read_bytes() for it in sorted(self.top.rglob('*.json'))], before)
 
     def test_empty_folder(self):
+        """An empty folder has no results."""
         shutil.rmtree(self.top / '0000')
         self.assertEqual(self.mapped(shard_functions.names), [])
 
     def test_metamodel_in_the_folder(self):
+        """A metamodel that is in the folder is not loaded as a document."""
         shutil.copy(LIBRARY, self.top / 'meta.json')
         found = shards.map(shard_functions.names, self.top, None, metamodel=self.top / 'meta.json', objects=FILES * OBJECTS, program=PROGRAM)
         self.assertEqual([len(names) for names, _ in found], [FILES])
 
 
 class Groups(ShardTest):
-    """How files are cut into groups."""
+    """How files are grouped."""
 
     def models(self):
+        """The files of the folder."""
         return shards.models_of(self.top, LIBRARY)
 
     def test_weight(self):
-        """It is never below the number of objects, and it is that number if no text has a brace."""
+        """The weight of a document is at least the number of its objects, and equal to it if no text has a brace."""
         with self.opened() as repo:
             ways = random.Random(7)
             for number in range(60):
@@ -188,6 +195,8 @@ class Groups(ShardTest):
         self.assertEqual(shards.weight(b'', False), 0)
 
     def test_groups(self):
+        """Groups keep the order of the files; a group weighs at most the limit, unless one file does, and is as large as the limit permits.
+        """
         names = self.models().names()[0]
         self.write('big.json', json.dumps({'format': 2, 'roots': [{'class': 'Folder', 'features': {}}] * 100}))
         names.insert(4, 'big.json')
@@ -204,10 +213,10 @@ class Groups(ShardTest):
 
 @unittest.skipUnless(python_of_dask(), 'no Python has the package python3-distributed')
 class Dask(ShardTest):
-    """A Dask cluster of processes on this machine, by the script that makes it."""
+    """A Dask cluster of processes on this machine, made by dask_cluster.py."""
 
     def run_script(self, *words):
-        """What the script of the cluster prints."""
+        """Runs dask_cluster.py; returns what it prints."""
         environment = {
             **os.environ, 'PYTHONPATH': f'{CLIENT}:{HERE}', 'PYTHONDONTWRITEBYTECODE': '1', 'MMREPO': str(PROGRAM),
             'DIES_ONCE': str(self.file('dies', 'once')),
@@ -218,7 +227,7 @@ class Dask(ShardTest):
         return done.stdout.decode()
 
     def test_cluster(self):
-        """The results are those of one group after another, also if a worker dies in the middle; and `check` uses the cluster."""
+        """The results are those of one process, even if a worker dies; `check` runs over the cluster too."""
         said = json.loads(self.run_script())
         right = json.loads(json.dumps([wanted(number, 'http://models.example/') for number in range(FILES)]))
         self.assertEqual(said['results'], right)

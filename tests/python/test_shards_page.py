@@ -1,4 +1,4 @@
-"""The example of docs/SHARDS.md does what the page says."""
+"""The example of docs/SHARDS.md prints what the page shows."""
 
 import os
 import re
@@ -11,15 +11,16 @@ PAGE = (TOP / 'docs/SHARDS.md').read_text()
 
 
 def block(language):
-    """The text of the one block of a language."""
+    """The one code block of a language on the page."""
     found, = re.findall(rf'^```{language}\n(.*?)^```$', PAGE, re.M | re.S)
     return found
 
 
 class Example(ClientTest):
-    """Three files, each of which refers to the next one."""
+    """Three files, each of which refers to another one in a circle."""
 
     def test_prints(self):
+        """The program of the page prints the text of the page."""
         self.file('library.json', LIBRARY.read_bytes())
         models = self.file('models', '')
         models.unlink()

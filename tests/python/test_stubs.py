@@ -1,4 +1,4 @@
-"""The stubs of a metamodel: a type checker knows the features, and refuses a wrong value."""
+"""The stubs of a metamodel: a type checker knows the features, and reports values of wrong types."""
 
 import re
 import shutil
@@ -34,7 +34,7 @@ class Stubs(ClientTest):
     """`python3 -m mmrepo stubs`."""
 
     def made(self, metamodel):
-        """The stubs of a metamodel."""
+        """The stubs of a metamodel, as the command prints them."""
         command = [sys.executable, '-m', 'mmrepo', 'stubs', metamodel]
         environment = {'PYTHONPATH': str(CLIENT), 'MMREPO': str(PROGRAM), 'PYTHONDONTWRITEBYTECODE': '1', 'MMREPO_ENGINE': 'program'}
         done = subprocess.run(command, env=environment, stdout=subprocess.PIPE, stderr=subprocess.PIPE, cwd=self.room.name)
@@ -42,7 +42,7 @@ class Stubs(ClientTest):
         return done.stdout.decode()
 
     def checked(self, file):
-        """The lines of a file of which mypy says that they are wrong, each with the code of the error."""
+        """Runs mypy on a file; returns the numbers of the lines with an error, each with the error's code."""
         command = [MYPY, '--strict', '--follow-imports=silent', '--no-incremental', '--show-error-codes', '--no-error-summary', file.name]
         done = subprocess.run(command, env={'MYPYPATH': str(TOP / 'clients/python')}, stdout=subprocess.PIPE, stderr=subprocess.STDOUT, cwd=self.room.name)
         told = done.stdout.decode()
@@ -59,19 +59,20 @@ class Stubs(ClientTest):
         self.file('library_model.pyi', self.made(metamodel))
 
     def test_page(self):
-        """The program on the page is right, but for the line that the page says is wrong."""
+        """In the program of docs/PYTHON.md mypy reports the line that the page marks, and no other."""
         code = re.search(r'^```python\n(from typing import TYPE_CHECKING\n.*?)^```$', PAGE, re.M | re.S)[1]
         wrong = [line for line, text in enumerate(code.splitlines(), 1) if '# refused' in text]
         self.assertEqual(len(wrong), 1)
         self.assertEqual(self.checked(self.file('program.py', code)), {wrong[0]: 'assignment'})
 
     def test_lines(self):
+        """mypy reports the lines of LINES that have a code, and no others."""
         head = ['from library_model import Repository', "repo = Repository('library.json')", "library, book = repo.create('Library'), repo.create('Book')"]
         file = self.file('program.py', '\n'.join([*head, *(line for line, _ in LINES), '']))
         self.assertEqual(self.checked(file), {len(head) + 1 + at: code for at, (_, code) in enumerate(LINES) if code is not None})
 
     def test_names(self):
-        """Classes and features whose names Python or the package has."""
+        """Classes and features may have names that Python or the package uses."""
         features = ', '.join(f'{{"name": "{name}", "kind": "attribute", "type": "EInt"}}' for name in ('class', 'delete', '__x__', 'number', 'x'))
         classes = f'{{"name": "class", "features": [{features}]}}, {{"name": "Repository"}}, {{"name": "EObject", "supers": ["class"]}}'
         self.file('library_model.pyi', self.made(self.file('meta.json', f'{{"classes": [{classes}]}}')))
@@ -79,7 +80,7 @@ class Stubs(ClientTest):
         self.assertEqual(self.checked(self.file('program.py', '\n'.join(lines) + '\n')), {4: 'assignment'})
 
     def test_all(self):
-        """The stubs of other metamodels are right."""
+        """The stubs of other metamodels are free of errors."""
         for metamodel in (LIBRARY, self.file('meta.json', '{"classes":[]}'), self.file('one.json', '{"classes":[{"name":"A"}]}')):
             self.file('library_model.pyi', self.made(metamodel))
             self.assertEqual(self.checked(self.file('program.py', 'from library_model import Repository\n')), {})

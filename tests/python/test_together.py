@@ -1,4 +1,4 @@
-"""Lines that are sent many at once."""
+"""Lines that are sent together."""
 
 from support import LIBRARY, LibraryTest
 
@@ -6,14 +6,14 @@ from mmrepo import ProgramEnded, Repository, RepositoryClosed
 
 
 class Together(LibraryTest):
-    """`exchange_all` of a program."""
+    """`raw_all` of a session."""
 
     def setUp(self):
         super().setUp()
         self.session = self.repo._session
 
     def test_answers(self):
-        """More lines than a pipe holds, and longer answers than a pipe holds."""
+        """More lines, and longer answers, than a pipe holds are exchanged without a deadlock."""
         lines = ['new Book', 'set #0 name "' + 'x' * 60_000 + '"', '', 'nonsense', 'new Nothing']
         lines += ['get #0 name'] * 200 + [f'set #0 pages {page}' for page in range(20_000)] + ['get #0 pages']
         answers = self.session.raw_all(lines)
@@ -23,12 +23,14 @@ class Together(LibraryTest):
         self.assertEqual(self.session.raw_all([]), [])
 
     def test_nothing_is_sent(self):
+        """If one line is too long or has a newline, no line is sent."""
         for wrong in ('new Book\n', 'x' * 16_777_217):
             with self.assertRaises(ValueError):
                 self.session.raw_all(['new Book', wrong])
         self.assertEqual(self.session.raw('new Book'), ['#0'])
 
     def test_dies(self):
+        """If the program ends in the middle, ProgramEnded is raised, and the repository is closed."""
         repo = Repository(LIBRARY, self.fake('for line in list(zip(range(3), lines())): say("ok\\n\\n")'))
         with self.assertRaises(ProgramEnded):
             repo._session.raw_all(['set #0 pages 1'] * 5)

@@ -1,4 +1,4 @@
-"""Values go to the program and come back as they were, or are refused."""
+"""Values that are sent to the program come back as they were, or are refused."""
 
 from support import ClientTest, LibraryTest
 
@@ -33,9 +33,10 @@ TEXTS = [
 
 
 class Texts(ClientTest):
-    """Any text is a value."""
+    """Each text of TEXTS, among them texts that look like other words of a script."""
 
     def test_single(self):
+        """As the value of a feature."""
         kind = self.kinds().create('Kind')
         for text in TEXTS:
             with self.subTest(text):
@@ -43,11 +44,13 @@ class Texts(ClientTest):
                 self.assertEqual(kind.text, text)
 
     def test_list(self):
+        """As values of a list."""
         kind = self.kinds().create('Kind')
         kind.texts.extend(TEXTS)
         self.assertEqual(kind.texts, TEXTS)
 
     def test_in_notices(self):
+        """As the old and the new value of a notification."""
         repo = self.kinds()
         kind, heard = repo.create('Kind'), []
         repo.attach(heard.append, kind)
@@ -58,12 +61,14 @@ class Texts(ClientTest):
             before = text
 
     def test_half_of_a_pair(self):
+        """Half of a surrogate pair is no text."""
         kind = self.kinds().create('Kind')
         with self.assertRaises(UnicodeEncodeError):
             kind.text = 'a\ud800'
         self.assertIsNone(kind.text)
 
     def test_longest(self):
+        """A text has at most 65,535 bytes of UTF-8."""
         kind = self.kinds().create('Kind')
         kind.text = 'a' * 65_535
         self.assertEqual(len(kind.text), 65_535)
@@ -74,6 +79,7 @@ class Texts(ClientTest):
         self.assertEqual(len(kind.text), 65_535)
 
     def test_longer_than_a_line(self):
+        """A text that does not fit in a line is not sent."""
         kind = self.kinds().create('Kind')
         with self.assertRaises(ValueError):
             kind.text = 'a' * 16_777_216
@@ -88,6 +94,7 @@ class Others(ClientTest):
         self.kind = self.kinds().create('Kind')
 
     def test_defaults(self):
+        """The default value of each type."""
         kind = self.kind
         self.assertIsNone(kind.text)
         self.assertEqual((kind.int, kind.long), (0, 0))
@@ -96,6 +103,7 @@ class Others(ClientTest):
         self.assertEqual(kind.texts, [])
 
     def test_integers(self):
+        """An EInt has 32 bits."""
         for number in (0, 1, -1, 2**31 - 1, -(2**31)):
             self.kind.int = number
             self.assertEqual(self.kind.int, number)
@@ -107,6 +115,7 @@ class Others(ClientTest):
         self.assertEqual(self.kind.int, -(2**31))
 
     def test_longs(self):
+        """An ELong has 64 bits; a larger number is not sent."""
         for number in (2**31, 2**63 - 1, -(2**63)):
             self.kind.long = number
             self.assertEqual(self.kind.long, number)
@@ -118,6 +127,7 @@ class Others(ClientTest):
         self.assertEqual(self.kind.long, -(2**63))
 
     def test_truth(self):
+        """A truth value is no number, and a number is no truth value."""
         self.kind.truth = True
         self.assertIs(self.kind.truth, True)
         self.kind.truths.extend([True, False, True])
@@ -127,6 +137,7 @@ class Others(ClientTest):
                 self.kind[feature] = value
 
     def test_literals(self):
+        """A literal is set by its name, and read as a Literal that equals its name."""
         kind = self.kind
         kind.colour = 'BLUE'
         self.assertEqual(kind.colour, 'BLUE')
@@ -142,10 +153,12 @@ class Others(ClientTest):
                 kind.colour = wrong
 
     def test_a_literal_is_no_text(self):
+        """A Literal is refused by a feature of type EString."""
         with self.refused(8, 'TYPE'):
             self.kind.text = Literal('RED')
 
     def test_null(self):
+        """Only texts and references can be null."""
         self.kind.text = 'a'
         self.kind.text = None
         self.assertIsNone(self.kind.text)
@@ -154,6 +167,7 @@ class Others(ClientTest):
                 self.kind[feature] = None
 
     def test_no_values(self):
+        """Any other Python object is a TypeError, and is not sent."""
         for wrong in (1.5, b'a', [1], {}, object(), Proxy('http://m.example/a#/'), self.kind.texts):
             with self.assertRaises(TypeError):
                 self.kind.text = wrong
@@ -164,11 +178,13 @@ class Objects(LibraryTest):
     """Objects as values."""
 
     def test_of_another_class(self):
+        """An object whose class does not conform is refused."""
         library, person = self.made('Library', 'Person')
         with self.refused(8, 'TYPE'):
             person.favourite = library
 
     def test_of_another_repository(self):
+        """An object of another repository is a ValueError."""
         book = self.opened().create('Book')
         person = self.repo.create('Person')
         with self.assertRaises(ValueError):
@@ -178,15 +194,17 @@ class Objects(LibraryTest):
         self.assertIsNone(person.favourite)
 
     def test_a_resource_is_no_value(self):
+        """A resource is a TypeError."""
         person = self.repo.create('Person')
         with self.assertRaises(TypeError):
             person.favourite = self.repo.resource('http://m.example/a')
 
 
 class Proxies(ClientTest):
-    """What a proxy is made of."""
+    """The class Proxy."""
 
     def test_parts(self):
+        """A proxy is split into URI and fragment at its first `#`, and equals a proxy of the same address."""
         proxy = Proxy('http://m.example/b#//@books.7#8')
         self.assertEqual((proxy.uri, proxy.fragment), ('http://m.example/b', '//@books.7#8'))
         self.assertEqual(proxy, Proxy('http://m.example/b#//@books.7#8'))

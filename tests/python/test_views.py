@@ -1,4 +1,4 @@
-"""Views: callables that are handed notifications."""
+"""Views: callables that get notifications."""
 
 from support import LIBRARY, ClientTest, LibraryTest
 
@@ -8,7 +8,7 @@ VIEWS = 992  # A9 to A1000
 
 
 class Heard(LibraryTest):
-    """What a view is handed."""
+    """Which notifications a view gets."""
 
     def setUp(self):
         super().setUp()
@@ -16,10 +16,11 @@ class Heard(LibraryTest):
         self.heard = []
 
     def view(self, node, deep=True):
-        """A view that keeps its notifications."""
+        """Attaches a view that keeps its notifications."""
         return self.repo.attach(self.heard.append, node, deep)
 
     def test_set(self):
+        """A set and an unset notify of the old and the new value, even if they are equal."""
         self.view(self.book)
         self.book.pages = 474
         self.book.pages = 474
@@ -38,6 +39,7 @@ class Heard(LibraryTest):
         self.assertIs(first.notifier, self.book)
 
     def test_list(self):
+        """Changes of a list notify of the value and its position."""
         self.view(self.book)
         tags = self.book.tags
         tags.extend(['a', 'b c', '"'])
@@ -60,11 +62,13 @@ class Heard(LibraryTest):
         )
 
     def test_literal(self):
+        """Literals in notifications."""
         self.view(self.book)
         self.book.genre = 'PLAY'
         self.assertEqual((self.heard[0].old, self.heard[0].new), ('NOVEL', 'PLAY'))
 
     def test_deep(self):
+        """A deep view is notified of objects as long as they are below its target."""
         self.view(self.library)
         self.library.books.append(self.book)
         self.book.name = 'Emma'
@@ -81,6 +85,7 @@ class Heard(LibraryTest):
         )
 
     def test_flat(self):
+        """A flat view is notified of its target alone."""
         self.view(self.library, deep=False)
         self.library.books.append(self.book)
         self.book.name = 'Emma'
@@ -88,6 +93,7 @@ class Heard(LibraryTest):
         self.assertEqual([notice.feature for notice in self.heard], ['books', 'name'])
 
     def test_resource(self):
+        """A view of a resource is notified of its roots."""
         town = self.repo.resource('http://m.example/a')
         self.view(town)
         town.append(self.library)
@@ -99,6 +105,7 @@ class Heard(LibraryTest):
         self.assertIs(self.heard[0].notifier, town)
 
     def test_loaded(self):
+        """A load notifies of each root."""
         town = self.repo.resource('http://m.example/a')
         self.view(town)
         town.load('{"format":2,"roots":[{"class":"Book","features":{}},{"class":"Folder","features":{}}]}')
@@ -108,12 +115,14 @@ class Heard(LibraryTest):
         )
 
     def test_refused_is_not_heard(self):
+        """A refused command notifies no view."""
         self.view(self.book)
         with self.refused(8, 'TYPE'):
             self.book.pages = 'many'
         self.assertEqual(self.heard, [])
 
     def test_several(self):
+        """Views are notified in attach order."""
         order = []
         self.repo.attach(lambda notice: order.append(1), self.book)
         self.repo.attach(lambda notice: order.append(2), self.book)
@@ -121,11 +130,13 @@ class Heard(LibraryTest):
         self.assertEqual(order, [1, 2])
 
     def test_hears_what_has_changed(self):
+        """A view is notified after the change."""
         self.repo.attach(lambda notice: self.heard.append(self.book.pages), self.book)
         self.book.pages = 7
         self.assertEqual(self.heard, [7])
 
     def test_commands_of_a_callable(self):
+        """The notifications of a command that a callable gives come after those of the command before it, at each view."""
         order = []
 
         def first(notice):
@@ -142,6 +153,7 @@ class Heard(LibraryTest):
         self.assertEqual(self.book.pages, 3)
 
     def test_no_target(self):
+        """What is no node, or no callable, is an error."""
         for wrong in (None, '#0', self.library.books):
             with self.assertRaises(TypeError):
                 self.repo.attach(print, wrong)
@@ -155,7 +167,7 @@ class Heard(LibraryTest):
 
 
 class Ended(LibraryTest):
-    """Views that are detached, and those of what is deleted."""
+    """Views that are detached, and views whose target is deleted."""
 
     def setUp(self):
         super().setUp()
@@ -163,6 +175,7 @@ class Ended(LibraryTest):
         self.heard = []
 
     def test_detach(self):
+        """A detached view gets a last notification, REMOVING_ADAPTER, and no further one."""
         view = self.repo.attach(self.heard.append, self.book)
         self.assertTrue(view.is_attached)
         self.assertIs(view.detach(), True)
@@ -172,12 +185,14 @@ class Ended(LibraryTest):
         self.assertIs(view.detach(), False)
 
     def test_index_of_the_last_notice(self):
+        """The position in the last notification is the index of the view in attach order."""
         views = [self.repo.attach(self.heard.append, self.book) for _ in range(3)]
         for view in (views[1], views[2], views[0]):
             view.detach()
         self.assertEqual([notice.position for notice in self.heard], [1, 1, 0])
 
     def test_deleted(self):
+        """A view whose target is deleted gets its last notification."""
         view = self.repo.attach(self.heard.append, self.book)
         self.book.delete()
         self.assertEqual(self.heard, [(Kind.REMOVING_ADAPTER, self.book, None, view, None, 0)])
@@ -185,6 +200,7 @@ class Ended(LibraryTest):
         self.assertFalse(view.detach())
 
     def test_detaches_itself(self):
+        """A view can detach itself in its callable."""
         def once(notice):
             self.heard.append(notice.kind)
             if view.is_attached:
@@ -196,11 +212,13 @@ class Ended(LibraryTest):
         self.assertEqual(self.heard, [Kind.SET, Kind.REMOVING_ADAPTER])
 
     def test_closed(self):
+        """Closing the repository notifies no view."""
         self.repo.attach(self.heard.append, self.book)
         self.repo.close()
         self.assertEqual(self.heard, [])
 
     def test_as_many_as_there_are(self):
+        """Up to 992 views are attached at a time, and a detached one makes way for another."""
         for _ in range(2):
             views = [self.repo.attach(self.heard.append, self.book) for _ in range(VIEWS)]
             with self.refused(25, 'NO_ADAPTER'):
@@ -215,6 +233,7 @@ class Ended(LibraryTest):
             self.heard.clear()
 
     def test_boxes_of_what_is_deleted(self):
+        """The adapters of deleted targets can be attached again."""
         for _ in range(3):
             book = self.repo.create('Book')
             for _ in range(VIEWS):
@@ -224,7 +243,7 @@ class Ended(LibraryTest):
 
 
 class Targets(LibraryTest):
-    """A view of several nodes."""
+    """A view of several targets."""
 
     def setUp(self):
         super().setUp()
@@ -233,6 +252,7 @@ class Targets(LibraryTest):
         self.view = self.repo.attach(self.heard.append, self.first)
 
     def test_watch(self):
+        """`watch` adds a target, and returns whether it is new."""
         self.assertIs(self.view.watch(self.second), True)
         self.assertIs(self.view.watch(self.second), False)
         self.assertIs(self.view.watch(self.first, deep=False), False)
@@ -241,6 +261,7 @@ class Targets(LibraryTest):
         self.assertEqual([(notice.notifier, notice.new) for notice in self.heard], [(self.second, 1), (self.first, 2)])
 
     def test_unwatch(self):
+        """`unwatch` takes a target away; with its last target a view is detached."""
         self.view.watch(self.second)
         self.assertIs(self.view.unwatch(self.first), True)
         self.assertIs(self.view.unwatch(self.first), False)
@@ -259,6 +280,7 @@ class Targets(LibraryTest):
         )
 
     def test_detached(self):
+        """A detached view takes no targets."""
         self.view.detach()
         for call in (self.view.watch, self.view.unwatch):
             with self.assertRaises(ValueError):
@@ -266,9 +288,10 @@ class Targets(LibraryTest):
 
 
 class Spoken(ClientTest):
-    """What is sent for the calls of a view, to a program that answers as docs/SCRIPT.md has it."""
+    """The lines that the calls of a view send to a fake program, which answers by the rules of docs/SCRIPT.md."""
 
     def test_lines(self):
+        """Each call sends its line, and reads the answer and the notifications."""
         answers = {
             'new Book': '#0',
             'resource "http://m.example/a"': 'r0',

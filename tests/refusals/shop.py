@@ -7,7 +7,7 @@ from pathlib import Path
 
 TOP = Path(__file__).resolve().parent.parent.parent
 PROGRAM = Path(os.environ.get('MMREPO', TOP / 'crates/mmrepo/out/mmrepo')).resolve()
-SECONDS = 60  # the most that a run may take
+SECONDS = 60  # the longest time of a run
 
 METAMODEL = '''\
 {"enums": [
@@ -83,7 +83,7 @@ SCRIPT = (
 
 
 def run(metamodel, lines=(), *options, stdin=None):
-    """What the program prints over a metamodel, on both streams, and its status."""
+    """Runs the program over a metamodel and lines; returns both outputs and the status."""
     with tempfile.TemporaryDirectory() as room:
         file = Path(room, 'shop.json')
         file.write_bytes(metamodel if isinstance(metamodel, bytes) else metamodel.encode())

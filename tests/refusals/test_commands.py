@@ -1,4 +1,4 @@
-"""Commands that are refused, each fixed by what the program says of it and by nothing else."""
+"""Refused commands, each fixed by the line that the program prints for it and by nothing else."""
 
 import re
 import unittest
@@ -10,9 +10,10 @@ from shop import BOB, METAMODEL, ORDER, SCRIPT, run
 
 @dataclass(frozen=True)
 class Planted:
-    """A line that is refused after others, the line that the program has to say, and the lines that take its place.
+    """A script with a refused line: the lines before it, the line, a pattern for what the program must print, the lines that replace it,
+    and the lines after it.
 
-    What a line in its place has from the line that was said is told as `re` tells the groups of a match.
+    A replacement takes words from the printed line by the groups of the pattern, as `re.Match.expand` does.
     """
 
     before: Tuple[str, ...]
@@ -23,13 +24,13 @@ class Planted:
 
 
 def instead(old, line, said, *mended):
-    """A line that is refused in place of a sound one."""
+    """A refused line in place of a valid line of the script."""
     at = SCRIPT.index(old)
     return Planted(SCRIPT[:at], line, said, mended, SCRIPT[at + 1:])
 
 
 def after(old, line, said, *mended):
-    """A line that is refused after a sound one. Without others in its place it is left out."""
+    """A refused line after a valid line of the script. Without a replacement the refused line is left out."""
     at = SCRIPT.index(old) + 1
     return Planted(SCRIPT[:at], line, said, mended, SCRIPT[at:])
 
@@ -190,7 +191,7 @@ COMMANDS = {
 
 
 def faults(printed):
-    """The answers of lines that were refused or bad."""
+    """The answers of refused and of bad lines."""
     return [line for line in printed.splitlines() if line.startswith('refused ') or line == 'bad line']
 
 
@@ -198,12 +199,12 @@ class Commands(unittest.TestCase):
     """Each command is refused, explained and fixed."""
 
     def test_the_script_has_no_fault(self):
-        """Every line of the script is done, and nothing is said of it."""
+        """Every line of the script is done, and nothing is explained."""
         printed, said, status = run(METAMODEL, SCRIPT, '--explain')
         self.assertEqual((faults(printed), said, status), ([], '', 0))
 
     def mended(self, planted):
-        """The lines that take the place of one that is refused, by what is said of it."""
+        """The lines that replace a refused line, made from its explanation."""
         printed, said, status = run(METAMODEL, [*planted.before, planted.line], '--explain')
         self.assertEqual((len(faults(printed)), status), (1, 0), printed)
         lines = said.splitlines()
@@ -213,7 +214,7 @@ class Commands(unittest.TestCase):
         return [match.expand(line) for line in planted.mended]
 
     def test_each_command_is_mended_by_its_line(self):
-        """With the lines that take the place of the refused one, every line of the script is done."""
+        """With the replacement every line of the script is done."""
         for name, planted in COMMANDS.items():
             with self.subTest(name):
                 script = [*planted.before, *self.mended(planted), *planted.rest]
@@ -221,7 +222,7 @@ class Commands(unittest.TestCase):
                 self.assertEqual((faults(printed), said), ([], ''), script)
 
     def test_what_is_said_changes_no_answer(self):
-        """The answers are the same without --explain, and nothing is said."""
+        """Without --explain the answers are the same, and nothing is explained."""
         for name, planted in COMMANDS.items():
             with self.subTest(name):
                 script = [*planted.before, planted.line, *planted.rest]

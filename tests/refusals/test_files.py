@@ -1,4 +1,4 @@
-"""Resources that are loaded from files before a script, and saved into files after it."""
+"""`--load` and `--save`: resources that are loaded from files before a script, and saved to files after it."""
 
 import json
 import os
@@ -10,7 +10,7 @@ from pathlib import Path
 
 from shop import METAMODEL, PROGRAM, SECONDS
 
-# The modes of files bind a superuser too, if this capability is dropped.
+# Without this capability the permissions of files apply to a superuser too.
 AS_USER = ('setpriv', '--bounding-set=-dac_override') if os.geteuid() == 0 else ()
 URI = 'http://m.example/shop'
 SHOP = '{"format":2,"roots":[{"class":"Shop","features":{"customers":[{"class":"Customer","features":{"name":"Ann"}}],"name":"Corner"}}]}'
@@ -27,7 +27,7 @@ class Files(unittest.TestCase):
         (self.folder / 'shop.json').write_text(SHOP)
 
     def run_program(self, lines, *options):
-        """What the program prints, on both streams, and its status."""
+        """Runs the program; returns both outputs and the status."""
         done = subprocess.run(
             [*AS_USER, PROGRAM, '--meta', 'meta.json', *options],
             cwd=self.folder,
@@ -39,11 +39,11 @@ class Files(unittest.TestCase):
         return done.stdout.decode(), done.stderr.decode(), done.returncode
 
     def names(self):
-        """The files of the folder."""
+        """The names of the files in the folder."""
         return sorted(file.name for file in self.folder.iterdir())
 
     def test_a_file_is_loaded_as_two_lines_load_it(self):
-        """The objects and resources have the numbers, and the answers are those, that the two lines would give."""
+        """`--load` prints and makes the same as the lines `resource` and `load`."""
         lines = ['get #0 name', 'contents #0', 'new Order', 'add #0 orders #2', 'resource "http://m.example/b"', 'save r0']
         two = [f'resource "{URI}"', f'load r0 {SHOP}']
         loaded = self.run_program(lines, '--load', f'{URI}=shop.json')
@@ -51,12 +51,12 @@ class Files(unittest.TestCase):
         self.assertEqual(loaded, (printed.removeprefix('r0\nloaded 2\n'), '', 0))
 
     def test_a_document_has_many_lines(self):
-        """A document may be laid out over lines, as no line of a script can have it."""
+        """A document in a file may have several lines, unlike one in a script."""
         (self.folder / 'shop.json').write_text(json.dumps(json.loads(SHOP), indent=2))
         self.assertEqual(self.run_program(['get #0 name'], '--load', f'{URI}=shop.json'), ('"Corner"\n', '', 0))
 
     def test_several_files(self):
-        """Files are loaded in the order of the words; a reference from one to another is a proxy until it is resolved."""
+        """Files are loaded in the order of the arguments; a reference between them is a proxy until it is resolved."""
         order = '{"format":2,"roots":[{"class":"Order","features":{"customer":"shop#//@customers.0"}}]}'
         (self.folder / 'order.json').write_text(order)
         loads = ('--load', 'http://m.example/order=order.json', '--load', f'{URI}=shop.json')
@@ -64,7 +64,7 @@ class Files(unittest.TestCase):
         self.assertEqual((printed, said, status), (f'proxy "{URI}#//@customers.0"\nresolved 1 left 0\n#2\n', '', 0))
 
     def test_a_live_run_over_a_file(self):
-        """--load goes with --live, and so does --save."""
+        """`--load` and `--save` can be used with `--live`."""
         printed, said, status = self.run_program(
             ['get #0 name', 'set #0 name "Mall"'], '--live', '--load', f'{URI}=shop.json', '--save', f'{URI}=out.json'
         )
@@ -72,7 +72,7 @@ class Files(unittest.TestCase):
         self.assertEqual((self.folder / 'out.json').read_text(), SHOP.replace('Corner', 'Mall') + '\n')
 
     def test_a_refusal_stops_before_the_script(self):
-        """A refusal is printed with the file before it; the script is not run, and a later file is not loaded."""
+        """A refused file is printed with its name; neither the script nor a later file is read."""
         shop = f'{URI}=shop.json'
         wrong = [
             (('file:/a=shop.json',), 'shop.json: refused 15 BAD_URI', 'shop.json: the scheme of "file:/a" is "file", and has to be http or https'),
@@ -95,19 +95,19 @@ class Files(unittest.TestCase):
                 self.assertEqual((printed, said.splitlines()[:2], status), ('', [refusal, explained], 5))
 
     def test_a_file_that_is_not_there(self):
-        """A file that can't be read stops the run, as that of a script does."""
+        """A file that can't be read stops the run, as a missing script does."""
         self.assertEqual(self.run_program(['new Shop'], '--load', f'{URI}=none.json'), ('', 'run stopped: READ\n', 3))
         said = 'run stopped: READ\nnone.json: No such file or directory (os error 2)\n'
         self.assertEqual(self.run_program(['new Shop'], '--load', f'{URI}=none.json', '--explain'), ('', said, 3))
         self.assertEqual(self.run_program(['new Shop'], '--load', f'{URI}=.')[1:], ('run stopped: READ\n', 3))
 
     def test_the_last_equals_sign_ends_the_uri(self):
-        """A URI may have a query."""
+        """A URI may have a query: the last equals sign ends it."""
         printed, said, status = self.run_program(['at "http://m.example/a?b=c#/"'], '--load', 'http://m.example/a?b=c=shop.json')
         self.assertEqual((printed, said, status), ('#0\n', '', 0))
 
     def test_what_is_saved_is_the_answer_of_save(self):
-        """The file has the document, and a newline."""
+        """The file has the document and a newline."""
         lines = ['resource "http://m.example/a"', 'new Shop', 'add r0 contents #0', 'set #0 name "A"', 'save r0']
         printed, said, status = self.run_program(lines, '--save', 'HTTP://m.example/a=out.json')
         self.assertEqual((said, status), ('', 0))
@@ -115,7 +115,7 @@ class Files(unittest.TestCase):
         self.assertEqual(self.names(), ['meta.json', 'out.json', 'shop.json'])
 
     def test_a_file_is_replaced(self):
-        """A resource is loaded, changed and saved into the file that it came from; an empty one is saved too."""
+        """A resource is loaded, changed and saved to the same file; an empty resource is saved too."""
         both = ('--load', f'{URI}=shop.json', '--save', f'{URI}=shop.json', '--save', 'http://m.example/b=b.json')
         self.assertEqual(self.run_program(['set #0 name "B"', 'resource "http://m.example/b"'], *both)[1:], ('', 0))
         self.assertEqual((self.folder / 'shop.json').read_text(), SHOP.replace('Corner', 'B') + '\n')
@@ -139,20 +139,20 @@ class Files(unittest.TestCase):
         self.assertEqual(self.run_program([], '--save', 'shop=a.json'), ('', 'a.json: refused 15 BAD_URI\n', 5))
 
     def test_a_run_that_stops_saves_nothing(self):
-        """Neither does one that --stop ended."""
+        """A run that stops by itself or by `--stop` saves nothing."""
         both = ('--load', f'{URI}=shop.json', '--save', f'{URI}=out.json')
         self.assertEqual(self.run_program(['frob', 'new Shop'], '--stop', *both), ('bad line\n', '', 0))
         self.assertEqual(self.run_program([], '--script', 'none', *both), ('', 'run stopped: READ\n', 3))
         self.assertEqual(self.names(), ['meta.json', 'shop.json'])
 
     def test_a_fault_of_a_line_is_no_reason_not_to_save(self):
-        """A run that comes to its end saves, whatever its lines answered."""
+        """A run that reaches its end saves, even if lines were refused."""
         both = ('--load', f'{URI}=shop.json', '--save', f'{URI}=out.json')
         self.assertEqual(self.run_program(['frob'], '--strict', *both), ('bad line\n', '', 4))
         self.assertEqual((self.folder / 'out.json').read_text(), SHOP + '\n')
 
     def test_a_folder_that_takes_no_file(self):
-        """A file that can't be written stops the run, and the old one stays."""
+        """A file that can't be written stops the run, and the old file stays."""
         self.folder.chmod(stat.S_IRUSR | stat.S_IXUSR)
         self.addCleanup(self.folder.chmod, stat.S_IRWXU)
         both = ('--load', f'{URI}=shop.json', '--save', f'{URI}=shop.json')
@@ -160,14 +160,14 @@ class Files(unittest.TestCase):
         self.assertEqual((self.folder / 'shop.json').read_text(), SHOP)
 
     def test_a_folder_that_is_not_there(self):
-        """The file and the system's reason are said if that is asked for."""
+        """With `--explain` the file and the system's reason are printed."""
         both = ('--load', f'{URI}=shop.json', '--save', f'{URI}=none/a.json')
         self.assertEqual(self.run_program([], *both), ('', 'run stopped: WRITE\n', 3))
         said = 'run stopped: WRITE\nnone/a.json: No such file or directory (os error 2)\n'
         self.assertEqual(self.run_program([], '--explain', *both), ('', said, 3))
 
     def test_a_file_that_takes_no_more(self):
-        """A write that fails leaves the old file, and no other."""
+        """If a write fails, the old file stays, and no other file is left."""
         if not Path('/dev/full').exists():
             self.skipTest('there is no /dev/full')
         (self.folder / 'out.json').mkdir()
@@ -176,7 +176,7 @@ class Files(unittest.TestCase):
         self.assertEqual(self.names(), ['meta.json', 'out.json', 'shop.json'])
 
     def test_options_that_are_wrong(self):
-        """A value without a file, and --load with a journal, are errors with the usage."""
+        """A value without a file, and `--load` with a journal, are errors with the usage."""
         usage = "\nUsage: mmrepo [OPTIONS] --meta <FILE>\n\nFor more information, try '--help'.\n"
         for options, error in (
             (('--load', 'shop.json'), 'error: --load takes URI=FILE\n'),
@@ -187,7 +187,7 @@ class Files(unittest.TestCase):
                 self.assertEqual(self.run_program([], *options), ('', error + usage, 2))
 
     def test_a_journal_is_saved_as_documents(self):
-        """--save goes with --journal: the resources that the journal's lines made are saved, also if no line follows."""
+        """`--save` can be used with `--journal`: it saves the resources that the journal's lines made, even if the input is empty."""
         journal = ('--live', '--journal', 'kept')
         lines = ['resource "http://m.example/a"', 'new Shop', 'add r0 contents #0', 'set #0 name "A"']
         self.assertEqual(self.run_program(lines, *journal)[1:], ('', 0))

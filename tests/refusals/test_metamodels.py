@@ -1,4 +1,4 @@
-"""Faults that are planted in a metamodel, each fixed by what the program says of it and by nothing else."""
+"""Faults planted in a metamodel, each fixed by the line that the program prints for it and by nothing else."""
 
 import json
 import re
@@ -8,20 +8,20 @@ from shop import METAMODEL, run
 
 
 def replaced(text, old, new):
-    """A text with an edit of a part that is there once."""
+    """A text with one part replaced; the part must be in it exactly once."""
     if text.count(old) != 1:
         raise ValueError(f'{old!r} is there {text.count(old)} times')
     return text.replace(old, new)
 
 
 def feature_of(document, class_name, name):
-    """The features of a class, and one of them."""
+    """The features of a class, and the last one of a name."""
     features = next(it for it in document['classes'] if it['name'] == class_name)['features']
     return features, next(it for it in reversed(features) if it['name'] == name)
 
 
 def edited(change):
-    """A fix of the document as JSON."""
+    """A fix that changes the metamodel as JSON."""
 
     def mend(text, match):
         document = json.loads(text)
@@ -32,7 +32,7 @@ def edited(change):
 
 
 def quoted(old, new):
-    """A fix of one place of the text: the groups of the line say where, and what to write."""
+    """A fix that replaces one part of the text; the groups of the printed line give the old and the new part."""
 
     def mend(text, match):
         return replaced(text, match.expand(old), match.expand(new))
@@ -41,25 +41,25 @@ def quoted(old, new):
 
 
 def without_key(document, match):
-    """Takes a key away from a feature."""
+    """Removes a key from a feature."""
     del feature_of(document, match[1], match[2])[1][match[3]]
 
 
 def without_feature(document, match):
-    """Takes the feature that is named last away."""
+    """Removes the last feature of a name."""
     features, found = feature_of(document, match[1], match[2])
     features.remove(found)
 
 
 def moved_down(document, match):
-    """Declares a feature in one class and not in another."""
+    """Moves a feature from one class to another."""
     features, found = feature_of(document, match[3], match[1])
     features.remove(found)
     next(it for it in document['classes'] if it['name'] == match[2])['features'].append(found)
 
 
 def set_key(key, group, cast=str):
-    """A change that gives a feature the value that a group of the line has."""
+    """A change that sets a key of a feature to the value in a group of the printed line."""
 
     def change(document, match):
         feature_of(document, match[1], match[2])[1][key] = cast(match[group])
@@ -69,7 +69,7 @@ def set_key(key, group, cast=str):
 
 PLACE = r'(?:classes\[\d+\]\.features\[\d+\] \()?class (\w+), feature (\w+)\)?: '
 MEANT = '"(.+)" is no .*; is "(.+)" meant\\?'
-# What is planted: an edit of the text; the line that the program has to say; and the fix.
+# For each fault: the edit of the text that plants it, a pattern for the line that the program must print, and the fix.
 FAULTS = {
     'byte_order_mark': (('{"enums"', '\ufeff{"enums"'), 'line 1, column 1: the bytes begin with a byte order mark; take it out', lambda text, match: text[1:]),
     'comma': (
@@ -164,7 +164,7 @@ FAULTS = {
     'default_of_a_list': (
         ('"EString", "upper": -1', '"EString", "default": "", "upper": -1'), PLACE + 'it is many-valued, and begins empty; leave its (default) out', edited(without_key)),
 }
-# A reference that is in a supertype: what is planted is that it was moved there.
+# A planted fault: the reference was moved to a supertype.
 LIFTED = (
     METAMODEL.replace('"features": [\n    {"name": "workplace", "kind": "reference", "type": "Shop", "opposite": "clerks"}\n  ]', '"features": []')
     .replace('"type": "EInt"}\n', '"type": "EInt"},\n    {"name": "workplace", "kind": "reference", "type": "Shop", "opposite": "clerks"}\n')
@@ -175,11 +175,11 @@ class Metamodels(unittest.TestCase):
     """Each fault is refused, explained and fixed."""
 
     def test_the_metamodel_has_no_fault(self):
-        """The metamodel is accepted."""
+        """The metamodel without a planted fault is accepted."""
         self.assertEqual(run(METAMODEL), ('', '', 0))
 
     def mended(self, text, pattern, mend):
-        """A metamodel that is refused, fixed by what is said of it."""
+        """A refused metamodel, fixed by its explanation."""
         _, said, status = run(text, (), '--explain')
         self.assertEqual(status, 1, said)
         fault, *lines = said.splitlines()
@@ -189,14 +189,15 @@ class Metamodels(unittest.TestCase):
         return mend(text, matches[0])
 
     def test_each_fault_is_mended_by_its_line(self):
-        """What the line of a fault says makes the metamodel as it was."""
+        """The fix gives the metamodel as it was before the fault."""
         for name, ((old, new), pattern, mend) in FAULTS.items():
             with self.subTest(name):
                 text = self.mended(replaced(METAMODEL, old, new), pattern, mend)
                 self.assertEqual(json.loads(text), json.loads(METAMODEL))
 
     def test_a_reference_of_a_supertype(self):
-        """The first way out of a reference that a supertype declares gives the metamodel that was meant, and the second an accepted one."""
+        """For an opposite that a supertype declares, the first fix that is offered gives the metamodel that was meant, the second an
+        accepted one."""
         pattern = r'class Shop, feature clerks: its opposite "(\w+)" is no feature that (\w+) declares itself; declare it in \2 and not in (\w+), or give .*'
         text = self.mended(LIFTED, pattern, edited(moved_down))
         self.assertEqual(json.loads(text), json.loads(METAMODEL))
@@ -205,7 +206,7 @@ class Metamodels(unittest.TestCase):
         self.assertEqual(run(text), ('', '', 0))
 
     def test_a_reference_of_a_supertype_that_comes_first(self):
-        """The same, if the reference of the supertype is the one that is refused."""
+        """The same, if the refused reference is the one of the supertype."""
         document = json.loads(LIFTED)
         document['classes'].insert(0, document['classes'].pop(3))
         pattern = (

@@ -1,4 +1,4 @@
-"""Lines for a person at a terminal, which a program does not get."""
+"""Lines that are printed for a person at a terminal, and not for a program on a pipe."""
 
 import os
 import pty
@@ -12,12 +12,12 @@ from shop import METAMODEL, PROGRAM, SECONDS
 
 
 def read_all(terminal):
-    """What is written to a terminal until nobody has it open any more."""
+    """All that is written to a terminal until no process has it open."""
     found = b''
     while select.select([terminal], [], [], SECONDS)[0]:
         try:
             data = os.read(terminal, 4096)
-        except OSError:  # on Linux, the end
+        except OSError:  # so Linux reports the end
             break
         if not data:
             break
@@ -26,7 +26,7 @@ def read_all(terminal):
 
 
 class Terminals(unittest.TestCase):
-    """Runs whose standard error, or standard input, is a terminal."""
+    """Runs whose standard error or standard input is a terminal."""
 
     def setUp(self):
         room = tempfile.TemporaryDirectory()
@@ -37,7 +37,7 @@ class Terminals(unittest.TestCase):
         self.addCleanup(os.close, self.ours)
 
     def start(self, *words, **streams):
-        """Starts the program, and leaves it alone with its end of the terminal."""
+        """Starts the program, and closes this process's copy of the program's end of the terminal."""
         process = subprocess.Popen([PROGRAM, *words], cwd=self.folder, **streams)
         self.addCleanup(process.wait)
         self.addCleanup(process.kill)
@@ -45,32 +45,32 @@ class Terminals(unittest.TestCase):
         return process
 
     def said(self, *words):
-        """What a run says on standard error, which is a terminal, and its status."""
+        """What a run prints on standard error, which is a terminal, and its status."""
         process = self.start(*words, stdin=subprocess.DEVNULL, stdout=subprocess.DEVNULL, stderr=self.theirs)
         text = read_all(self.ours)
         return text, process.wait(SECONDS)
 
     def test_a_file_that_is_not_there(self):
-        """The file and the system's reason follow the line that programs read."""
+        """For a missing metamodel the file and the system's reason follow the line that programs read."""
         reason = 'No such file or directory (os error 2)'
         self.assertEqual(self.said('--meta', 'nope.json'), (f'run stopped: READ\nnope.json: {reason}\n', 3))
 
     def test_a_script_that_is_not_there(self):
-        """The same of a script."""
+        """The same for a missing script."""
         reason = 'No such file or directory (os error 2)'
         self.assertEqual(self.said('--meta', 'meta.json', '--script', 'nope'), (f'run stopped: READ\nnope: {reason}\n', 3))
 
     def test_a_folder(self):
-        """A folder is opened, and can't be read."""
+        """A folder can be opened but not read, and the reason says so."""
         self.assertEqual(self.said('--meta', '.'), ("run stopped: READ\n.: it can't be read\n", 3))
 
     def test_a_refused_metamodel_is_explained_if_asked_for(self):
-        """Nothing more is said of what is refused."""
+        """A refused metamodel is explained by `--explain` alone."""
         (self.folder / 'wrong.json').write_text('{"classes":[{"nam":"A"}]}')
         self.assertEqual(self.said('--meta', 'wrong.json'), ('metamodel refused: 2 LAYOUT\n', 1))
 
     def test_a_pipe_gets_one_line(self):
-        """A program that reads standard error reads what it read before."""
+        """On a pipe there is one line and no reason."""
         os.close(self.theirs)
         done = subprocess.run(
             [PROGRAM, '--meta', 'nope.json'], cwd=self.folder, stdin=subprocess.DEVNULL, capture_output=True, timeout=SECONDS
@@ -78,7 +78,7 @@ class Terminals(unittest.TestCase):
         self.assertEqual((done.stdout, done.stderr, done.returncode), (b'', b'run stopped: READ\n', 3))
 
     def typed(self, text, *options):
-        """What a live run prints and says if a person types a text."""
+        """What a live run prints on both streams if a person types a text."""
         process = self.start(
             '--meta', 'meta.json', '--live', *options, stdin=self.theirs, stdout=subprocess.PIPE, stderr=subprocess.PIPE
         )
@@ -87,20 +87,20 @@ class Terminals(unittest.TestCase):
         return printed.decode(), said.decode().replace('> ', ''), process.returncode
 
     def test_words_of_other_programs(self):
-        """`help`, `quit` and `exit` are bad lines, and a line says to a person what to do."""
+        """`help`, `quit` and `exit` are bad lines, and a line tells a person what to do."""
         printed, said, status = self.typed('help\nquit\nexit\nfrob\nnew Shop\n')
         self.assertEqual((printed, status), ('bad line\n\n' * 4 + '#0\n\n', 0))
         end = 'Ctrl-D ends the program'
         self.assertEqual(said.split('\n'), [f'mmrepo --help shows what can be typed; {end}', end, end, '', ''])
 
     def test_with_explain(self):
-        """So it is with --explain; other bad lines are explained."""
+        """With `--explain` there is the same line; other bad lines are explained."""
         _, said, _ = self.typed('quit\nfrob\n', '--explain')
         self.assertIn('Ctrl-D ends the program\n', said)
         self.assertIn('line 2: unknown verb "frob"; mmrepo --help has them all\n', said)
 
     def test_a_pipe_is_no_person(self):
-        """Lines that come through a pipe have their answers alone."""
+        """Lines from a pipe get their answers alone."""
         os.close(self.theirs)
         done = subprocess.run(
             [PROGRAM, '--meta', 'meta.json', '--live'], cwd=self.folder, input=b'help\nquit\n', capture_output=True, timeout=SECONDS

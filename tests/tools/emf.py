@@ -1,4 +1,5 @@
-"""EMF as the judge: a program in Java (folder emf) that reads and writes XMI by EMF and says what it has. It is compiled at first use."""
+"""EMF as the reference: a program in Java (folder emf) that reads and writes XMI by EMF, and prints what EMF has read. It is compiled at
+its first use."""
 
 import shutil
 import subprocess
@@ -14,7 +15,7 @@ SOURCES = HERE / 'emf'
 
 
 class Emf:
-    """One process of the judge, which all tests ask."""
+    """One process of the program, which all tests share."""
 
     one = None
 
@@ -28,7 +29,7 @@ class Emf:
         )
 
     def send(self, words):
-        """The lines of the answer to a command."""
+        """Sends a command; returns the lines of its answer."""
         self.process.stdin.write(('\t'.join(map(str, words)) + '\n').encode())
         self.process.stdin.flush()
         lines = []
@@ -40,13 +41,13 @@ class Emf:
 
 
 def ask(*words):
-    """What EMF answers to a command."""
+    """The answer of EMF to a command."""
     Emf.one = Emf.one or Emf()
     return Emf.one.send(words)
 
 
 def close():
-    """Ends the judge."""
+    """Ends the process."""
     if Emf.one is not None:
         Emf.one.process.stdin.close()
         Emf.one.process.wait()
@@ -56,6 +57,6 @@ def close():
 
 
 def read(ecore, *files):
-    """What EMF has of XMI files, without their names; the first lines are its errors."""
+    """What EMF reads of XMI files, without their names; the errors come first."""
     lines = ask('packages', *ecore)
     return lines + ask('read', *files)

@@ -1,4 +1,4 @@
-"""What the tests of the tools share: running a tool, and running the program on a document."""
+"""Shared by the tests of the tools: running a tool, and running the program on a document."""
 
 import os
 import subprocess
@@ -13,18 +13,18 @@ PROGRAM = Path(os.environ.get('MMREPO') or TOP / 'crates/mmrepo/out/mmrepo')
 URI = 'http://m.example/a'
 
 
-COMPILED = tempfile.TemporaryDirectory()  # so that no run leaves files in the project, and none compiles again
+COMPILED = tempfile.TemporaryDirectory()  # the folder of compiled modules, outside of the project and shared by all runs
 ENVIRONMENT = {name: value for name, value in os.environ.items() if name != 'PYTHONDONTWRITEBYTECODE'}
 ENVIRONMENT['PYTHONPYCACHEPREFIX'] = COMPILED.name
 
 
 def command_of(tool, words):
-    """The command that runs a tool."""
+    """The command line of a tool."""
     return [sys.executable, str(TOP / 'tools' / tool), *map(str, words)]
 
 
 class Ended:
-    """How a tool ended: its status, and the text of both streams."""
+    """A tool that has ended: its status, and the text of both streams."""
 
     def __init__(self, done):
         self.status, self.out, self.err = done.returncode, done.stdout.decode(), done.stderr.decode()
@@ -39,7 +39,7 @@ def run_tool(tool, *words):
 
 
 def run_program(meta, script):
-    """What the program prints for a script, or its line on standard error if it ends with a status other than 0."""
+    """What the program prints for a script; its line on standard error if it ends with a status other than 0."""
     if not PROGRAM.exists():
         raise AssertionError(f'no program at {PROGRAM}')
     with tempfile.TemporaryDirectory() as room:
@@ -50,13 +50,13 @@ def run_program(meta, script):
 
 
 def load_and_save(meta, document, uri=URI):
-    """What `load` answers, and the document that `save` gives."""
+    """The answer of `load` for a document, and the document that `save` returns."""
     printed = run_program(meta, f'resource "{uri}"\nload r0 {document.strip()}\nsave r0\n').split('\n')
     return printed[1], printed[2] + '\n'
 
 
 class ToolTest(unittest.TestCase):
-    """A test that makes files."""
+    """A test with a temporary folder for files."""
 
     maxDiff = None
 
@@ -65,25 +65,25 @@ class ToolTest(unittest.TestCase):
         self.addCleanup(self.room.cleanup)
 
     def file(self, name, content):
-        """The path of a file that is made of a text or of bytes."""
+        """Writes a file from a text or from bytes, and returns its path."""
         path = Path(self.room.name, name)
         path.write_bytes(content if isinstance(content, bytes) else content.encode())
         return path
 
     def tool(self, tool, *words):
-        """What a tool prints, which has to end well."""
+        """Runs a tool that must succeed, and returns what it prints."""
         ended = run_tool(tool, *words)
         self.assertEqual(ended.status, 0, ended.err)
         return ended.out
 
     def notes(self, tool, *words):
-        """The lines on standard error of a tool that ends well, without its name."""
+        """Runs a tool that must succeed, and returns its lines on standard error without its name."""
         ended = run_tool(tool, *words)
         self.assertEqual(ended.status, 0, ended.err)
         return [line[len(tool) + 2:] for line in ended.err.splitlines()]
 
     def assert_fault(self, line, tool, *words):
-        """Checks that a tool ends with status 1 and writes one line, on standard error; `ROOM` stands for the folder of the files."""
+        """Checks that a tool ends with status 1 and prints one line, on standard error. `ROOM` in the line is the folder of the files."""
         ended = run_tool(tool, *words)
         told = ended.err.replace(str(self.room.name), 'ROOM')
         self.assertEqual((ended.status, ended.out, told), (1, '', f'{tool}: {line}\n'))

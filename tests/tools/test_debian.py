@@ -1,4 +1,4 @@
-"""The .ecore files of Debian's libeclipse-emf-ecore-java as metamodels, and as instances of Ecore; skipped without the package."""
+"""The .ecore files of Debian's libeclipse-emf-ecore-java, as metamodels and as instances of Ecore. Skipped without the package."""
 
 import unittest
 import zipfile
@@ -22,19 +22,23 @@ class Debian(ToolTest):
         self.ecore = next(file for file in self.files if file.name == 'Ecore.ecore')
 
     def test_there_are_files(self):
+        """The package has at least six files."""
         self.assertGreaterEqual(len(self.files), 6)
 
     def test_metamodels(self):
+        """Each file becomes a metamodel that the program accepts."""
         for file in self.files:
             with self.subTest(file=file.name):
                 meta = self.tool('ecore2mm', file)
                 self.assertEqual(run_program(meta, 'new Nope__\n'), 'refused 3 NO_CLASS\n')
 
     def test_all_together(self):
+        """All files together become one metamodel."""
         meta = self.tool('ecore2mm', *self.files)
         self.assertEqual(run_program(meta, 'new EClass\nclass #0\n'), '#0\nclass EClass\n')
 
     def test_instances(self):
+        """Each file is read as an instance of Ecore, loaded, saved, written as XMI, and read again as the same document."""
         meta = self.tool('ecore2mm', self.ecore)
         options = ['--ecore', self.ecore, '--uri', URI]
         for file in self.files:
@@ -47,6 +51,7 @@ class Debian(ToolTest):
                 self.assertEqual((again.status, again.out, again.err), (0, document, ''))
 
     def test_written_instances_are_metamodels(self):
+        """Ecore, read as an instance of itself and written again, becomes the same metamodel."""
         document = self.file('ecore.json', self.tool('xmi2doc', '--ecore', self.ecore, self.ecore))
         made = self.file('made.ecore', self.tool('doc2xmi', '--ecore', self.ecore, document))
         self.assertEqual(self.tool('ecore2mm', made), self.tool('ecore2mm', self.ecore))

@@ -1,4 +1,4 @@
-"""diagram: what is drawn of metamodels and of documents."""
+"""`tools/diagram`: what it draws of metamodels and of documents."""
 
 import json
 import re
@@ -83,7 +83,7 @@ SMALL = {'enums': [{'name': 'E', 'literals': ['A']}], 'classes': [
     {'name': 'B', 'supers': ['A'], 'features': [{'name': 'parts', 'kind': 'reference', 'type': 'A', 'upper': -1, 'containment': True}]},
 ]}
 
-# A metamodel document, and the line that is printed of it.
+# Metamodel documents, each with the line that the tool prints for it.
 FAULTS = [
     ('[]', 'ROOM/m.json: the document is no object'),
     ('{}', 'ROOM/m.json: the document: classes is absent or of another kind'),
@@ -98,26 +98,31 @@ FAULTS = [
 
 
 class Diagrams(ToolTest):
-    """Diagrams, letter by letter."""
+    """The text of each diagram, letter by letter."""
 
     def draw(self, meta, *words):
         """The diagram of a metamodel."""
         return self.tool('diagram', self.file('m.json', json.dumps(meta)), *words)
 
     def test_classes(self):
+        """A class diagram has classes, enumerations, features, supertypes and references with their bounds."""
         self.assertEqual(self.tool('diagram', LIBRARY), CLASSES)
 
     def test_page(self):
+        """The diagram in docs/ECORE.md is the one that the tool draws."""
         blocks = re.findall(r'```mermaid\n(.*?)```', (TOP / 'docs/ECORE.md').read_text(), re.S)
         self.assertEqual(blocks, [CLASSES])
 
     def test_objects(self):
+        """An object diagram has objects with their values, links and proxies."""
         self.assertEqual(self.tool('diagram', LIBRARY, self.file('d.json', json.dumps(DOCUMENT))), OBJECTS)
 
     def test_graphviz(self):
+        """`--dot` draws for Graphviz."""
         self.assertEqual(self.draw(SMALL, '--dot'), GRAPH)
 
     def test_names_that_say_something(self):
+        """Titles that mean something to Mermaid get a numbered identifier."""
         names = ['class', 'End', 'A"]\n}', 'box_0', 'box_0']
         made = self.draw({'classes': [{'name': name} for name in names]})
         self.assertEqual(
@@ -129,26 +134,31 @@ class Diagrams(ToolTest):
         )
 
     def test_texts_in_graphviz(self):
+        """Characters that mean something to Graphviz are escaped."""
         document = {'format': 1, 'roots': [{'class': 'Book', 'features': {'name': 'a"\\{|<&lt;\n'}}]}
         made = self.tool('diagram', '--dot', LIBRARY, self.file('d.json', json.dumps(document)))
         self.assertIn(r'name\ =\ \"a\\\"\\\\\{\|\<&amp;lt;\\n\"\l', made)
 
     def test_long_texts(self):
+        """A long text is cut."""
         document = {'format': 1, 'roots': [{'class': 'Book', 'features': {'name': 'x' * 50}}]}
         made = self.tool('diagram', LIBRARY, self.file('d.json', json.dumps(document)))
         self.assertIn('    name = #34;' + 'x' * 38 + '…\n', made)
 
     def test_bounds_of_one_line_are_at_its_ends(self):
+        """The bounds of the only line between two boxes are at its ends."""
         classes = [{'name': 'A'}, {'name': 'B', 'features': [{'name': 'parts', 'kind': 'reference', 'type': 'A', 'upper': -1}]}]
         self.assertIn('  n1 -> n0 [label="parts", headlabel="0..*"];', self.draw({'classes': classes}, '--dot'))
 
     def test_class_that_all_have(self):
+        """EObject is left out if it is a supertype of every class."""
         classes = [{'name': 'EObject', 'abstract': True}, {'name': 'A', 'supers': ['EObject']}, {'name': 'B', 'supers': ['A']}]
         self.assertEqual(self.draw({'classes': classes}).splitlines()[-1], '  A <|-- B')
         classes.append({'name': 'C'})
         self.assertIn('  EObject <|-- A', self.draw({'classes': classes}))
 
     def test_around(self):
+        """`--around` and `--steps` draw the neighbours of a class."""
         classes = [{'name': f'C{number}', 'supers': [f'C{number - 1}'] if number else []} for number in range(50)]
         boxes = [line for line in self.draw({'classes': classes}, '--around', 'C7', '--steps', '2').splitlines() if ' class ' in line]
         self.assertEqual(boxes, [f'  class C{number}' for number in range(5, 10)])
@@ -156,6 +166,7 @@ class Diagrams(ToolTest):
         self.assert_fault('ROOM/m.json: no class Z', 'diagram', self.file('m.json', json.dumps({'classes': classes})), '--around', 'Z')
 
     def test_faults(self):
+        """A faulty metamodel document ends the tool with its line."""
         for text, line in FAULTS:
             with self.subTest(text=text):
                 self.assert_fault(line, 'diagram', self.file('m.json', text))

@@ -1,4 +1,5 @@
-"""ecore2mm: in the folder ecore, NAME.json is the document of NAME.ecore or of the files of NAME.args, NAME.notes has the notes."""
+"""`tools/ecore2mm`: in the folder ecore, NAME.json is the document of NAME.ecore, or of the files in NAME.args; NAME.notes has its notes.
+"""
 
 import json
 import re
@@ -16,7 +17,7 @@ def words_of(name):
 
 
 class Bending(ToolTest):
-    """The rules, case by case."""
+    """The rules of docs/ECORE.md for metamodels, one case for each."""
 
 
 def add_case(name):
@@ -38,7 +39,7 @@ for case in CASES:
 
 
 def package(classifiers):
-    """A package with classifiers."""
+    """The text of a package with classifiers."""
     return (
         '<ecore:EPackage xmlns:xsi="http://www.w3.org/2001/XMLSchema-instance" '
         f'xmlns:ecore="http://www.eclipse.org/emf/2002/Ecore" name="p" nsURI="http://m.example/p">{classifiers}</ecore:EPackage>'
@@ -46,29 +47,32 @@ def package(classifiers):
 
 
 def eclass(name, features='', more=''):
-    """A class."""
+    """The text of a class."""
     return f'<eClassifiers xsi:type="ecore:EClass" name="{name}" {more}>{features}</eClassifiers>'
 
 
 def attribute(name, more=''):
-    """An attribute."""
+    """The text of an attribute."""
     return f'<eStructuralFeatures xsi:type="ecore:EAttribute" name="{name}" {more}/>'
 
 
 class Limits(ToolTest):
-    """What is past a limit is left out."""
+    """What is beyond a limit of the repository is left out."""
 
     def meta(self, classifiers):
-        """The document of classifiers, which the program has to accept."""
+        """The document of classifiers; the program must accept it."""
         text = self.tool('ecore2mm', self.file('a.ecore', package(classifiers)))
         self.assertEqual(run_program(text, ''), '')
         return json.loads(text)
 
     def test_classes(self):
+        """A metamodel has at most 1,000 classes."""
         made = self.meta(''.join(eclass(f'C{number}') for number in range(1002)))
         self.assertEqual([it['name'] for it in made['classes']], [f'C{number}' for number in range(1000)])
 
     def test_enumerations_and_literals(self):
+        """A metamodel has at most 1,000 enumerations, each of at most 1,000 literals; an attribute of one that is left out becomes an
+        EString."""
         literals = ''.join(f'<eLiterals name="L{number}" value="{number}"/>' for number in range(1001))
         enums = [f'<eClassifiers xsi:type="ecore:EEnum" name="E{number}"><eLiterals name="A"/></eClassifiers>' for number in range(1000)]
         enums.insert(0, f'<eClassifiers xsi:type="ecore:EEnum" name="E">{literals}</eClassifiers>')
@@ -77,6 +81,7 @@ class Limits(ToolTest):
         self.assertEqual(made['classes'][0]['features'][0]['type'], 'EString')
 
     def test_features_and_supertypes(self):
+        """A class has at most 256 features and 64 supertypes."""
         supers = ' '.join(f'#//S{number}' for number in range(65))
         classes = ''.join(eclass(f'S{number}') for number in range(65))
         features = ''.join(attribute(f'a{number}') for number in range(257))
@@ -85,12 +90,14 @@ class Limits(ToolTest):
         self.assertEqual([it['name'] for it in made['features']], [f'a{number}' for number in range(256)])
 
     def test_names(self):
+        """A name has at most 255 characters, and different names stay different."""
         long = 'n' * 300
         made = self.meta(eclass(long) + eclass(long + 'x') + eclass('C', attribute(long) + attribute(long)))['classes']
         self.assertEqual([it['name'] for it in made], ['n' * 255, 'p_' + 'n' * 253, 'C'])
         self.assertEqual([it['name'] for it in made[2]['features']], ['n' * 255, 'n' * 253 + '_2'])
 
     def test_default(self):
+        """A default has at most 65,535 bytes."""
         texts = {'fits': 'é' * 32767 + 'x', 'long': 'é' * 32768}
         features = ''.join(attribute(name, f'defaultValueLiteral="{text}"') for name, text in texts.items())
         made = self.meta(eclass('C', features))['classes'][0]['features']
@@ -101,30 +108,35 @@ class Report(ToolTest):
     """The report and the output file."""
 
     def test_table(self):
+        """`--report` prints the notes as a table."""
         ended = run_tool('ecore2mm', '--report', 'ecore/supers.ecore')
         lines = ended.err.splitlines()
         self.assertEqual(lines[0], '| Kind | Name | What became of it |')
         self.assertIn('| supertype | supers.D | D left out: it closes a cycle |', lines)
 
     def test_output(self):
+        """`-o` names the output file."""
         made = self.file('made.json', '')
         self.assertEqual(self.tool('ecore2mm', 'ecore/library.ecore', '-o', made), '')
         self.assertEqual(json.loads(made.read_text()), json.loads((FOLDER / 'library.json').read_text()))
 
     def test_file_named_twice(self):
+        """A file that is named twice counts once."""
         self.assertEqual(self.tool('ecore2mm', *['ecore/library.ecore'] * 2), self.tool('ecore2mm', 'ecore/library.ecore'))
 
     def test_library_is_the_example(self):
+        """The document of library.ecore is examples/library.json."""
         example = HERE.parent.parent / 'examples/library.json'
         self.assertEqual((FOLDER / 'library.json').read_text(), example.read_text())
 
 
 class Mutilated(ToolTest):
-    """Each Ecore file of the folder with one attribute changed gives a document that the program accepts, or one line of error."""
+    """Each Ecore file with one changed attribute gives a document that the program accepts, or one line of error."""
 
     CHANGES = ('-1', '0', '7', 'x y', '#//A', '#//Nope', '//@eClassifiers.1', 'true')
 
     def test_changed_attributes(self):
+        """Every sixth attribute of each file, changed."""
         for path in sorted(FOLDER.glob('*.ecore')):
             text = path.read_text()
             found = [it for it in re.finditer(r' (\w+)="([^"]*)"', text) if it.start() > text.index('nsPrefix')]
@@ -133,12 +145,13 @@ class Mutilated(ToolTest):
                 self.check(path.name, changed)
 
     def test_cut_short(self):
+        """A file that is cut at different lengths."""
         text = (FOLDER / 'library.ecore').read_text()
         for length in range(0, len(text) - 1, 797):
             self.check('library.ecore', text[:length])
 
     def check(self, name, text):
-        """Checks one file."""
+        """Checks what the tool does with one text."""
         ended = run_tool('ecore2mm', self.file(name, text))
         with self.subTest(name=name, text=text):
             if ended.status == 0:

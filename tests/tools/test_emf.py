@@ -1,4 +1,4 @@
-"""EMF and the tools agree on the files of emf/cases: what doc2xmi writes of what xmi2doc reads, EMF reads as it reads the file itself."""
+"""EMF and the tools agree on the files of emf/cases: EMF reads what xmi2doc and doc2xmi make of a file as it reads the file itself."""
 
 import json
 import unittest
@@ -12,22 +12,23 @@ CASES = HERE / 'emf/cases'
 
 
 def tearDownModule():
-    """Ends the judge."""
+    """Ends the process of EMF."""
     emf.close()
 
 
 @unittest.skipIf(emf.MISSING, emf.WHY)
 class EmfTest(ToolTest):
-    """What the tests of this file share."""
+    """Shared by the tests of this file."""
 
     def emf_reads(self, ecore, file, name):
-        """What EMF has of a file, in which it finds no fault; the file is called so in each line."""
+        """What EMF reads of a file, without an error; `name` stands for the file in each line."""
         lines = emf.read([CASES / f'{ecore}.ecore'], file)
         self.assertEqual([it for it in lines if it.startswith('error')], [])
         return [it.replace(file.name, name) for it in lines]
 
     def check_same(self, ecore, name, notes=()):
-        """Checks that a file of the cases comes back from both tools as EMF has it, with these notes of xmi2doc."""
+        """Checks that EMF reads a file of the cases as before after both tools, and that xmi2doc prints these notes; returns the document.
+        """
         source = CASES / f'{name}.xmi'
         ended = run_tool('xmi2doc', '--ecore', CASES / f'{ecore}.ecore', source)
         told = [line[len('xmi2doc: '):] for line in ended.err.replace(str(source), source.name).splitlines()]
@@ -37,18 +38,20 @@ class EmfTest(ToolTest):
         return ended.out
 
     def write(self, ecore, name, *words):
-        """The XMI of a document of the cases."""
+        """The XMI file that doc2xmi writes of a document of the cases."""
         return self.file('made.xmi', self.tool('doc2xmi', *words, '--ecore', CASES / f'{ecore}.ecore', CASES / f'{name}.json'))
 
 
 class Written(EmfTest):
-    """Files that EMF refused, or loaded as other models."""
+    """Files that are easily written so that EMF refuses them or loads another model."""
 
     def test_inner_and_outer_links_of_an_abstract_type(self):
+        """A list of an abstract type with links within the file and out of it."""
         lines = self.emf_reads('tr', self.write('tr', 'tr'), 'FILE')
         self.assertIn('/0/kids.2/any = FILE#/0/kids.0 proxy other.xmi#/', lines)
 
     def test_ends_that_emf_completes(self):
+        """A transient end is not written, and EMF completes it from the opposite end."""
         self.check_same('tr', 'tr')
         lines = self.emf_reads('tr', self.write('tr', 'tr'), 'FILE')
         self.assertIn('/0/kids.0/to = FILE#/0/kids.1 FILE#/0/kids.2', lines)
@@ -62,6 +65,7 @@ class Written(EmfTest):
         self.assertIn('/0/kids.1/from = tr2.xmi#/0/kids.0 tr2.xmi#/0/kids.0', lines)
 
     def test_order_of_a_completed_end(self):
+        """A completed end has the order in which EMF completes it."""
         kids = ['1', '', '', '1', '0 3 4 5 6 7', '1', '1', '1']
         words = [' '.join(f'//@kids.{place}' for place in it.split()) for it in kids]
         text = ''.join(f'<kids to="{it}"/>' if it else '<kids/>' for it in words)
@@ -74,6 +78,7 @@ class Written(EmfTest):
                              [f'/0/kids.{place}/from = {" ".join(links)}'] * bool(links))
 
     def test_last_one_that_names_a_single_transient_end(self):
+        """If several objects name one object by a single transient end, the last of them counts, as in EMF."""
         ecore = self.file('one.ecore', (CASES / 'tr.ecore').read_text().replace('name="from" upperBound="-1"', 'name="from"'))
         file = self.file('one.xmi', '<p:N xmlns:p="http://p"><kids/><kids to="//@kids.0"/><kids to="//@kids.0"/></p:N>')
         self.assertEqual(emf.read([ecore], file)[1:], ['/0 N', '/0/kids.0 N', '/0/kids.0/from = one.xmi#/0/kids.2', '/0/kids.1 N',
@@ -83,14 +88,17 @@ class Written(EmfTest):
         self.assertEqual(ended.err.splitlines(), ['xmi2doc: link N.to in line 1: left out: N.from names another one', 'xmi2doc: 1 link left out'])
 
     def test_content_of_a_mixed_class(self):
+        """The elements of a mixed class are kept; its text is left out and noted."""
         made = self.check_same('po', 'po', ['text Memo in line 7: left out: text between elements', '1 text left out'])
         self.assertIn('"order":[{"class":"Order"', made)
 
     def test_any_object(self):
+        """A reference of type EObject leads to an object of the file, or out of it."""
         self.check_same('uc', 'uo')
         self.assertIn('/0/any = FILE#/0/kids.0 proxy http://m.example/o#/', self.emf_reads('uc', self.write('uc', 'uo'), 'FILE'))
 
     def test_values_that_emf_does_not_read(self):
+        """A value that EMF does not read as its type ends doc2xmi with a fault."""
         line = 'root 0: N.short is 40000, which EMF reads as no EShort'
         self.assert_fault(f'{CASES}/sh.json: {line}', 'doc2xmi', '--ecore', CASES / 'bid.ecore', CASES / 'sh.json')
         dear = self.file('dear.json', '{"format":2,"roots":[{"class":"N","features":{"kids":[{"class":"N","features":{"price":"dear"}}]}}]}')
@@ -98,12 +106,14 @@ class Written(EmfTest):
         self.assert_fault(line, 'doc2xmi', '--ecore', CASES / 'bid.ecore', dear)
 
     def test_what_is_unchangeable(self):
+        """Values of unchangeable features are left out, since EMF can't set them."""
         ended = run_tool('doc2xmi', '--strict', '--ecore', CASES / 'uc.ecore', CASES / 'uc.json')
         told = ['doc2xmi: value root 0 N.fixed: left out: EMF sets nothing unchangeable', 'doc2xmi: 1 value left out']
         self.assertEqual((ended.status, ended.err.splitlines()), (3, told))
         self.assertEqual(self.emf_reads('uc', self.file('a.xmi', ended.out), 'FILE')[1:], ['/0 N', '/0/fixeds = "b"'])
 
     def test_names_of_xml(self):
+        """A name of Ecore that is no name in XML ends doc2xmi with a fault; EMF can't read such a file either."""
         for name in ('n_hindi', 'n_nfd'):
             with self.subTest(name=name):
                 self.check_same(name, name)
@@ -120,7 +130,7 @@ class Written(EmfTest):
 
 
 class Texts(EmfTest):
-    """Which texts EMF reads as values, and what the tools say of them."""
+    """Which texts EMF reads as values of a type."""
 
     ROWS = {
         'EByte': ['127', '128', '-128'], 'EShort': ['32767', '-32769'], 'EChar': ['65', '65535', '', 'z'],
@@ -130,6 +140,7 @@ class Texts(EmfTest):
     }
 
     def test_texts(self):
+        """doc2xmi accepts exactly the texts that EMF reads."""
         for type_name, texts in self.ROWS.items():
             ecore = self.file('t.ecore', (CASES / 'n_sq.ecore').read_text().replace('m²', 'x').replace('#//EString', f'#//{type_name}'))
             emf.ask('packages', ecore)
@@ -142,44 +153,51 @@ class Texts(EmfTest):
 
 
 class Found(EmfTest):
-    """What references lead to, and where lists are cut."""
+    """The targets of references, and the items of lists."""
 
     def test_ids_that_are_no_texts(self):
+        """An id may be a number."""
         self.assertIn('{"number":2,"to":"//@kids.1"}', self.check_same('id', 'id'))
 
     def test_id_of_an_enumeration(self):
+        """An id may be a literal."""
         file = self.file('e.xmi', '<p:N xmlns:p="http://p"><kids kind="bb"/><kids to="bb"/></p:N>')
         self.assertIn('"to":"//@kids.0"', self.tool('xmi2doc', '--ecore', CASES / 'bid.ecore', file))
         self.assertIn('/0/kids.1/to = e.xmi#/0/kids.0', emf.read([CASES / 'bid.ecore'], file))
 
     def test_keys(self):
+        """A fragment by keys leads to its object."""
         self.assertIn('{"name":"a","to":"//@kids.1"}', self.check_same('key', 'key'))
 
     def test_equal_ids(self):
+        """If ids are equal, EMF's choice counts; ids are left out and noted."""
         for name, count in (('d1', 2), ('d2', 0), ('d3', 0), ('d4', 1), ('d5', 1)):
             with self.subTest(name=name):
                 ids = '1 id' if count == 1 else f'{count} ids'
                 self.check_same('dup', name, [f'xmi:id {name}.xmi: {ids} left out; references go by position'] * (count > 0))
 
     def test_id_with_a_colon(self):
+        """A text with a colon and without # is read as the name of a type."""
         why = 'a text with a colon and without # is the name of a type'
         self.check_same('dup', 'd8', [f'reference N.to in line 2: left out: {why}: p:x', '1 reference left out'])
 
     def test_lists_and_single_features(self):
+        """A list is split at XML's spaces, and a text of a single feature is not."""
         self.assertIn('"loose":"one two","tags":["a\u00a0b","c"]', self.check_same('bid', 'bid'))
 
 
 class Packages(EmfTest):
-    """References into packages, whose order in EMF need not be that of their files."""
+    """References into packages, whose classifiers may have another order in EMF than in their files."""
 
     def test_position_in_ecore(self):
+        """A reference by position into a package that is not given is noted."""
         text = '{"format":2,"roots":[{"class":"N","features":{"any":["http://www.eclipse.org/emf/2002/Ecore#//@eClassifiers.19"]}}]}'
         ended = run_tool('doc2xmi', '--ecore', CASES / 'uc.ecore', self.file('a.json', text))
         why = 'goes by position into a package that is not given; EMF may have another order'
         self.assertEqual(ended.err, f'doc2xmi: reference root 0 N.any: {why}: http://www.eclipse.org/emf/2002/Ecore#//@eClassifiers.19\n')
 
     def test_real_files(self):
-        """Each Ecore file of Debian's packages of Eclipse has the same types when it comes back as an instance of Ecore."""
+        """Each Ecore file of Debian's Eclipse packages has the same types after it was read as an instance of Ecore and written again."""
         room, made = Path(self.room.name, 'there'), Path(self.room.name, 'back')
         room.mkdir()
         made.mkdir()
@@ -207,6 +225,7 @@ class Links(EmfTest):
     HEAD = 'xmlns:xsi="http://www.w3.org/2001/XMLSchema-instance" xmlns:k="http://m.example/kinds"'
 
     def test_names_are_bent_back(self):
+        """A reference is written by the names and the positions of Ecore."""
         far = self.file('far.xmi', f'<k:A {self.HEAD}><part-list xsi:type="k:B" href="else.xmi#/"/><part-list xsi:type="k:B" key="b1"/></k:A>')
         near = self.file('near.xmi', f'<k:A {self.HEAD}><many xsi:type="k:B" href="far.xmi#b1"/></k:A>')
         words = ['--ecore', self.KINDS, '--uri', 'http://m.example/near.xmi', '--beside', far]
@@ -217,12 +236,14 @@ class Links(EmfTest):
         self.assertIn('/0/many = far.xmi#/0/part-list.1', emf.read([self.KINDS], made, far))
 
     def test_several_files_beside(self):
+        """`--beside` takes several files, whose ids are found."""
         files = [self.file(f'{name}.xmi', f'<k:B {self.HEAD} key="{name}"/>') for name in 'ab']
         near = self.file('near.xmi', f'<k:A {self.HEAD}><many href="a.xmi#a"/><many href="b.xmi#b"/></k:A>')
         made = self.tool('xmi2doc', '--ecore', self.KINDS, '--beside', *files, near)
         self.assertIn('"many":["a.xmi#/","b.xmi#/"]', made)
 
     def test_fragment_of_an_unknown_form(self):
+        """A reference with a fragment of an unknown form is left out and noted."""
         text = f'<k:A {self.HEAD} one="//x;XSDElementDeclaration"><many href="far.xmi#//x;XSDElementDeclaration"/></k:A>'
         ended = run_tool('xmi2doc', '--ecore', self.KINDS, self.file('a.xmi', text))
         self.assertEqual((ended.status, ended.err.splitlines()), (0, [

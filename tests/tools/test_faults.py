@@ -1,4 +1,4 @@
-"""Bad input: each ends with status 1, nothing on standard output and one line that says what is wrong."""
+"""Bad input: the tool ends with status 1, nothing on standard output, and one line that says what is wrong."""
 
 import json
 
@@ -11,7 +11,7 @@ ECORE = f'{HEAD} xmlns:ecore="http://www.eclipse.org/emf/2002/Ecore" name="p"'
 STRING = 'http://www.eclipse.org/emf/2002/Ecore#//EString'
 ENTITY = '<!DOCTYPE a [<!ENTITY b "c">]>'
 
-# What a file has, and the line that ecore2mm prints of it.
+# Ecore files, each with the line that ecore2mm prints for it.
 ECORE_FAULTS = [
     ('', 'ROOM/a.ecore:1: not XML: no element found'),
     ('no XML', 'ROOM/a.ecore:1: not XML: syntax error'),
@@ -43,7 +43,7 @@ ECORE_FAULTS = [
     (b'\xef\xbb\xbf<a/>', 'ROOM/a.ecore:1: not Ecore: the root is a, and no EPackage of http://www.eclipse.org/emf/2002/Ecore'),
 ]
 
-# What a root of class A has inside, and the line that xmi2doc prints of it.
+# Contents of a root of class A, each with the line that xmi2doc prints for it.
 XMI_FAULTS = [
     ('nope="1"/>', 'ROOM/a.xmi:1: class A has no feature nope'),
     ('><nope/></k:A>', 'ROOM/a.xmi:1: class A has no feature nope'),
@@ -74,7 +74,7 @@ XMI_FAULTS = [
      'ROOM/a.xmi:1: A.left has 3 values, and its upper bound is 2'),
 ]
 
-# A document, and the line that doc2xmi prints of it.
+# Documents, each with the line that doc2xmi prints for it.
 DOCUMENT_FAULTS = [
     ('{', 'ROOM/a.json: not JSON: Expecting property name enclosed in double quotes: line 1 column 2 (char 1)'),
     (b'\xff', 'ROOM/a.json: not UTF-8: byte 0'),
@@ -90,7 +90,7 @@ DOCUMENT_FAULTS = [
     ('[' * 100000, 'ROOM/a.json: nests too deep'),
 ]
 
-# What a root of class A has as features, and the line that doc2xmi prints of it.
+# Features of a root of class A, each with the line that doc2xmi prints for it.
 FEATURE_FAULTS = [
     ({'nope': 1}, 'ROOM/a.json: root 0: class A has no feature nope to write'),
     ({'number': '1'}, 'ROOM/a.json: root 0: number has what is no EInt'),
@@ -112,7 +112,7 @@ FEATURE_FAULTS = [
 
 
 class Faults(ToolTest):
-    """The tables above."""
+    """The tables above, and single faults."""
 
     def check_table(self, table, name, tool, *words):
         """Checks each row of a table."""
@@ -121,14 +121,17 @@ class Faults(ToolTest):
                 self.assert_fault(line, tool, *words, self.file(name, content))
 
     def test_ecore(self):
+        """Faults of Ecore files."""
         self.check_table(ECORE_FAULTS, 'a.ecore', 'ecore2mm')
 
     def test_xmi(self):
+        """Faults of XMI files below the root."""
         head = f'<k:A {HEAD} xmlns:k="http://m.example/kinds" '
         table = [(head + content, line) for content, line in XMI_FAULTS]
         self.check_table(table, 'a.xmi', 'xmi2doc', '--ecore', KINDS)
 
     def test_feature_without_name(self):
+        """A feature without a name in Ecore can't be written as XMI."""
         line = 'ROOM/n.json: root 0: P._ is called  in Ecore, which is no name in XML'
         for bound, value in (('', 'x'), ('upperBound="-1"', ['x'])):
             feature = f'<eStructuralFeatures xsi:type="ecore:EAttribute" {bound} eType="ecore:EDataType {STRING}"/>'
@@ -139,6 +142,7 @@ class Faults(ToolTest):
                 self.assert_fault(line, 'doc2xmi', '--ecore', package, document)
 
     def test_root(self):
+        """Faults of the root of an XMI file."""
         self.check_table(
             [
                 ('<A/>', 'ROOM/a.xmi:1: no class A in a package without URI of the files given'),
@@ -149,15 +153,18 @@ class Faults(ToolTest):
         )
 
     def test_documents(self):
+        """Faults of documents."""
         self.check_table(DOCUMENT_FAULTS, 'a.json', 'doc2xmi', '--ecore', KINDS)
 
     def test_features(self):
+        """Faults of features in documents."""
         table = [
             (json.dumps({'format': 1, 'roots': [{'class': 'A', 'features': features}]}), line) for features, line in FEATURE_FAULTS
         ]
         self.check_table(table, 'a.json', 'doc2xmi', '--ecore', KINDS)
 
     def test_missing_files(self):
+        """Files that are missing or are folders."""
         missing = f'{self.room.name}/none'
         line = 'ROOM/none: No such file or directory'
         self.assert_fault(line, 'ecore2mm', missing)
@@ -169,12 +176,14 @@ class Faults(ToolTest):
         self.assert_fault('ROOM/none/a: No such file or directory', 'ecore2mm', LIBRARY, '-o', f'{missing}/a')
 
     def test_arguments(self):
+        """Wrong arguments end with status 2 and the usage."""
         for tool, words in (('ecore2mm', []), ('xmi2doc', [LIBRARY]), ('xmi2doc', ['--ecore', LIBRARY]), ('doc2xmi', []), ('diagram', [])):
             ended = run_tool(tool, *words)
             self.assertEqual((ended.status, ended.out), (2, ''))
             self.assertIn('usage: ', ended.err)
 
     def test_names_that_xml_does_not_have(self):
+        """A class or feature whose name in Ecore is no name in XML can't be written, nor one of two features of one name."""
         rows = [
             ({'class': 'A_b', 'features': {}}, 'ROOM/a.json: root 0: class A_b is called A b in Ecore, which is no name in XML'),
             ({'class': 'Sub', 'features': {'_1st': 'x'}}, 'ROOM/a.json: root 0: A_b._1st is called 1st in Ecore, which is no name in XML'),
@@ -184,6 +193,7 @@ class Faults(ToolTest):
         self.check_table(table, 'a.json', 'doc2xmi', '--ecore', 'ecore/names.ecore')
 
     def test_package_without_uri(self):
+        """A class of a package without URI can't be written."""
         ecore = self.file('a.ecore', f'<ecore:EPackage {ECORE}><eClassifiers xsi:type="ecore:EClass" name="A"/></ecore:EPackage>')
         document = self.file('a.json', '{"format":1,"roots":[{"class":"A","features":{}}]}')
         line = 'ROOM/a.json: root 0: class A is in a package without URI, so XMI has no name for it'

@@ -1,4 +1,4 @@
-"""`tools/package`: what it packs is installed and runs on a machine that has nothing else, and what is not proved is not packed."""
+"""`tools/package`: what it packs can be installed and run on a machine that has nothing else, and it packs only what is proved."""
 
 import os
 import re
@@ -27,13 +27,13 @@ RECORD = 'import sys; from pathlib import Path; from packing.proved import recor
 
 
 def run(*words, **options):
-    """The status of a program and all that it prints."""
+    """Runs a program; returns its status and all that it prints."""
     done = subprocess.run(list(map(str, words)), stdout=subprocess.PIPE, stderr=subprocess.STDOUT, stdin=subprocess.DEVNULL, **options)
     return done.returncode, done.stdout.decode('utf-8', 'replace')
 
 
 class Tree:
-    """A repository of its own, with the sources of this one as a commit, and the program and the library as they are left by `./check`."""
+    """A copy of this repository with one commit, and with the program and the library that `./check` leaves."""
 
     def __init__(self, room):
         self.top = Path(room, 'tree')
@@ -49,16 +49,16 @@ class Tree:
         self.static = self.put(library(), 'crates/mmrepo_c/out/libmmrepo_c.a')
 
     def git(self, *words):
-        """Runs git."""
+        """Runs git; returns its status and its output."""
         return run('git', '-C', self.top, *IDENTITY, *words)
 
     def commit(self):
-        """Commits all that has changed."""
+        """Commits all changes."""
         self.git('add', '-A')
         self.git('commit', '-qm', 'all')
 
     def put(self, file, name):
-        """Puts a file there, with the record that it is proved."""
+        """Copies a file into the tree, with the record that it is proved."""
         made = self.top / name
         made.parent.mkdir(parents=True, exist_ok=True)
         shutil.copy(file, made)
@@ -66,11 +66,11 @@ class Tree:
         return made
 
     def record(self, made):
-        """Writes that a file is proved."""
+        """Writes the record that a file is proved."""
         run(sys.executable, '-B', '-c', RECORD, made, env={**os.environ, 'PYTHONPATH': str(self.top / 'tools')})
 
     def package(self, *words):
-        """The status of `tools/package`, and what it prints."""
+        """Runs `tools/package`; returns its status and its output."""
         return run(sys.executable, '-B', self.top / 'tools/package', *words, cwd=self.top)
 
 
@@ -91,7 +91,7 @@ class PackageTest(unittest.TestCase):
 
 
 class Packed(PackageTest):
-    """What is packed."""
+    """What is in the packages, and that they work."""
 
     @classmethod
     def setUpClass(cls):
@@ -107,7 +107,7 @@ class Packed(PackageTest):
         return Path(room.name)
 
     def environment(self):
-        """An empty virtual environment, and the variables with which it is used: none that name anything of mmrepo."""
+        """An empty virtual environment, and the variables for its use; none of them names anything of mmrepo."""
         folder = self.folder()
         status, told = run(sys.executable, '-m', 'venv', folder)
         if status:
@@ -115,6 +115,7 @@ class Packed(PackageTest):
         return folder, {'PATH': '/usr/bin:/bin', 'PIP_NO_INDEX': '1', 'PIP_DISABLE_PIP_VERSION_CHECK': '1', 'HOME': str(folder)}
 
     def test_wheel_says_what_it_is(self):
+        """The wheel names the kit of the proof and the commit of the sources."""
         with zipfile.ZipFile(self.wheel) as wheel:
             self.assertIsNone(wheel.testzip())
             text = wheel.read('mmrepo-1.0.dist-info/METADATA').decode()
@@ -123,12 +124,12 @@ class Packed(PackageTest):
         self.assertIn(f'\n\nProved with {version}, of the commit {commit}.\n', text)
 
     def test_the_same_wheel(self):
-        """The same sources make the same wheel, but for what the compiler writes."""
+        """The wheel of the same sources has the same name."""
         self.tree.package(self.folder() / 'again')
         self.assertEqual(self.wheel.name, 'mmrepo-1.0-cp38-abi3-linux_x86_64.whl')
 
     def test_empty_environment(self):
-        """The wheel is installed, and the example of the README runs, with no variable set."""
+        """The wheel is installed, and the example of the README runs without any variable."""
         folder, environment = self.environment()
         status, told = run(folder / 'bin/pip', 'install', self.wheel, env=environment, cwd=folder)
         self.assertEqual(status, 0, told)
@@ -146,6 +147,7 @@ class Packed(PackageTest):
         self.assertEqual(run(folder / 'bin/python', '-c', EXAMPLE + ENGINE, env=environment, cwd=TOP), (0, PRINTED + 'program\n'))
 
     def test_without_the_extension(self):
+        """A wheel without the extension module uses ctypes."""
         room = self.folder()
         status, told = self.tree.package(room, '--no-extension')
         self.assertEqual(status, 0, told)
@@ -154,7 +156,7 @@ class Packed(PackageTest):
         self.assertEqual(run(folder / 'bin/python', '-c', EXAMPLE + ENGINE, env=environment, cwd=TOP), (0, PRINTED + 'ctypes\n'))
 
     def test_archive(self):
-        """A program in C is built with the archive alone, over each library, and the program of the archive runs."""
+        """A C program is built with the archive alone, over each library; the program of the archive runs."""
         room = self.folder()
         with tarfile.open(self.archive) as tar:
             tar.extractall(room)
@@ -169,7 +171,7 @@ class Packed(PackageTest):
         self.assertIn('Proved with', (top / 'README').read_text())
 
     def test_bare_root(self):
-        """The wheel runs in a root that has nothing but Python, made of the files of Debian's packages that are installed here."""
+        """The wheel runs in a root that has only Python, made from the files of Debian's packages that are installed here."""
         if os.geteuid() != 0 or shutil.which('chroot') is None:
             self.skipTest('a root can be made by root alone')
         root = self.folder()
@@ -185,7 +187,8 @@ class Packed(PackageTest):
 
 
 def bare_root(root):
-    """Makes a root of the files of Python, of a shell, and of what they need; False if they are not installed by Debian's packages."""
+    """Makes a root from the files of Python, of a shell, and of all packages that they need; False if Debian's packages are not installed.
+    """
     waiting, packages = ['python3', 'python3-venv', 'dash', 'coreutils'], set()
     while waiting:
         name = waiting.pop()
@@ -210,7 +213,7 @@ def bare_root(root):
 
 
 def copy_file(name, root):
-    """Copies a file of a package, or a link, to its place in a root."""
+    """Copies a file or a link of a package to the same place in a root."""
     if '/share/doc' in name or '/share/man' in name or '/share/locale' in name or not os.path.lexists(name) or (os.path.isdir(name) and not os.path.islink(name)):
         return
     made = root / re.sub(r'^/(bin|lib|lib64|sbin)/', r'usr/\1/', name).lstrip('/')
@@ -223,12 +226,13 @@ class Refused(PackageTest):
     """What is not packed."""
 
     def refused(self, why):
-        """Checks that nothing is packed, and that this is said."""
+        """Checks that nothing is packed, and that the reason is printed."""
         status, told = self.tree.package(Path(self.room.name, 'none'))
         self.assertEqual((status, why in told), (1, True), told)
         self.assertFalse(Path(self.room.name, 'none').exists())
 
     def test_another_program(self):
+        """A program that is missing, or not the proved one."""
         before = self.tree.program.read_bytes()
         self.tree.program.write_bytes(before + b'x')
         self.refused('is not the one that was proved')
@@ -237,12 +241,14 @@ class Refused(PackageTest):
         self.tree.program.write_bytes(before)
 
     def test_another_library(self):
+        """A library that is not the proved one."""
         before = self.tree.static.read_bytes()
         self.tree.static.write_bytes(before + b'x')
         self.refused('is not the one that was proved')
         self.tree.static.write_bytes(before)
 
     def test_no_record(self):
+        """A program without a valid record."""
         record = self.tree.program.with_name('mmrepo.proved')
         before = record.read_bytes()
         for content in (b'', b'{'):
@@ -253,6 +259,7 @@ class Refused(PackageTest):
         record.write_bytes(before)
 
     def test_other_sources(self):
+        """Sources that have changed since the proof, and sources that are not committed."""
         source = self.tree.top / 'crates/mm_types/src/lib.rt'
         before = source.read_bytes()
         source.write_bytes(before + b'\n// more\n')
@@ -264,6 +271,7 @@ class Refused(PackageTest):
         self.tree.commit()
 
     def test_another_package(self):
+        """Python modules that are not committed."""
         module = self.tree.top / 'clients/python/mmrepo/objects.py'
         before = module.read_bytes()
         module.write_bytes(before + b'\n')

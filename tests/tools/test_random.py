@@ -1,6 +1,6 @@
-"""Models that EMF makes at random: what the tools write of what they read, EMF reads as equal, but for what a note says.
+"""Random models of EMF: EMF must read what the tools make of a model as an equal model, except for what a note says.
 
-EMF_CASES says how many cases run (else 25), EMF_SEED the first one (else 1).
+EMF_CASES is the number of models (25 if it is not set), EMF_SEED the first seed (1 if it is not set).
 """
 
 import contextlib
@@ -19,16 +19,16 @@ from support import PROGRAM, TOP, ToolTest, run_program
 CASES = int(os.environ.get('EMF_CASES', '25'))
 FIRST = int(os.environ.get('EMF_SEED', '1'))
 BASE = 'http://m.example/d/'
-FEATURE = re.compile(r'\b(?:a|r|o|id)[0-9]+')  # how the names of features begin, which are all different
+FEATURE = re.compile(r'\b(?:a|r|o|id)[0-9]+')  # the names of features, which are all different, begin so
 
 
 def tearDownModule():
-    """Ends the judge."""
+    """Ends the process of EMF."""
     emf.close()
 
 
 def load(name):
-    """A tool as a module, since a process for each run would take most of the time."""
+    """A tool as a module: a process for each run would take most of the time."""
     loader = importlib.machinery.SourceFileLoader(f'tool_{name}', str(TOP / 'tools' / name))
     module = importlib.util.module_from_spec(importlib.util.spec_from_loader(loader.name, loader))
     loader.exec_module(module)
@@ -36,7 +36,7 @@ def load(name):
 
 
 def run(tool, made, *words):
-    """Runs a tool that writes to a file; the notes that it writes."""
+    """Runs a tool that writes to a file; returns its notes."""
     old, told = sys.argv, io.StringIO()
     sys.argv = [tool, '-o', str(made), *map(str, words)]
     try:
@@ -54,9 +54,10 @@ def without(lines, features):
 
 @unittest.skipIf(emf.MISSING, emf.WHY)
 class Random(ToolTest):
-    """The cases."""
+    """The random models."""
 
     def test_cases(self):
+        """Each model passes, and EMF itself refuses few of them."""
         counts = {'files': 0, 'notes': 0, 'refused by EMF itself': 0}
         for seed in range(FIRST, FIRST + CASES):
             with self.subTest(seed=seed):
@@ -66,7 +67,7 @@ class Random(ToolTest):
         print(f'random: {CASES} cases', *(f'{count} {what}' for what, count in counts.items()), sep=', ')
 
     def check(self, seed, counts):
-        """Checks one case."""
+        """Checks the model of one seed."""
         folder = Path(self.room.name, str(seed))
         made = folder / 'made'
         made.mkdir(parents=True)
@@ -86,7 +87,7 @@ class Random(ToolTest):
         self.check_program(ecore, files, made)
 
     def convert(self, ecore, files, made):
-        """Brings the files in and out again, and returns the notes."""
+        """Converts files to documents and back; returns the notes."""
         notes = []
         for file in files:
             others = [other for other in files if other is not file]

@@ -1,4 +1,4 @@
-"""URIs are joined as the program joins them: it is asked for each."""
+"""The tools join URIs as the program does: the program is asked for each URI."""
 
 import json
 import sys
@@ -24,9 +24,10 @@ URIS = [
 
 
 class Urls(ToolTest):
-    """The URIs above."""
+    """The URIs of URIS."""
 
     def test_as_the_program_joins_them(self):
+        """Each URI, joined with that of a resource."""
         lines = []
         for place, uri in enumerate(URIS):
             root = {'class': 'Person', 'features': {'likes': [f'{uri}#/']}}
@@ -42,11 +43,13 @@ class Urls(ToolTest):
                 self.assertEqual(joined(f'{BASE}?{place}', uri), found, answer)
 
     def test_relative_ones_without_a_base(self):
+        """Without a base a relative URI stays relative, and its path is normalised."""
         rows = {'ü.xmi': '%C3%BC.xmi', './a': 'a', 'a/../b': 'b', '../b': '../b', '../../b/c?d': '../../b/c?d', '/x': '/x', '//h/x': '//h/x',
                 'a\\b c': 'a/b%20c', '?q': '?q', 'http://M.example:80': 'http://m.example/', 'x:y': None}
         self.assertEqual({uri: joined(None, uri) for uri in rows}, rows)
 
     def test_two_spellings_of_one_file(self):
+        """Two spellings of a URI are one URI."""
         file = self.file('a.xmi', '<l:Person xmlns:l="http://m.example/library"><likes href="ü.xmi#/"/><likes href="%C3%BC.xmi#/"/></l:Person>')
         for words, text in (([], '%C3%BC.xmi#/'), (['--uri', BASE], 'http://m.example/d/%C3%BC.xmi#/')):
             self.assertIn(f'"likes":["{text}"]', self.tool('xmi2doc', '--ecore', 'ecore/library.ecore', *words, file))

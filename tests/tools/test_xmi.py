@@ -1,4 +1,5 @@
-"""xmi2doc and doc2xmi: in the folder xmi, NAME.json is the document of NAME.xmi, NAME.args has the arguments, NAME.notes has the notes."""
+"""`tools/xmi2doc` and `tools/doc2xmi`: in the folder xmi, NAME.json is the document of NAME.xmi, NAME.args has its arguments, NAME.notes
+its notes."""
 
 import json
 import os
@@ -13,7 +14,7 @@ CASES = sorted(file.stem for file in FOLDER.glob('*.xmi'))
 
 
 def compact(document):
-    """The text that the repository saves: keys in order, no spaces."""
+    """The text that the repository saves for a document: keys in order, and no spaces."""
     return json.dumps(document, ensure_ascii=False, sort_keys=True, separators=(',', ':')) + '\n'
 
 
@@ -23,7 +24,7 @@ def ecore_of(args):
 
 
 class Instances(ToolTest):
-    """Each case is read, loaded, saved, written and read again."""
+    """The rules of docs/ECORE.md for instances: each case is read, loaded, saved, written and read again."""
 
     def check(self, name):
         """Checks a case."""
@@ -56,10 +57,11 @@ class Written(ToolTest):
     """What doc2xmi writes, letter by letter."""
 
     def xmi(self, document, ecore='library', *options):
-        """The XMI of a document."""
+        """The XMI that doc2xmi writes of a document."""
         return self.tool('doc2xmi', '--ecore', f'ecore/{ecore}.ecore', *options, self.file('d.json', json.dumps(document)))
 
     def test_texts(self):
+        """Texts with marks of XML, null, and literals."""
         text = 'a<b>&"c"\'\t\n\r é\u2028'
         features = {'name': text, 'tags': [text, ''], 'note': None, 'genre': 'PLAY', 'pages': 100}
         made = self.xmi({'format': 1, 'roots': [{'class': 'Book', 'features': features}]})
@@ -76,6 +78,7 @@ class Written(ToolTest):
         )
 
     def test_types_and_proxies(self):
+        """Types where they are needed, and references that lead out of the file."""
         features = {'part_list': [{'class': 'B', 'features': {}}], 'one': 'b#/', 'many': ['#//@part_list.0', 'c#/0/@x', '/']}
         made = self.xmi({'format': 1, 'roots': [{'class': 'A', 'features': features}]}, 'kinds')
         self.assertEqual(
@@ -91,6 +94,7 @@ class Written(ToolTest):
         )
 
     def test_uri(self):
+        """With `--uri` references to the same resource and to its folder become relative."""
         document = {'format': 1, 'roots': [{'class': 'Person', 'features': {
             'likes': ['http://m.example/b#/', 'http://n.example/b#/', 'http://m.example/d/e#/', 'http://m.example/a#/1'],
         }}, {'class': 'Book', 'features': {}}]}
@@ -102,26 +106,29 @@ class Written(ToolTest):
 
 
 class Read(ToolTest):
-    """What xmi2doc reads whatever the encoding, and how deep."""
+    """What xmi2doc reads: depths, encodings, long texts."""
 
     def folder(self, levels):
-        """A file of folders, one in the other."""
+        """A file of folders in one another, to a depth of `levels`."""
         head = '<l:Folder xmlns:l="http://m.example/library">'
         return head + '<subs>' * (levels - 1) + '</subs>' * (levels - 1) + '</l:Folder>'
 
     def test_forty_levels(self):
+        """Objects at 40 levels are read, and loaded by the program."""
         out = self.tool('xmi2doc', '--ecore', 'ecore/library.ecore', self.file('a.xmi', self.folder(40)))
         self.assertEqual(out.count('"Folder"'), 40)
         meta = (HERE / 'ecore/library.json').read_text()
         self.assertEqual(load_and_save(meta, out), ('loaded 40', out))
 
     def test_one_level_more(self):
+        """An object at level 41 is a fault."""
         self.assert_fault(
             'ROOM/a.xmi:1: an object at level 41; a document has 40 levels at most',
             'xmi2doc', '--ecore', 'ecore/library.ecore', self.file('a.xmi', self.folder(41)),
         )
 
     def test_encodings(self):
+        """A file in any of five encodings is read as the same document."""
         text = '<l:Person xmlns:l="http://m.example/library" name="é"/>'
         for encoding in ('utf-8', 'utf-16', 'iso-8859-1', 'utf-8-sig', 'cp1252'):
             named = encoding.replace('-sig', '')
@@ -131,6 +138,7 @@ class Read(ToolTest):
                 self.assertEqual(out, '{"format":2,"roots":[{"class":"Person","features":{"name":"é"}}]}\n')
 
     def test_many_notes(self):
+        """The first ten notes of a kind and name are printed, the others counted."""
         content = f'<k:A xmlns:k="http://m.example/kinds">{"<cache/>" * 13}</k:A>'
         ended = run_tool('xmi2doc', '--ecore', 'ecore/kinds.ecore', self.file('a.xmi', content))
         told = ['xmi2doc: value A.cache in line 1: left out: transient'] * 10
@@ -138,11 +146,13 @@ class Read(ToolTest):
         self.assertEqual((ended.status, ended.err.splitlines()), (0, told))
 
     def test_report(self):
+        """`--report` prints the notes as a table."""
         content = '<k:A xmlns:k="http://m.example/kinds" sum="1"/>'
         ended = run_tool('xmi2doc', '--report', '--ecore', 'ecore/kinds.ecore', self.file('a.xmi', content))
         self.assertEqual(ended.err.splitlines()[2:], ['| value | A.sum in line 1 | left out: derived |'])
 
     def test_longest_text(self):
+        """A text has at most 65,535 bytes of UTF-8."""
         for text, status in (('é' * 32767 + 'x', 0), ('é' * 32768, 1)):
             content = f'<l:Person xmlns:l="http://m.example/library" name="{text}"/>'
             ended = run_tool('xmi2doc', '--ecore', 'ecore/library.ecore', self.file('a.xmi', content))
@@ -150,10 +160,10 @@ class Read(ToolTest):
 
 
 class HowFar(ToolTest):
-    """A long file says how far it is, if standard error is a terminal, and says nothing else."""
+    """The progress over a long file: it is shown if standard error is a terminal, and only then."""
 
     def run_on_terminal(self, tool, *words):
-        """What a tool prints on a terminal."""
+        """Runs a tool with a terminal as standard error; returns what it prints there."""
         terminal, end = pty.openpty()
         done = subprocess.run(command_of(tool, words), cwd=HERE, env=ENVIRONMENT, stdout=subprocess.DEVNULL, stderr=end)
         os.write(end, b'$')
@@ -166,6 +176,7 @@ class HowFar(ToolTest):
         return told[:-1]
 
     def test_long_file(self):
+        """A long file shows its progress at each step, and clears the line at the end."""
         books = ''.join(f'<books name="{"x" * 80}" next="//@books.{number + 1}"/>' for number in range(9999)) + '<books/>'
         text = f'<l:Library xmlns:l="http://m.example/library">{books}</l:Library>'
         file = self.file('a.xmi', text)
@@ -180,5 +191,6 @@ class HowFar(ToolTest):
         self.assertRegex(told, 'writing the objects: [0-9]+ %')
 
     def test_short_file(self):
+        """A short file shows nothing."""
         words = (FOLDER / 'town.args').read_text().split()
         self.assertEqual(self.run_on_terminal('xmi2doc', *words, 'xmi/town.xmi'), '')

@@ -7,7 +7,7 @@ from typing import Any
 
 
 class Several(argparse.Action):
-    """Takes several files, and notes that it was the last to do so."""
+    """An option that takes several files, and notes that it was the last one to do so."""
 
     def __call__(self, parser: argparse.ArgumentParser, words: argparse.Namespace, values: Any, option: Any = None) -> None:
         """Adds the files to those of earlier options of the name."""

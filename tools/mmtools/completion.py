@@ -10,7 +10,7 @@ from .objects import Obj, Slot, held
 if TYPE_CHECKING:
     from .xmi_reader import XmiReader
 
-LONG = 20  # from which on the values of a list are found by a set
+LONG = 20  # from this length on the values of a list are searched in a set
 
 
 class Completion:
@@ -66,7 +66,7 @@ class Completion:
         return owner in self.members(target, other) or self.add(target, other, owner)
 
     def members(self, obj: Obj, slot: Slot) -> object:
-        """What a list has, for a look."""
+        """The values of a list, in a form in which a value is found fast."""
         values = obj.values.get(slot.name, [])
         if len(values) < LONG:
             return values

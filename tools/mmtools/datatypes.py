@@ -26,7 +26,7 @@ BUILT_IN = {
 OBJECTS = frozenset(f'ecore:{name}' for name, (_, loss) in BUILT_IN.items() if loss.endswith('null is unset'))
 RANGES = {'EInt': 1 << 31, 'ELong': 1 << 63}
 NUMBER = re.compile(r'([+-]?)0*([0-9]{1,19})', re.ASCII)
-SURE_DIGITS = 10  # from which on a number may be out of range
+SURE_DIGITS = 10  # from so many digits on a number may be out of range
 SPACES = ' \t\r\n'
 
 

@@ -10,7 +10,7 @@ from .objects import ATTRIBUTE, CONTAINED, CONTAINER, REFERENCE, Graph, Obj, Slo
 from .progress import Progress
 
 FORMAT = 2
-PIECE = 20_000  # texts that are joined at once
+PIECE = 20_000  # texts that are joined to one piece of output
 
 
 class DocumentWriter:

@@ -8,7 +8,7 @@ import os
 import sys
 from typing import Callable, Iterable, Iterator, NoReturn, Optional, Tuple
 
-PIECE = 1 << 16  # bytes that are read at once
+PIECE = 1 << 16  # bytes of one read
 
 
 class ToolError(Exception):

@@ -53,7 +53,7 @@ class MFeature:
 
     @property
     def is_reference(self) -> bool:
-        """Whether it holds objects."""
+        """Whether the feature is a reference."""
         return isinstance(self.type, MClass)
 
     @property

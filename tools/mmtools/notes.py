@@ -9,10 +9,10 @@ from typing import Dict, List, Optional, Tuple
 
 from .faults import one_line
 
-MOST = 10  # notes of one kind and name that are printed one by one
-LONGEST = 100  # characters of a name
+MOST = 10  # so many notes of one kind and name are printed, the others counted
+LONGEST = 100  # the most characters of a name in a note
 UNTOLD = ('package', 'annotation', 'operation', 'instance class')  # kinds that lose nothing, and are counted
-LOST = 3  # the status of a tool that left out content, if it is asked for
+LOST = 3  # with --strict, the status of a tool that left out content
 
 
 def shortened(text: str, most: int = LONGEST) -> str:

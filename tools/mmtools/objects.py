@@ -8,8 +8,8 @@ from .datatypes import default_of
 from .metamodel import MClass, MFeature
 from .steps import INDEX
 
-DEEPEST = 40  # levels of objects in a document
-MOST_LISTS = 100_000  # lists that are remembered by the path to them
+DEEPEST = 40  # the most levels of objects in a document
+MOST_LISTS = 100_000  # the most lists that are remembered by their paths
 ATTRIBUTE, CONTAINED, REFERENCE, CONTAINER = range(4)
 NEVER = object()  # the default of a feature that is written whatever its value
 BEYOND = object()  # what a fragment leads to if its list is known and has no such position
@@ -25,7 +25,7 @@ class Obj:
     __slots__ = ('of', 'line', 'values', 'parent', 'via', 'index')
 
     def __init__(self, of: MClass, line: int = 0, values: Optional[Dict[str, Any]] = None) -> None:
-        """The object is in nothing yet."""
+        """A new object without a container."""
         self.of, self.line = of, line
         self.values: Dict[str, Any] = {} if values is None else values
         self.parent: Optional[Obj] = None
@@ -94,7 +94,7 @@ class Plans(Dict[MClass, Plan]):
         return made
 
     def conforms(self, of: MClass, to: object) -> bool:
-        """Whether a class is another, or below it."""
+        """Whether the class `of` is the class `to` or a subclass of it."""
         return of is to or id(to) in self[of].above
 
 
@@ -209,5 +209,5 @@ def as_list(slot: Slot, value: Any) -> List[Any]:
 
 
 def held(obj: Obj, slot: Slot) -> List[Any]:
-    """What an object holds in a slot."""
+    """The values that an object has in a slot."""
     return as_list(slot, obj.values[slot.name]) if slot.name in obj.values else []

@@ -43,7 +43,7 @@ class Outside:
                     self.keys.setdefault(feature.name, set()).add(feature.source.name)
 
     def joined(self, uri: str) -> Optional[str]:
-        """A URI joined with that of the resource; None if there is none of the web."""
+        """A URI joined with that of the resource; None if the result is no URI of http or https."""
         if uri not in self.uris:
             self.uris[uri] = joined(self.uri, uri)
         return self.uris[uri]
@@ -69,7 +69,7 @@ class Outside:
         return next((reader for test in tests for reader in self.beside if test(reader)), None)
 
     def bent(self, file: str, uri: str, fragment: str) -> Tuple[str, str]:
-        """A fragment of another file as a document writes it, and why there is none, if it is none."""
+        """A fragment of another file as a document writes it, or the reason why there is none."""
         other = self.reader(uri)
         if other is None:
             return self.packages.by_positions(file, uri, fragment) or renamed(fragment, self.names), BY_NAME

@@ -10,7 +10,7 @@ from .metamodel import MClass, Metamodel, MFeature
 from .objects import ATTRIBUTE, Graph, Obj, held
 
 INHERITS, CONTAINS, REFERS, BOTH = 'inherits', 'contains', 'refers', 'both'
-LONGEST_TEXT = 40  # characters of a value
+LONGEST_TEXT = 40  # the most characters of a value
 ANY = 'EObject'
 
 

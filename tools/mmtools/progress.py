@@ -6,9 +6,9 @@ import sys
 import time
 from typing import Iterator, List, TypeVar
 
-MANY_BYTES = 1_000_000  # from which a file counts as long
+MANY_BYTES = 1_000_000  # from so many bytes, and so many objects, on a file counts as long
 MANY_OBJECTS = 5_000
-SECONDS = 0.5  # between two texts
+SECONDS = 0.5  # seconds between two texts
 AT_ONCE = 1_000  # steps that are counted at once
 Item = TypeVar('Item')
 
@@ -31,7 +31,7 @@ class Progress:
             sys.stderr.flush()
 
     def each(self, items: List[Item]) -> Iterator[Item]:
-        """Things that are done one after the other: a step each."""
+        """Yields items, and counts a step for each of them."""
         for start in range(0, len(items), AT_ONCE):
             some = items[start:start + AT_ONCE]
             yield from some

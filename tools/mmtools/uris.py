@@ -8,7 +8,7 @@ from urllib.parse import unquote, urlsplit
 
 from .web_urls import SCHEME, Url, parse
 
-DEEP = 20  # levels of folders above a relative URI
+DEEP = 20  # the most levels of folders above a relative URI
 NOWHERE = 'http://nowhere.invalid/' + '0/' * DEEP
 
 
@@ -54,7 +54,7 @@ def path_of(uri: str) -> str:
 
 
 def real_path(folder: str, path: str) -> str:
-    """The real path of a file in a folder; as it is joined if it can be none."""
+    """The real path of a file in a folder; the joined path if there is no real one."""
     joined_path = os.path.join(folder, path)
     try:
         return os.path.realpath(joined_path)

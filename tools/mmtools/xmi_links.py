@@ -99,7 +99,7 @@ class LinkJoiner:
             del it.owner.values[it.slot.name]
 
     def proxy(self, uri: str, fragment: str) -> Tuple[str, str]:
-        """The text of a proxy, and why there is none."""
+        """The text of a proxy, or the reason why there is none."""
         bent, fault_there = self.outside.bent(self.file, uri, fragment)
         whole = self.outside.joined(uri)
         if whole is None:

@@ -21,7 +21,7 @@ from .xml_reader import XSI, is_xmi, name_of
 XML = 'http://www.w3.org/XML/1998/namespace'
 SHORT = LONGEST_TEXT // 4  # characters of a text that is surely not too long
 Slots = List[Optional[Slot]]
-FEW = 5  # references of an attribute that EMF resolves one by one
+FEW = 5  # up to so many references of an attribute EMF resolves one by one
 
 
 class XmiReader(Parser):

@@ -23,7 +23,7 @@ IN_TEXT = {'\r': '&#xD;'}
 IN_ATTRIBUTE = {'"': '&quot;', '\t': '&#x9;', '\n': '&#xA;', '\r': '&#xD;'}
 MARKS = re.compile('[&<>"\t\n\r]')
 SPECIAL = re.compile('[^ !#-%\'-;=?-\ud7ff\ue000-\ufffd\U00010000-\U0010ffff]')  # what is forbidden, or a mark
-PIECE = 20_000  # texts that are joined at once
+PIECE = 20_000  # texts that are joined to one piece of output
 ABSENT = object()  # the value of a feature that has none
 
 

@@ -9,7 +9,7 @@ from xml.parsers import expat
 from .faults import fault, pieces
 from .progress import MANY_BYTES, Progress
 
-DEEPEST = 100  # levels of elements
+DEEPEST = 100  # the most levels of elements
 INVALID_TOKEN = 'not well-formed (invalid token)'
 
 
@@ -70,11 +70,11 @@ class Parser:
         self.encoding = encoding or self.encoding
 
     def declare(self, prefix: Optional[str], uri: Optional[str]) -> None:
-        """A prefix holds from here on."""
+        """Begins the scope of a prefix."""
         self.prefixes.setdefault(prefix or '', []).append(uri or '')
 
     def forget(self, prefix: Optional[str]) -> None:
-        """A prefix holds no longer."""
+        """Ends the scope of a prefix."""
         self.prefixes[prefix or ''].pop()
 
     def qualified(self, text: str) -> Optional[Tuple[str, str]]:

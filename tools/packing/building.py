@@ -22,7 +22,7 @@ class NotBuilt(Exception):
 
 
 def kit() -> Path:
-    """The folder of the kit; a NotBuilt if there is none."""
+    """The folder of the kit. Raises a NotBuilt if there is none."""
     try:
         done = subprocess.run(['rt', 'doc'], stdout=subprocess.PIPE, check=True)
     except (OSError, subprocess.CalledProcessError):
@@ -31,7 +31,7 @@ def kit() -> Path:
 
 
 def compiler() -> str:
-    """The compiler of C; a NotBuilt if there is none."""
+    """The C compiler. Raises a NotBuilt if there is none."""
     found = shutil.which('cc') or shutil.which('gcc') or shutil.which('clang')
     if found is None:
         raise NotBuilt('there is no C compiler')
@@ -39,7 +39,7 @@ def compiler() -> str:
 
 
 def headers() -> Path:
-    """The folder of Python.h; a NotBuilt if it is not installed."""
+    """The folder of Python.h. Raises a NotBuilt if it is not installed."""
     folder = Path(sysconfig.get_path('include'))
     if not (folder / 'Python.h').is_file():
         raise NotBuilt('there is no Python.h: install the headers of Python (python3-dev)')
@@ -77,7 +77,7 @@ def package(folder: Path, shared: Path, module: Optional[Path], program: Optiona
 
 
 def _run(words: Sequence[object]) -> None:
-    """Runs a compiler; a NotBuilt if it fails."""
+    """Runs a compiler. Raises a NotBuilt if it fails."""
     done = subprocess.run([os.fspath(str(word)) for word in words], stdout=subprocess.PIPE, stderr=subprocess.STDOUT)
     if done.returncode:
         raise NotBuilt(done.stdout.decode('utf-8', 'replace')[-2000:])

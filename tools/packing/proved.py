@@ -15,7 +15,7 @@ SOURCES = ('src', 'specs', 'proofs', 'include')  # the folders of a crate that i
 
 
 class NotProved(Exception):
-    """What is to be packed is not what was proved. Its text says why."""
+    """The files to be packed are not those that were proved. The text says why."""
 
 
 class Proof(NamedTuple):
@@ -26,12 +26,12 @@ class Proof(NamedTuple):
 
 
 def digest_of(file: Path) -> str:
-    """What identifies the content of a file."""
+    """A hash of the content of a file."""
     return hashlib.sha256(file.read_bytes()).hexdigest()
 
 
 def sources() -> str:
-    """What identifies the content of all crates."""
+    """A hash of the content of all crates."""
     found = [TOP / 'crates.txt', TOP / 'HANDLES']
     found += [it for crate in (TOP / 'crates').iterdir() for name in SOURCES for it in (crate / name).rglob('*') if it.is_file()]
     total = hashlib.sha256()
@@ -41,18 +41,18 @@ def sources() -> str:
 
 
 def record_of(made: Path) -> Path:
-    """The file of the record of something that was made."""
+    """The file that has the record of a built file."""
     return made.with_name(made.name + '.proved')
 
 
 def record(made: Path) -> None:
-    """Writes down that something was made of the sources as they are, which are proved."""
+    """Writes the record that a file was built from the sources as they are now, which are proved."""
     kit = subprocess.run(['rt', 'version'], stdout=subprocess.PIPE, check=True).stdout.decode().strip()
     record_of(made).write_text(json.dumps({'kit': kit, 'sources': sources(), 'made': digest_of(made)}) + '\n')
 
 
 def recorded(made: Path) -> Optional[Dict[str, str]]:
-    """The record of something that was made, or None."""
+    """The record of a built file, or None."""
     try:
         return json.loads(record_of(made).read_text())
     except (OSError, ValueError):
@@ -60,7 +60,7 @@ def recorded(made: Path) -> Optional[Dict[str, str]]:
 
 
 def check(made: Path) -> Proof:
-    """The proof of something that was made; a NotProved if it was not made of the sources of this commit, or has changed since."""
+    """The proof of a built file. Raises a NotProved if it was not built from the sources of this commit, or has changed since."""
     found = recorded(made)
     if found is None:
         raise NotProved(f'nothing says that {made} is proved: run ./check')
@@ -72,7 +72,7 @@ def check(made: Path) -> Proof:
 
 
 def commit() -> str:
-    """The commit that has the crates as they are; a NotProved if none has."""
+    """The commit that has the crates as they are. Raises a NotProved if there is none."""
     words = ['git', '-C', str(TOP)]
     changed = subprocess.run([*words, 'status', '--porcelain', '--', 'crates', 'crates.txt', 'HANDLES', 'clients'], stdout=subprocess.PIPE)
     head = subprocess.run([*words, 'rev-parse', 'HEAD'], stdout=subprocess.PIPE)

@@ -1,4 +1,4 @@
-"""What an answer of a kind says. Raises a ValueError for an answer of another kind."""
+"""Reads answers, each function those of one kind. Raises a ValueError for an answer of another kind."""
 
 from __future__ import annotations
 
@@ -13,20 +13,20 @@ OUTCOMES: Dict[str, Optional[bool]] = {'ok': None, **FLAGS}
 
 
 def read_ok(answer: str) -> None:
-    """Nothing, of `ok`."""
+    """Reads `ok`, which has no value."""
     if answer != 'ok':
         raise ValueError('not ok')
 
 
 def read_flag(answer: str) -> bool:
-    """A truth value."""
+    """Reads `true` or `false`."""
     if answer not in FLAGS:
         raise ValueError('no flag')
     return FLAGS[answer]
 
 
 def read_counts(words: Sequence[str], answer: str) -> List[int]:
-    """The numbers after each of some words, as of `deleted 3`."""
+    """Reads the number after each of some words, for instance 3 of `deleted 3`."""
     found = re.fullmatch(' '.join(f'{word} ([0-9]+)' for word in words), answer)
     if found is None:
         raise ValueError('no counts')
@@ -34,21 +34,21 @@ def read_counts(words: Sequence[str], answer: str) -> List[int]:
 
 
 def read_names(answer: str) -> List[str]:
-    """The names in brackets."""
+    """Reads names in brackets."""
     if answer[:1] != '[' or answer[-1:] != ']':
         raise ValueError('no names')
     return [name_word(name) for name in answer[1:-1].split(' ')] if answer != '[]' else []
 
 
 def read_document(answer: str) -> str:
-    """A document."""
+    """Reads a document."""
     if answer[:1] != '{':
         raise ValueError('no document')
     return answer
 
 
 def checked(found: Any, kind: Type[T]) -> T:
-    """What was found; a ValueError if it is of another kind."""
+    """The value that was found. Raises a ValueError if it is of another type."""
     if not isinstance(found, kind):
         raise ValueError('of another kind')
     return found

@@ -22,7 +22,7 @@ from .repository import Repository
 from .shards import Models, groups, in_order, models_of
 from .uris import BASE
 
-OBJECTS = 20_000  # of a group: so many that a start of the program costs nothing beside them, and that each process has some groups
+OBJECTS = 20_000  # objects of a group: enough to hide the start of the program, and few enough that each process gets several groups
 FOUND, WRONG_USE, NOT_FINISHED, INTERRUPTED = 1, 2, 3, 130
 DASK = 'dask://'
 

@@ -12,8 +12,8 @@ from .values import value_of
 
 OBJECT = re.compile(r'#(?:0|[1-9][0-9]*)')
 NAMES = ('name', 'id')  # the attributes that name an object for a reader
-LINES = 100  # of a tree
-ANSWERED = 20  # objects that are drawn below an answer
+LINES = 100  # lines of a tree, unless a number is given
+ANSWERED = 20  # objects that are described below an answer
 
 
 class Drawing:

@@ -53,15 +53,15 @@ class Engine:
         raise NotImplementedError
 
     def close(self) -> None:
-        """Ends it in order."""
+        """Ends the engine in the regular way, as opposed to `end`."""
         raise NotImplementedError
 
     def abandon(self) -> None:
-        """Leaves it to the process that was forked."""
+        """Leaves the engine to the parent of a fork."""
         self.refuse(lambda: NotOwner(FORKED))
 
     def refuse(self, error: Callable[[], Exception]) -> None:
-        """Has all further calls raise an error."""
+        """Makes all further calls raise an error."""
         def refused(*_: Any) -> Any:
             raise error()
 

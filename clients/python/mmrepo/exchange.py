@@ -134,7 +134,7 @@ class Exchange:
         return found
 
     def check(self) -> None:
-        """A NotOwner in another thread."""
+        """Raises a NotOwner if the calling thread is not the owner."""
         if get_ident() != self._owner:
             raise self._foreign()
 

@@ -22,7 +22,7 @@ FAULTS = (
     '', 'SYNTAX', 'LAYOUT', 'LIMIT', 'NAME', 'DUPLICATE_NAME', 'NO_TYPE', 'CYCLE', 'BOUNDS', 'OPPOSITE', 'BOTH_CONTAIN', 'CONTAINER_BOUND',
     'DEFAULT',
 )
-ROOM = 65_536  # bytes of a text that are copied without memory of its own
+ROOM = 65_536  # bytes of a buffer that is kept; a longer text is copied into a buffer of its own
 
 
 class _Handle(ctypes.Structure):
@@ -59,7 +59,7 @@ class Library:
             setattr(self, name, function)
 
     def session(self) -> _Session:
-        """A session that is closed."""
+        """A new session, which is not open yet."""
         return _Session(self)
 
 
@@ -135,7 +135,7 @@ class InProcess(Engine):
     """A session of the library in this process."""
 
     def __init__(self, file: str, metamodel: str, document: bytes, wanted: Optional[str] = None) -> None:
-        """Opens it over a metamodel, whose file and document are given. A NotStarted comes if there is no library, and a
+        """Opens a session over a metamodel, given as its file and its document. Raises a NotStarted if there is no library, and a
         MetamodelRefused for a fault of the metamodel."""
         super().__init__()
         if wanted == EXTENSION and _native is None:

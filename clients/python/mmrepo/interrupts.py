@@ -12,7 +12,7 @@ from weakref import WeakSet
 if TYPE_CHECKING:
     from .session import Session
 
-PATIENCE = 1.0  # seconds that a program has to answer, once Ctrl-C was pressed
+PATIENCE = 1.0  # seconds that a program has for its answer after a Ctrl-C
 
 _watched: WeakSet[Session] = WeakSet()  # the sessions of the main thread, in which Python handles signals
 

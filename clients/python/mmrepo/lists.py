@@ -37,7 +37,7 @@ class FeatureList(Sequence[T]):
         return self._node is node and self._name == name
 
     def __reduce_ex__(self, protocol: Any) -> Any:
-        """A TypeError: a pickle of it would be of no use without its repository."""
+        """Raises a TypeError: a pickle of the list would be of no use without its repository."""
         raise TypeError('list(..) gives the values, which are parts of a repository: `save` of a resource gives a text to keep')
 
     # What it has

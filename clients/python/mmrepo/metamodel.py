@@ -79,7 +79,7 @@ class EReference(EStructuralFeature):
 
     @property
     def container(self) -> bool:
-        """Whether it leads from a part to its holder."""
+        """Whether the reference leads from a part to its container."""
         opposite = self.eOpposite
         return opposite is not None and opposite.containment
 
@@ -104,7 +104,7 @@ class EClass(EClassifier):
         return self._features().get(name)
 
     def eAllSuperTypes(self) -> List[EClass]:
-        """The classes above it, each once."""
+        """All supertypes, direct and inherited, each once."""
         found: List[EClass] = []
         waiting = list(self.eSuperTypes)
         for above in waiting:
@@ -114,7 +114,7 @@ class EClass(EClassifier):
         return found
 
     def isSubTypeOf(self, other: EClass) -> bool:
-        """Whether it is a class, or one below it."""
+        """Whether the class is `other` or a subclass of it."""
         return self is other or other in self.eAllSuperTypes()
 
     def _features(self) -> Dict[str, EStructuralFeature]:

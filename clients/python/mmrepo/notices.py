@@ -15,7 +15,7 @@ if TYPE_CHECKING:
     from .resources import Resource
     from .session import Session
 
-FIRST_ADAPTER = 9  # A9 and those after it keep no notifications
+FIRST_ADAPTER = 9  # A9 and the adapters after it keep no notifications
 
 _HEAD = re.compile(r'told (A[0-9]+) ([A-Z_]+) ([#r][0-9]+)(?:\.([A-Za-z_][A-Za-z0-9_]*))? ')
 _PLACE = re.compile(r' (-1|[0-9]+)')

@@ -30,7 +30,7 @@ class Node:
         _keep_word(self, word)
 
     def __reduce_ex__(self, protocol: Any) -> Any:
-        """A TypeError: a pickle of it would be of no use without its repository."""
+        """Raises a TypeError: a pickle of the node would be of no use without its repository."""
         raise TypeError(NOT_COPIED)
 
 

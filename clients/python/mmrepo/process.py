@@ -25,7 +25,7 @@ from .errors import (
 LONGEST_LINE = 16_777_216  # bytes
 TOGETHER = 32_768  # bytes of lines that are sent at once: a pipe of Linux holds twice as many, so the writing never waits for an answer
 AT_ONCE = 65_536  # bytes that are read at once
-SECONDS_TO_END = 60  # how long a program that takes no more lines may take to end
+SECONDS_TO_END = 60  # how long a program may take to end after its last line
 JOURNAL_REFUSED = 'journal refused: '
 
 _BESIDE = Path(__file__).resolve().parent / 'bin/mmrepo'

@@ -7,7 +7,7 @@ import time
 from typing import TextIO
 
 WIDTH = 20
-SECONDS = 0.1  # between two texts
+SECONDS = 0.1  # seconds between two texts
 
 
 class Progress:

@@ -212,7 +212,7 @@ class Repository:
         self._session.close()
 
     def __reduce_ex__(self, protocol: Any) -> Any:
-        """A TypeError: a repository is of one process."""
+        """Raises a TypeError: a repository belongs to one process."""
         raise TypeError('a repository stays in its process: `save` of each resource gives a text to keep')
 
     def __enter__(self) -> Repository:

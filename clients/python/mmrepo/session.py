@@ -21,7 +21,7 @@ from .web_urls import parse
 if TYPE_CHECKING:
     from .folders import Folder
 
-FEW = 10_000  # objects from which on those that nobody has are looked for
+FEW = 10_000  # from so many known objects on, objects that Python has collected are removed
 
 
 class Session(Exchange):

@@ -22,7 +22,7 @@ from .uris import BASE, checked_base, name_of
 from .walking import Met, Shapes, links_of
 from .xmi import Xmi
 
-MOST_OBJECTS, MOST_FILES = 1_000_000, 50_000  # in a group
+MOST_OBJECTS, MOST_FILES = 1_000_000, 50_000  # the most objects and files of a group
 Path = Union[str, os.PathLike]
 Group = Tuple[str, ...]
 

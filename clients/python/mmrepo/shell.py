@@ -222,7 +222,7 @@ def _run_prompt(shell: Shell, repo: Repository) -> None:
 
 
 def _next_line() -> str:
-    """The next line of standard input; an EOFError at its end."""
+    """The next line of standard input. Raises an EOFError at its end."""
     line = sys.stdin.buffer.readline()
     if not line:
         raise EOFError

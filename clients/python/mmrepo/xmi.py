@@ -88,7 +88,7 @@ class Xmi:
         return self._aliases[name]
 
     def _run(self, tool: str, words: Sequence[str]) -> str:
-        """Runs a tool, and gives what it says on standard error; a ToolFailed if it refuses the file."""
+        """Runs a tool, and returns what it prints on standard error. Raises a ToolFailed if it refuses the file."""
         command = [sys.executable, tool_file(tool)]
         for file in self._ecore:
             command += ['--ecore', file]

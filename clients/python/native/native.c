@@ -8,8 +8,8 @@
 #include <mmrepo.h>
 #include <string.h>
 
-#define ROOM 1024              /* bytes of a text that are copied without memory of its own */
-#define LONG_CALL (64 * 1024)  /* bytes from which on other threads run while a call does */
+#define ROOM 1024              /* bytes of a buffer on the stack for a text; a longer one is allocated */
+#define LONG_CALL (64 * 1024)  /* from so many bytes on other threads run during a call */
 
 typedef struct {
     PyObject_HEAD
@@ -31,7 +31,7 @@ typedef struct {
 
 static PyObject *session_type;
 
-/* Looks a function up; an error if the library lacks it. */
+/* Looks a function up; sets an error if the library lacks it. */
 static int find(Library *self, void **place, const char *name) {
     *place = dlsym(self->handle, name);
     if (*place == NULL) {
@@ -218,7 +218,7 @@ static PyObject *session_close(PyObject *object, PyObject *Py_UNUSED(none)) {
     Py_RETURN_NONE;
 }
 
-/* Leaves what the session has as it is: in the child of a fork, whose copy may be in the middle of a call. */
+/* Leaves the memory of the session as it is. This is for the child of a fork, whose copy may be in the middle of a call. */
 static PyObject *session_abandon(PyObject *object, PyObject *Py_UNUSED(none)) {
     const mmrepo_session closed = MMREPO_CLOSED_SESSION;
     ((Session *)object)->session = closed;

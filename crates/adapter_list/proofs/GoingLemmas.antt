@@ -14,10 +14,10 @@ use Rattle.mm_types.specs.declared.numbers.AdapterNo.{AdapterNo}
 use Rattle.mm_types.specs.declared.numbers.Node.{Node}
 use Rattle.notice_chain.specs.View.{View, hear}
 use Rattle.notice_chain.specs.Listed.{HasDistinctNumbers, HasDistinctTargets, Listed, has_no, has_target, is_at, is_target, same_no, targets_len, with_changed}
-use Rattle.notice_chain.specs.Released.{index_at, last_notice, losing, removing, without}
+use Rattle.notice_chain.specs.Released.{adapter_after_loss, adapters_without_target, index_at, last_notice, removing_notice}
 use Rattle.notice_chain.specs.declared.notice.Notice.{Notice}
 use Rattle.notice_chain.specs.declared.target.Target.{Target}
-use Rattle.adapter_list.specs.Attached.{IsSound, listed, listed_one}
+use Rattle.adapter_list.specs.Attached.{IsSound, listed_adapters, listed_one}
 use Rattle.adapter_list.specs.Targets.{IsOnce, entries, entries_in, has_number_at}
 use Rattle.adapter_list.specs.declared.attached.Attached.{Attached}
 use Rattle.adapter_list.specs.declared.target_lists.TargetLists.{TargetLists}
@@ -42,11 +42,11 @@ pub is-there : (b : Bool) (i j : ℕ) → Some j ≡ spot-at b i → (b ≡ true
 is-there true i j h = (refl, cc)
 is-there false i j h = absurd (no-some j (sym h))
 
-pub without-none : (x : Node) (number : AdapterNo) (rs : List Listed) → is_target number x rs ≡ false → rs ≡ without (number, x) rs
-without-none x number rs other = sym (ap (λ b. if b then with_changed number (losing x (last_notice (number, x) rs)) rs else rs) other)
+pub adapters_without_target-none : (x : Node) (number : AdapterNo) (rs : List Listed) → is_target number x rs ≡ false → rs ≡ adapters_without_target (number, x) rs
+adapters_without_target-none x number rs other = sym (ap (λ b. if b then with_changed number (adapter_after_loss x (last_notice (number, x) rs)) rs else rs) other)
 
-pub without-one : (x : Node) (number : AdapterNo) (rs : List Listed) → is_target number x rs ≡ true → with_changed number (losing x (last_notice (number, x) rs)) rs ≡ without (number, x) rs
-without-one x number rs same = sym (ap (λ b. if b then with_changed number (losing x (last_notice (number, x) rs)) rs else rs) same)
+pub adapters_without_target-one : (x : Node) (number : AdapterNo) (rs : List Listed) → is_target number x rs ≡ true → with_changed number (adapter_after_loss x (last_notice (number, x) rs)) rs ≡ adapters_without_target (number, x) rs
+adapters_without_target-one x number rs same = sym (ap (λ b. if b then with_changed number (adapter_after_loss x (last_notice (number, x) rs)) rs else rs) same)
 
 pub told-none : {T : Type 0} (ts : List T) (b : Bool) (t : T) → b ≡ false → ts ≡ ts ++ (if b then t ∷ [] else [])
 told-none ts b t other = sym (append-nil ts) ∙ ap (λ c. ts ++ (if c then t ∷ [] else [])) (sym other)
@@ -66,10 +66,10 @@ changed-set number f (r ∷ rs) (suc i) q distinct at has =
     let other : has_no number r ≡ false = ap (λ k. nat_eq k r.no.0) (eqb-true number.0 q.no.0 has) ∙ flipped r.no q.no apart in
     ap (λ b. if b then (f r ∷ rs) else r ∷ with_changed number f rs) other ∙ ap (λ (xs : List Listed). r ∷ xs) (changed-set number f rs i q (IsDistinct-tail same_no r.no (map (λ p. p.no) rs) distinct) at has)
 
-pub listed-put : {A : Type 0} (heard : A → View) (xs : List (Attached A)) (i : ℕ) (y : Attached A) → listed heard (set xs i y) ≡ set (listed heard xs) i (listed_one heard y)
-listed-put heard [] i y = refl
-listed-put heard (x ∷ xs) zero y = refl
-listed-put heard (x ∷ xs) (suc i) y = ap (λ rs. listed_one heard x ∷ rs) (listed-put heard xs i y)
+pub listed_adapters-put : {A : Type 0} (heard : A → View) (xs : List (Attached A)) (i : ℕ) (y : Attached A) → listed_adapters heard (set xs i y) ≡ set (listed_adapters heard xs) i (listed_one heard y)
+listed_adapters-put heard [] i y = refl
+listed_adapters-put heard (x ∷ xs) zero y = refl
+listed_adapters-put heard (x ∷ xs) (suc i) y = ap (λ rs. listed_one heard x ∷ rs) (listed_adapters-put heard xs i y)
 
 ----------------------------------------------------------------- how many
 
@@ -165,29 +165,29 @@ none-gone x ts once found =
     sym (ap (λ (us : List Target). us ++ drop (suc k) ts) (take_all k ts past) ∙ ap (λ (us : List Target). ts ++ us) (drop_all (suc k) ts (omega (arith, past))) ∙ append-nil ts) ∙ first-gone x ts once
 
 -- the adapter at an index has no target twice
-pub once-of : {A : Type 0} (heard : A → View) (xs : List (Attached A)) (i : ℕ) (one : Attached A) → HasDistinctTargets (listed heard xs) → i < length xs → one ≡ get_or xs i one → IsDistinct same_node (map (λ t. t.node) one.targets.items)
+pub once-of : {A : Type 0} (heard : A → View) (xs : List (Attached A)) (i : ℕ) (one : Attached A) → HasDistinctTargets (listed_adapters heard xs) → i < length xs → one ≡ get_or xs i one → IsDistinct same_node (map (λ t. t.node) one.targets.items)
 once-of heard [] i one all low is = absurd (omega (arith, low))
-once-of heard (x ∷ xs) zero one all low is = subst (λ (a : Attached _). IsDistinct same_node (map (λ t. t.node) a.targets.items)) (sym is) (All-head IsOnce (listed_one heard x) (listed heard xs) all)
-once-of heard (x ∷ xs) (suc i) one all low is = once-of heard xs i one (All-tail IsOnce (listed_one heard x) (listed heard xs) all) (omega (arith, low)) is
+once-of heard (x ∷ xs) zero one all low is = subst (λ (a : Attached _). IsDistinct same_node (map (λ t. t.node) a.targets.items)) (sym is) (All-head IsOnce (listed_one heard x) (listed_adapters heard xs) all)
+once-of heard (x ∷ xs) (suc i) one all low is = once-of heard xs i one (All-tail IsOnce (listed_one heard x) (listed_adapters heard xs) all) (omega (arith, low)) is
 
 -- facts about a target that is removed: the index of its adapter, its index among the adapters that have the target, and the adapters
 -- afterwards
 pub record Goes {A : Type 0} (heard : A → View) (xs : List (Attached A)) (x : Node) (number : AdapterNo) (ordinal index : ℕ) (one after : Attached A) : Type 0 where
-  pub there : is_target number x (listed heard xs) ≡ true
-  pub index_is : index ≡ index_at (number, x) (listed heard xs)
+  pub there : is_target number x (listed_adapters heard xs) ≡ true
+  pub index_is : index ≡ index_at (number, x) (listed_adapters heard xs)
   pub fewer : suc (length after.targets.items) ≡ length one.targets.items
   pub once : IsDistinct same_node (map (λ t. t.node) after.targets.items)
-  pub others : listed heard (set xs ordinal after) ≡ without (number, x) (listed heard xs)
-  pub tied : (y : Node) → (if same_node x y then remove (entries y (listed heard xs)) index else entries y (listed heard xs)) ≡ entries y (listed heard (set xs ordinal after))
-  pub counted : targets_len (listed heard (set xs ordinal after)) + 1 ≡ targets_len (listed heard xs)
+  pub others : listed_adapters heard (set xs ordinal after) ≡ adapters_without_target (number, x) (listed_adapters heard xs)
+  pub tied : (y : Node) → (if same_node x y then remove (entries y (listed_adapters heard xs)) index else entries y (listed_adapters heard xs)) ≡ entries y (listed_adapters heard (set xs ordinal after))
+  pub counted : targets_len (listed_adapters heard (set xs ordinal after)) + 1 ≡ targets_len (listed_adapters heard xs)
 
 module _ {A : Type 0} (heard : A → View) (xs : List (Attached A)) (x : Node) (number : AdapterNo) (ordinal index : ℕ) (one after : Attached A) where
-  goes : HasDistinctNumbers (listed heard xs) → AllByRecursion IsOnce (listed heard xs) → Some ordinal ≡ position (has_no number) (listed heard xs) → ordinal < length xs → one ≡ get_or xs ordinal one
-      → Some index ≡ spot-at (is_target number x (listed heard xs)) (index_at (number, x) (listed heard xs))
-      → after.no ≡ one.no → after.targets.items ≡ filter (λ t. not (is_at x t)) one.targets.items → heard after.adapter ≡ hear (heard one.adapter) (removing number x index)
+  goes : HasDistinctNumbers (listed_adapters heard xs) → AllByRecursion IsOnce (listed_adapters heard xs) → Some ordinal ≡ position (has_no number) (listed_adapters heard xs) → ordinal < length xs → one ≡ get_or xs ordinal one
+      → Some index ≡ spot-at (is_target number x (listed_adapters heard xs)) (index_at (number, x) (listed_adapters heard xs))
+      → after.no ≡ one.no → after.targets.items ≡ filter (λ t. not (is_at x t)) one.targets.items → heard after.adapter ≡ hear (heard one.adapter) (removing_notice number x index)
       → Goes heard xs x number ordinal index one after
   goes distinct all at within is found same_number targets view =
-      let rs = listed heard xs in
+      let rs = listed_adapters heard xs in
       let q = listed_one heard one in
       let stands : slice_get rs ordinal ≡ Some q = slice_get-map (listed_one heard) xs ordinal ∙ ap (option_map (listed_one heard)) (slice_get_read xs (length xs) ordinal one refl within is) in
       let has : has_no number q ≡ true = passes-at (has_no number) rs ordinal q at stands in
@@ -195,28 +195,28 @@ module _ {A : Type 0} (heard : A → View) (xs : List (Attached A)) (x : Node) (
       let target : has_target x q ≡ true = target-at x number rs ordinal q distinct stands has spot.0 in
       let mine : IsOnce q = subst (λ (o : Option Listed). IfSome o IsOnce) stands (once-there rs ordinal all) in
       let n : Notice = last_notice (number, x) rs in
-      let heard_it : heard after.adapter ≡ hear q.view n = view ∙ ap (λ (i : ℕ). hear q.view (removing number x i)) spot.1 in
-      let now : listed_one heard after ≡ losing x n q = λ i. record { no = same_number i; targets = targets i; view = heard_it i } in
+      let heard_it : heard after.adapter ≡ hear q.view n = view ∙ ap (λ (i : ℕ). hear q.view (removing_notice number x i)) spot.1 in
+      let now : listed_one heard after ≡ adapter_after_loss x n q = λ i. record { no = same_number i; targets = targets i; view = heard_it i } in
       let fewer : suc (length after.targets.items) ≡ length one.targets.items = ap (λ (ts : List Target). suc (length ts)) targets ∙ one-fewer x one.targets.items mine target in
-      let put : listed heard (set xs ordinal after) ≡ set rs ordinal (losing x n q) = listed-put heard xs ordinal after ∙ ap (set rs ordinal) now in
-      let changed : listed heard (set xs ordinal after) ≡ with_changed number (losing x n) rs = put ∙ sym (changed-set number (losing x n) rs ordinal q distinct stands has) in
+      let put : listed_adapters heard (set xs ordinal after) ≡ set rs ordinal (adapter_after_loss x n q) = listed_adapters-put heard xs ordinal after ∙ ap (set rs ordinal) now in
+      let changed : listed_adapters heard (set xs ordinal after) ≡ with_changed number (adapter_after_loss x n) rs = put ∙ sym (changed-set number (adapter_after_loss x n) rs ordinal q distinct stands has) in
       record {
         there = spot.0;
         index_is = spot.1;
         fewer = fewer;
         once = subst (λ (ts : List Target). IsDistinct same_node (map (λ t. t.node) ts)) (sym targets) (once-filter x one.targets.items mine);
-        others = changed ∙ without-one x number rs spot.0;
-        tied = λ y. elim (same_node x y) as (λ b. same_node x y ≡ b → (if b then remove (entries y rs) index else entries y rs) ≡ entries y (listed heard (set xs ordinal after))) [
-          | true ↦ λ same. subst (λ (z : Node). remove (entries z rs) index ≡ entries z (listed heard (set xs ordinal after))) (same_node-true x y same) (ap (remove (entries x rs)) spot.1 ∙ sym (entries-gone x number n rs spot.0 distinct) ∙ ap (entries x) (sym changed))
+        others = changed ∙ adapters_without_target-one x number rs spot.0;
+        tied = λ y. elim (same_node x y) as (λ b. same_node x y ≡ b → (if b then remove (entries y rs) index else entries y rs) ≡ entries y (listed_adapters heard (set xs ordinal after))) [
+          | true ↦ λ same. subst (λ (z : Node). remove (entries z rs) index ≡ entries z (listed_adapters heard (set xs ordinal after))) (same_node-true x y same) (ap (remove (entries x rs)) spot.1 ∙ sym (entries-gone x number n rs spot.0 distinct) ∙ ap (entries x) (sym changed))
           | false ↦ λ other. sym (ap (entries y) changed ∙ entries-others x y number n rs other)
         ] refl;
-        counted = ap (λ (ss : List Listed). targets_len ss + 1) put ∙ targets_len-set rs ordinal q (losing x n q) stands (ap (λ (ts : List Target). suc (length ts)) (sym targets) ∙ fewer);
+        counted = ap (λ (ss : List Listed). targets_len ss + 1) put ∙ targets_len-set rs ordinal q (adapter_after_loss x n q) stands (ap (λ (ts : List Target). suc (length ts)) (sym targets) ∙ fewer);
       }
 
   -- the adapter has some target
-  some-by : HasDistinctNumbers (listed heard xs) → Some ordinal ≡ position (has_no number) (listed heard xs) → ordinal < length xs → one ≡ get_or xs ordinal one → Some index ≡ spot-at (is_target number x (listed heard xs)) (index_at (number, x) (listed heard xs)) → 0 < length one.targets.items
+  some-by : HasDistinctNumbers (listed_adapters heard xs) → Some ordinal ≡ position (has_no number) (listed_adapters heard xs) → ordinal < length xs → one ≡ get_or xs ordinal one → Some index ≡ spot-at (is_target number x (listed_adapters heard xs)) (index_at (number, x) (listed_adapters heard xs)) → 0 < length one.targets.items
   some-by distinct at within is found =
-      let rs = listed heard xs in
+      let rs = listed_adapters heard xs in
       let q = listed_one heard one in
       let stands : slice_get rs ordinal ≡ Some q = slice_get-map (listed_one heard) xs ordinal ∙ ap (option_map (listed_one heard)) (slice_get_read xs (length xs) ordinal one refl within is) in
       let has : has_no number q ≡ true = passes-at (has_no number) rs ordinal q at stands in
@@ -252,26 +252,26 @@ index-low x number rs there = let low = low-from x number 0 rs there in omega (a
 ----------------------------------------------------------------- by the words of the list
 
 -- facts about a target: the index of its adapter, and its index among the adapters that have the target
-pub record Stands {A : Type 0} (heard : A → View) (xs : List (Attached A)) (x : Node) (number : AdapterNo) (ordinal index : ℕ) : Type 0 where
+pub record IsTargetAt {A : Type 0} (heard : A → View) (xs : List (Attached A)) (x : Node) (number : AdapterNo) (ordinal index : ℕ) : Type 0 where
   pub within : ordinal < length xs
-  pub at : Some ordinal ≡ position (has_no number) (listed heard xs)
-  pub found : Some index ≡ spot-at (is_target number x (listed heard xs)) (index_at (number, x) (listed heard xs))
-  pub there : is_target number x (listed heard xs) ≡ true
-  pub index_is : index ≡ index_at (number, x) (listed heard xs)
-  pub low : index < targets_len (listed heard xs)
+  pub at : Some ordinal ≡ position (has_no number) (listed_adapters heard xs)
+  pub found : Some index ≡ spot-at (is_target number x (listed_adapters heard xs)) (index_at (number, x) (listed_adapters heard xs))
+  pub there : is_target number x (listed_adapters heard xs) ≡ true
+  pub index_is : index ≡ index_at (number, x) (listed_adapters heard xs)
+  pub low : index < targets_len (listed_adapters heard xs)
 
-module _ {A : Type 0} {heard : A → View} {places : A → ℕ} {xs : List (Attached A)} {keys : List AdapterNo} {t : TargetLists} {bs : List Bool} {count used room : ℕ} (sound : IsSound heard places xs keys t bs count used room) (now : List Listed) (seen : listed heard xs ≡ now) (x : Node) (number : AdapterNo) where
+module _ {A : Type 0} {heard : A → View} {places : A → ℕ} {xs : List (Attached A)} {keys : List AdapterNo} {t : TargetLists} {bs : List Bool} {count used room : ℕ} (sound : IsSound heard places xs keys t bs count used room) (now : List Listed) (seen : listed_adapters heard xs ≡ now) (x : Node) (number : AdapterNo) where
   pub position-found : position (at-number number) (entries_in t x) ≡ spot-at (is_target number x now) (index_at (number, x) now)
-  position-found = ap (position (at-number number)) (sound.tied x) ∙ position-entries x number (listed heard xs) ∙ ap (λ (rs : List Listed). spot-at (is_target number x rs) (index_at (number, x) rs)) seen
+  position-found = ap (position (at-number number)) (sound.tied x) ∙ position-entries x number (listed_adapters heard xs) ∙ ap (λ (rs : List Listed). spot-at (is_target number x rs) (index_at (number, x) rs)) seen
 
   -- a number without an entry has no such target
   pub no-spot : None ≡ position (at-number number) (entries_in t x) → is_target number x now ≡ false
   no-spot none = not-there (is_target number x now) (index_at (number, x) now) (none ∙ position-found)
 
   module _ (ordinal index : ℕ) where
-    pub standing : Some ordinal ≡ position (has_no number) now → ordinal < length now → Some index ≡ position (at-number number) (entries_in t x) → Stands heard xs x number ordinal index
+    pub standing : Some ordinal ≡ position (has_no number) now → ordinal < length now → Some index ≡ position (at-number number) (entries_in t x) → IsTargetAt heard xs x number ordinal index
     standing at low found =
-        let rs = listed heard xs in
+        let rs = listed_adapters heard xs in
         let many : length xs ≡ length now = sym (length-map xs (listed_one heard)) ∙ ap (λ (ys : List Listed). length ys) seen in
         let spotted : Some index ≡ spot-at (is_target number x rs) (index_at (number, x) rs) = found ∙ position-found ∙ ap (λ (qs : List Listed). spot-at (is_target number x qs) (index_at (number, x) qs)) (sym seen) in
         let spot = is-there (is_target number x rs) (index_at (number, x) rs) index spotted in
@@ -285,12 +285,12 @@ module _ {A : Type 0} {heard : A → View} {places : A → ℕ} {xs : List (Atta
           low = omega (arith, spot.1, less);
         }
 
-    module _ (stands : Stands heard xs x number ordinal index) (one : Attached A) (is : one ≡ get_or xs ordinal one) where
+    module _ (stands : IsTargetAt heard xs x number ordinal index) (one : Attached A) (is : one ≡ get_or xs ordinal one) where
       -- the adapter has some target
       pub some-target : 0 < length one.targets.items
       some-target = some-by heard xs x number ordinal index one one (distinct-numbers heard xs keys sound.numbered sound.distinct) stands.at stands.within is stands.found
 
       -- facts after the target is removed
-      pub going : (after : Attached A) → after.no ≡ one.no → after.targets.items ≡ filter (λ q. not (is_at x q)) one.targets.items → heard after.adapter ≡ hear (heard one.adapter) (removing number x index) → Goes heard xs x number ordinal index one after
+      pub going : (after : Attached A) → after.no ≡ one.no → after.targets.items ≡ filter (λ q. not (is_at x q)) one.targets.items → heard after.adapter ≡ hear (heard one.adapter) (removing_notice number x index) → Goes heard xs x number ordinal index one after
       going after same_number targets view =
-          goes heard xs x number ordinal index one after (distinct-numbers heard xs keys sound.numbered sound.distinct) (recursion_from_All IsOnce (listed heard xs) sound.once) stands.at stands.within is stands.found same_number targets view
+          goes heard xs x number ordinal index one after (distinct-numbers heard xs keys sound.numbered sound.distinct) (recursion_from_All IsOnce (listed_adapters heard xs) sound.once) stands.at stands.within is stands.found same_number targets view

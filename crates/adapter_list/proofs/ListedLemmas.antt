@@ -5,17 +5,17 @@ use Rattle.std.proofs.lemmas.Option.{slice_get-map, slice_get_read}
 use Rattle.std.proofs.lemmas.List.{take-map, drop-map, map-append, length-map}
 use Rattle.std.proofs.lemmas.List.Elements.{All-append, All-drop, All-get_or, All-map, All-push, All-rest, All-set, All-take, All-weaker, recursion_from_All}
 use Rattle.notice_chain.specs.View.{View}
-use Rattle.notice_chain.specs.Listed.{Listed, told_all}
+use Rattle.notice_chain.specs.Listed.{Listed, adapter_after_notices}
 use Rattle.notice_chain.specs.declared.notice.Notice.{Notice}
 use Rattle.adapter_list.specs.declared.attached.Attached.{Attached}
-use Rattle.adapter_list.specs.Attached.{AreReady, HasReserve, IsReady, listed_one, listed, places_of, numbers_of}
+use Rattle.adapter_list.specs.Attached.{AreReady, HasReserve, IsReady, listed_one, listed_adapters, places_of, numbers_of}
 use Rattle.adapter_list.specs.Rounds.{tell_at, use_place}
 
 module _ {A : Type 0} where
-  pub listed-set : (heard : A → View) (xs : List (Attached A)) (i : ℕ) (n : Notice) (x y : Attached A) → x ≡ get_or xs i x → listed_one heard y ≡ told_all (listed_one heard x) (n ∷ []) → listed heard (set xs i y) ≡ tell_at (listed heard xs) i n
-  listed-set heard [] i n x y e p = refl
-  listed-set heard (z ∷ zs) zero n x y e p = ap (λ r. r ∷ listed heard zs) (p ∙ ap (λ (q : Attached A). told_all (listed_one heard q) (n ∷ [])) e)
-  listed-set heard (z ∷ zs) (suc i) n x y e p = ap (λ rs. listed_one heard z ∷ rs) (listed-set heard zs i n x y e p)
+  pub listed_adapters-set : (heard : A → View) (xs : List (Attached A)) (i : ℕ) (n : Notice) (x y : Attached A) → x ≡ get_or xs i x → listed_one heard y ≡ adapter_after_notices (listed_one heard x) (n ∷ []) → listed_adapters heard (set xs i y) ≡ tell_at (listed_adapters heard xs) i n
+  listed_adapters-set heard [] i n x y e p = refl
+  listed_adapters-set heard (z ∷ zs) zero n x y e p = ap (λ r. r ∷ listed_adapters heard zs) (p ∙ ap (λ (q : Attached A). adapter_after_notices (listed_one heard q) (n ∷ [])) e)
+  listed_adapters-set heard (z ∷ zs) (suc i) n x y e p = ap (λ rs. listed_one heard z ∷ rs) (listed_adapters-set heard zs i n x y e p)
 
   pub places_of-set : (places : A → ℕ) (xs : List (Attached A)) (i : ℕ) (x y : Attached A) → x ≡ get_or xs i x → places y.adapter + 1 ≡ places x.adapter → places_of places (set xs i y) ≡ use_place (places_of places xs) i
   places_of-set places [] i x y e p = refl
@@ -66,10 +66,10 @@ module _ {A : Type 0} where
   slice_index-map_set f (x ∷ xs) zero y h = refl
   slice_index-map_set f (x ∷ xs) (suc i) y h = slice_index-map_set f xs i y (omega arith)
 
-  pub listed-set_same : (heard : A → View) (xs : List (Attached A)) (i : ℕ) (x y : Attached A) → x ≡ get_or xs i x → listed_one heard y ≡ listed_one heard x → listed heard (set xs i y) ≡ listed heard xs
-  listed-set_same heard [] i x y e p = refl
-  listed-set_same heard (z ∷ zs) zero x y e p = ap (λ r. r ∷ listed heard zs) (p ∙ ap (listed_one heard) e)
-  listed-set_same heard (z ∷ zs) (suc i) x y e p = ap (λ rs. listed_one heard z ∷ rs) (listed-set_same heard zs i x y e p)
+  pub listed_adapters-set_same : (heard : A → View) (xs : List (Attached A)) (i : ℕ) (x y : Attached A) → x ≡ get_or xs i x → listed_one heard y ≡ listed_one heard x → listed_adapters heard (set xs i y) ≡ listed_adapters heard xs
+  listed_adapters-set_same heard [] i x y e p = refl
+  listed_adapters-set_same heard (z ∷ zs) zero x y e p = ap (λ r. r ∷ listed_adapters heard zs) (p ∙ ap (listed_one heard) e)
+  listed_adapters-set_same heard (z ∷ zs) (suc i) x y e p = ap (λ rs. listed_one heard z ∷ rs) (listed_adapters-set_same heard zs i x y e p)
 
   pub read_once : (xs : List (Attached A)) (i : ℕ) (x y : Attached A) → i < length xs → x ≡ get_or xs i x → y ≡ get_or xs i y → x ≡ y
   read_once [] i x y h e k = absurd (omega arith)
@@ -81,13 +81,13 @@ module _ {A : Type 0} where
   numbers_of-set (z ∷ zs) zero x y e p = ap (λ k. k ∷ numbers_of zs) (p ∙ ap (λ (q : Attached A). q.no) e)
   numbers_of-set (z ∷ zs) (suc i) x y e p = ap (λ ks. z.no ∷ ks) (numbers_of-set zs i x y e p)
 
-  pub slice_index-told : (heard : A → View) (xs : List (Attached A)) (i : ℕ) (x : Attached A) → i < length xs → x ≡ get_or xs i x → slice_index (map (λ r. r.view.told) (listed heard xs)) i ≡ (heard x.adapter).told
+  pub slice_index-told : (heard : A → View) (xs : List (Attached A)) (i : ℕ) (x : Attached A) → i < length xs → x ≡ get_or xs i x → slice_index (map (λ r. r.view.told) (listed_adapters heard xs)) i ≡ (heard x.adapter).told
   slice_index-told heard [] i x h e = absurd (omega arith)
   slice_index-told heard (y ∷ ys) zero x h e = sym (ap (λ (q : Attached A). (heard q.adapter).told) e)
   slice_index-told heard (y ∷ ys) (suc i) x h e = slice_index-told heard ys i x (omega arith) e
 
-  pub listed-get : (heard : A → View) (xs : List (Attached A)) (rs : List Listed) (i : ℕ) (x : Attached A) → listed heard xs ≡ rs → i < length rs → x ≡ get_or xs i x → slice_get rs i ≡ Some (listed_one heard x)
-  listed-get heard xs rs i x seen low e =
+  pub listed_adapters-get : (heard : A → View) (xs : List (Attached A)) (rs : List Listed) (i : ℕ) (x : Attached A) → listed_adapters heard xs ≡ rs → i < length rs → x ≡ get_or xs i x → slice_get rs i ≡ Some (listed_one heard x)
+  listed_adapters-get heard xs rs i x seen low e =
       let within : i < length xs = omega (arith, low, ap (λ (qs : List Listed). length qs) seen, length-map xs (listed_one heard)) in
       ap (λ (qs : List Listed). slice_get qs i) (sym seen) ∙ slice_get-map (listed_one heard) xs i ∙ ap (option_map (listed_one heard)) (slice_get_read xs (length xs) i x refl within e)
 
@@ -110,14 +110,14 @@ module _ {A : Type 0} (heard : A → View) (places : A → ℕ) where
   pub AreReady-rest : (x : Attached A) (xs ys : List (Attached A)) → ys ≡ x ∷ xs → AreReady heard places ys → AreReady heard places xs
   AreReady-rest x xs ys e h = All-rest ready x xs ys e h
 
-  reserve_from : (ys : List (Attached A)) → AllByRecursion ready ys → HasReserve (listed heard ys) (places_of places ys)
+  reserve_from : (ys : List (Attached A)) → AllByRecursion ready ys → HasReserve (listed_adapters heard ys) (places_of places ys)
   reserve_from [] h k = omega arith
   reserve_from (y ∷ ys) h zero = h.0.reserve
   reserve_from (y ∷ ys) h (suc k) = reserve_from ys h.1 k
 
-  pub HasReserve-from_ready : (xs : List (Attached A)) → AreReady heard places xs → HasReserve (listed heard xs) (places_of places xs)
+  pub HasReserve-from_ready : (xs : List (Attached A)) → AreReady heard places xs → HasReserve (listed_adapters heard xs) (places_of places xs)
   HasReserve-from_ready xs h = reserve_from xs (recursion_from_All ready xs h)
 
-  pub countable-from_ready : (xs : List (Attached A)) → AreReady heard places xs → All (λ r. r.view.told + length r.targets < 2 ^ 64) (listed heard xs)
+  pub countable-from_ready : (xs : List (Attached A)) → AreReady heard places xs → All (λ r. r.view.told + length r.targets < 2 ^ 64) (listed_adapters heard xs)
   countable-from_ready xs h =
       All-map (λ r. r.view.told + length r.targets < 2 ^ 64) (listed_one heard) xs (All-weaker ready (λ a. (heard a.adapter).told + length a.targets.items < 2 ^ 64) (λ a r. omega (arith, r.reserve, r.countable)) xs h)

@@ -9,7 +9,7 @@ use Rattle.mm_types.specs.Same.{same_node}
 use Rattle.mm_types.specs.declared.numbers.AdapterNo.{AdapterNo}
 use Rattle.mm_types.specs.declared.numbers.Node.{Node}
 use Rattle.notice_chain.specs.Listed.{HasDistinctNumbers, Listed, has_no, has_target, is_at, is_target, same_no, with_changed}
-use Rattle.notice_chain.specs.Released.{having, index_at, losing}
+use Rattle.notice_chain.specs.Released.{adapter_after_loss, adapters_with_target, index_at}
 use Rattle.notice_chain.specs.declared.notice.Notice.{Notice}
 use Rattle.notice_chain.specs.declared.target.Target.{Target}
 use Rattle.adapter_list.specs.Targets.{entries, entry_of}
@@ -67,45 +67,45 @@ no-entry x r es is = ap (λ (o : Option Target). cons_option (option_map (λ q. 
 
 pub index-here : (x : Node) (number : AdapterNo) (r : Listed) (rs : List Listed) → has_no number r ≡ true → has_target x r ≡ true → index_at (number, x) (r ∷ rs) ≡ 0
 index-here x number r rs same target =
-    ap (λ b. prefix_len (λ q. not (has_no number q)) (cond b (r ∷ having x rs) (having x rs))) target ∙ ap (λ b. cond (not b) (1 + prefix_len (λ q. not (has_no number q)) (having x rs)) 0) same
+    ap (λ b. prefix_len (λ q. not (has_no number q)) (cond b (r ∷ adapters_with_target x rs) (adapters_with_target x rs))) target ∙ ap (λ b. cond (not b) (1 + prefix_len (λ q. not (has_no number q)) (adapters_with_target x rs)) 0) same
 
 pub index-behind : (x : Node) (number : AdapterNo) (r : Listed) (rs : List Listed) → has_no number r ≡ false → has_target x r ≡ true → index_at (number, x) (r ∷ rs) ≡ suc (index_at (number, x) rs)
 index-behind x number r rs apart target =
     let next : 1 + index_at (number, x) rs ≡ suc (index_at (number, x) rs) = omega arith in
-    ap (λ b. prefix_len (λ q. not (has_no number q)) (cond b (r ∷ having x rs) (having x rs))) target ∙ ap (λ b. cond (not b) (1 + prefix_len (λ q. not (has_no number q)) (having x rs)) 0) apart ∙ next
+    ap (λ b. prefix_len (λ q. not (has_no number q)) (cond b (r ∷ adapters_with_target x rs) (adapters_with_target x rs))) target ∙ ap (λ b. cond (not b) (1 + prefix_len (λ q. not (has_no number q)) (adapters_with_target x rs)) 0) apart ∙ next
 
 pub index-other : (x : Node) (number : AdapterNo) (r : Listed) (rs : List Listed) → has_target x r ≡ false → index_at (number, x) (r ∷ rs) ≡ index_at (number, x) rs
-index-other x number r rs target = ap (λ b. prefix_len (λ q. not (has_no number q)) (cond b (r ∷ having x rs) (having x rs))) target
+index-other x number r rs target = ap (λ b. prefix_len (λ q. not (has_no number q)) (cond b (r ∷ adapters_with_target x rs) (adapters_with_target x rs))) target
 
-here : (x : Node) (number : AdapterNo) (n : Notice) (r : Listed) (rs : List Listed) → has_no number r ≡ true → has_target x r ≡ true → entries x (losing x n r ∷ rs) ≡ remove (entries x (r ∷ rs)) (index_at (number, x) (r ∷ rs))
+here : (x : Node) (number : AdapterNo) (n : Notice) (r : Listed) (rs : List Listed) → has_no number r ≡ true → has_target x r ≡ true → entries x (adapter_after_loss x n r ∷ rs) ≡ remove (entries x (r ∷ rs)) (index_at (number, x) (r ∷ rs))
 here x number n r rs same target =
     let some = (has-some x r.targets).0 target in
-    no-entry x (losing x n r) (entries x rs) (find-gone x r.targets)
+    no-entry x (adapter_after_loss x n r) (entries x rs) (find-gone x r.targets)
     ∙ sym (ap (λ (es : List Entry). remove es (index_at (number, x) (r ∷ rs))) (with-entry x r some.0 (entries x rs) some.1) ∙ ap (λ (i : ℕ). remove (entry r some.0 ∷ entries x rs) i) (index-here x number r rs same target))
 
-behind : (x : Node) (number : AdapterNo) (n : Notice) (r : Listed) (rs : List Listed) → has_no number r ≡ false → entries x (with_changed number (losing x n) rs) ≡ remove (entries x rs) (index_at (number, x) rs) → (b : Bool) → has_target x r ≡ b → entries x (r ∷ with_changed number (losing x n) rs) ≡ remove (entries x (r ∷ rs)) (index_at (number, x) (r ∷ rs))
+behind : (x : Node) (number : AdapterNo) (n : Notice) (r : Listed) (rs : List Listed) → has_no number r ≡ false → entries x (with_changed number (adapter_after_loss x n) rs) ≡ remove (entries x rs) (index_at (number, x) rs) → (b : Bool) → has_target x r ≡ b → entries x (r ∷ with_changed number (adapter_after_loss x n) rs) ≡ remove (entries x (r ∷ rs)) (index_at (number, x) (r ∷ rs))
 behind x number n r rs apart rest true target =
     let some = (has-some x r.targets).0 target in
-    with-entry x r some.0 (entries x (with_changed number (losing x n) rs)) some.1 ∙ ap (λ (es : List Entry). entry r some.0 ∷ es) rest
+    with-entry x r some.0 (entries x (with_changed number (adapter_after_loss x n) rs)) some.1 ∙ ap (λ (es : List Entry). entry r some.0 ∷ es) rest
     ∙ sym (ap (λ (es : List Entry). remove es (index_at (number, x) (r ∷ rs))) (with-entry x r some.0 (entries x rs) some.1) ∙ ap (λ (i : ℕ). remove (entry r some.0 ∷ entries x rs) i) (index-behind x number r rs apart target))
 behind x number n r rs apart rest false target =
     let none = (has-some x r.targets).1 target in
-    no-entry x r (entries x (with_changed number (losing x n) rs)) none ∙ rest
+    no-entry x r (entries x (with_changed number (adapter_after_loss x n) rs)) none ∙ rest
     ∙ sym (ap (λ (es : List Entry). remove es (index_at (number, x) (r ∷ rs))) (no-entry x r (entries x rs) none) ∙ ap (λ (i : ℕ). remove (entries x rs) i) (index-other x number r rs target))
 
 -- the position of an adapter in the list of a node is its index among the adapters that have the node as a target
-pub entries-gone : (x : Node) (number : AdapterNo) (n : Notice) (rs : List Listed) → list_any (λ r. has_no number r && has_target x r) rs ≡ true → HasDistinctNumbers rs → entries x (with_changed number (losing x n) rs) ≡ remove (entries x rs) (index_at (number, x) rs)
+pub entries-gone : (x : Node) (number : AdapterNo) (n : Notice) (rs : List Listed) → list_any (λ r. has_no number r && has_target x r) rs ≡ true → HasDistinctNumbers rs → entries x (with_changed number (adapter_after_loss x n) rs) ≡ remove (entries x rs) (index_at (number, x) rs)
 entries-gone x number n [] there distinct = absurd (false≢true there)
 entries-gone x number n (r ∷ rs) there distinct =
-    elim (has_no number r) as (λ b. has_no number r ≡ b → ((b && has_target x r) || list_any (λ q. has_no number q && has_target x q) rs) ≡ true → entries x (if b then (losing x n r ∷ rs) else r ∷ with_changed number (losing x n) rs) ≡ remove (entries x (r ∷ rs)) (index_at (number, x) (r ∷ rs))) [
+    elim (has_no number r) as (λ b. has_no number r ≡ b → ((b && has_target x r) || list_any (λ q. has_no number q && has_target x q) rs) ≡ true → entries x (if b then (adapter_after_loss x n r ∷ rs) else r ∷ with_changed number (adapter_after_loss x n) rs) ≡ remove (entries x (r ∷ rs)) (index_at (number, x) (r ∷ rs))) [
       | true ↦ λ same at. here x number n r rs same (only (has_target x r) (list_any (λ q. has_no number q && has_target x q) rs) (none-later number x r rs same (IsDistinct-head same_no r.no (map (λ q. q.no) rs) distinct)) at)
       | false ↦ λ apart at. behind x number n r rs apart (entries-gone x number n rs at (IsDistinct-tail same_no r.no (map (λ q. q.no) rs) distinct)) (has_target x r) refl
     ] refl there
 
-pub entries-others : (x y : Node) (number : AdapterNo) (n : Notice) (rs : List Listed) → same_node x y ≡ false → entries y (with_changed number (losing x n) rs) ≡ entries y rs
+pub entries-others : (x y : Node) (number : AdapterNo) (n : Notice) (rs : List Listed) → same_node x y ≡ false → entries y (with_changed number (adapter_after_loss x n) rs) ≡ entries y rs
 entries-others x y number n [] other = refl
 entries-others x y number n (r ∷ rs) other =
-    elim (has_no number r) as (λ b. entries y (if b then (losing x n r ∷ rs) else r ∷ with_changed number (losing x n) rs) ≡ entries y (r ∷ rs)) [
+    elim (has_no number r) as (λ b. entries y (if b then (adapter_after_loss x n r ∷ rs) else r ∷ with_changed number (adapter_after_loss x n) rs) ≡ entries y (r ∷ rs)) [
       | true ↦ ap (λ (o : Option Target). cons_option (option_map (λ t. let e : Entry = record { no = r.no; deep = t.deep } in e) o) (entries y rs)) (find-others x y r.targets other)
       | false ↦ ap (cons_option (entry_of y r)) (entries-others x y number n rs other)
     ]

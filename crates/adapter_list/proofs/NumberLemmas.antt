@@ -12,7 +12,7 @@ use Rattle.mm_types.specs.declared.refused.Refused.TheVariants as refused
 use Rattle.notice_chain.specs.View.{View}
 use Rattle.notice_chain.specs.Listed.{HasDistinctNumbers, Listed, adapter, has_no, same_no, targets_len}
 use Rattle.adapter_list.specs.declared.attached.Attached.{Attached}
-use Rattle.adapter_list.specs.Attached.{listed_one, listed, numbers_of}
+use Rattle.adapter_list.specs.Attached.{listed_one, listed_adapters, numbers_of}
 use Rattle.adapter_list.specs.Refusals.{list_refusal}
 use Rattle.adapter_list.proofs.ListedLemmas.{position-map}
 
@@ -28,24 +28,24 @@ list_any-map f p [] = refl
 list_any-map f p (x ∷ xs) = ap (λ b. p (f x) || b) (list_any-map f p xs)
 
 module _ {A : Type 0} (heard : A → View) (xs : List (Attached A)) where
-  pub map-listed : (ys : List (Attached A)) → map (λ r. r.no) (listed heard ys) ≡ numbers_of ys
-  map-listed [] = refl
-  map-listed (y ∷ ys) = ap (λ ns. y.no ∷ ns) (map-listed ys)
+  pub map-listed_adapters : (ys : List (Attached A)) → map (λ r. r.no) (listed_adapters heard ys) ≡ numbers_of ys
+  map-listed_adapters [] = refl
+  map-listed_adapters (y ∷ ys) = ap (λ ns. y.no ∷ ns) (map-listed_adapters ys)
 
   -- the numbers are in attach order, so the index of a number is the index of its adapter
-  pub position-numbers : (keys : List AdapterNo) (number : AdapterNo) → keys ≡ numbers_of xs → position (same_no number) keys ≡ position (has_no number) (listed heard xs)
+  pub position-numbers : (keys : List AdapterNo) (number : AdapterNo) → keys ≡ numbers_of xs → position (same_no number) keys ≡ position (has_no number) (listed_adapters heard xs)
   position-numbers keys number e = ap (position (same_no number)) e ∙ position-map (λ (a : Attached A). a.no) (same_no number) xs ∙ sym (position-map (listed_one heard) (has_no number) xs)
 
-  pub list_any-numbers : (keys : List AdapterNo) (number : AdapterNo) → keys ≡ numbers_of xs → list_any (same_no number) keys ≡ list_any (has_no number) (listed heard xs)
+  pub list_any-numbers : (keys : List AdapterNo) (number : AdapterNo) → keys ≡ numbers_of xs → list_any (same_no number) keys ≡ list_any (has_no number) (listed_adapters heard xs)
   list_any-numbers keys number e = ap (list_any (same_no number)) e ∙ list_any-map (λ (a : Attached A). a.no) (same_no number) xs ∙ sym (list_any-map (listed_one heard) (has_no number) xs)
 
-  pub adapter-found : (number : AdapterNo) (i : ℕ) (x : Attached A) → Some i ≡ position (has_no number) (listed heard xs) → i < length xs → x ≡ get_or xs i x → Some (listed_one heard x) ≡ adapter number (listed heard xs)
+  pub adapter-found : (number : AdapterNo) (i : ℕ) (x : Attached A) → Some i ≡ position (has_no number) (listed_adapters heard xs) → i < length xs → x ≡ get_or xs i x → Some (listed_one heard x) ≡ adapter number (listed_adapters heard xs)
   adapter-found number i x at h e =
-      let there : slice_get (listed heard xs) i ≡ Some (listed_one heard x) = slice_get-map (listed_one heard) xs i ∙ ap (option_map (listed_one heard)) (slice_get_read xs (length xs) i x refl h e) in
-      sym (find-position (has_no number) (listed heard xs) ∙ ap (option_and_then (slice_get (listed heard xs))) (sym at) ∙ there)
+      let there : slice_get (listed_adapters heard xs) i ≡ Some (listed_one heard x) = slice_get-map (listed_one heard) xs i ∙ ap (option_map (listed_one heard)) (slice_get_read xs (length xs) i x refl h e) in
+      sym (find-position (has_no number) (listed_adapters heard xs) ∙ ap (option_and_then (slice_get (listed_adapters heard xs))) (sym at) ∙ there)
 
-  pub adapter-absent : (number : AdapterNo) → None ≡ position (has_no number) (listed heard xs) → None ≡ adapter number (listed heard xs)
-  adapter-absent number at = sym (find-position (has_no number) (listed heard xs) ∙ ap (option_and_then (slice_get (listed heard xs))) (sym at))
+  pub adapter-absent : (number : AdapterNo) → None ≡ position (has_no number) (listed_adapters heard xs) → None ≡ adapter number (listed_adapters heard xs)
+  adapter-absent number at = sym (find-position (has_no number) (listed_adapters heard xs) ∙ ap (option_and_then (slice_get (listed_adapters heard xs))) (sym at))
 
 pub below : (n : ℕ) → n < TARGETS → nat_le TARGETS n ≡ false
 below n h = grind (arith, h)
@@ -70,8 +70,8 @@ pub numbers_of-push : {A : Type 0} (xs after : List (Attached A)) (x : Attached 
 numbers_of-push xs after x keys new e absent inserted pushed =
     inserted ∙ ap (λ b. if b then keys else (keys ++ (x.no ∷ []))) absent ∙ ap (λ ks. ks ++ (x.no ∷ [])) e ∙ sym (ap numbers_of pushed ∙ map-append (λ a. a.no) xs (x ∷ []))
 
-pub distinct-numbers : {A : Type 0} (heard : A → View) (xs : List (Attached A)) (keys : List AdapterNo) → keys ≡ numbers_of xs → IsDistinct same_no keys → HasDistinctNumbers (listed heard xs)
-distinct-numbers heard xs keys is distinct = subst (IsDistinct same_no) (is ∙ sym (map-listed heard xs xs)) distinct
+pub distinct-numbers : {A : Type 0} (heard : A → View) (xs : List (Attached A)) (keys : List AdapterNo) → keys ≡ numbers_of xs → IsDistinct same_no keys → HasDistinctNumbers (listed_adapters heard xs)
+distinct-numbers heard xs keys is distinct = subst (IsDistinct same_no) (is ∙ sym (map-listed_adapters heard xs xs)) distinct
 
 ----------------------------------------------------------------- some of them
 

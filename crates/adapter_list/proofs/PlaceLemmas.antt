@@ -24,7 +24,7 @@ use Rattle.mm_types.specs.declared.numbers.Node.{Node}
 use Rattle.mm_types.specs.declared.numbers.Node.TheVariants as node
 use Rattle.mm_types.specs.declared.numbers.ObjectNo.{ObjectNo}
 use Rattle.notice_chain.specs.Listed.{Above, HasDistinctNumbers, Listed, brings_in, has_no, has_target, is_at, same_no}
-use Rattle.adapter_list.specs.Hearing.{hearers, hears_node, is_touched, ordinals_from, touched}
+use Rattle.adapter_list.specs.Hearing.{hearers, hears_node, is_touched, ordinals_from, touched_indexes}
 use Rattle.adapter_list.specs.Targets.{IsOnce, entries, finds, has_number_at, is_attached, is_attached_at}
 use Rattle.adapter_list.specs.declared.target_lists.Entry.{Entry}
 use Rattle.notice_chain.specs.declared.target.Target.{Target}
@@ -378,8 +378,8 @@ touched-some None (o ∷ os) = touched-some None os
 touched-some (Some r) (o ∷ os) = ap (λ b. b || list_any (λ p. is_attached (node.Object p) false r) os) (touched-one o (Some r)) ∙ ap (λ b. has_target (node.Object o) r || b) (touched-some (Some r) os)
 
 -- a set with the indexes of the adapters that are attached to one of some objects
-pub places-touched : (os : List ObjectNo) (rs : List Listed) (s : BTreeSet ℕ) → tree.IsOrdered nat_cmp s → ((k : ℕ) → tree.contains nat_cmp s k ≡ list_any (λ o. is_attached_at rs (node.Object o) false k) os) → s.keys ≡ touched os rs
-places-touched os rs s order has = places-are (is_touched os) rs s order (λ k. has k ∙ touched-some (slice_get rs k) os)
+pub places-touched_indexes : (os : List ObjectNo) (rs : List Listed) (s : BTreeSet ℕ) → tree.IsOrdered nat_cmp s → ((k : ℕ) → tree.contains nat_cmp s k ≡ list_any (λ o. is_attached_at rs (node.Object o) false k) os) → s.keys ≡ touched_indexes os rs
+places-touched_indexes os rs s order has = places-are (is_touched os) rs s order (λ k. has k ∙ touched-some (slice_get rs k) os)
 
 -- one more object
 pub touched-more : (p : ObjectNo → Bool) (b new all : Bool) (os : List ObjectNo) (i : ℕ) (d : ObjectNo) → i < length os → new ≡ (b || p (get_or os i d)) → (b || list_any p (drop i os)) ≡ all → (new || list_any p (drop (i + 1) os)) ≡ all

@@ -8,9 +8,9 @@ use Rattle.indexmap.specs.IndexSet.{insert_key}
 use Rattle.std.proofs.lemmas.Map.Keys.{IsDistinct-head, IsDistinct-tail}
 use Rattle.mm_types.specs.declared.numbers.AdapterNo.{AdapterNo}
 use Rattle.notice_chain.specs.Listed.{same_no}
-use Rattle.notice_chain.specs.Released.{all_released, removing}
+use Rattle.notice_chain.specs.Released.{all_released, removing_notice}
 use Rattle.notice_chain.specs.View.{View, hear_all}
-use Rattle.adapter_list.specs.Attached.{listed, numbers_of, views_of}
+use Rattle.adapter_list.specs.Attached.{listed_adapters, numbers_of, views_of}
 use Rattle.adapter_list.specs.declared.attached.Attached.{Attached}
 
 -- a number is not among the numbers before it
@@ -43,12 +43,12 @@ module _ {A : Type 0} where
   drop-numbers xs i x h e = ap numbers_of (drop_more xs i x h) ∙ ap (λ (q : Attached A). q.no ∷ numbers_of (drop (i + 1) xs)) (sym e)
 
 -- one more adapter is given back
-pub closed-more : {A : Type 0} (heard : A → View) (out new : List (AdapterNo × A)) (one : Attached A) (after : A) (items rest : List (Attached A)) (all : List (AdapterNo × View)) → new ≡ out ++ (one.no, after) ∷ [] → heard after ≡ hear_all (heard one.adapter) (map (λ t. removing one.no t.node 0) one.targets.items) → items ≡ one ∷ rest
-    → views_of heard out ++ all_released (listed heard items) ≡ all → views_of heard new ++ all_released (listed heard rest) ≡ all
+pub closed-more : {A : Type 0} (heard : A → View) (out new : List (AdapterNo × A)) (one : Attached A) (after : A) (items rest : List (Attached A)) (all : List (AdapterNo × View)) → new ≡ out ++ (one.no, after) ∷ [] → heard after ≡ hear_all (heard one.adapter) (map (λ t. removing_notice one.no t.node 0) one.targets.items) → items ≡ one ∷ rest
+    → views_of heard out ++ all_released (listed_adapters heard items) ≡ all → views_of heard new ++ all_released (listed_adapters heard rest) ≡ all
 closed-more heard out new one after items rest all made told is whole =
-    ap (λ bs. views_of heard bs ++ all_released (listed heard rest)) made
-    ∙ ap (λ vs. vs ++ all_released (listed heard rest)) (map-append (λ (b : AdapterNo × _). (b.0, heard b.1)) out ((one.no, after) ∷ []))
-    ∙ append_assoc (views_of heard out) ((one.no, heard after) ∷ []) (all_released (listed heard rest))
-    ∙ ap (λ (v : View). views_of heard out ++ (one.no, v) ∷ all_released (listed heard rest)) told
-    ∙ ap (λ (xs : List (Attached _)). views_of heard out ++ all_released (listed heard xs)) (sym is)
+    ap (λ bs. views_of heard bs ++ all_released (listed_adapters heard rest)) made
+    ∙ ap (λ vs. vs ++ all_released (listed_adapters heard rest)) (map-append (λ (b : AdapterNo × _). (b.0, heard b.1)) out ((one.no, after) ∷ []))
+    ∙ append_assoc (views_of heard out) ((one.no, heard after) ∷ []) (all_released (listed_adapters heard rest))
+    ∙ ap (λ (v : View). views_of heard out ++ (one.no, v) ∷ all_released (listed_adapters heard rest)) told
+    ∙ ap (λ (xs : List (Attached _)). views_of heard out ++ all_released (listed_adapters heard xs)) (sym is)
     ∙ whole

@@ -8,7 +8,7 @@ use Rattle.mm_types.specs.declared.numbers.AdapterNo.{AdapterNo}
 use Rattle.mm_types.specs.declared.numbers.Node.{Node}
 use Rattle.notice_chain.specs.View.{View}
 use Rattle.notice_chain.specs.Listed.{HaveTargets, Listed, has_no, is_target, with_changed, with_target}
-use Rattle.notice_chain.specs.Released.{Spot, has_targets, last_notice, leaving, losing, released, staying, told_of_leaving, without, without_all}
+use Rattle.notice_chain.specs.Released.{Spot, adapter_after_loss, adapters_without_target, adapters_without_targets, has_targets, last_notice, leaving_adapters, released_adapters, staying_adapters, told_of_leaving}
 use Rattle.notice_chain.specs.declared.notice.Notice.{Notice}
 use Rattle.notice_chain.specs.declared.target.Target.{Target}
 use Rattle.adapter_list.specs.Rounds.{tell_at}
@@ -35,18 +35,18 @@ some-tell_at rs i n h = All-from_recursion Has (tell_at rs i n) (has_at rs i n (
 
 ---------------------------------------------------------------- each has a target
 
-pub some-staying : (rs : List Listed) → HaveTargets (staying rs)
-some-staying [] = All-nil (λ (r : Listed). 0 < length r.targets)
-some-staying (r ∷ rs) =
+pub some-staying_adapters : (rs : List Listed) → HaveTargets (staying_adapters rs)
+some-staying_adapters [] = All-nil (λ (r : Listed). 0 < length r.targets)
+some-staying_adapters (r ∷ rs) =
     let P : Listed → Type 0 = λ q. 0 < length q.targets in
-    elim (has_targets r) as (λ b. has_targets r ≡ b → All P (cond b (r ∷ staying rs) (staying rs))) [
-      | true ↦ λ some. All-cons P r (staying rs) (ltb-true 0 (length r.targets) some) (some-staying rs)
-      | false ↦ λ _. some-staying rs
+    elim (has_targets r) as (λ b. has_targets r ≡ b → All P (cond b (r ∷ staying_adapters rs) (staying_adapters rs))) [
+      | true ↦ λ some. All-cons P r (staying_adapters rs) (ltb-true 0 (length r.targets) some) (some-staying_adapters rs)
+      | false ↦ λ _. some-staying_adapters rs
     ] refl
 
-pub others-some : (ss : List Spot) (rs : List Listed) → HaveTargets rs → HaveTargets (released ss rs).others
+pub others-some : (ss : List Spot) (rs : List Listed) → HaveTargets rs → HaveTargets (released_adapters ss rs).others
 others-some [] rs some = some
-others-some (s ∷ ss) rs some = some-staying (without_all (s ∷ ss) rs)
+others-some (s ∷ ss) rs some = some-staying_adapters (adapters_without_targets (s ∷ ss) rs)
 
 ---------------------------------------------------------------- how many leave
 
@@ -62,24 +62,24 @@ bare-behind r rs = elim (has_targets r) as (λ b. length (bare rs) ≤ length (c
 bare-same : (r : Listed) (xs ys : List Listed) → length (bare xs) ≤ suc (length (bare ys)) → length (bare (r ∷ xs)) ≤ suc (length (bare (r ∷ ys)))
 bare-same r xs ys h = elim (has_targets r) as (λ b. length (cond (not b) (r ∷ bare xs) (bare xs)) ≤ suc (length (cond (not b) (r ∷ bare ys) (bare ys)))) [ true ↦ omega (arith, h) | false ↦ omega (arith, h) ]
 
-bare-changed : (k : AdapterNo) (x : Node) (n : Notice) (rs : List Listed) → length (bare (with_changed k (losing x n) rs)) ≤ suc (length (bare rs))
+bare-changed : (k : AdapterNo) (x : Node) (n : Notice) (rs : List Listed) → length (bare (with_changed k (adapter_after_loss x n) rs)) ≤ suc (length (bare rs))
 bare-changed k x n [] = omega arith
 bare-changed k x n (r ∷ rs) =
-    elim (has_no k r) as (λ b. length (bare (if b then (losing x n r ∷ rs) else r ∷ with_changed k (losing x n) rs)) ≤ suc (length (bare (r ∷ rs)))) [
-      | true ↦ omega (arith, bare-first (losing x n r) rs, bare-behind r rs)
-      | false ↦ bare-same r (with_changed k (losing x n) rs) rs (bare-changed k x n rs)
+    elim (has_no k r) as (λ b. length (bare (if b then (adapter_after_loss x n r ∷ rs) else r ∷ with_changed k (adapter_after_loss x n) rs)) ≤ suc (length (bare (r ∷ rs)))) [
+      | true ↦ omega (arith, bare-first (adapter_after_loss x n r) rs, bare-behind r rs)
+      | false ↦ bare-same r (with_changed k (adapter_after_loss x n) rs) rs (bare-changed k x n rs)
     ]
 
-bare-without : (s : Spot) (rs : List Listed) → length (bare (without s rs)) ≤ suc (length (bare rs))
-bare-without s rs =
-    elim (is_target s.0 s.1 rs) as (λ b. length (bare (if b then with_changed s.0 (losing s.1 (last_notice s rs)) rs else rs)) ≤ suc (length (bare rs))) [
+bare-adapters_without_target : (s : Spot) (rs : List Listed) → length (bare (adapters_without_target s rs)) ≤ suc (length (bare rs))
+bare-adapters_without_target s rs =
+    elim (is_target s.0 s.1 rs) as (λ b. length (bare (if b then with_changed s.0 (adapter_after_loss s.1 (last_notice s rs)) rs else rs)) ≤ suc (length (bare rs))) [
       | true ↦ bare-changed s.0 s.1 (last_notice s rs) rs
       | false ↦ omega arith
     ]
 
-bare-all : (ss : List Spot) (rs : List Listed) → length (bare (without_all ss rs)) ≤ length (bare rs) + length ss
+bare-all : (ss : List Spot) (rs : List Listed) → length (bare (adapters_without_targets ss rs)) ≤ length (bare rs) + length ss
 bare-all [] rs = omega arith
-bare-all (s ∷ ss) rs = omega (arith, bare-all ss (without s rs), bare-without s rs)
+bare-all (s ∷ ss) rs = omega (arith, bare-all ss (adapters_without_target s rs), bare-adapters_without_target s rs)
 
 none-bare : (rs : List Listed) → HaveTargets rs → length (bare rs) ≡ 0
 none-bare [] some = refl
@@ -89,33 +89,33 @@ none-bare (r ∷ rs) some =
     ap (λ b. length (cond (not b) (r ∷ bare rs) (bare rs))) has ∙ none-bare rs (All-tail P r rs some)
 
 -- at most as many adapters are released as targets are removed
-pub few-leave : (ss : List Spot) (rs : List Listed) → HaveTargets rs → length (leaving (without_all ss rs)) ≤ length ss
-few-leave ss rs some = omega (arith, length-map (bare (without_all ss rs)) (λ (r : Listed). let p : AdapterNo × View = (r.no, r.view) in p), bare-all ss rs, none-bare rs some)
+pub few-leave : (ss : List Spot) (rs : List Listed) → HaveTargets rs → length (leaving_adapters (adapters_without_targets ss rs)) ≤ length ss
+few-leave ss rs some = omega (arith, length-map (bare (adapters_without_targets ss rs)) (λ (r : Listed). let p : AdapterNo × View = (r.no, r.view) in p), bare-all ss rs, none-bare rs some)
 
 ---------------------------------------------------------------- how many there are
 
-changed-len : (k : AdapterNo) (x : Node) (n : Notice) (rs : List Listed) → length (with_changed k (losing x n) rs) ≡ length rs
+changed-len : (k : AdapterNo) (x : Node) (n : Notice) (rs : List Listed) → length (with_changed k (adapter_after_loss x n) rs) ≡ length rs
 changed-len k x n [] = refl
 changed-len k x n (r ∷ rs) =
-    elim (has_no k r) as (λ b. length (if b then (losing x n r ∷ rs) else r ∷ with_changed k (losing x n) rs) ≡ suc (length rs)) [
+    elim (has_no k r) as (λ b. length (if b then (adapter_after_loss x n r ∷ rs) else r ∷ with_changed k (adapter_after_loss x n) rs) ≡ suc (length rs)) [
       | true ↦ refl
       | false ↦ ap suc (changed-len k x n rs)
     ]
 
-without-len : (s : Spot) (rs : List Listed) → length (without s rs) ≡ length rs
-without-len s rs =
-    elim (is_target s.0 s.1 rs) as (λ b. length (if b then with_changed s.0 (losing s.1 (last_notice s rs)) rs else rs) ≡ length rs) [
+adapters_without_target-len : (s : Spot) (rs : List Listed) → length (adapters_without_target s rs) ≡ length rs
+adapters_without_target-len s rs =
+    elim (is_target s.0 s.1 rs) as (λ b. length (if b then with_changed s.0 (adapter_after_loss s.1 (last_notice s rs)) rs else rs) ≡ length rs) [
       | true ↦ changed-len s.0 s.1 (last_notice s rs) rs
       | false ↦ refl
     ]
 
-without_all-len : (ss : List Spot) (rs : List Listed) → length (without_all ss rs) ≡ length rs
-without_all-len [] rs = refl
-without_all-len (s ∷ ss) rs = without_all-len ss (without s rs) ∙ without-len s rs
+adapters_without_targets-len : (ss : List Spot) (rs : List Listed) → length (adapters_without_targets ss rs) ≡ length rs
+adapters_without_targets-len [] rs = refl
+adapters_without_targets-len (s ∷ ss) rs = adapters_without_targets-len ss (adapters_without_target s rs) ∙ adapters_without_target-len s rs
 
 -- releasing targets adds no adapter
-pub others-fewer : (ss : List Spot) (rs : List Listed) → length (staying (without_all ss rs)) ≤ length rs
-others-fewer ss rs = omega (arith, fewer has_targets (without_all ss rs), without_all-len ss rs)
+pub others-fewer : (ss : List Spot) (rs : List Listed) → length (staying_adapters (adapters_without_targets ss rs)) ≤ length rs
+others-fewer ss rs = omega (arith, fewer has_targets (adapters_without_targets ss rs), adapters_without_targets-len ss rs)
 
 -- an adapter that is notified is in the list
 pub some-there : (s : Spot) (p : AdapterNo × Notice) (rs : List Listed) → p ∷ [] ≡ told_of_leaving s rs → 1 ≤ length rs

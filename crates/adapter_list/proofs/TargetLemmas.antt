@@ -7,7 +7,7 @@ use Rattle.mm_types.specs.declared.numbers.Node.{Node}
 use Rattle.notice_chain.specs.View.{View}
 use Rattle.notice_chain.specs.Listed.{HasDistinctTargets, Listed, targets_len}
 use Rattle.notice_chain.specs.declared.notice.Notice.{Notice}
-use Rattle.adapter_list.specs.Attached.{listed}
+use Rattle.adapter_list.specs.Attached.{listed_adapters}
 use Rattle.adapter_list.specs.Rounds.{tell_at}
 use Rattle.adapter_list.specs.Targets.{entries, entry_of, targets_at}
 use Rattle.adapter_list.specs.declared.attached.Attached.{Attached}
@@ -37,7 +37,7 @@ once_at (r ∷ rs) (suc i) n h = (h.0, once_at rs i n h.1)
 pub once-tell_at : (rs : List Listed) (i : ℕ) (n : Notice) → HasDistinctTargets rs → HasDistinctTargets (tell_at rs i n)
 once-tell_at rs i n h = All-from_recursion Once (tell_at rs i n) (once_at rs i n (recursion_from_All Once rs h))
 
-pub targets_at-here : {A : Type 0} (heard : A → View) (xs : List (Attached A)) (i : ℕ) (x : Attached A) → i < length xs → x ≡ get_or xs i x → targets_at (listed heard xs) i ≡ length x.targets.items
+pub targets_at-here : {A : Type 0} (heard : A → View) (xs : List (Attached A)) (i : ℕ) (x : Attached A) → i < length xs → x ≡ get_or xs i x → targets_at (listed_adapters heard xs) i ≡ length x.targets.items
 targets_at-here heard [] i x h e = absurd (omega (arith, h))
 targets_at-here heard (y ∷ ys) zero x h e = sym (ap (λ (q : Attached _). length q.targets.items) e)
 targets_at-here heard (y ∷ ys) (suc i) x h e = targets_at-here heard ys i x (omega (arith, h)) e

@@ -16,17 +16,17 @@ use Rattle.mm_types.specs.declared.refused.Refused.TheVariants as refused
 use Rattle.adapters.specs.declared.adapter.NoRoom.{NoRoom}
 use Rattle.adapters.specs.declared.adapter.NoRoom.TheVariants as room
 use Rattle.notice_chain.specs.View.{View}
-use Rattle.notice_chain.specs.Listed.{HasDistinctNumbers, HasDistinctTargets, HaveTargets, Listed, adapter, has_no, has_target, is_at, is_target, same_no, targets_len, watched, with_target}
+use Rattle.notice_chain.specs.Listed.{HasDistinctNumbers, HasDistinctTargets, HaveTargets, Listed, adapter, adapters_after_watch, has_no, has_target, is_at, is_target, same_no, targets_len, with_target}
 use Rattle.notice_chain.specs.declared.target.Target.{Target}
-use Rattle.adapter_list.specs.Attached.{IsSound, IsWhole, listed, listed_one}
+use Rattle.adapter_list.specs.Attached.{IsSound, IsWhole, listed_adapters, listed_one}
 use Rattle.adapter_list.specs.Counts.{told_at_ordinal}
 use Rattle.adapter_list.specs.Refusals.{but_memory, refusal_of, target_refusal, watch_refusal}
 use Rattle.adapter_list.specs.Targets.{AreSameMarks, AreSetAt, HasNoEmpty, IsOnce, entries, entries_in, entry_of, is_any, targets_at}
 use Rattle.adapter_list.specs.declared.attached.Attached.{Attached}
 use Rattle.adapter_list.specs.declared.target_lists.Entry.{Entry}
 use Rattle.adapter_list.specs.declared.target_lists.TargetLists.{TargetLists}
-use Rattle.adapter_list.proofs.GoingLemmas.{changed-set, listed-put, total-from}
-use Rattle.adapter_list.proofs.ListedLemmas.{AreReady-at, AreReady-set, listed-set_same, numbers_of-set}
+use Rattle.adapter_list.proofs.GoingLemmas.{changed-set, listed_adapters-put, total-from}
+use Rattle.adapter_list.proofs.ListedLemmas.{AreReady-at, AreReady-set, listed_adapters-set_same, numbers_of-set}
 use Rattle.adapter_list.proofs.MarkLemmas.{mark-put}
 use Rattle.adapter_list.proofs.MoveLemmas.{has-some, no-entry, with-entry}
 use Rattle.mm_types.proofs.PositionLemmas.{position-first, position-rest}
@@ -171,10 +171,10 @@ target-apart x number (r ∷ rs) zero q at has none =
 target-apart x number (r ∷ rs) (suc i) q at has none = target-apart x number rs i q at has (or_parts (has_no number r && has_target x r) (is_target number x rs) none).1
 
 -- the adapter at an index with the targets that it had
-pub listed-same : {A : Type 0} (heard : A → View) (xs : List (Attached A)) (i : ℕ) (x y : Attached A) → x ≡ get_or xs i x → y.no ≡ x.no → y.targets.items ≡ x.targets.items → y.adapter ≡ x.adapter → listed heard (set xs i y) ≡ listed heard xs
-listed-same heard xs i x y is number targets same =
+pub listed_adapters-same : {A : Type 0} (heard : A → View) (xs : List (Attached A)) (i : ℕ) (x y : Attached A) → x ≡ get_or xs i x → y.no ≡ x.no → y.targets.items ≡ x.targets.items → y.adapter ≡ x.adapter → listed_adapters heard (set xs i y) ≡ listed_adapters heard xs
+listed_adapters-same heard xs i x y is number targets same =
     let now : listed_one heard y ≡ listed_one heard x = λ j. record { no = number j; targets = targets j; view = heard (same j) } in
-    listed-set_same heard xs i x y is now
+    listed_adapters-set_same heard xs i x y is now
 
 module _ {A : Type 0} {heard : A → View} {places : A → ℕ} {xs : List (Attached A)} {keys : List AdapterNo} {t : TargetLists} {bs : List Bool} {count used room : ℕ} (sound : IsSound heard places xs keys t bs count used room) (i : ℕ) (x y : Attached A) (low : i < length xs) (is : x ≡ get_or xs i x) (same_number : y.no ≡ x.no) (same_adapter : y.adapter ≡ x.adapter) (u : TargetLists) (cs : List Bool) (some : HasNoEmpty t → HasNoEmpty u) where
   as-many : length (set xs i y) ≡ length xs
@@ -183,7 +183,7 @@ module _ {A : Type 0} {heard : A → View} {places : A → ℕ} {xs : List (Atta
   -- the same for the rules of the list: the adapter has capacity for more targets, and the table and the marks are as they were
   sound-same : y.targets.items ≡ x.targets.items → ((z : Node) → entries_in u z ≡ entries_in t z) → AreSameMarks bs cs → IsSound heard places (set xs i y) keys u cs count used room
   sound-same targets kept marks =
-      let after : listed heard (set xs i y) ≡ listed heard xs = listed-same heard xs i x y is same_number targets same_adapter in
+      let after : listed_adapters heard (set xs i y) ≡ listed_adapters heard xs = listed_adapters-same heard xs i x y is same_number targets same_adapter in
       let ready = AreReady-at heard places xs i x sound.ready low is in
       let long = ap (λ (ts : List Target). length ts) targets in
       let many = ap places same_adapter in
@@ -202,43 +202,43 @@ module _ {A : Type 0} {heard : A → View} {places : A → ℕ} {xs : List (Atta
         releasable = omega (arith, as-many, sound.releasable);
       }
 
-  pub whole-same : HaveTargets (listed heard xs) → y.targets.items ≡ x.targets.items → ((z : Node) → entries_in u z ≡ entries_in t z) → AreSameMarks bs cs → IsWhole heard places (set xs i y) keys u cs count used room
+  pub whole-same : HaveTargets (listed_adapters heard xs) → y.targets.items ≡ x.targets.items → ((z : Node) → entries_in u z ≡ entries_in t z) → AreSameMarks bs cs → IsWhole heard places (set xs i y) keys u cs count used room
   whole-same each targets kept marks =
-      record { sound = sound-same targets kept marks; some = subst HaveTargets (sym (listed-same heard xs i x y is same_number targets same_adapter)) each }
+      record { sound = sound-same targets kept marks; some = subst HaveTargets (sym (listed_adapters-same heard xs i x y is same_number targets same_adapter)) each }
 
-  module _ (q : Target) (number : AdapterNo) (seen : List Listed) (seen_as : seen ≡ listed heard xs) (at_place : Some i ≡ position (has_no number) seen) (has_not : is_target number q.node seen ≡ false) (targets : y.targets.items ≡ x.targets.items ++ q ∷ []) where
-    at : Some i ≡ position (has_no number) (listed heard xs)
+  module _ (q : Target) (number : AdapterNo) (seen : List Listed) (seen_as : seen ≡ listed_adapters heard xs) (at_place : Some i ≡ position (has_no number) seen) (has_not : is_target number q.node seen ≡ false) (targets : y.targets.items ≡ x.targets.items ++ q ∷ []) where
+    at : Some i ≡ position (has_no number) (listed_adapters heard xs)
     at = subst (λ (rs : List Listed). Some i ≡ position (has_no number) rs) seen_as at_place
 
-    none : is_target number q.node (listed heard xs) ≡ false
+    none : is_target number q.node (listed_adapters heard xs) ≡ false
     none = subst (λ (rs : List Listed). is_target number q.node rs ≡ false) seen_as has_not
 
-    stands-at : slice_get (listed heard xs) i ≡ Some (listed_one heard x)
+    stands-at : slice_get (listed_adapters heard xs) i ≡ Some (listed_one heard x)
     stands-at = slice_get-map (listed_one heard) xs i ∙ ap (option_map (listed_one heard)) (slice_get_read xs (length xs) i x refl low is)
 
     has-number : has_no number (listed_one heard x) ≡ true
-    has-number = passes-at (has_no number) (listed heard xs) i (listed_one heard x) at stands-at
+    has-number = passes-at (has_no number) (listed_adapters heard xs) i (listed_one heard x) at stands-at
 
-    put-there : listed heard (set xs i y) ≡ set (listed heard xs) i (with_target q (listed_one heard x))
+    put-there : listed_adapters heard (set xs i y) ≡ set (listed_adapters heard xs) i (with_target q (listed_one heard x))
     put-there =
         let now : listed_one heard y ≡ with_target q (listed_one heard x) = λ j. record { no = same_number j; targets = targets j; view = heard (same_adapter j) } in
-        listed-put heard xs i y ∙ ap (set (listed heard xs) i) now
+        listed_adapters-put heard xs i y ∙ ap (set (listed_adapters heard xs) i) now
 
     -- the adapter at an index with one more target
-    pub listed-watched : listed heard (set xs i y) ≡ watched number q seen
+    pub listed-watched : listed_adapters heard (set xs i y) ≡ adapters_after_watch number q seen
     listed-watched =
-        put-there ∙ sym (changed-set number (with_target q) (listed heard xs) i (listed_one heard x) (distinct-numbers heard xs keys sound.numbered sound.distinct) stands-at has-number)
-        ∙ ap (watched number q) (sym seen_as)
+        put-there ∙ sym (changed-set number (with_target q) (listed_adapters heard xs) i (listed_one heard x) (distinct-numbers heard xs keys sound.numbered sound.distinct) stands-at has-number)
+        ∙ ap (adapters_after_watch number q) (sym seen_as)
 
-    some-watched : HaveTargets (listed heard xs) → HaveTargets (listed heard (set xs i y))
-    some-watched each = subst HaveTargets (sym put-there) (some-set (listed heard xs) i (listed_one heard x) q each)
+    some-watched : HaveTargets (listed_adapters heard xs) → HaveTargets (listed_adapters heard (set xs i y))
+    some-watched each = subst HaveTargets (sym put-there) (some-set (listed_adapters heard xs) i (listed_one heard x) q each)
 
     -- the same for the rules of the list: with reserved capacity, an entry and a mark
-    sound-watched : length x.targets.items < places x.adapter → count < TARGETS → (index : ℕ) → index ≡ length (entries q.node (take i (listed heard xs)))
+    sound-watched : length x.targets.items < places x.adapter → count < TARGETS → (index : ℕ) → index ≡ length (entries q.node (take i (listed_adapters heard xs)))
         → ((z : Node) → entries_in u z ≡ (if same_node q.node z then insert (entries_in t z) index (record { no = number; deep = q.deep }) else entries_in t z)) → AreSetAt bs q.node true cs
         → IsSound heard places (set xs i y) keys u cs (count + 1) used room
     sound-watched spare few index index_is entry marks =
-        let rs = listed heard xs in
+        let rs = listed_adapters heard xs in
         let r = listed_one heard x in
         let e : Entry = record { no = number; deep = q.deep } in
         let mine : number ≡ x.no = ap (λ (k : ℕ). let n : AdapterNo = record { 0 = k } in n) (eqb-true number.0 x.no.0 has-number) in
@@ -270,7 +270,7 @@ module _ {A : Type 0} {heard : A → View} {places : A → ℕ} {xs : List (Atta
           releasable = omega (arith, as-many, sound.releasable);
         }
 
-    pub whole-watched : HaveTargets (listed heard xs) → length x.targets.items < places x.adapter → count < TARGETS → (index : ℕ) → index ≡ length (entries q.node (take i seen))
+    pub whole-watched : HaveTargets (listed_adapters heard xs) → length x.targets.items < places x.adapter → count < TARGETS → (index : ℕ) → index ≡ length (entries q.node (take i seen))
         → ((z : Node) → entries_in u z ≡ (if same_node q.node z then insert (entries_in t z) index (record { no = number; deep = q.deep }) else entries_in t z)) → AreSetAt bs q.node true cs
         → IsWhole heard places (set xs i y) keys u cs (count + 1) used room
     whole-watched each spare few index index_is entry marks =

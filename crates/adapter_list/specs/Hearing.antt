@@ -34,8 +34,8 @@ abbrev pub is_touched : List ObjectNo → Listed → Bool
 is_touched os r = list_any (λ o. has_target (node.Object o) r) os
 
 -- the indexes of the adapters that have one of some objects as a target
-abbrev pub touched : List ObjectNo → List Listed → List ℕ
-touched os rs = ordinals_from (is_touched os) 0 rs
+abbrev pub touched_indexes : List ObjectNo → List Listed → List ℕ
+touched_indexes os rs = ordinals_from (is_touched os) 0 rs
 
 -- the result of the last search is still right: it is for no node, or has the adapters that get the notifications of its node
 abbrev pub AreKnown : Above → List Listed → Hearers → Type 0

@@ -4,8 +4,8 @@ ghost use Rattle.std.specs.List.{IsDistinct};
 ghost use Rattle.indexmap.specs.IndexSet.{index_set_len};
 ghost use Rattle.mm_types.specs.Same.{same_node};
 ghost use Rattle.notice_chain.specs.Listed.{HaveTargets, has_no, is_at, is_target, same_no};
-ghost use Rattle.notice_chain.specs.Released.{has_targets, leaving, released as released_of, removing, staying, told_of_leaving, without};
-ghost use Rattle.adapter_list.specs.Attached.{IsRoomFor, listed, numbers_of, views_of};
+ghost use Rattle.notice_chain.specs.Released.{adapters_without_target, has_targets, leaving_adapters, released_adapters as released_of, removing_notice, staying_adapters, told_of_leaving};
+ghost use Rattle.adapter_list.specs.Attached.{IsRoomFor, listed_adapters, numbers_of, views_of};
 ghost use Rattle.adapter_list.specs.Detached.{last_told, told_in, view_of, views_in};
 
 use crate::attached::Attached;
@@ -38,11 +38,11 @@ pub(crate) struct Going<A: Adapter> {
 impl<A: Adapter> Model for Going<A> {
     ghost use Rattle.std.specs.Prelude.{List, length};
     ghost use Rattle.notice_chain.specs.Listed.{Listed};
-    ghost use Rattle.adapter_list.specs.Attached.{listed, IsSound};
+    ghost use Rattle.adapter_list.specs.Attached.{listed_adapters, IsSound};
 
     ghost Value = { List Listed };
 
-    ghost view = { λ l. listed A.heard l.attached.items };
+    ghost view = { λ l. listed_adapters A.heard l.attached.items };
 
     ghost invariant = { λ l. IsSound A.heard A.places l.attached.items l.numbers.keys l.by_target l.marks.items l.targets_len 0 (length l.attached.items) };
 }
@@ -85,7 +85,7 @@ impl<A: Adapter> Going<A> {
     /// Releases one target: its adapter is notified, and then no longer has the target. Gives the notification, and whether that was the
     /// adapter's last target. If the node is no target of the adapter, `None`, and nothing changes.
     fn let_go(&mut self, no: AdapterNo, node: Node) -> Option<(Notice, bool)>
-        ensures others { self.new ≡ without (no, node) self.old }
+        ensures others { self.new ≡ adapters_without_target (no, node) self.old }
         ensures told { last_told no result ≡ told_of_leaving (no, node) self.old }
         ensures none { result ≡ None → self.new ≡ self.old }
         ensures some { IfSome result (λ r. r.1 ≡ false → HaveTargets self.old → HaveTargets self.new) }
@@ -112,9 +112,9 @@ impl<A: Adapter> Going<A> {
 
     /// Gives back the adapters that have no targets.
     fn hand_out(&mut self, released: &mut Vec<(AdapterNo, A)>)
-        requires released_room { vec_len released.old + length (leaving self.old) ≤ vec_capacity released.old }
-        ensures others { self.new ≡ staying self.old }
-        ensures released { views_of A.heard released.new.items ≡ views_of A.heard released.old.items ++ leaving self.old }
+        requires released_room { vec_len released.old + length (leaving_adapters self.old) ≤ vec_capacity released.old }
+        ensures others { self.new ≡ staying_adapters self.old }
+        ensures released { views_of A.heard released.new.items ≡ views_of A.heard released.old.items ++ leaving_adapters self.old }
         ensures room { vec_capacity released.new ≡ vec_capacity released.old }
     {
         let attached = mem::replace(&mut self.attached, Vec::new(self.alloc));
@@ -124,10 +124,10 @@ impl<A: Adapter> Going<A> {
 
     /// Gives back the adapter that has no target, if there is one, through an empty list. Takes no memory.
     fn hand_out_one(&mut self, room: &mut Vec<(AdapterNo, A)>) -> Option<A>
-        requires one { length (leaving self.old) ≤ 1 }
+        requires one { length (leaving_adapters self.old) ≤ 1 }
         requires room { IsRoomFor 1 (vec_len room.old) (vec_capacity room.old) }
-        ensures others { self.new ≡ staying self.old }
-        ensures released { view_of A.heard result ≡ map (λ v. v.1) (leaving self.old) }
+        ensures others { self.new ≡ staying_adapters self.old }
+        ensures released { view_of A.heard result ≡ map (λ v. v.1) (leaving_adapters self.old) }
         ensures room { (vec_len room.new ≡ 0) × (vec_capacity room.new ≡ vec_capacity room.old) }
     {
         self.hand_out(room);
@@ -214,9 +214,9 @@ fn split<A: Adapter>(
     attached: Vec<Attached<A>>,
     released: &mut Vec<(AdapterNo, A)>,
 ) -> Vec<Attached<A>>
-    requires released_room { vec_len released.old + length (leaving (listed A.heard attached.items)) ≤ vec_capacity released.old }
+    requires released_room { vec_len released.old + length (leaving_adapters (listed_adapters A.heard attached.items)) ≤ vec_capacity released.old }
     ensures stay { result.items ≡ filter (λ a. has_targets (record { no = a.no; targets = a.targets.items; view = A.heard a.adapter })) attached.items }
-    ensures released { views_of A.heard released.new.items ≡ views_of A.heard released.old.items ++ leaving (listed A.heard attached.items) }
+    ensures released { views_of A.heard released.new.items ≡ views_of A.heard released.old.items ++ leaving_adapters (listed_adapters A.heard attached.items) }
     ensures room { vec_capacity released.new ≡ vec_capacity released.old }
 {
     let mut waiting = VecDeque::from_vec(attached);
@@ -236,7 +236,7 @@ fn split<A: Adapter>(
 /// The last notification of an adapter from a target, with its index among the adapters that have that target.
 pub(crate) fn last_notice(no: AdapterNo, target: Node, index: usize) -> Notice
     requires { index ≤ TARGETS }
-    ensures { result ≡ removing no target index }
+    ensures { result ≡ removing_notice no target index }
 {
     Notice {
         notifier: target,

@@ -48,11 +48,11 @@ pub struct AdapterList<A: Adapter> {
 impl<A: Adapter> Model for AdapterList<A> {
     ghost use Rattle.std.specs.Prelude.{List, ℕ, vec_len, vec_capacity};
     ghost use Rattle.notice_chain.specs.Listed.{Listed};
-    ghost use Rattle.adapter_list.specs.Attached.{listed, places_of, IsWhole};
+    ghost use Rattle.adapter_list.specs.Attached.{listed_adapters, places_of, IsWhole};
 
     ghost Value = { List Listed × List ℕ };
 
-    ghost view = { λ l. (listed A.heard l.attached.items, places_of A.places l.attached.items) };
+    ghost view = { λ l. (listed_adapters A.heard l.attached.items, places_of A.places l.attached.items) };
 
     ghost invariant = { λ l. IsWhole A.heard A.places l.attached.items l.numbers.keys l.by_target l.marks.items l.targets_len (vec_len l.released) (vec_capacity l.released) };
 }

@@ -4,10 +4,10 @@ mod printed;
 mod views;
 
 use crate::fault::Fault;
-use crate::outcome::loaded;
 use adapters::{Adapter, Counter, Recorder};
 use commands::{FIRST, commands, make_book, renamed, watch};
 use link_store::{LinkStore, SlotStore};
+use mm_check::check_document;
 use printed::{print_commands, print_outcomes, print_state};
 use repository::{Command, Repository};
 use std::alloc::Global;
@@ -68,7 +68,7 @@ fn run<L: LinkStore, A: Adapter, W: Write>(
     first: A,
     second: A,
 ) -> Result<(), Fault> {
-    let meta = loaded(alloc, BOOKS.as_bytes())?;
+    let meta = check_document(alloc, BOOKS.as_bytes())?;
     let mut repository: Repository<L, A> = Repository::new(alloc, meta);
     let outcome = session(alloc, writer, &mut repository, first, second);
     let _ = repository.close();
@@ -86,7 +86,7 @@ pub(crate) fn run_list<W: Write>(alloc: Global, writer: &mut W) -> Result<(), Fa
 
 /// Follows so many books, and prints how many nodes the view has.
 pub(crate) fn follow<W: Write>(alloc: Global, writer: &mut W, count: u32) -> Result<(), Fault> {
-    let meta = loaded(alloc, BOOKS.as_bytes())?;
+    let meta = check_document(alloc, BOOKS.as_bytes())?;
     let mut repository: Repository<SlotStore, Counter> = Repository::new(alloc, meta);
     let followed = followed(alloc, &mut repository, Counter::new(), count);
     let _ = repository.close();

@@ -4,18 +4,12 @@ ghost use Rattle.mm_types.specs.declared.limits.TheConstants.{WINDOW_NOTICES};
 
 use adapters::{Adapter, Counter, Recorder, Window};
 use link_store::{LinkStore, SlotStore};
-use mm_check::check;
-use mm_load::load_meta;
+use mm_check::check_document;
 use mm_meta::Meta;
 use mm_types::MetaFault;
 use script_program::run;
 use std::alloc::{AllocError, Global};
 use std::io::Write;
-
-/// The metamodel of a document.
-pub(crate) fn loaded(alloc: Global, metamodel: &[u8]) -> Result<Meta, MetaFault> {
-    check(alloc, load_meta(alloc, metamodel)?)
-}
 
 /// How many notifications the last adapter can still count, its last one included.
 const LEFT: u64 = 2;
@@ -48,7 +42,7 @@ fn given<L: LinkStore, A: Adapter>(
     boxes: Vec<A>,
     script: &[u8],
 ) -> Result<Vec<u8>, AllocError> {
-    match loaded(alloc, metamodel) {
+    match check_document(alloc, metamodel) {
         Err(fault) => line(alloc, fault),
         Ok(meta) => printed::<L, A>(alloc, meta, boxes, script),
     }

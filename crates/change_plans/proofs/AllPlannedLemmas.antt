@@ -1,7 +1,7 @@
 -- The plan that resolves all proxies.
 use Rattle.std.proofs.Common.{◌≡◌, suc, Bool, List, [], ap, ◌∙◌, filter, flat_map, length, map, not, refl, subst, sym, ℕ, ◌∷◌, cond, true, false, None, Some, if◌then◌else◌}
 use Rattle.mm_values.specs.Values as values
-use Rattle.links.specs.Plans.{IsPlanOfKind, PlanFits, applied}
+use Rattle.links.specs.Plans.{IsPlanOfKind, PlanFits, links_after_edits}
 use Rattle.notice_chain.specs.declared.notice.Notice.{Notice}
 use Rattle.models.specs.Legal.{IsLegal, kinds_of}
 use Rattle.models.specs.Model.{Model, reading}
@@ -13,7 +13,7 @@ use Rattle.proxies.specs.Leads.{lead, leads}
 use Rattle.change_plans.specs.Plans.{IsPlanOf}
 use Rattle.handshake.specs.Changes.{IsRemovalOf}
 use Rattle.proxies.specs.Proxies.{sites}
-use Rattle.proxies.specs.ResolvingAll.{done, left, resolutions}
+use Rattle.proxies.specs.ResolvingAll.{resolutions, resolved_count, unresolved_count}
 use Rattle.handshake.specs.FeatureChange.{notice_at}
 use Rattle.handshake.specs.FeatureChanges.{chain}
 use Rattle.handshake.specs.declared.change.Change.TheVariants.{ResolveAll}
@@ -23,7 +23,7 @@ use Rattle.proxies.specs.declared.lead.Lead.{Lead}
 use Rattle.proxies.specs.declared.site.ProxySite.{ProxySite}
 use Rattle.change_plans.specs.declared.planned.Planned.{Planned}
 use Rattle.handshake.proofs.ResolveAllLemmas.{all-lead}
-use Rattle.change_plans.proofs.StepLemmas.{chain-all, done-count, edits-all, left-count}
+use Rattle.change_plans.proofs.StepLemmas.{chain-all, edits-all, resolved_count-count, unresolved_count-count}
 
 -- the number of leads is the number of locations
 count-leads : (r : Reading) (N : ProxySite → Bool) (ps : List ProxySite) → length (filter (λ (x : Lead). N x.site) (map (lead r) ps)) ≡ length (filter N ps)
@@ -48,8 +48,8 @@ all-planned is_heard s p legal g known ls all js joints removal target resolved 
     let plan : p.edits ≡ flat_map edits_of (resolutions r ps) = edits ∙ ap (flat_map (edits_by r)) same ∙ sym (edits-all s legal ps) in
     let told : map (notice_at r) (flat_map told_by js) ≡ chain r ResolveAll = ap (λ (xs : List Joint). map (notice_at r) (flat_map told_by xs)) same ∙ sym (chain-all s legal ps) in
     let N : ProxySite → Bool = λ q. not (has g.gone (key_of q)) in
-    let many : length js ≡ done r = ap (λ (xs : List Joint). length xs) joints ∙ done-count r g known in
-    let rest : length (filter (λ (x : Lead). N x.site) ls) ≡ left r = ap (λ (xs : List Lead). length (filter (λ (x : Lead). N x.site) xs)) all ∙ count-leads r N ps ∙ sym (left-count s legal g known) in
+    let many : length js ≡ resolved_count r = ap (λ (xs : List Joint). length xs) joints ∙ resolved_count-count r g known in
+    let rest : length (filter (λ (x : Lead). N x.site) ls) ≡ unresolved_count r = ap (λ (xs : List Lead). length (filter (λ (x : Lead). N x.site) xs)) all ∙ count-leads r N ps ∙ sym (unresolved_count-count s legal g known) in
     record {
       allowed = refl;
       removed = subst (IsRemovalOf r ResolveAll) (sym removal) (record { whose = refl; found = tt });
@@ -57,7 +57,7 @@ all-planned is_heard s p legal g known ls all js joints removal target resolved 
       resolved = resolved ∙ (λ i. Some (record { done = many i; left = rest i }));
       fits = subst (PlanFits s.links) (sym plan) lead_on.fits;
       of_kind = subst (IsPlanOfKind (kinds_of s.metamodel)) (sym plan) lead_on.of_kind;
-      links_made = ap (applied s.links) plan ∙ lead_on.makes;
-      values_made = ap (values.applied s.values) lists;
+      links_made = ap (links_after_edits s.links) plan ∙ lead_on.makes;
+      values_made = ap (values.values_after_edits s.values) lists;
       tells = tells ∙ ap (λ (ns : List Notice). if is_heard then ns else []) told;
     }

@@ -24,17 +24,17 @@ use Rattle.models.specs.Model.{Model, reading}
 use Rattle.models.specs.Reading.{Reading, at_end, objects_of, resource_named}
 use Rattle.fragment_paths.proofs.InsideLemmas.{contents-contains}
 use Rattle.fragment_paths.proofs.ObjectLemmas.{by-containment}
-use Rattle.fragment_paths.specs.Finding.{at, feature_of, find, stepped, walked}
+use Rattle.fragment_paths.specs.Finding.{at, feature_of, find, object_after_step, object_after_steps}
 use Rattle.proxies.specs.Proxies.{end_of}
 use Rattle.proxies.specs.Resolving.{leads_to}
-use Rattle.proxies.specs.ResolvingAll.{replaced, resolved_to, values_left, values_with, with_resolved}
+use Rattle.proxies.specs.ResolvingAll.{ends_after_replace, resolved_to, values_left, values_with, with_resolved}
 use Rattle.proxies.specs.declared.site.ProxySite.{ProxySite}
-use Rattle.proxies.specs.declared.target.Counterpart.{Counterpart}
-use Rattle.proxies.specs.declared.target.Target.{Target}
+use Rattle.proxies.specs.declared.resolved_proxy.Counterpart.{Counterpart}
+use Rattle.proxies.specs.declared.resolved_proxy.ResolvedProxy.{ResolvedProxy}
 use Rattle.handshake.proofs.ResolveAllLemmas.{one-resolved, resolved-to}
 use Rattle.handshake.proofs.ResolvedReadingLemmas.{contains-with, with_links}
 use Rattle.proxies.proofs.TargetLemmas.{IsFound, found-is, match-apart, match-is}
-use Rattle.proxies.proofs.ReplacedLemmas.{get-set, replaced-length}
+use Rattle.proxies.proofs.ReplacedLemmas.{ends_after_replace-length, get-set}
 use Rattle.handshake.specs.Effects.{with_resolution}
 
 ---------------------------------------------------------------- addresses
@@ -44,22 +44,22 @@ module _ (r : Reading) (ends : End → List Value) (same : (n : Node) (h : Featu
   abbrev now : Reading
   now = record r { values = ends }
 
-  stepped-stays : (o : ObjectNo) (s : Step) → stepped now o s ≡ stepped r o s
-  stepped-stays o s =
+  object_after_step-stays : (o : ObjectNo) (s : Step) → object_after_step now o s ≡ object_after_step r o s
+  object_after_step-stays o s =
       let i = unwrap_or s.index 0 in
       elim (feature_of r o s) as (λ q. feature_of r o s ≡ q → option_and_then (λ f. slice_get (objects_of (ends (at_end (node.Object o) f))) i) q ≡ option_and_then (λ f. slice_get (objects_of (r.values (at_end (node.Object o) f))) i) q) [
         | None ↦ λ _. refl
         | Some f ↦ λ is. ap (λ (vs : List Value). slice_get (objects_of vs) i) (same (node.Object o) f (by-containment r o s f is))
       ] refl
 
-  walked-stays : (ss : List Step) (o : ObjectNo) → walked now ss o ≡ walked r ss o
-  walked-stays [] o = refl
-  walked-stays (s ∷ ss) o = λ k. option_and_then (λ p. walked-stays ss p k) (stepped-stays o s k)
+  object_after_steps-stays : (ss : List Step) (o : ObjectNo) → object_after_steps now ss o ≡ object_after_steps r ss o
+  object_after_steps-stays [] o = refl
+  object_after_steps-stays (s ∷ ss) o = λ k. option_and_then (λ p. object_after_steps-stays ss p k) (object_after_step-stays o s k)
 
   find-stays : (n : ResourceNo) (p : Path) → find now n p ≡ find r n p
   find-stays n p =
       let tops = ap (λ (vs : List Value). slice_get (objects_of vs) p.root) (same (node.Resource n) (lookups.contents r.metamodel) (contents-contains r.metamodel)) in
-      λ k. option_and_then (λ o. walked-stays p.steps o k) (tops k)
+      λ k. option_and_then (λ o. object_after_steps-stays p.steps o k) (tops k)
 
   pub at-stays : (t : List ℕ) → at now t ≡ at r t
   at-stays t = λ k. if has_mark t then option_and_then (λ n. option_and_then (λ p. find-stays n p k) (parse (fragment_part t))) (resource_named r (uri_part t)) else None
@@ -114,8 +114,8 @@ module _ (r : Reading) (ends : End → List Value) (e : End) (i : ℕ) (t : List
   abbrev v : Value
   v = value.Object o
 
-  each-replaced : slice_get (ends e) i ≡ Some (value.Proxy t) → (d : End) (j : ℕ) → IsSameOrLed r (slice_get (ends d) j) (slice_get (replaced ends e i v d) j)
-  each-replaced at d j =
+  each-ends_after_replace : slice_get (ends e) i ≡ Some (value.Proxy t) → (d : End) (j : ℕ) → IsSameOrLed r (slice_get (ends d) j) (slice_get (ends_after_replace ends e i v d) j)
+  each-ends_after_replace at d j =
       elim (same_end e d) as (λ b. same_end e d ≡ b → IsSameOrLed r (slice_get (ends d) j) (slice_get (if b then slice_set (ends d) i v else ends d) j)) [
         | true ↦ λ same. subst (λ (y : End). IsSameOrLed r (slice_get (ends y) j) (slice_get (slice_set (ends y) i v) j)) (same_end-true e d same)
             (elim (get-set (ends e) i v (value.Proxy t) at j) [
@@ -137,36 +137,36 @@ leads-at r o t h = by (at r t) refl h
         object_in (node.Object o) = Some o
         object_in (node.Resource k) = None
 
-module _ (s : Model) (legal : IsLegal s) (p : ProxySite) (x : Target) (is : resolved_to (reading s) p ≡ Some x) where
+module _ (s : Model) (legal : IsLegal s) (p : ProxySite) (x : ResolvedProxy) (is : resolved_to (reading s) p ≡ Some x) where
   abbrev r : Reading
   r = reading s
 
   abbrev e : End
   e = end_of p
 
-  abbrev with : Option Counterpart → Target
+  abbrev with : Option Counterpart → ResolvedProxy
   with q = record { object = x.object; counterpart = q }
 
   found : IsFound (reading s) (end_of p) p.index x
   found = found-is r e p.index x (resolved-to r p x is).found
 
   long-with : (q : Option Counterpart) (d : End) → length (values_with r e p.index (with q) d) ≡ length (r.values d)
-  long-with None d = replaced-length r.values e p.index (value.Object x.object) d
+  long-with None d = ends_after_replace-length r.values e p.index (value.Object x.object) d
   long-with (Some c) d =
       let self = value.Object p.object in
-      replaced-length (replaced r.values c.end c.index self) e p.index (value.Object x.object) d ∙ replaced-length r.values c.end c.index self d
+      ends_after_replace-length (ends_after_replace r.values c.end c.index self) e p.index (value.Object x.object) d ∙ ends_after_replace-length r.values c.end c.index self d
 
   each-with : (q : Option Counterpart) → x.counterpart ≡ q → (d : End) (j : ℕ) → IsSameOrLed r (slice_get (r.values d) j) (slice_get (values_with r e p.index (with q) d) j)
-  each-with None none d j = each-replaced r r.values e p.index found.text x.object found.leads found.proxy d j
+  each-with None none d j = each-ends_after_replace r r.values e p.index found.text x.object found.leads found.proxy d j
   each-with (Some c) there d j =
       let match = match-is r e x.object c (sym found.matched ∙ there) in
       let self = value.Object p.object in
-      let back = replaced r.values c.end c.index self in
+      let back = ends_after_replace r.values c.end c.index self in
       let apart = ap (λ (y : End). same_end y e) match.stands ∙ match-apart r e x.object match.feature legal.metamodel match.opposite in
       let still = ap (λ (b : Bool). slice_get (if b then slice_set (r.values e) c.index self else r.values e) p.index) apart ∙ found.proxy in
       led-on r (slice_get (r.values d) j) (slice_get (back d) j) (slice_get (values_with r e p.index (with (Some c)) d) j)
-      (each-replaced r r.values c.end c.index match.text p.object (leads-at r p.object match.text match.leads) match.proxy d j)
-      (each-replaced r back e p.index found.text x.object found.leads still d j)
+      (each-ends_after_replace r r.values c.end c.index match.text p.object (leads-at r p.object match.text match.leads) match.proxy d j)
+      (each-ends_after_replace r back e p.index found.text x.object found.leads still d j)
 
   pub one-follows : Follows (reading s) (values_with (reading s) (end_of p) p.index x)
   one-follows =
@@ -178,7 +178,7 @@ pub all-follow : (ps : List ProxySite) (s : Model) → IsLegal s → Follows (re
 all-follow [] s legal = follows-itself (reading s)
 all-follow (p ∷ ps) s legal =
     let r = reading s in
-    let ends : Option Target → End → List Value = λ q. option_map_or (λ x. values_left (with_resolved r p x) ps) q (values_left r ps) in
+    let ends : Option ResolvedProxy → End → List Value = λ q. option_map_or (λ x. values_left (with_resolved r p x) ps) q (values_left r ps) in
     elim (resolved_to r p) as (λ q. resolved_to r p ≡ q → Follows r (ends q)) [
       | None ↦ λ _. all-follow ps s legal
       | Some x ↦ λ is.

@@ -20,7 +20,7 @@ use Rattle.links.specs.Links.{text_of}
 use Rattle.models.specs.Reading.{at_end}
 use Rattle.proxies.specs.Keys.{key, key_of, same_key}
 use Rattle.proxies.specs.Proxies.{end_of}
-use Rattle.proxies.specs.ResolvingAll.{replaced}
+use Rattle.proxies.specs.ResolvingAll.{ends_after_replace}
 use Rattle.proxies.specs.declared.site.ProxySite.{ProxySite}
 use Rattle.proxies.proofs.ReplacedLemmas.{get-set}
 use Rattle.proxies.proofs.LeadLemmas.{eq-self}
@@ -58,7 +58,7 @@ is_proxy_in ends p = is_some (option_and_then text_of (slice_get (ends (end_of p
 
 module _ (ends : End → List Value) (q : ProxySite) (o : ObjectNo) (t : List ℕ) (there : slice_get (ends (end_of q)) q.index ≡ Some (value.Proxy t)) where
   abbrev after : End → List Value
-  after = replaced ends (end_of q) q.index (value.Object o)
+  after = ends_after_replace ends (end_of q) q.index (value.Object o)
 
   at-site : slice_get (slice_set (ends (end_of q)) q.index (value.Object o)) q.index ≡ Some (value.Object o)
   at-site = set-here (ends (end_of q)) q.index there
@@ -71,12 +71,12 @@ module _ (ends : End → List Value) (q : ProxySite) (o : ObjectNo) (t : List �
   end-self : same_end (end_of q) (end_of q) ≡ true
   end-self = λ i. eq-self q.object.0 i && eq-self q.feature.0 i
 
-  gone-here : is_proxy_in (replaced ends (end_of q) q.index (value.Object o)) q ≡ false
+  gone-here : is_proxy_in (ends_after_replace ends (end_of q) q.index (value.Object o)) q ≡ false
   gone-here =
       ap (λ (b : Bool). is_some (option_and_then text_of (slice_get (if b then slice_set (ends (end_of q)) q.index (value.Object o) else ends (end_of q)) q.index))) end-self
       ∙ ap (λ (x : Option Value). is_some (option_and_then text_of x)) at-site
 
-  still-there : (p : ProxySite) → same_key (key_of p) (key_of q) ≡ false → slice_get (replaced ends (end_of q) q.index (value.Object o) (end_of p)) p.index ≡ slice_get (ends (end_of p)) p.index
+  still-there : (p : ProxySite) → same_key (key_of p) (key_of q) ≡ false → slice_get (ends_after_replace ends (end_of q) q.index (value.Object o) (end_of p)) p.index ≡ slice_get (ends (end_of p)) p.index
   still-there p other =
       elim (same_end (end_of q) (end_of p)) as (λ b. same_end (end_of q) (end_of p) ≡ b → slice_get (if b then slice_set (ends (end_of p)) q.index (value.Object o) else ends (end_of p)) p.index ≡ slice_get (ends (end_of p)) p.index) [
         | true ↦ λ same.
@@ -89,9 +89,9 @@ module _ (ends : End → List Value) (q : ProxySite) (o : ObjectNo) (t : List �
       ] refl
 
   -- the proxies that were there are still there, except the one that is replaced
-  pub proxy-replaced : (p : ProxySite) → is_proxy_in (replaced ends (end_of q) q.index (value.Object o)) p ≡ (is_proxy_in ends p && not (same_key (key_of p) (key_of q)))
-  proxy-replaced p =
-      elim (same_key (key_of p) (key_of q)) as (λ b. same_key (key_of p) (key_of q) ≡ b → is_proxy_in (replaced ends (end_of q) q.index (value.Object o)) p ≡ (is_proxy_in ends p && not b)) [
+  pub proxy-ends_after_replace : (p : ProxySite) → is_proxy_in (ends_after_replace ends (end_of q) q.index (value.Object o)) p ≡ (is_proxy_in ends p && not (same_key (key_of p) (key_of q)))
+  proxy-ends_after_replace p =
+      elim (same_key (key_of p) (key_of q)) as (λ b. same_key (key_of p) (key_of q) ≡ b → is_proxy_in (ends_after_replace ends (end_of q) q.index (value.Object o)) p ≡ (is_proxy_in ends p && not b)) [
         | true ↦ λ same. subst (λ (y : ProxySite). is_proxy_in after y ≡ (is_proxy_in ends y && false)) (sym (site-is p q same)) (gone-here ∙ sym (and-false (is_proxy_in ends q)))
         | false ↦ λ other. ap (λ (x : Option Value). is_some (option_and_then text_of x)) (still-there p other) ∙ sym (and-true (is_proxy_in ends p))
       ] refl
@@ -124,9 +124,9 @@ has-set (v ∷ vs) (suc i) w b t at = ap (λ (c : Bool). same_value (value.Objec
     group false y z = refl
 
 -- the objects that were at an end are still there, and so is the new one
-pub has-replaced : (ends : End → List Value) (q : ProxySite) (w : ObjectNo) (t : List ℕ) → slice_get (ends (end_of q)) q.index ≡ Some (value.Proxy t) → (o : ObjectNo) (f : FeatureNo) (b : ObjectNo)
-    → has_value (replaced ends (end_of q) q.index (value.Object w) (at_end (node.Object o) f)) (value.Object b) ≡ (has_value (ends (at_end (node.Object o) f)) (value.Object b) || same_key (key o f b.0) (key q.object q.feature w.0))
-has-replaced ends q w t there o f b =
+pub has-ends_after_replace : (ends : End → List Value) (q : ProxySite) (w : ObjectNo) (t : List ℕ) → slice_get (ends (end_of q)) q.index ≡ Some (value.Proxy t) → (o : ObjectNo) (f : FeatureNo) (b : ObjectNo)
+    → has_value (ends_after_replace ends (end_of q) q.index (value.Object w) (at_end (node.Object o) f)) (value.Object b) ≡ (has_value (ends (at_end (node.Object o) f)) (value.Object b) || same_key (key o f b.0) (key q.object q.feature w.0))
+has-ends_after_replace ends q w t there o f b =
     let d = at_end (node.Object o) f in
     elim (same_end (end_of q) d) as (λ c. same_end (end_of q) d ≡ c → has_value (if c then slice_set (ends d) q.index (value.Object w) else ends d) (value.Object b) ≡ (has_value (ends d) (value.Object b) || same_key (key o f b.0) (key q.object q.feature w.0))) [
       | true ↦ λ same.

@@ -16,13 +16,14 @@ use Rattle.mm_types.specs.Same.{node_value, same_feature}
 use Rattle.mm_types.specs.Shapes.{is_containment, shape}
 use Rattle.mm_types.specs.declared.value.Value.{Value}
 use Rattle.mm_types.specs.declared.value.Value.TheVariants as value
-use Rattle.links.specs.Holders.{contained, holder}
+use Rattle.links.specs.Holders.{holder, node_contained}
 use Rattle.links.specs.Links.{far_end}
 use Rattle.links.specs.Plans.{put_edit}
 use Rattle.models.specs.Legal.{IsLegal}
 use Rattle.models.specs.Model.{Model, reading, values_at}
 use Rattle.models.proofs.PlaceLemmas.{index-at}
-use Rattle.containment.proofs.PartLemmas.{all-append, contains-itself, contains-reference, holder-at}
+use Rattle.mm_meta.proofs.FeatureListLemmas.{all-append}
+use Rattle.containment.proofs.PartLemmas.{contains-itself, contains-reference, holder-at}
 use Rattle.notice_chain.specs.declared.notice.Notice.{Notice}
 use Rattle.models.specs.Reading.{Reading, at_end, held_at, is_repeat, position_for, shape_at}
 use Rattle.removal.specs.TreeLinkEnds.{link_end}
@@ -31,7 +32,7 @@ use Rattle.handshake.specs.declared.change.Change.{Change}
 use Rattle.handshake.specs.declared.change.Change.TheVariants.{At}
 use Rattle.handshake.specs.declared.act.Act.TheVariants.{Set, Add}
 use Rattle.links.specs.declared.link.NewLink.{NewLink}
-use Rattle.handshake.specs.Displaced.{cut_by_new, cut_by_set, displaces, has_already, holding_link_end, is_plain_add, is_plain_set, is_taken, once, link_ends_if_single, yields}
+use Rattle.handshake.specs.Displaced.{cut_by_new, cut_by_set, displaces, has_already, holding_link_end, is_plain_add, is_plain_set, is_taken, each_link_once, link_ends_if_single, displaced_link_ends}
 use Rattle.handshake.specs.FeatureChange.{feature_change}
 use Rattle.handshake.specs.FeatureChanges.{before_gain, chain, far_gain, feature_changes, gain_at, other_losses}
 use Rattle.handshake.specs.declared.change_kind.ChangeKind.{ChangeKind}
@@ -45,7 +46,7 @@ use Rattle.handshake.specs.Refusals.{early_refusal, late_refusal}
 use Rattle.proxies.specs.Resolving.{opposite_end}
 use Rattle.handshake.proofs.CutLinkEndLemmas.{plain-not}
 use Rattle.change_plans.proofs.PlannedLemmas.{planned}
-use Rattle.change_plans.proofs.NotifierLemmas.{told-notifiers}
+use Rattle.change_plans.proofs.NotifierLemmas.{change_notices-notifiers}
 
 ---------------------------------------------------------------- nothing displaced
 
@@ -75,14 +76,14 @@ none-holding r (Some n) h = by (r.holder n) h
     by None h = refl
 none-holding r None h = refl
 
-pub yields-none : (r : Reading) (e : End) (o : ObjectNo) → displaces r e o ≡ false → yields r e o ≡ []
-yields-none r e o h =
+pub displaced_link_ends-none : (r : Reading) (e : End) (o : ObjectNo) → displaces r e o ≡ false → displaced_link_ends r e o ≡ []
+displaced_link_ends-none r e o h =
     let first = or_parts (is_taken r e) _ h in
     let second = or_parts (option_map_or (is_taken r) (opposite_end r e o) false) _ first.1 in
     let near = none-held r e first.0 in
     let far = none-far r (opposite_end r e o) second.0 in
-    let up = none-holding r (contained e o (shape_at r e).containing) second.1 in
-    ap (once r) (λ i. near i ++ (far i ++ up i))
+    let up = none-holding r (node_contained e o (shape_at r e).containing) second.1 in
+    ap (each_link_once r) (λ i. near i ++ (far i ++ up i))
 
 ---------------------------------------------------------------- an object that nothing contains
 
@@ -96,10 +97,10 @@ uncontained-absent s e o legal contains unheld =
       | false ↦ λ _. refl
     ] refl
 
-unheld-part : (s : Model) (e : End) (o : ObjectNo) (h : Option FeatureNo) → h ≡ Some e.feature → option_map_or (λ n. is_some (holder s.links n)) (contained e o h) false ≡ false → is_some (holder s.links (node.Object o)) ≡ false
+unheld-part : (s : Model) (e : End) (o : ObjectNo) (h : Option FeatureNo) → h ≡ Some e.feature → option_map_or (λ n. is_some (holder s.links n)) (node_contained e o h) false ≡ false → is_some (holder s.links (node.Object o)) ≡ false
 unheld-part s e o h is unheld =
     let self : same_feature e.feature e.feature ≡ true = eq-eqb e.feature.0 e.feature.0 refl in
-    sym (ap (λ q. option_map_or (λ n. is_some (holder s.links n)) (contained e o q) false) is ∙ ap (λ (b : Bool). is_some (holder s.links (if b then node.Object o else e.node))) self) ∙ unheld
+    sym (ap (λ q. option_map_or (λ n. is_some (holder s.links n)) (node_contained e o q) false) is ∙ ap (λ (b : Bool). is_some (holder s.links (if b then node.Object o else e.node))) self) ∙ unheld
 
 -- so a containment end does not have an object that displaces nothing
 pub lone-absent : (s : Model) (e : End) (o : ObjectNo) → IsLegal s → is_containment s.metamodel e.feature ≡ true → displaces (reading s) e o ≡ false → is_plain_add (reading s) e (value.Object o) ≡ false
@@ -141,7 +142,7 @@ set-planned s n f (value.Object o) p legal early h =
     let reference = (plain-not (shape_at r e).is_reference (has_already r e v) k.plain).0 in
     let edits : put_edit p ∷ [] ≡ link_edits r c =
     sym (ap (λ (b : Bool). map cut_of (if b then [] else cut_by_set r e v) ++ option_to_list (if b then None else new_put r e 0 v)) k.plain
-    ∙ ap (λ (ts : List LinkEnd). map cut_of ts ++ put_edit (put_at r e 0 o) ∷ []) (yields-none r e o k.displaced)
+    ∙ ap (λ (ts : List LinkEnd). map cut_of ts ++ put_edit (put_at r e 0 o) ∷ []) (displaced_link_ends-none r e o k.displaced)
     ∙ ap (λ (q : NewLink). put_edit q ∷ []) k.is) in
     let lists : [] ≡ value_edits r c = sym (ap (λ (b : Bool). if b then [] else put_values e (v ∷ []) (shape_at r e).is_unsettable) reference) in
     planned false s c (of_put p) refl legal early late tt (record { whose = refl; found = tt }) refl refl edits lists refl
@@ -159,7 +160,7 @@ add-planned s n f (value.Object o) i p legal early h =
     let reference = (plain-not (shape_at r e).is_reference (is_repeat r e v) k.plain).0 in
     let edits : put_edit p ∷ [] ≡ link_edits r c =
     sym (ap (λ (b : Bool). map cut_of (if b then [] else cut_by_new r e v) ++ option_to_list (if b then None else new_put r e at v)) k.plain
-    ∙ ap (λ (ts : List LinkEnd). map cut_of ts ++ put_edit (put_at r e at o) ∷ []) (yields-none r e o k.displaced)
+    ∙ ap (λ (ts : List LinkEnd). map cut_of ts ++ put_edit (put_at r e at o) ∷ []) (displaced_link_ends-none r e o k.displaced)
     ∙ ap (λ (q : NewLink). put_edit q ∷ []) k.is) in
     let lists : [] ≡ value_edits r c = sym (ap (λ (b : Bool). if b then [] else add_value r e v i) reference) in
     planned false s c (of_put p) refl legal early late tt (record { whose = refl; found = tt }) refl refl edits lists refl
@@ -186,18 +187,18 @@ put-notifiers P r (At e (Set (value.Object o))) p h near far =
     let v = value.Object o in
     let k = chosen (displaces r e o) (is_plain_set r e v) (is_some (late_refusal r (At e (Set v)))) (put_at r e 0 o) p h in
     let changes : feature_changes r (At e (Set v)) ≡ far_gain r e o ++ feature_change e (Gains v) ∷ [] =
-    ap (λ (b : Bool). (if b then [] else before_gain r e v (if b then [] else yields r e o)) ++ feature_change e (Gains v) ∷ []) k.plain
-    ∙ ap (λ (ts : List LinkEnd). (flat_map (other_losses r e o) ts ++ far_gain r e o) ++ feature_change e (Gains v) ∷ []) (yields-none r e o k.displaced) in
-    told-notifiers P r.metamodel (held_at r) (feature_changes r (At e (Set v))) (subst (AllByRecursion (λ (t : FeatureChange). P t.at.node)) (sym changes)
+    ap (λ (b : Bool). (if b then [] else before_gain r e v (if b then [] else displaced_link_ends r e o)) ++ feature_change e (Gains v) ∷ []) k.plain
+    ∙ ap (λ (ts : List LinkEnd). (flat_map (other_losses r e o) ts ++ far_gain r e o) ++ feature_change e (Gains v) ∷ []) (displaced_link_ends-none r e o k.displaced) in
+    change_notices-notifiers P r.metamodel (held_at r) (feature_changes r (At e (Set v))) (subst (AllByRecursion (λ (t : FeatureChange). P t.at.node)) (sym changes)
     (both-notifiers P r e o (Gains v) (subst (λ (q : NewLink). P q.end.node) (sym k.is) near) (subst (λ (q : NewLink). is_some q.opposite ≡ true → P (node.Object q.object)) (sym k.is) far)))
 put-notifiers P r (At e (Add (value.Object o) i)) p h near far =
     let v = value.Object o in
     let k = chosen (displaces r e o) (is_plain_add r e v) (is_some (late_refusal r (At e (Add v i)))) (put_at r e (position_for r e i) o) p h in
     let changes : feature_changes r (At e (Add v i)) ≡ far_gain r e o ++ feature_change e (gain_at i v) ∷ [] =
-    ap (λ (b : Bool). if b then [] else before_gain r e v (if is_plain_add r e v then [] else yields r e o) ++ feature_change e (gain_at i v) ∷ []) (plain-not (shape_at r e).is_reference (is_repeat r e v) k.plain).1
-    ∙ ap (λ (b : Bool). before_gain r e v (if b then [] else yields r e o) ++ feature_change e (gain_at i v) ∷ []) k.plain
-    ∙ ap (λ (ts : List LinkEnd). (flat_map (other_losses r e o) ts ++ far_gain r e o) ++ feature_change e (gain_at i v) ∷ []) (yields-none r e o k.displaced) in
-    told-notifiers P r.metamodel (held_at r) (feature_changes r (At e (Add v i))) (subst (AllByRecursion (λ (t : FeatureChange). P t.at.node)) (sym changes)
+    ap (λ (b : Bool). if b then [] else before_gain r e v (if is_plain_add r e v then [] else displaced_link_ends r e o) ++ feature_change e (gain_at i v) ∷ []) (plain-not (shape_at r e).is_reference (is_repeat r e v) k.plain).1
+    ∙ ap (λ (b : Bool). before_gain r e v (if b then [] else displaced_link_ends r e o) ++ feature_change e (gain_at i v) ∷ []) k.plain
+    ∙ ap (λ (ts : List LinkEnd). (flat_map (other_losses r e o) ts ++ far_gain r e o) ++ feature_change e (gain_at i v) ∷ []) (displaced_link_ends-none r e o k.displaced) in
+    change_notices-notifiers P r.metamodel (held_at r) (feature_changes r (At e (Add v i))) (subst (AllByRecursion (λ (t : FeatureChange). P t.at.node)) (sym changes)
     (both-notifiers P r e o (gain_at i v) (subst (λ (q : NewLink). P q.end.node) (sym k.is) near) (subst (λ (q : NewLink). is_some q.opposite ≡ true → P (node.Object q.object)) (sym k.is) far)))
 put-notifiers P r _ p h near far = absurd (none-some p h)
 

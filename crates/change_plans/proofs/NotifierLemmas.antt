@@ -6,9 +6,9 @@ use Rattle.mm_types.specs.Resolved.{Metamodel}
 use Rattle.mm_types.specs.Shapes.{Shape, shape}
 use Rattle.mm_types.specs.declared.end.End.{End}
 use Rattle.mm_types.specs.declared.numbers.Node.{Node}
-use Rattle.notice_chain.specs.Replay.{replayed_in}
+use Rattle.notice_chain.specs.Replay.{ends_after_notice}
 use Rattle.notice_chain.specs.declared.notice.Notice.{Notice}
-use Rattle.handshake.specs.FeatureChange.{has_flag, notice_of, told}
+use Rattle.handshake.specs.FeatureChange.{change_notices, has_flag, notice_of}
 use Rattle.handshake.specs.declared.change_kind.ChangeKind.{ChangeKind}
 use Rattle.handshake.specs.declared.change_kind.ChangeKind.TheVariants.{Gains, GainsAt, Loses, LosesAt, Unsets, Moves, Resolves}
 use Rattle.handshake.specs.declared.change_kind.FeatureChange.{FeatureChange}
@@ -28,8 +28,8 @@ notifier-of a e (Moves to from) h = refl
 notifier-of a e (Resolves i v) h = refl
 
 -- a property of the nodes of feature changes holds for the notifiers of their notifications
-pub told-notifiers : (P : Node → Type 0) (m : Metamodel) (e : Ends) (ts : List FeatureChange) → AllByRecursion (λ (t : FeatureChange). P t.at.node) ts → AllByRecursion (λ (n : Notice). P n.notifier) (told m e ts)
-told-notifiers P m e [] h = tt
-told-notifiers P m e (t ∷ ts) h =
+pub change_notices-notifiers : (P : Node → Type 0) (m : Metamodel) (e : Ends) (ts : List FeatureChange) → AllByRecursion (λ (t : FeatureChange). P t.at.node) ts → AllByRecursion (λ (n : Notice). P n.notifier) (change_notices m e ts)
+change_notices-notifiers P m e [] h = tt
+change_notices-notifiers P m e (t ∷ ts) h =
     let n = notice_of (shape m t.at.feature) t.at t.does (e t.at) in
-    (subst P (sym (notifier-of (shape m t.at.feature) t.at t.does (e t.at))) h.0, told-notifiers P m (replayed_in (has_flag m) e n) ts h.1)
+    (subst P (sym (notifier-of (shape m t.at.feature) t.at t.does (e t.at))) h.0, change_notices-notifiers P m (ends_after_notice (has_flag m) e n) ts h.1)

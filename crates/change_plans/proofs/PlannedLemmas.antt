@@ -13,12 +13,12 @@ use Rattle.handshake.specs.Changes.{HasReadDocument, IsRemovalOf}
 use Rattle.change_plans.specs.Plans.{IsPlanOf}
 use Rattle.handshake.specs.Refusals.{early_refusal, late_refusal}
 use Rattle.handshake.proofs.PlanLemmas.{IsPlanFor, plan-for}
-use Rattle.proxies.specs.ResolvingAll.{done, left}
+use Rattle.proxies.specs.ResolvingAll.{resolved_count, unresolved_count}
 use Rattle.proxies.specs.declared.resolved.Resolved.{Resolved}
 
 -- nothing is resolved by a change that doesn't resolve all proxies
 pub none-counted : (r : Reading) (c : Change) → resolves_all c ≡ false → None ≡ resolved_by r c
-none-counted r c one = sym (ap (λ (b : Bool). let q : Option Resolved = if b then Some (record { done = done r; left = left r }) else None in q) one)
+none-counted r c one = sym (ap (λ (b : Bool). let q : Option Resolved = if b then Some (record { done = resolved_count r; left = unresolved_count r }) else None in q) one)
 
 -- the result of planning, by its parts
 pub planned : (is_heard : Bool) (s : Model) (c : Change) (p : Planned) → resolves_all c ≡ false → IsLegal s → early_refusal (reading s) c ≡ None → late_refusal (reading s) c ≡ None → HasReadDocument s.metamodel c → IsRemovalOf (reading s) c p.removal → p.target ≡ target_of (reading s) c → p.resolved ≡ resolved_by (reading s) c
@@ -33,6 +33,6 @@ planned is_heard s c p one legal early late read removed found resolved edits li
       fits = plan.fits;
       of_kind = plan.of_kind;
       links_made = plan.makes;
-      values_made = ap (values.applied s.values) lists;
+      values_made = ap (values.values_after_edits s.values) lists;
       tells = tells;
     }

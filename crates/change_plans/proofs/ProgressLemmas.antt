@@ -38,8 +38,8 @@ use Rattle.change_plans.specs.declared.joining.Progress.{Progress}
 use Rattle.proxies.specs.declared.keys.Key.{Key}
 use Rattle.proxies.specs.declared.lead.FirstLeads.{FirstLeads}
 use Rattle.proxies.specs.declared.site.ProxySite.{ProxySite}
-use Rattle.proxies.specs.declared.target.Counterpart.{Counterpart}
-use Rattle.proxies.specs.declared.target.Target.{Target}
+use Rattle.proxies.specs.declared.resolved_proxy.Counterpart.{Counterpart}
+use Rattle.proxies.specs.declared.resolved_proxy.ResolvedProxy.{ResolvedProxy}
 use Rattle.handshake.proofs.CutLinkEndLemmas.{values-linked}
 use Rattle.change_plans.proofs.FollowLemmas.{Follows, IsLed, IsSameOrLed, all-follow, at-stays}
 use Rattle.change_plans.proofs.JoinedLemmas.{position-any, positions-alike}
@@ -75,11 +75,11 @@ none-resolved : (r : Reading) (p : ProxySite) → target_at r (end_of p) p.index
 none-resolved r p none = elim (is_some (resolve_refusal r (end_of p) p.index)) as (λ b. (if b then None else target_at r (end_of p) p.index) ≡ None) [ true ↦ refl | false ↦ none ]
 
 -- the tests agree if the targets agree
-tests-agree : (m d l : Bool) (W : Target → Bool) (x y : Target) → (m ≡ false → (d || l) ≡ false → x ≡ y) → (if (m || (d || (l || W x))) then None else Some x) ≡ (if (m || ((d || l) || W y)) then None else Some y)
+tests-agree : (m d l : Bool) (W : ResolvedProxy → Bool) (x y : ResolvedProxy) → (m ≡ false → (d || l) ≡ false → x ≡ y) → (if (m || (d || (l || W x))) then None else Some x) ≡ (if (m || ((d || l) || W y)) then None else Some y)
 tests-agree true d l W x y same = refl
 tests-agree false true l W x y same = refl
 tests-agree false false true W x y same = refl
-tests-agree false false false W x y same = ap (λ (z : Target). if W z then None else Some z) (same refl refl)
+tests-agree false false false W x y same = ap (λ (z : ResolvedProxy). if W z then None else Some z) (same refl refl)
 
 ---------------------------------------------------------------- one proxy
 
@@ -220,10 +220,10 @@ module _ (s : Model) (legal : IsLegal s) (ps : List ProxySite) where
 
       -- the object at its address
       module _ (o : ObjectNo) (found : at (reading s) text ≡ Some o) where
-        abbrev x : Target
+        abbrev x : ResolvedProxy
         x = found_by r f p o
 
-        abbrev y : Target
+        abbrev y : ResolvedProxy
         y = target now here o
 
         abbrev m : Bool
@@ -265,7 +265,7 @@ module _ (s : Model) (legal : IsLegal s) (ps : List ProxySite) where
             (λ k. if (not-gone k || (m || (d || (l || is_unmatched r here x)))) then None else Some x)
             ∙ tests-agree m d l (is_unmatched r here) x y targets-same
             ∙ sym (ap (λ (b : Bool). if b then None else Some y) refused-is)
-            ∙ sym (ap (λ (q : Option Target). if is_some (target_refusal now here i q) then None else q) (target-is ∙ ap (option_map (target now here)) found))
+            ∙ sym (ap (λ (q : Option ResolvedProxy). if is_some (target_refusal now here i q) then None else q) (target-is ∙ ap (option_map (target now here)) found))
 
       still-left : target_by r g f (lead r p) ≡ resolved_to now p
       still-left =

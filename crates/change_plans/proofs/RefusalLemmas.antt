@@ -24,7 +24,7 @@ use Rattle.handshake.specs.FeatureChanges.{resolves_all}
 use Rattle.handshake.specs.declared.change.Change.TheVariants.{At, Create, NewResource, ResolveAll, Load}
 use Rattle.handshake.specs.declared.act.Act.TheVariants.{Set, Add, Remove, RemoveValue, Move, Resolve}
 use Rattle.proxies.specs.Resolving.{is_unmatched, proxy_at, target_at}
-use Rattle.proxies.specs.declared.target.Target.{Target}
+use Rattle.proxies.specs.declared.resolved_proxy.ResolvedProxy.{ResolvedProxy}
 
 -- a result that is none of some refusals
 abbrev pub IsNot : (Refused → Bool) → Option Refused → Type 0
@@ -101,7 +101,7 @@ module _ (q : Refused → Bool) (never : IsNeverLate q) where
       later-not q _ _ (unless-not q TextLength (is_short_text u) never.text_length)
       (later-not q _ _ (unless-not q Limit (nat_lt (length r.uris) RESOURCES) never.limit) (where-not q ResourceExists (has_uri r u) never.resource_exists))
 
-  resolve-not : (r : Reading) (e : End) (i : ℕ) (x : Option Target) → IsNot q (target_refusal r e i x)
+  resolve-not : (r : Reading) (e : End) (i : ℕ) (x : Option ResolvedProxy) → IsNot q (target_refusal r e i x)
   resolve-not r e i x =
       later-not q _ _ (where-not q WrongType (is_mistyped r e x) never.wrong_type)
       (later-not q _ _ (unless-not q Index (nat_lt i (count_at r e)) never.index)

@@ -6,7 +6,7 @@ use Rattle.std.specs.Option.{option_map_or}
 use Rattle.std.proofs.lemmas.List.{map-append}
 use Rattle.std.proofs.lemmas.List.Elements.{filter-append}
 use Rattle.std.proofs.lemmas.Option.{none-some, slice_get_within}
-use Rattle.mm_types.specs.Ends.{is_set, shown, value_in}
+use Rattle.mm_types.specs.Ends.{is_set, shown_values, value_in}
 use Rattle.mm_types.specs.Same.{is_nil, same_value}
 use Rattle.mm_types.specs.Shapes.{Shape, shape}
 use Rattle.mm_types.specs.declared.end.End.{End}
@@ -23,13 +23,13 @@ use Rattle.models.specs.Model.{Model, reading}
 use Rattle.models.specs.Reading.{Reading, all_features_of, at_end, held_at}
 use Rattle.removal.specs.TreeLinkEnds.{link_end}
 use Rattle.handshake.specs.Displaced.{counter_link_end, link_end_in}
-use Rattle.handshake.specs.Edits.{cut_of, edits_of, joining, new_put}
+use Rattle.handshake.specs.Edits.{cut_of, edits_of, joining_edits, new_put}
 use Rattle.handshake.specs.Effects.{with_resolution}
 use Rattle.proxies.specs.Keys.{has, key_of}
 use Rattle.proxies.specs.Proxies.{end_of, is_proxy_site, site, sites, sites_of, sites_under}
-use Rattle.proxies.specs.ResolvingAll.{Resolution, done, left, left_by, resolutions, resolved_to, values_left, with_resolved}
-use Rattle.handshake.specs.FeatureChange.{happened_all, notice_at, feature_change, told}
-use Rattle.handshake.specs.FeatureChanges.{resolution_told, resolved}
+use Rattle.proxies.specs.ResolvingAll.{Resolution, left_by, resolutions, resolved_count, resolved_to, unresolved_count, values_left, with_resolved}
+use Rattle.handshake.specs.FeatureChange.{ends_after_changes, notice_at, feature_change, change_notices}
+use Rattle.handshake.specs.FeatureChanges.{changes_of_resolve, resolution_told}
 use Rattle.change_plans.specs.Joining.{IsDone, edits_by, joint, joint_of, told_by}
 use Rattle.handshake.specs.declared.change.Change.TheVariants.{At}
 use Rattle.handshake.specs.declared.act.Act.TheVariants.{Resolve}
@@ -37,14 +37,14 @@ use Rattle.handshake.specs.declared.change_kind.ChangeKind.TheVariants.{Resolves
 use Rattle.change_plans.specs.declared.joining.Joint.{Joint}
 use Rattle.change_plans.specs.declared.joining.Progress.{Progress}
 use Rattle.proxies.specs.declared.site.ProxySite.{ProxySite}
-use Rattle.proxies.specs.declared.target.Counterpart.{Counterpart}
-use Rattle.proxies.specs.declared.target.Target.{Target}
-use Rattle.handshake.proofs.ApartLemmas.{chain-read, told-append}
+use Rattle.proxies.specs.declared.resolved_proxy.Counterpart.{Counterpart}
+use Rattle.proxies.specs.declared.resolved_proxy.ResolvedProxy.{ResolvedProxy}
+use Rattle.handshake.proofs.ApartLemmas.{chain-read, change_notices-append}
 use Rattle.handshake.proofs.CutEndLemmas.{reference-plain}
 use Rattle.handshake.proofs.CutHeldLemmas.{all-left}
 use Rattle.handshake.proofs.CutLinkEndLemmas.{values-linked}
 use Rattle.change_plans.proofs.FollowLemmas.{Follows, IsSameOrLed, all-follow, object-apart}
-use Rattle.handshake.proofs.HappenedLemmas.{happened_all-at}
+use Rattle.handshake.proofs.HappenedLemmas.{ends_after_changes-at}
 use Rattle.handshake.proofs.KnownLemmas.{far-reference, resolvable}
 use Rattle.handshake.proofs.ResolveAllLemmas.{early, one-resolved, resolved-to}
 use Rattle.handshake.proofs.ResolvedReadingLemmas.{with_links as relinked}
@@ -68,7 +68,7 @@ all-steps r (p ∷ ps) qs =
       | Some x ↦ λ to.
           let next : left_by r (qs ++ p ∷ []) ≡ with_resolved now p x =
           ap (λ (ends : End → List Value). record r { values = ends }) (values-append r qs (p ∷ []))
-          ∙ ap (λ (q : Option Target). record r { values = option_map_or (λ x. values_left (with_resolved now p x) []) q (values_left now []) }) to in (
+          ∙ ap (λ (q : Option ResolvedProxy). record r { values = option_map_or (λ x. values_left (with_resolved now p x) []) q (values_left now []) }) to in (
             record { past = qs; is = refl; to = to },
             subst (λ (z : Reading). AllByRecursion (IsStep r) (resolutions z ps)) next (all-steps r ps (qs ++ p ∷ [])),
           )
@@ -90,7 +90,7 @@ slot-same r ends follows d j t at = by (follows.each d j)
     by (inl same) = sym same ∙ at
     by (inr x) = absurd (object-apart x.object t (sym x.is ∙ at))
 
-module _ (s : Model) (legal : IsLegal s) (ps : List ProxySite) (p : ProxySite) (x : Target) (to : resolved_to (left_by (reading s) ps) p ≡ Some x) where
+module _ (s : Model) (legal : IsLegal s) (ps : List ProxySite) (p : ProxySite) (x : ResolvedProxy) (to : resolved_to (left_by (reading s) ps) p ≡ Some x) where
   abbrev r : Reading
   r = reading s
 
@@ -106,7 +106,7 @@ module _ (s : Model) (legal : IsLegal s) (ps : List ProxySite) (p : ProxySite) (
   link_end-same : (d : End) (j : ℕ) (t : List ℕ) → slice_get (now.values d) j ≡ Some (value.Proxy t) → link_end_in now d j ≡ link_end_in r d j
   link_end-same d j t at = ap (λ (q : Option Value). option_to_list (option_map (link_end d) q)) (at ∙ sym (slot-same r (values_left r ps) follows d j t at))
 
-  abbrev with : Option Counterpart → Target
+  abbrev with : Option Counterpart → ResolvedProxy
   with q = record { object = x.object; counterpart = q }
 
   counter-same : (q : Option Counterpart) → x.counterpart ≡ q → counter_link_end now (with q) ≡ counter_link_end r (with q)
@@ -116,22 +116,22 @@ module _ (s : Model) (legal : IsLegal s) (ps : List ProxySite) (p : ProxySite) (
       let match = match-is now e x.object c (sym found.matched ∙ there) in
       link_end-same c.end c.index match.text match.proxy
 
-  joining-same : (q : Option Counterpart) → joining now e p.index (with q) ≡ joining r e p.index (with q)
-  joining-same None = refl
-  joining-same (Some c) = ap (λ (n : ℕ). option_to_list (new_put r e p.index (value.Object x.object)) ++ Shift c.end c.index (n - 1) ∷ []) (follows.long c.end)
+  joining_edits-same : (q : Option Counterpart) → joining_edits now e p.index (with q) ≡ joining_edits r e p.index (with q)
+  joining_edits-same None = refl
+  joining_edits-same (Some c) = ap (λ (n : ℕ). option_to_list (new_put r e p.index (value.Object x.object)) ++ Shift c.end c.index (n - 1) ∷ []) (follows.long c.end)
 
   edits-same : edits_of (record { reads = now; site = p; target = x }) ≡ edits_by r (joint p x)
   edits-same =
       let found = found-is now e p.index x (resolved-to now p x to).found in
-      λ i. map cut_of (link_end-same e p.index found.text found.proxy i ++ counter-same x.counterpart refl i) ++ joining-same x.counterpart i
+      λ i. map cut_of (link_end-same e p.index found.text found.proxy i ++ counter-same x.counterpart refl i) ++ joining_edits-same x.counterpart i
 
   ---------------------------------------------------------------- notifications
 
   -- a position with a value shows this value
-  shown-in : (b : Bool) (vs : List Value) (j : ℕ) (v : Value) → slice_get vs j ≡ Some v → shown b vs ≡ vs
-  shown-in true [] j v at = absurd (none-some v at)
-  shown-in true (w ∷ ws) j v at = refl
-  shown-in false vs j v at = refl
+  shown_values-in : (b : Bool) (vs : List Value) (j : ℕ) (v : Value) → slice_get vs j ≡ Some v → shown_values b vs ≡ vs
+  shown_values-in true [] j v at = absurd (none-some v at)
+  shown_values-in true (w ∷ ws) j v at = refl
+  shown_values-in false vs j v at = refl
 
   not-nil : (vs : List Value) (j : ℕ) (v : Value) → slice_get vs j ≡ Some v → is_nil vs ≡ false
   not-nil [] j v at = absurd (none-some v at)
@@ -154,8 +154,8 @@ module _ (s : Model) (legal : IsLegal s) (ps : List ProxySite) (p : ProxySite) (
   notice-same d j t v reference at =
       let a = shape s.metamodel d.feature in
       let was = slot-same r (values_left r ps) follows d j t at in
-      let vs = shown-in a.is_single (now.values d) j (value.Proxy t) at in
-      let ws = shown-in a.is_single (r.values d) j (value.Proxy t) was in
+      let vs = shown_values-in a.is_single (now.values d) j (value.Proxy t) at in
+      let ws = shown_values-in a.is_single (r.values d) j (value.Proxy t) was in
       let alone : a.is_single ≡ true → j ≡ 0 = λ single.
       let few = (all-left s legal).one d single in
       let long = ap (λ (xs : List Value). length xs) (values-linked s d reference) in
@@ -180,7 +180,7 @@ module _ (s : Model) (legal : IsLegal s) (ps : List ProxySite) (p : ProxySite) (
       let resolves = resolved-to now p x to in
       let found = found-is now e p.index x resolves.found in
       let own = notice-same e p.index found.text (value.Object x.object) (resolvable now e p.index resolves.late).resolvable.reference found.proxy in
-      elim x.counterpart as (λ q. x.counterpart ≡ q → map (notice_at now) (resolved e p.index (with q)) ≡ map (notice_at r) (resolved e p.index (with q))) [
+      elim x.counterpart as (λ q. x.counterpart ≡ q → map (notice_at now) (changes_of_resolve e p.index (with q)) ≡ map (notice_at r) (changes_of_resolve e p.index (with q))) [
         | None ↦ λ _. ap (λ (n : Notice). n ∷ []) own
         | Some c ↦ λ there.
             let match = match-is now e x.object c (sym found.matched ∙ there) in
@@ -204,14 +204,14 @@ edits-all s legal ps = flat-same (IsStep (reading s)) edits_of (edits_by (readin
 
 -- the notifications of all steps, each computed in the model that the earlier steps left
 chain-each : (ps : List ProxySite) (s : Model) → IsLegal s
-    → told s.metamodel (held_at (reading s)) (flat_map resolution_told (resolutions (reading s) ps)) ≡ flat_map (λ y. map (notice_at y.reads) (resolution_told y)) (resolutions (reading s) ps)
+    → change_notices s.metamodel (held_at (reading s)) (flat_map resolution_told (resolutions (reading s) ps)) ≡ flat_map (λ y. map (notice_at y.reads) (resolution_told y)) (resolutions (reading s) ps)
 chain-each [] s legal = refl
 chain-each (p ∷ ps) s legal =
     let r = reading s in
     let m = s.metamodel in
     let read : Resolution → List Notice = λ y. map (notice_at y.reads) (resolution_told y) in
-    let ys : Option Target → List Resolution = λ q. option_map_or (λ x. record { reads = r; site = p; target = x } ∷ resolutions (with_resolved r p x) ps) q (resolutions r ps) in
-    elim (resolved_to r p) as (λ q. resolved_to r p ≡ q → told m (held_at r) (flat_map resolution_told (ys q)) ≡ flat_map read (ys q)) [
+    let ys : Option ResolvedProxy → List Resolution = λ q. option_map_or (λ x. record { reads = r; site = p; target = x } ∷ resolutions (with_resolved r p x) ps) q (resolutions r ps) in
+    elim (resolved_to r p) as (λ q. resolved_to r p ≡ q → change_notices m (held_at r) (flat_map resolution_told (ys q)) ≡ flat_map read (ys q)) [
       | None ↦ λ _. chain-each ps s legal
       | Some x ↦ λ is.
           let of = resolved-to r p x is in
@@ -220,13 +220,13 @@ chain-each (p ∷ ps) s legal =
           let c = At (at_end (node.Object p.object) p.feature) (Resolve p.index) in
           let t = relinked s (with_resolution s.links y) in
           let ts = resolution_told y in
-          let first : told m (held_at r) ts ≡ map (notice_at r) ts =
-          subst (λ (q : Option Target). told m (held_at r) (option_map_or (resolved (end_of p) p.index) q []) ≡ map (notice_at r) (option_map_or (resolved (end_of p) p.index) q [])) of.found
+          let first : change_notices m (held_at r) ts ≡ map (notice_at r) ts =
+          subst (λ (q : Option ResolvedProxy). change_notices m (held_at r) (option_map_or (changes_of_resolve (end_of p) p.index) q []) ≡ map (notice_at r) (option_map_or (changes_of_resolve (end_of p) p.index) q [])) of.found
           (chain-read s c refl legal refl refl (early s legal p x of.late of.found) of.late) in
-          let ends : happened_all m (held_at r) ts ≡ held_at (reading t) = λ i d. (happened_all-at m (held_at r) ts d ∙ one.replays d) i in
-          let rest = subst (λ (z : Reading). told m (held_at (reading t)) (flat_map resolution_told (resolutions z ps)) ≡ flat_map read (resolutions z ps)) one.reads (chain-each ps t one.legal) in
-          told-append m (held_at r) ts (flat_map resolution_told (resolutions (with_resolved r p x) ps))
-          ∙ (λ i. first i ++ told m (ends i) (flat_map resolution_told (resolutions (with_resolved r p x) ps)))
+          let ends : ends_after_changes m (held_at r) ts ≡ held_at (reading t) = λ i d. (ends_after_changes-at m (held_at r) ts d ∙ one.replays d) i in
+          let rest = subst (λ (z : Reading). change_notices m (held_at (reading t)) (flat_map resolution_told (resolutions z ps)) ≡ flat_map read (resolutions z ps)) one.reads (chain-each ps t one.legal) in
+          change_notices-append m (held_at r) ts (flat_map resolution_told (resolutions (with_resolved r p x) ps))
+          ∙ (λ i. first i ++ change_notices m (ends i) (flat_map resolution_told (resolutions (with_resolved r p x) ps)))
           ∙ ap (λ (ns : List Notice). map (notice_at r) ts ++ ns) rest
     ] refl
 
@@ -236,7 +236,7 @@ map-flat f g (x ∷ xs) = ap (λ zs. map f (g x) ++ zs) (map-flat f g xs) ∙ sy
 
 -- the notifications are the same if they are computed in the model before
 pub chain-all : (s : Model) → IsLegal s → (ps : List ProxySite)
-    → told s.metamodel (held_at (reading s)) (flat_map resolution_told (resolutions (reading s) ps)) ≡ map (notice_at (reading s)) (flat_map told_by (map joint_of (resolutions (reading s) ps)))
+    → change_notices s.metamodel (held_at (reading s)) (flat_map resolution_told (resolutions (reading s) ps)) ≡ map (notice_at (reading s)) (flat_map told_by (map joint_of (resolutions (reading s) ps)))
 chain-all s legal ps =
     let r = reading s in
     chain-each ps s legal
@@ -270,8 +270,8 @@ left-sites r ends N long same =
     (all_features_of r (node.Object o)))) (range_with_len 0 r.next)
 
 -- the number of proxies that are left
-pub left-count : (s : Model) → IsLegal s → (g : Progress) → IsDone (reading s) g → left (reading s) ≡ length (filter (λ p. not (has g.gone (key_of p))) (sites (reading s)))
-left-count s legal g known =
+pub unresolved_count-count : (s : Model) → IsLegal s → (g : Progress) → IsDone (reading s) g → unresolved_count (reading s) ≡ length (filter (λ p. not (has g.gone (key_of p))) (sites (reading s)))
+unresolved_count-count s legal g known =
     let r = reading s in
     ap (λ (ps : List ProxySite). length ps) (left-sites r (values_left r (sites r)) (λ p. not (has g.gone (key_of p))) (all-follow (sites r) s legal).long known.gone)
 
@@ -280,5 +280,5 @@ length-joints [] = refl
 length-joints (y ∷ ys) = ap suc (length-joints ys)
 
 -- the number of proxies that were resolved
-pub done-count : (r : Reading) (g : Progress) → IsDone r g → length g.joints.items ≡ done r
-done-count r g known = ap (λ (js : List Joint). length js) known.joints ∙ length-joints (resolutions r (sites r))
+pub resolved_count-count : (r : Reading) (g : Progress) → IsDone r g → length g.joints.items ≡ resolved_count r
+resolved_count-count r g known = ap (λ (js : List Joint). length js) known.joints ∙ length-joints (resolutions r (sites r))

@@ -22,16 +22,16 @@ use Rattle.change_plans.specs.Joining.{Adds, IsDone, IsKnown, IsNothing, IsProgr
 use Rattle.proxies.specs.Keys.{has, key, key_of, same_key}
 use Rattle.proxies.specs.Leads.{first_index, index_at, lead, leads}
 use Rattle.proxies.specs.Proxies.{end_of, is_proxy_site, site, sites, sites_of, sites_under}
-use Rattle.proxies.specs.ResolvingAll.{Resolution, left_by, replaced, resolutions, resolved_to, values_left, values_with, with_resolved}
+use Rattle.proxies.specs.ResolvingAll.{Resolution, ends_after_replace, left_by, resolutions, resolved_to, values_left, values_with, with_resolved}
 use Rattle.change_plans.specs.declared.joining.Joint.{Joint}
 use Rattle.change_plans.specs.declared.joining.Progress.{Progress}
 use Rattle.proxies.specs.declared.keys.Key.{Key}
 use Rattle.proxies.specs.declared.lead.FirstLeads.{FirstLeads}
 use Rattle.proxies.specs.declared.lead.Lead.{Lead}
 use Rattle.proxies.specs.declared.site.ProxySite.{ProxySite}
-use Rattle.proxies.specs.declared.target.Counterpart.{Counterpart}
-use Rattle.proxies.specs.declared.target.Target.{Target}
-use Rattle.change_plans.proofs.JoinedLemmas.{has-replaced, is_proxy_in, proxy-replaced}
+use Rattle.proxies.specs.declared.resolved_proxy.Counterpart.{Counterpart}
+use Rattle.proxies.specs.declared.resolved_proxy.ResolvedProxy.{ResolvedProxy}
+use Rattle.change_plans.proofs.JoinedLemmas.{has-ends_after_replace, is_proxy_in, proxy-ends_after_replace}
 use Rattle.change_plans.proofs.ProgressLemmas.{target-same}
 use Rattle.handshake.proofs.ResolveAllLemmas.{resolved-to}
 use Rattle.proxies.proofs.TargetLemmas.{IsFound, found-is, match-apart, match-is}
@@ -41,7 +41,7 @@ use Rattle.proxies.proofs.TargetLemmas.{IsFound, found-is, match-apart, match-is
 pub resolutions-append : (r : Reading) (ps qs : List ProxySite) → resolutions r (ps ++ qs) ≡ resolutions r ps ++ resolutions (left_by r ps) qs
 resolutions-append r [] qs = refl
 resolutions-append r (p ∷ ps) qs =
-    let one : Target → Resolution = λ x. record { reads = r; site = p; target = x } in
+    let one : ResolvedProxy → Resolution = λ x. record { reads = r; site = p; target = x } in
     elim (resolved_to r p) as (λ q. option_map_or (λ x. one x ∷ resolutions (with_resolved r p x) (ps ++ qs)) q (resolutions r (ps ++ qs))
     ≡ option_map_or (λ x. one x ∷ resolutions (with_resolved r p x) ps) q (resolutions r ps) ++ resolutions (record r { values = option_map_or (λ x. values_left (with_resolved r p x) ps) q (values_left r ps) }) qs) [
       | None ↦ resolutions-append r ps qs
@@ -75,14 +75,14 @@ none-known r g nothing =
     or-false true = refl
     or-false false = refl
 
-module _ (s : Model) (legal : IsLegal s) (ps : List ProxySite) (p : ProxySite) (x : Target) (to : resolved_to (left_by (reading s) ps) p ≡ Some x) (g h : Progress) (known : IsProgress (reading s) ps g) (adds : Adds g h p x) where
+module _ (s : Model) (legal : IsLegal s) (ps : List ProxySite) (p : ProxySite) (x : ResolvedProxy) (to : resolved_to (left_by (reading s) ps) p ≡ Some x) (g h : Progress) (known : IsProgress (reading s) ps g) (adds : Adds g h p x) where
   abbrev r : Reading
   r = reading s
 
   abbrev now : Reading
   now = left_by (reading s) ps
 
-  abbrev with : Option Counterpart → Target
+  abbrev with : Option Counterpart → ResolvedProxy
   with q = record { object = x.object; counterpart = q }
 
   found : IsFound (left_by (reading s) ps) (end_of p) p.index x
@@ -130,10 +130,10 @@ module _ (s : Model) (legal : IsLegal s) (ps : List ProxySite) (p : ProxySite) (
     match-there = let match = match-is now (end_of p) x.object c (sym found.matched ∙ there) in match.stands ∙ ap (λ (f : FeatureNo). at_end (node.Object x.object) f) (sym (ap (λ (y : End). y.feature) match.stands))
 
     abbrev back : End → List Value
-    back = replaced now.values (end_of q) c.index (value.Object p.object)
+    back = ends_after_replace now.values (end_of q) c.index (value.Object p.object)
 
-    back-is : replaced now.values c.end c.index (value.Object p.object) ≡ back
-    back-is = ap (λ (y : End). replaced now.values y c.index (value.Object p.object)) match-there
+    back-is : ends_after_replace now.values c.end c.index (value.Object p.object) ≡ back
+    back-is = ap (λ (y : End). ends_after_replace now.values y c.index (value.Object p.object)) match-there
 
     met : (text : List ℕ) × (slice_get (now.values (end_of q)) c.index ≡ Some (value.Proxy text))
     met = let match = match-is now (end_of p) x.object c (sym found.matched ∙ there) in (match.text, subst (λ (y : End). slice_get (now.values y) c.index ≡ Some (value.Proxy match.text)) match-there match.proxy)
@@ -147,12 +147,12 @@ module _ (s : Model) (legal : IsLegal s) (ps : List ProxySite) (p : ProxySite) (
   gone-more : (z : Option Counterpart) → x.counterpart ≡ z → (y : ProxySite)
       → is_proxy_in (values_with now (end_of p) p.index (with z)) y ≡ (is_proxy_site r y && not ((has g.gone (key_of y) || mine (key_of y)) || option_map_or (λ c. is_far_site x c (key_of y)) z false))
   gone-more None none y =
-      proxy-replaced now.values p x.object found.text found.proxy y ∙ ap (λ (b : Bool). b && not (mine (key_of y))) (known.gone y) ∙ parted (is_proxy_site r y) (has g.gone (key_of y)) (mine (key_of y)) false
+      proxy-ends_after_replace now.values p x.object found.text found.proxy y ∙ ap (λ (b : Bool). b && not (mine (key_of y))) (known.gone y) ∙ parted (is_proxy_site r y) (has g.gone (key_of y)) (mine (key_of y)) false
   gone-more (Some c) there y =
       let far = is_far_site x c (key_of y) in
-      ap (λ (ends : End → List Value). is_proxy_in (replaced ends (end_of p) p.index (value.Object x.object)) y) (back-is c there)
-      ∙ proxy-replaced (back c there) p x.object found.text (still c there) y
-      ∙ ap (λ (b : Bool). b && not (mine (key_of y))) (proxy-replaced now.values (q c there) p.object (met c there).0 (met c there).1 y ∙ ap (λ (b : Bool). b && not far) (known.gone y))
+      ap (λ (ends : End → List Value). is_proxy_in (ends_after_replace ends (end_of p) p.index (value.Object x.object)) y) (back-is c there)
+      ∙ proxy-ends_after_replace (back c there) p x.object found.text (still c there) y
+      ∙ ap (λ (b : Bool). b && not (mine (key_of y))) (proxy-ends_after_replace now.values (q c there) p.object (met c there).0 (met c there).1 y ∙ ap (λ (b : Bool). b && not far) (known.gone y))
       ∙ parted_two (is_proxy_site r y) (has g.gone (key_of y)) (mine (key_of y)) far
 
   linked-more : (z : Option Counterpart) → x.counterpart ≡ z → (o : ObjectNo) (f : FeatureNo) (b : ObjectNo)
@@ -160,14 +160,14 @@ module _ (s : Model) (legal : IsLegal s) (ps : List ProxySite) (p : ProxySite) (
       ≡ (has_value (r.values (at_end (node.Object o) f)) (value.Object b) || ((has g.linked (key o f b.0) || own (key o f b.0)) || option_map_or (λ c. is_far_link p x c (key o f b.0)) z false))
   linked-more None none o f b =
       let k = key o f b.0 in
-      has-replaced now.values p x.object found.text found.proxy o f b ∙ ap (λ (c : Bool). c || own k) (known.linked o f b)
+      has-ends_after_replace now.values p x.object found.text found.proxy o f b ∙ ap (λ (c : Bool). c || own k) (known.linked o f b)
       ∙ grouped (has_value (r.values (at_end (node.Object o) f)) (value.Object b)) (has g.linked k) (own k)
   linked-more (Some c) there o f b =
       let k = key o f b.0 in
       let far = is_far_link p x c k in
-      ap (λ (ends : End → List Value). has_value (replaced ends (end_of p) p.index (value.Object x.object) (at_end (node.Object o) f)) (value.Object b)) (back-is c there)
-      ∙ has-replaced (back c there) p x.object found.text (still c there) o f b
-      ∙ ap (λ (c : Bool). c || own k) (has-replaced now.values (q c there) p.object (met c there).0 (met c there).1 o f b ∙ ap (λ (c : Bool). c || far) (known.linked o f b))
+      ap (λ (ends : End → List Value). has_value (ends_after_replace ends (end_of p) p.index (value.Object x.object) (at_end (node.Object o) f)) (value.Object b)) (back-is c there)
+      ∙ has-ends_after_replace (back c there) p x.object found.text (still c there) o f b
+      ∙ ap (λ (c : Bool). c || own k) (has-ends_after_replace now.values (q c there) p.object (met c there).0 (met c there).1 o f b ∙ ap (λ (c : Bool). c || far) (known.linked o f b))
       ∙ grouped_two (has_value (r.values (at_end (node.Object o) f)) (value.Object b)) (has g.linked k) (own k) far
 
   one-known : IsKnown r (map joint_of (resolutions r ps) ++ joint p x ∷ []) (values_with now (end_of p) p.index x) h
@@ -183,8 +183,8 @@ known-on : (s : Model) → IsLegal s → (ps : List ProxySite) (p : ProxySite) (
 known-on s legal ps p g h known resolves =
     let r = reading s in
     let now = left_by r ps in
-    let ys : Option Target → List Resolution = λ q. option_map_or (λ x. record { reads = now; site = p; target = x } ∷ []) q [] in
-    let ends : Option Target → End → List Value = λ q. option_map_or (λ x. values_with now (end_of p) p.index x) q (values_left r ps) in
+    let ys : Option ResolvedProxy → List Resolution = λ q. option_map_or (λ x. record { reads = now; site = p; target = x } ∷ []) q [] in
+    let ends : Option ResolvedProxy → End → List Value = λ q. option_map_or (λ x. values_with now (end_of p) p.index x) q (values_left r ps) in
     let same : IsKnown r (map joint_of (resolutions r ps) ++ map joint_of (ys (resolved_to now p))) (ends (resolved_to now p)) h ≡ IsProgress r (ps ++ p ∷ []) h =
     λ i. IsKnown r (sym (ap (map joint_of) (resolutions-append r ps (p ∷ [])) ∙ map-append joint_of (resolutions r ps) (ys (resolved_to now p))) i) (sym (values-append r ps (p ∷ [])) i) h in
     subst (λ (T : Type 0). T) same

@@ -11,7 +11,7 @@ use Rattle.mm_types.specs.declared.numbers.FeatureNo.{FeatureNo}
 use Rattle.mm_types.specs.declared.numbers.Node.{Node}
 use Rattle.mm_types.specs.declared.value.Value.{Value}
 use Rattle.mm_types.specs.declared.value.Value.TheVariants as value
-use Rattle.mm_values.specs.declared.edit.ValueEdit.{ValueEdit}
+use Rattle.mm_values.specs.declared.value_edit.ValueEdit.{ValueEdit}
 use Rattle.links.specs.Links.{Links, far_end}
 use Rattle.links.specs.declared.plan.Edit.{Edit}
 use Rattle.models.specs.Legal.{IsLegal}
@@ -22,7 +22,7 @@ use Rattle.doc_loader.proofs.SideLemmas.{opposite-reference}
 use Rattle.handshake.specs.declared.change.Change.{Change}
 use Rattle.handshake.specs.declared.act.Act.{Act}
 use Rattle.handshake.specs.declared.change.Change.TheVariants.{At, Create}
-use Rattle.handshake.specs.FeatureChange.{feature_change, notice_at, told}
+use Rattle.handshake.specs.FeatureChange.{change_notices, feature_change, notice_at}
 use Rattle.handshake.specs.declared.change_kind.ChangeKind.{ChangeKind}
 use Rattle.handshake.specs.declared.change_kind.ChangeKind.TheVariants.{Gains, Unsets}
 use Rattle.handshake.specs.declared.change_kind.FeatureChange.{FeatureChange}
@@ -36,8 +36,8 @@ use Rattle.handshake.specs.Effects.{act_edits, value_edits}
 use Rattle.handshake.specs.Changes.{HasFittingDocument, HasReadDocument, edits_links_alone, edits_one_kind, edits_values_alone, is_at_reference}
 use Rattle.change_plans.specs.Plans.{IsPlanOf, of_links, of_values}
 use Rattle.handshake.specs.Refusals.{early_refusal, late_refusal}
-use Rattle.handshake.specs.FeatureChanges.{all_lost, before_gain, chain, destroyed_by, emptied, feature_changes, feature_changes_with, gain_at, resolved_by, resolves_all, taken_out, target_of}
-use Rattle.change_plans.proofs.NotifierLemmas.{told-notifiers}
+use Rattle.handshake.specs.FeatureChanges.{all_lost, before_gain, chain, changes_of_remove, changes_of_unset, destroyed_by, feature_changes, feature_changes_with, gain_at, resolved_by, resolves_all, target_of}
+use Rattle.change_plans.proofs.NotifierLemmas.{change_notices-notifiers}
 use Rattle.change_plans.proofs.PlannedLemmas.{planned}
 
 -- it loads nothing, destroys nothing, and resolves nothing
@@ -111,14 +111,14 @@ values-planned is_heard s c vs ns h legal early late lists tells =
 -- the notification of a set of an attribute is the notification of its gain
 pub set-told : (r : Reading) (e : End) (v : Value) → (shape_at r e).is_reference ≡ false → notice_at r (feature_change e (Gains v)) ∷ [] ≡ chain r (At e (Set v))
 set-told r e v attribute =
-    sym (ap (λ (b : Bool). told r.metamodel (held_at r) ((if b || has_already r e v then [] else before_gain r e v (cut_link_ends r (At e (Set v)))) ++ feature_change e (Gains v) ∷ [])) (ap not attribute))
+    sym (ap (λ (b : Bool). change_notices r.metamodel (held_at r) ((if b || has_already r e v then [] else before_gain r e v (cut_link_ends r (At e (Set v)))) ++ feature_change e (Gains v) ∷ [])) (ap not attribute))
 
 lost-near : (P : Node → Type 0) (e : End) (n : ℕ) → P e.node → AllByRecursion (λ (t : FeatureChange). P t.at.node) (all_lost e n)
 lost-near P e zero near = tt
 lost-near P e (suc n) near = (near, lost-near P e n near)
 
-emptied-near : (P : Node → Type 0) (r : Reading) (e : End) → P e.node → AllByRecursion (λ (t : FeatureChange). P t.at.node) (emptied r e)
-emptied-near P r e near =
+changes_of_unset-near : (P : Node → Type 0) (r : Reading) (e : End) → P e.node → AllByRecursion (λ (t : FeatureChange). P t.at.node) (changes_of_unset r e)
+changes_of_unset-near P r e near =
     elim (shape_at r e).is_single as (λ b. AllByRecursion (λ (t : FeatureChange). P t.at.node) (if b then feature_change e Unsets ∷ [] else all_lost e (length (r.values e)))) [
       | true ↦ (near, tt)
       | false ↦ lost-near P e (length (r.values e)) near
@@ -147,7 +147,7 @@ near-changes : (P : Node → Type 0) (r : Reading) (c : Change) → edits_values
 near-changes P r (Create k) h near = tt
 near-changes P r (At e (Set v)) h near =
     subst (λ (b : Bool). AllByRecursion (λ (t : FeatureChange). P t.at.node) ((if b || has_already r e v then [] else before_gain r e v []) ++ feature_change e (Gains v) ∷ [])) (sym h) (near, tt)
-near-changes P r (At e Unset) h near = emptied-near P r e near
+near-changes P r (At e Unset) h near = changes_of_unset-near P r e near
 near-changes P r (At e (Add v i)) h near =
     elim (is_repeat r e v) as (λ b. AllByRecursion (λ (t : FeatureChange). P t.at.node) (if b then [] else before_gain r e v [] ++ feature_change e (gain_at i v) ∷ [])) [
       | true ↦ tt
@@ -156,7 +156,7 @@ near-changes P r (At e (Add v i)) h near =
 near-changes P r (At e (Remove i)) h near = (near, tt)
 near-changes P r (At e (RemoveValue v)) h near = by (first_at r e v)
   where
-    by : (q : Option ℕ) → AllByRecursion (λ (t : FeatureChange). P t.at.node) (option_map_or (taken_out r e []) q [])
+    by : (q : Option ℕ) → AllByRecursion (λ (t : FeatureChange). P t.at.node) (option_map_or (changes_of_remove r e []) q [])
     by None = tt
     by (Some i) = (near, tt)
 near-changes P r (At e (Move to from)) h near = (near, tt)
@@ -164,4 +164,4 @@ near-changes P r _ h near = absurd (false≢true h)
 
 pub near-notifiers : (P : Node → Type 0) (r : Reading) (c : Change) → edits_values_alone r.metamodel c ≡ true → near_at P c → AllByRecursion (λ (n : Notice). P n.notifier) (chain r c)
 near-notifiers P r c h near =
-    told-notifiers P r.metamodel (held_at r) (feature_changes r c) (subst (λ (ts : List LinkEnd). AllByRecursion (λ (t : FeatureChange). P t.at.node) (feature_changes_with r c ts)) (no-cuts r c h) (near-changes P r c h near))
+    change_notices-notifiers P r.metamodel (held_at r) (feature_changes r c) (subst (λ (ts : List LinkEnd). AllByRecursion (λ (t : FeatureChange). P t.at.node) (feature_changes_with r c ts)) (no-cuts r c h) (near-changes P r c h near))

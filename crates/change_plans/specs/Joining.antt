@@ -12,8 +12,8 @@ use Rattle.mm_types.specs.declared.value.Value.TheVariants as value
 use Rattle.models.specs.Reading.{Reading, at_end}
 use Rattle.links.specs.declared.plan.Edit.{Edit}
 use Rattle.handshake.specs.Displaced.{link_ends_joined}
-use Rattle.handshake.specs.Edits.{cut_of, joining}
-use Rattle.handshake.specs.FeatureChanges.{resolved}
+use Rattle.handshake.specs.Edits.{cut_of, joining_edits}
+use Rattle.handshake.specs.FeatureChanges.{changes_of_resolve}
 use Rattle.handshake.specs.declared.change_kind.FeatureChange.{FeatureChange}
 use Rattle.proxies.specs.Keys.{has, key, key_of, same_key}
 use Rattle.proxies.specs.Leads.{index_at}
@@ -27,8 +27,8 @@ use Rattle.proxies.specs.declared.keys.Key.{Key}
 use Rattle.proxies.specs.declared.lead.FirstLeads.{FirstLeads}
 use Rattle.proxies.specs.declared.lead.Lead.{Lead}
 use Rattle.proxies.specs.declared.site.ProxySite.{ProxySite}
-use Rattle.proxies.specs.declared.target.Counterpart.{Counterpart}
-use Rattle.proxies.specs.declared.target.Target.{Target}
+use Rattle.proxies.specs.declared.resolved_proxy.Counterpart.{Counterpart}
+use Rattle.proxies.specs.declared.resolved_proxy.ResolvedProxy.{ResolvedProxy}
 
 ---------------------------------------------------------------- what a proxy is resolved to
 
@@ -37,41 +37,41 @@ abbrev pub counterpart_by : Reading → FirstLeads → ProxySite → ObjectNo �
 counterpart_by r t p o =
     option_and_then (λ d. option_map (λ j. record { end = d; index = j }) (index_at t (key o d.feature p.object.0))) (opposite_end r (end_of p) o)
 
-abbrev pub is_refused : Reading → Progress → ProxySite → Target → Bool
+abbrev pub is_refused : Reading → Progress → ProxySite → ResolvedProxy → Bool
 is_refused r g p x =
     let e = end_of p in
     has g.gone (key_of p) || (is_mistyped r e (Some x) || (is_there_already r e (Some x) || (has g.linked (key p.object p.feature x.object.0) || is_unmatched r e x)))
 
-abbrev pub found_by : Reading → FirstLeads → ProxySite → ObjectNo → Target
+abbrev pub found_by : Reading → FirstLeads → ProxySite → ObjectNo → ResolvedProxy
 found_by r t p o = record { object = o; counterpart = counterpart_by r t p o }
 
-abbrev pub unless_refused : Reading → Progress → ProxySite → Target → Option Target
+abbrev pub unless_refused : Reading → Progress → ProxySite → ResolvedProxy → Option ResolvedProxy
 unless_refused r g p x = if is_refused r g p x then None else Some x
 
-abbrev pub target_by : Reading → Progress → FirstLeads → Lead → Option Target
+abbrev pub target_by : Reading → Progress → FirstLeads → Lead → Option ResolvedProxy
 target_by r g t x = option_and_then (λ o. unless_refused r g x.site (found_by r t x.site o)) x.object
 
 ---------------------------------------------------------------- what is known afterwards
 
-abbrev pub joint : ProxySite → Target → Joint
+abbrev pub joint : ProxySite → ResolvedProxy → Joint
 joint p x = record { site = p; target = x }
 
 -- whether a key is that of the counterpart's location; `is_far_link` is the same for the object that is there afterwards
-abbrev pub is_far_site : Target → Counterpart → Key → Bool
+abbrev pub is_far_site : ResolvedProxy → Counterpart → Key → Bool
 is_far_site x c k = same_key k (key x.object c.end.feature c.index)
 
-abbrev pub is_far_link : ProxySite → Target → Counterpart → Key → Bool
+abbrev pub is_far_link : ProxySite → ResolvedProxy → Counterpart → Key → Bool
 is_far_link p x c k = same_key k (key x.object c.end.feature p.object.0)
 
-abbrev pub of_far : Target → (Counterpart → Bool) → Bool
+abbrev pub of_far : ResolvedProxy → (Counterpart → Bool) → Bool
 of_far x holds = option_map_or holds x.counterpart false
 
-pub record Adds (g h : Progress) (p : ProxySite) (x : Target) : Type 0 where
+pub record Adds (g h : Progress) (p : ProxySite) (x : ResolvedProxy) : Type 0 where
   pub joints : h.joints.items ≡ g.joints.items ++ joint p x ∷ []
   pub gone : (k : Key) → has h.gone k ≡ ((has g.gone k || same_key k (key_of p)) || of_far x (λ c. is_far_site x c k))
   pub linked : (k : Key) → has h.linked k ≡ ((has g.linked k || same_key k (key p.object p.feature x.object.0)) || of_far x (λ c. is_far_link p x c k))
 
-abbrev pub Resolves : Progress → Progress → ProxySite → Option Target → Type 0
+abbrev pub Resolves : Progress → Progress → ProxySite → Option ResolvedProxy → Type 0
 Resolves g h p None = h ≡ g
 Resolves g h p (Some x) = Adds g h p x
 
@@ -89,10 +89,10 @@ joint_of y = joint y.site y.target
 abbrev pub edits_by : Reading → Joint → List Edit
 edits_by r j =
     let e = end_of j.site in
-    map cut_of (link_ends_joined r e j.site.index j.target) ++ joining r e j.site.index j.target
+    map cut_of (link_ends_joined r e j.site.index j.target) ++ joining_edits r e j.site.index j.target
 
 abbrev pub told_by : Joint → List FeatureChange
-told_by j = resolved (end_of j.site) j.site.index j.target
+told_by j = changes_of_resolve (end_of j.site) j.site.index j.target
 
 -- these proxies were resolved, and `ends` are the values since. A proxy is gone from each location in `gone`, and from no other; an object
 -- is at a reference if it was there before, or `linked` has it

@@ -3,7 +3,7 @@ use Rattle.std.specs.Prelude.{◌≡◌, ◌&&◌, Bool, true, false, IsFalse, L
 use Rattle.mm_types.specs.declared.refused.Refused.{Refused}
 use Rattle.mm_types.specs.declared.refused.Refused.TheVariants.{Memory}
 use Rattle.mm_values.specs.Values as values
-use Rattle.mm_values.specs.declared.edit.ValueEdit.{ValueEdit}
+use Rattle.mm_values.specs.declared.value_edit.ValueEdit.{ValueEdit}
 use Rattle.links.specs.Plans as links
 use Rattle.links.specs.declared.plan.Edit.{Edit}
 use Rattle.models.specs.Legal.{kinds_of}
@@ -11,7 +11,7 @@ use Rattle.models.specs.Model.{Model, reading}
 use Rattle.notice_chain.specs.declared.notice.Notice.{Notice}
 use Rattle.handshake.specs.declared.change.Change.{Change}
 use Rattle.handshake.specs.Changes.{IsRemovalOf}
-use Rattle.handshake.specs.Effects.{after}
+use Rattle.handshake.specs.Effects.{model_after}
 use Rattle.handshake.specs.Refusals.{late_refusal}
 use Rattle.handshake.specs.FeatureChanges.{chain, resolved_by, resolves_one, target_of}
 use Rattle.change_plans.specs.declared.planned.Planned.{Planned}
@@ -29,8 +29,8 @@ pub record IsPlanOf (is_heard : Bool) (s : Model) (c : Change) (p : Planned) : T
   pub resolved : p.resolved ≡ resolved_by (reading s) c
   pub fits : links.PlanFits s.links p.edits
   pub of_kind : links.IsPlanOfKind (kinds_of s.metamodel) p.edits
-  pub links_made : links.applied s.links p.edits ≡ (after s c).links
-  pub values_made : values.applied s.values p.values ≡ (after s c).values
+  pub links_made : links.links_after_edits s.links p.edits ≡ (model_after s c).links
+  pub values_made : values.values_after_edits s.values p.values ≡ (model_after s c).values
   pub tells : p.chain ≡ (if is_heard then chain (reading s) c else [])
 
 -- the plan that edits only values, with the notifications that an adapter may have to get

@@ -5,7 +5,7 @@ ghost use Rattle.mm_types.specs.Shapes.{shape};
 ghost use Rattle.mm_types.specs.declared.value.Value.TheVariants as value;
 ghost use Rattle.models.specs.Model.{reading};
 ghost use Rattle.handshake.specs.Edits as e;
-ghost use Rattle.mm_values.specs.declared.edit.ValueEdit.TheVariants.{DropObject, MoveValue};
+ghost use Rattle.mm_values.specs.declared.value_edit.ValueEdit.TheVariants.{DropObject, MoveValue};
 ghost use Rattle.handshake.specs.Displaced as d;
 ghost use Rattle.handshake.specs.Effects as effects;
 ghost use Rattle.handshake.specs.Changes.{HasFittingDocument, IsRemovalOf};
@@ -22,7 +22,7 @@ use links::{Edit, LinkStore, Plan};
 use mm_types::{End, Node, ObjectNo, Seq, Value};
 use mm_values::{NewValues, ValueEdit, ValuePlan};
 use models::ModelRef;
-use proxies::{Counterpart, Target};
+use proxies::{Counterpart, ResolvedProxy};
 use removal::{LinkEnd, Removal};
 use resource_docs::Doc;
 use std::alloc::{AllocError, Global};
@@ -34,7 +34,7 @@ pub(crate) fn link_edits<L: LinkStore>(
     model: &ModelRef<L>,
     link_ends: Vec<LinkEnd>,
     change: &Change,
-    target: Option<Target>,
+    target: Option<ResolvedProxy>,
 ) -> Result<Plan, AllocError>
     requires cut { link_ends.items ≡ d.cut_link_ends (reading model.now) change.now }
     requires found { target ≡ target_of (reading model.now) change.now }
@@ -56,7 +56,7 @@ pub(crate) fn link_edits<L: LinkStore>(
 fn push_made<L: LinkStore>(
     model: &ModelRef<L>,
     change: &Change,
-    target: Option<Target>,
+    target: Option<ResolvedProxy>,
     edits: &mut Vec<Edit>,
 ) -> Result<(), AllocError>
     requires loads_nothing { loaded_by change.now ≡ None }
@@ -78,10 +78,10 @@ pub(crate) fn push_joining<L: LinkStore>(
     model: &ModelRef<L>,
     end: End,
     index: u32,
-    target: Option<Target>,
+    target: Option<ResolvedProxy>,
     edits: &mut Vec<Edit>,
 ) -> Result<(), AllocError>
-    ensures { OnOk result (edits.new.items ≡ edits.old.items ++ option_map_or (e.joining (reading model.now) end index) target []) }
+    ensures { OnOk result (edits.new.items ≡ edits.old.items ++ option_map_or (e.joining_edits (reading model.now) end index) target []) }
 {
     let Some(target) = target else {
         return Ok(());

@@ -8,7 +8,7 @@ use links::LinkStore;
 use mm_types::ObjectNo;
 use models::ModelRef;
 use proxies::{
-    Counterpart, FirstLeads, Key, Keys, Lead, ProxySite, Target, far_end, is_mistyped,
+    Counterpart, FirstLeads, Key, Keys, Lead, ProxySite, ResolvedProxy, far_end, is_mistyped,
     is_there_already, is_unmatched, opposite_end,
 };
 use std::alloc::{AllocError, Global};
@@ -17,7 +17,7 @@ use std::alloc::{AllocError, Global};
 #[derive(Clone, Copy)]
 pub(crate) struct Joint {
     pub site: ProxySite,
-    pub target: Target,
+    pub target: ResolvedProxy,
 }
 
 /// What was resolved so far: the proxies in order, all locations whose proxies are gone, and the objects that came to be at ends.
@@ -83,11 +83,11 @@ impl Progress {
         model: &ModelRef<L>,
         first: &FirstLeads,
         lead: Lead,
-    ) -> Option<Target>
+    ) -> Option<ResolvedProxy>
         ensures { result ≡ spec.target_by (reading model.now) self.now first.now lead }
     {
         let object = lead.object?;
-        let target = Target {
+        let target = ResolvedProxy {
             object,
             counterpart: counterpart(model, first, lead.site, object),
         };
@@ -99,7 +99,12 @@ impl Progress {
     }
 
     /// Whether a proxy can't be resolved to the target that it finds. Takes no memory.
-    fn is_refused<L: LinkStore>(&self, model: &ModelRef<L>, site: ProxySite, target: Target) -> bool
+    fn is_refused<L: LinkStore>(
+        &self,
+        model: &ModelRef<L>,
+        site: ProxySite,
+        target: ResolvedProxy,
+    ) -> bool
         ensures { result ≡ spec.is_refused (reading model.now) self.now site target }
     {
         let end = far_end(site.object, site.feature);
@@ -113,7 +118,7 @@ impl Progress {
     }
 
     /// Adds a proxy that is resolved.
-    fn add(&mut self, site: ProxySite, target: Target) -> Result<(), AllocError>
+    fn add(&mut self, site: ProxySite, target: ResolvedProxy) -> Result<(), AllocError>
         ensures { OnOk result (spec.Adds self.old self.new site target) }
     {
         self.joints.push(Joint { site, target })?;
@@ -130,7 +135,7 @@ impl Progress {
     fn add_far(
         &mut self,
         site: ProxySite,
-        target: Target,
+        target: ResolvedProxy,
         other: Counterpart,
     ) -> Result<(), AllocError>
         ensures joints { OnOk result (self.new.joints.items ≡ self.old.joints.items) }

@@ -11,8 +11,8 @@ mod link_planning;
 mod loads;
 mod planned;
 mod planning;
+mod resolved_proxy;
 mod resolving_all;
-mod target;
 mod value_planning;
 
 pub use link_planning::{lone_add, lone_set, plan_links};

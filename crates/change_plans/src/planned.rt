@@ -2,7 +2,7 @@
 use links::Plan;
 use mm_values::ValuePlan;
 use notice_chain::Chain;
-use proxies::{Resolved, Target};
+use proxies::{Resolved, ResolvedProxy};
 use removal::Removal;
 
 /// The plan of a change that is not refused. It has the removal of the object that the change destroys, the target of the proxy that it
@@ -10,7 +10,7 @@ use removal::Removal;
 #[derive(Drop)]
 pub struct Planned {
     pub removal: Option<Removal>,
-    pub target: Option<Target>,
+    pub target: Option<ResolvedProxy>,
     pub resolved: Option<Resolved>,
     pub edits: Plan,
     pub values: ValuePlan,

@@ -4,7 +4,7 @@ ghost use Rattle.mm_types.specs.Conditions.{◌unless◌, ◌else_by◌};
 ghost use Rattle.mm_types.specs.declared.limits.TheConstants.{OBJECTS};
 ghost use Rattle.mm_types.specs.declared.refused.Refused.TheVariants.{Index, Limit};
 ghost use Rattle.models.specs.Model.{reading};
-ghost use Rattle.models.specs.Reading.{is_repeat, position_for, takes};
+ghost use Rattle.models.specs.Reading.{is_repeat as is_repeat_of, position_for, takes};
 ghost use Rattle.handshake.specs.Displaced as d;
 ghost use Rattle.handshake.specs.Edits as e;
 ghost use Rattle.handshake.specs.Effects.{value_edits as value_edits_of};
@@ -19,18 +19,18 @@ use crate::destroyed::removal_of;
 use crate::edits::{link_edits, value_edits};
 use crate::loads::{load_refusal, root_notices};
 use crate::planned::Planned;
+use crate::resolved_proxy::target_of;
 use crate::resolving_all::all_resolved;
-use crate::target::target_of;
 use handshake::{
-    Act, Change, cut_link_ends, feature_changes, gain_refusal, has_already, link_refusal,
-    lost_notices, notices,
+    Act, Change, cut_link_ends, feature_changes, gain_refusal, has_already, is_repeat,
+    link_refusal, lost_notices, notices,
 };
 use links::{LinkStore, Plan};
 use mm_types::{End, FeatureNo, ObjectNo, Refused, Text, Value, limits};
 use mm_values::ValuePlan;
 use models::{ModelRef, contents_end, is_short, is_short_text};
 use notice_chain::Chain;
-use proxies::{Target, resolve_refusal};
+use proxies::{ResolvedProxy, resolve_refusal};
 use removal::{LinkEnd, Removal};
 use std::alloc::{AllocError, Global};
 
@@ -67,7 +67,7 @@ fn made<L: LinkStore>(
     alloc: Global,
     model: &ModelRef<L>,
     change: Change,
-    target: Option<Target>,
+    target: Option<ResolvedProxy>,
     is_heard: bool,
 ) -> Result<Planned, AllocError>
     requires found { target ≡ t.target_of (reading model.now) change }
@@ -101,7 +101,7 @@ fn edits_and_notices<L: LinkStore>(
     model: &ModelRef<L>,
     change: Change,
     removal: &Option<Removal>,
-    target: Option<Target>,
+    target: Option<ResolvedProxy>,
     is_heard: bool,
 ) -> Result<(Plan, ValuePlan, Chain), AllocError>
     requires asked { refusals.early_refusal (reading model.now) change ≡ None }
@@ -126,7 +126,7 @@ pub(crate) fn links_and_notices<L: LinkStore>(
     model: &ModelRef<L>,
     change: &Change,
     removal: &Option<Removal>,
-    target: Option<Target>,
+    target: Option<ResolvedProxy>,
     is_heard: bool,
 ) -> Result<(Plan, Chain), AllocError>
     requires asked { refusals.early_refusal (reading model.now) change.now ≡ None }
@@ -148,7 +148,7 @@ pub(crate) fn links_and_notices<L: LinkStore>(
 pub(crate) fn late_refusal<L: LinkStore>(
     model: &ModelRef<L>,
     change: &Change,
-    target: Option<Target>,
+    target: Option<ResolvedProxy>,
 ) -> Option<Refused>
     requires found { target ≡ t.target_of (reading model.now) change.now }
     ensures { result ≡ refusals.late_refusal (reading model.now) change.now }
@@ -167,7 +167,7 @@ fn act_late_refusal<L: LinkStore>(
     model: &ModelRef<L>,
     end: End,
     act: &Act,
-    target: Option<Target>,
+    target: Option<ResolvedProxy>,
 ) -> Option<Refused>
     requires found { target ≡ t.target_of (reading model.now) (At end act.now) }
     ensures { result ≡ refusals.late_refusal (reading model.now) (At end act.now) }
@@ -176,7 +176,7 @@ fn act_late_refusal<L: LinkStore>(
         Act::Set(value) => set_late_refusal(model, end, value),
         Act::Unset => None,
         Act::Add(value, index) => {
-            add_late_refusal(model, end, value, *index, model.is_repeat(end, value))
+            add_late_refusal(model, end, value, *index, is_repeat(model, end, value))
         }
         Act::Remove(index) => index_refusal(*index < model.len(end)),
         Act::RemoveValue(value) => type_refusal(model, end.feature, value),
@@ -238,7 +238,7 @@ pub(crate) fn add_late_refusal<L: LinkStore>(
     index: Option<u32>,
     repeats: bool,
 ) -> Option<Refused>
-    requires repeats { repeats ≡ is_repeat (reading model.now) end value.now }
+    requires repeats { repeats ≡ is_repeat_of (reading model.now) end value.now }
     ensures { result ≡ refusals.late_refusal (reading model.now) (At end (Add value.now index)) }
 {
     if let Some(refused) = type_refusal(model, end.feature, value) {
@@ -324,7 +324,7 @@ pub(crate) fn heard_chain<L: LinkStore>(
     model: &ModelRef<L>,
     change: &Change,
     removal: &Option<Removal>,
-    target: Option<Target>,
+    target: Option<ResolvedProxy>,
     link_ends: &[LinkEnd],
     is_heard: bool,
 ) -> Result<Chain, AllocError>

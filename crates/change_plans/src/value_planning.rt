@@ -1,5 +1,5 @@
 //! The plans of changes that edit only values.
-ghost use Rattle.std.specs.Prelude.{◌≡◌, [], false, true, None, Some, IfErr, IfOk, OnOk, if◌then◌else◌};
+ghost use Rattle.std.specs.Prelude.{◌≡◌, [], None, Some, IfErr, IfOk, OnOk, if◌then◌else◌, false, true};
 ghost use Rattle.mm_types.specs.Conditions.{◌else_by◌};
 ghost use Rattle.mm_types.specs.Shapes.{shape};
 ghost use Rattle.models.specs.Model.{reading};
@@ -44,8 +44,7 @@ pub fn plan_values<L: LinkStore>(
     Ok((values, chain))
 }
 
-/// The edit of a set of an attribute that is not refused, and its notification. This is `plan` for a set whose notification an adapter may
-/// have to get. Errs only if memory is refused.
+/// The edit of a set of an attribute that is not refused, and its notification. Errs only if memory is refused.
 pub fn plan_set<L: LinkStore>(
     alloc: Global,
     model: &ModelRef<L>,
@@ -62,10 +61,11 @@ pub fn plan_set<L: LinkStore>(
         at: end,
         does: ChangeKind::Gains(value.clone()?),
     };
-    let mut notices = Vec::with_capacity(alloc, 1)?;
-    notices.push_reserved(notice(alloc, model, gain)?);
-    let values = set_edits(alloc, model, end, value);
-    Ok((values, Chain::from_vec(notices)))
+    let notice = notice(alloc, model, gain)?;
+    Ok((
+        set_edits(alloc, model, end, value),
+        Chain::one(alloc, notice),
+    ))
 }
 
 /// The first refusal of a set of an attribute, other than `Memory`. Takes no memory.

@@ -11,7 +11,7 @@ use Rattle.mm_types.specs.declared.numbers.ObjectNo.{ObjectNo}
 use Rattle.models.specs.Legal.{IsLegal}
 use Rattle.models.specs.Model.{Model, reading}
 use Rattle.containment.specs.Forest.{contents, is_node_among, subtree}
-use Rattle.containment.specs.Waiting.{numbered, waiting_objects}
+use Rattle.containment.specs.Waiting.{object_no, waiting_objects}
 use Rattle.containment.proofs.MemberLemmas.{subtree-has}
 use Rattle.containment.proofs.TreeLemmas.{subtree-parts}
 use Rattle.mm_meta.proofs.OwnerLemmas.{nat_eq-turned}
@@ -45,10 +45,10 @@ module _ (s : Model) (legal : IsLegal s) where
       ∙ among-append (trees rest) (subtree (reading s) o) n
 
   -- the last waiting object is replaced by its parts, if it is not the node
-  pub one-seen : (old rest now : List ℕ) (k : ℕ) (n : Node) (b : Bool) → old ≡ rest ++ k ∷ [] → same_node (node.Object (numbered k)) n ≡ false
-      → waiting_objects now ≡ waiting_objects rest ++ contents (reading s) (node.Object (numbered k)) → is_node_among (trees (waiting_objects old)) n ≡ b → is_node_among (trees (waiting_objects now)) n ≡ b
+  pub one-seen : (old rest now : List ℕ) (k : ℕ) (n : Node) (b : Bool) → old ≡ rest ++ k ∷ [] → same_node (node.Object (object_no k)) n ≡ false
+      → waiting_objects now ≡ waiting_objects rest ++ contents (reading s) (node.Object (object_no k)) → is_node_among (trees (waiting_objects old)) n ≡ b → is_node_among (trees (waiting_objects now)) n ≡ b
   one-seen old rest now k n b was other is whole =
-      let o = numbered k in
+      let o = object_no k in
       let parts = contents (reading s) (node.Object o) in
       let before = waiting_objects rest in
       ap (λ (os : List ObjectNo). is_node_among (trees os) n) is
@@ -56,7 +56,7 @@ module _ (s : Model) (legal : IsLegal s) where
       ∙ among-append (trees before) (trees parts) n
       ∙ ap (λ (c : Bool). is_node_among (trees before) n || c) (sym (behind-first o n (trees parts) other) ∙ sym (ap (λ (os : List ObjectNo). is_node_among os n) (subtree-parts s legal o)))
       ∙ sym (ap (λ (ns : List ℕ). is_node_among (trees (waiting_objects ns)) n) was
-      ∙ ap (λ (os : List ObjectNo). is_node_among (trees os) n) (map-append numbered rest (k ∷ []))
+      ∙ ap (λ (os : List ObjectNo). is_node_among (trees os) n) (map-append object_no rest (k ∷ []))
       ∙ last-tree before o n)
       ∙ whole
 

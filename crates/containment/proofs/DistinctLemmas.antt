@@ -1,18 +1,13 @@
 -- No node has a feature twice, no node contains an object twice, and no subtree has one twice.
-use Rattle.std.proofs.Common.{◌≡◌, ℕ, zero, suc, ◌+◌, Bool, true, false, cond, length, List, [], ◌∷◌, ◌++◌, map, filter, flat_map, Option, Some, None, unwrap_or, slice_get, nat_eq, eqb-true, eq-eqb, if◌then◌else◌, refl, sym, ap, ◌∙◌, subst, inl, inr, arith}
-use Rattle.std.specs.Prelude.{option_and_then, option_map}
+use Rattle.std.proofs.Common.{◌≡◌, ℕ, zero, suc, ◌+◌, Bool, true, false, cond, length, List, [], ◌∷◌, ◌++◌, map, filter, flat_map, Option, Some, None, unwrap_or, slice_get, eq-eqb, if◌then◌else◌, refl, sym, ap, ◌∙◌, subst, inl, inr, arith}
+use Rattle.std.specs.Prelude.{option_and_then}
 use Rattle.std.specs.List.{AllByRecursion, IsDistinct, list_any}
 use Rattle.std.proofs.lemmas.Bool.{false≢true, or_cases, or_left, or_right, false_from_ne_true}
 use Rattle.std.proofs.lemmas.List.Folds.{list_any-append}
 use Rattle.std.proofs.lemmas.Option.{none-some, same_Some}
-use Rattle.mm_types.specs.Features.{all_features, listed, with_new}
 use Rattle.mm_types.specs.Lookups as lookups
-use Rattle.mm_types.specs.OfDocument.{IsOfDocument}
-use Rattle.mm_types.specs.declared.raw.RawClass.{RawClass}
-use Rattle.mm_types.specs.Resolved.{Metamodel, classes_from, feature_no, graph_of, own_of, resolved}
 use Rattle.mm_types.specs.Same.{same_feature, same_object}
 use Rattle.mm_types.specs.Shapes.{is_containment, shape}
-use Rattle.mm_types.specs.declared.class.Class.{Class}
 use Rattle.mm_types.specs.declared.numbers.ClassNo.{ClassNo}
 use Rattle.mm_types.specs.declared.numbers.FeatureNo.{FeatureNo}
 use Rattle.mm_types.specs.declared.numbers.ObjectNo.{ObjectNo}
@@ -20,6 +15,7 @@ use Rattle.mm_types.specs.declared.numbers.Node.{Node}
 use Rattle.mm_types.specs.declared.numbers.Node.TheVariants as node
 use Rattle.mm_types.specs.declared.value.Value.{Value}
 use Rattle.mm_types.specs.declared.value.Value.TheVariants as value
+use Rattle.mm_meta.proofs.FeatureListLemmas.{all-append, class-features-distinct, distinct-filter}
 use Rattle.links.proofs.AboveLemmas.{above_held}
 use Rattle.links.proofs.ClimbLemmas.{climb_step, climb_stop}
 use Rattle.links.proofs.ForestLemmas.{climb_on}
@@ -31,7 +27,7 @@ use Rattle.models.specs.Legal.{IsLegal}
 use Rattle.models.specs.Model.{Model, reading, values_at}
 use Rattle.models.specs.Reading.{all_features_of, at_end, has_resource, objects_of}
 use Rattle.containment.proofs.MemberLemmas.{all-among, flat_map-from, same-object}
-use Rattle.containment.proofs.PartLemmas.{IsPart, all-append, all-objects, contains-itself, contains-reference, contents-parts, holder-at, values-linked}
+use Rattle.containment.proofs.PartLemmas.{IsPart, all-objects, contains-itself, contains-reference, contents-parts, holder-at, values-linked}
 use Rattle.containment.specs.Forest.{contents, node_subtree, subtree, tree}
 
 ---------------------------------------------------------------- lists
@@ -66,19 +62,6 @@ module _ {X : Type 0} (same : X → X → Bool) (P : X → Type 0) (f : X → Li
   distinct-flat_map [] all d = tt
   distinct-flat_map (x ∷ xs) all d = distinct-++ (f x) (flat_map f xs) (each x all.0) (distinct-flat_map xs all.1 d.1) (λ c h q. in-no_other x c xs all.0 all.1 d.0 h q)
 
-all-filter : (P : FeatureNo → Type 0) (p : FeatureNo → Bool) (fs : List FeatureNo) → AllByRecursion P fs → AllByRecursion P (filter p fs)
-all-filter P p [] all = tt
-all-filter P p (f ∷ fs) all = elim (p f) as (λ b. AllByRecursion P (cond b (f ∷ filter p fs) (filter p fs))) [ true ↦ (all.0, all-filter P p fs all.1) | false ↦ all-filter P p fs all.1 ]
-
-pub distinct-filter : (p : FeatureNo → Bool) (fs : List FeatureNo) → IsDistinct same_feature fs → IsDistinct same_feature (filter p fs)
-unfolding IsDistinct
-distinct-filter p [] d = tt
-distinct-filter p (f ∷ fs) d =
-    elim (p f) as (λ b. IsDistinct same_feature (cond b (f ∷ filter p fs) (filter p fs))) [
-      | true ↦ (all-filter (λ g. same_feature f g ≡ false) p fs d.0, distinct-filter p fs d.1)
-      | false ↦ distinct-filter p fs d.1
-    ]
-
 all-pass : (p : FeatureNo → Bool) (fs : List FeatureNo) → AllByRecursion (λ f. p f ≡ true) (filter p fs)
 all-pass p [] = tt
 all-pass p (f ∷ fs) = elim (p f) as (λ b. p f ≡ b → AllByRecursion (λ g. p g ≡ true) (cond b (f ∷ filter p fs) (filter p fs))) [
@@ -92,49 +75,6 @@ all-both P Q (f ∷ fs) a b = ((a.0, b.0), all-both P Q fs a.1 b.1)
 
 ---------------------------------------------------------------- features
 
-distinct-last : (seen : List ℕ) (x : ℕ) → IsDistinct nat_eq seen → list_any (nat_eq x) seen ≡ false → IsDistinct nat_eq (seen ++ x ∷ [])
-unfolding IsDistinct
-distinct-last [] x d h = (tt, tt)
-distinct-last (y ∷ ys) x d h = (
-  all-append (λ z. nat_eq y z ≡ false) ys (x ∷ []) d.0 (false_from_ne_true (nat_eq y x) (λ q. false≢true (sym h ∙ or_left _ _ (eq-eqb x y (sym (eqb-true y x q))))), tt),
-  distinct-last ys x d.1 (false_from_ne_true (list_any (nat_eq x) ys) (λ q. false≢true (sym h ∙ or_right _ _ q))),
-)
-
-distinct-new : (seen xs : List ℕ) → IsDistinct nat_eq seen → IsDistinct nat_eq (with_new seen xs)
-distinct-new seen [] d = d
-distinct-new seen (x ∷ xs) d =
-    elim (list_any (nat_eq x) seen) as (λ b. list_any (nat_eq x) seen ≡ b → IsDistinct nat_eq (with_new (if b then seen else seen ++ x ∷ []) xs)) [
-      | true ↦ λ h. distinct-new seen xs d
-      | false ↦ λ h. distinct-new (seen ++ x ∷ []) xs (distinct-last seen x d h)
-    ] refl
-
-distinct-all_features : (g own : List (List ℕ)) (c : ℕ) → IsDistinct nat_eq (all_features g own c)
-unfolding all_features IsDistinct
-distinct-all_features g own c = distinct-new [] (listed g own (length g) c) tt
-
-all-numbered : (x : ℕ) (ys : List ℕ) → AllByRecursion (λ y. nat_eq x y ≡ false) ys → AllByRecursion (λ g. same_feature (feature_no x) g ≡ false) (map feature_no ys)
-all-numbered x [] all = tt
-all-numbered x (y ∷ ys) all = (all.0, all-numbered x ys all.1)
-
-distinct-numbered : (xs : List ℕ) → IsDistinct nat_eq xs → IsDistinct same_feature (map feature_no xs)
-unfolding IsDistinct
-distinct-numbered [] d = tt
-distinct-numbered (x ∷ xs) d = (all-numbered x xs d.0, distinct-numbered xs d.1)
-
-classes-distinct : (all : List RawClass) (c : ℕ) (ks : List RawClass) → AllByRecursion (λ (k : Class). IsDistinct same_feature k.all) (classes_from all c ks)
-classes-distinct all c [] = tt
-classes-distinct all c (k ∷ ks) = (distinct-numbered _ (distinct-all_features (graph_of all) (own_of all) c), classes-distinct all (suc c) ks)
-
-class-at : (cs : List Class) (i : ℕ) → AllByRecursion (λ (k : Class). IsDistinct same_feature k.all) cs → IsDistinct same_feature (unwrap_or (option_map (λ (k : Class). k.all) (slice_get cs i)) [])
-unfolding IsDistinct
-class-at [] i all = tt
-class-at (k ∷ ks) zero all = all.0
-class-at (k ∷ ks) (suc i) all = class-at ks i all.1
-
-document-classes : (m : Metamodel) → IsOfDocument m → AllByRecursion (λ (k : Class). IsDistinct same_feature k.all) m.classes
-unfolding resolved
-document-classes m d = subst (λ (x : Metamodel). AllByRecursion (λ (k : Class). IsDistinct same_feature k.all) x.classes) (sym d.is) (classes-distinct d.raw.classes 0 d.raw.classes)
-
 -- no node has a feature twice
 pub features-distinct : (s : Model) → IsLegal s → (n : Node) → IsDistinct same_feature (all_features_of (reading s) n)
 unfolding IsDistinct
@@ -143,7 +83,7 @@ features-distinct s legal (node.Object o) = by ((reading s).class o)
   where
     by : (x : Option ClassNo) → IsDistinct same_feature (unwrap_or (option_and_then (lookups.features s.metamodel) x) [])
     by None = tt
-    by (Some c) = class-at s.metamodel.classes c.0 (document-classes s.metamodel legal.metamodel)
+    by (Some c) = class-features-distinct s.metamodel legal.metamodel c
 
 ---------------------------------------------------------------- contents
 

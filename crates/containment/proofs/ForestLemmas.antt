@@ -1,5 +1,7 @@
 -- What a node contains, feature by feature.
 use Rattle.std.proofs.Common.{◌≡◌, ◌<◌, ◌≤◌, ◌+◌, ℕ, Option, slice_get, option_and_then, option_to_list, true, false, cond, length, drop, slice_index_or, append_assoc, List, [], ◌∷◌, ◌++◌, filter, flat_map, refl, ap, sym, ◌∙◌}
+use Rattle.std.specs.List.{list_any}
+use Rattle.std.proofs.lemmas.Bool.{false≢true, false_from_ne_true, or_left, or_right}
 use Rattle.std.proofs.lemmas.List.{append-nil, drop_all, drop_more}
 use Rattle.std.proofs.lemmas.Option.{slice_get-get_or}
 use Rattle.mm_types.specs.Shapes.{is_containment}
@@ -21,6 +23,16 @@ parts-first r n f fs =
       | true ↦ ap (λ (os : List ObjectNo). os ++ parts r n fs) (sym (append-nil (held f)))
       | false ↦ refl
     ]
+
+-- without a containment there are no parts
+pub no-parts : (r : Reading) (n : Node) (fs : List FeatureNo) → list_any (is_containment r.metamodel) fs ≡ false → parts r n fs ≡ []
+no-parts r n [] plain = refl
+no-parts r n (f ∷ fs) plain =
+    let m = r.metamodel in
+    let held = λ (g : FeatureNo). objects_of (r.values (at_end n g)) in
+    let here = false_from_ne_true (is_containment m f) (λ q. false≢true (sym plain ∙ or_left (is_containment m f) (list_any (is_containment m) fs) q)) in
+    let later = false_from_ne_true (list_any (is_containment m) fs) (λ q. false≢true (sym plain ∙ or_right (is_containment m f) (list_any (is_containment m) fs) q)) in
+    ap (λ c. flat_map held (cond c (f ∷ filter (is_containment m) fs) (filter (is_containment m) fs))) here ∙ no-parts r n fs later
 
 -- one feature further
 pub parts-step : (r : Reading) (n : Node) (fs : List FeatureNo) (i : ℕ) (d : FeatureNo) (out new all : List ObjectNo) → i < length fs

@@ -7,9 +7,9 @@ use Rattle.links.proofs.CutLemmas.{indexed_alone, indexed_at, indexed_near, inde
 use Rattle.links.proofs.HolderLemmas.{test_some}
 use Rattle.links.proofs.PlaceLemmas.{same_node_if}
 use Rattle.links.proofs.PutLemmas.{cases_end}
-use Rattle.links.specs.Holders.{far_holding, held_through, holding, is_far_node}
+use Rattle.links.specs.Holders.{far_holding, held_through, holding_end, is_far_node}
 use Rattle.links.specs.LegalSets.{AreKinds, FarOfKind, HasTwoSides, IsOfKind, Kinds}
-use Rattle.links.specs.Indexed.{far_value, indexed}
+use Rattle.links.specs.Indexed.{far_value, indexed_value}
 use Rattle.links.specs.declared.link.Far.TheVariants.{At, Alone, Proxy}
 use Rattle.links.specs.declared.link.Far.{Far}
 use Rattle.links.specs.declared.link.Link.{Link}
@@ -23,7 +23,7 @@ use Rattle.mm_types.specs.declared.value.Value.TheVariants as value
 use Rattle.mm_types.specs.declared.value.Value.{Value}
 
 -- both ends of a link agree on its containing feature
-pub container_at : (m : Kinds) (ok : AreKinds m) (l : Link) (e : End) (p : ℕ × Value) → IsOfKind m l → indexed l e ≡ Some p → l.container ≡ m.container e.feature
+pub container_at : (m : Kinds) (ok : AreKinds m) (l : Link) (e : End) (p : ℕ × Value) → IsOfKind m l → indexed_value l e ≡ Some p → l.container ≡ m.container e.feature
 container_at m ok l e p kind at = elim (cases_end l.end e) [
   | inl is ↦ kind.container ∙ (λ i. m.container (is i).feature)
   | inr ne ↦ by_far ne l.far refl
@@ -47,7 +47,7 @@ far-node (Alone a) o h = same_node_if (node.Object a) (node.Object o) (node-is (
 far-node (Proxy t) o h = cc
 
 -- an object that is in an end of the containing feature is held through it
-pub holding_at : (l : Link) (e : End) (k : ℕ) (o : ObjectNo) → HasTwoSides l.end l.far → l.container ≡ Some e.feature → indexed l e ≡ Some (k, value.Object o) → holding l (node.Object o) ≡ Some e
+pub holding_at : (l : Link) (e : End) (k : ℕ) (o : ObjectNo) → HasTwoSides l.end l.far → l.container ≡ Some e.feature → indexed_value l e ≡ Some (k, value.Object o) → holding_end l (node.Object o) ≡ Some e
 holding_at l e k o two is at = ap (λ (c : Option FeatureNo). held_through c l (node.Object o)) is ∙ elim (cases_end l.end e) [
   | inl same ↦ near same
   | inr ne ↦ by_far ne l.far refl
@@ -55,7 +55,7 @@ holding_at l e k o two is at = ap (λ (c : Option FeatureNo). held_through c l (
   where
     near : l.end ≡ e → held_through (Some e.feature) l (node.Object o) ≡ Some e
     near same =
-        let here = subst (λ (x : End). indexed l x ≡ Some (l.index, far_value l.far)) same (indexed_near l) in
+        let here = subst (λ (x : End). indexed_value l x ≡ Some (l.index, far_value l.far)) same (indexed_near l) in
         let f = eq-eqb l.end.feature.0 e.feature.0 (λ i. (same i).feature.0) in
         let w = far-node l.far o (some_pair_parts l.index k (far_value l.far) (value.Object o) (sym here ∙ at)).1 in
         rw (f, w) (ap Some same)
@@ -65,7 +65,7 @@ holding_at l e k o two is at = ap (λ (c : Option FeatureNo). held_through c l (
       | inl same ↦
           let out = (subst (λ (x : Far). HasTwoSides l.end x) h two).0 in
           let apart : l.end ≢ c = λ q. out (λ i. (sym q i).feature.0) in
-          let here = subst (λ (x : End). indexed l x ≡ Some (j, node_value l.end.node)) same (indexed_at l c j h apart) in
+          let here = subst (λ (x : End). indexed_value l x ≡ Some (j, node_value l.end.node)) same (indexed_at l c j h apart) in
           let w = same_node_if l.end.node (node.Object o) (node-is l.end.node o (some_pair_parts j k (node_value l.end.node) (value.Object o) (sym here ∙ at)).1) in
           let g = eq-eqb c.feature.0 e.feature.0 (λ i. (same i).feature.0) in
           let f = ne_eqb l.end.feature.0 e.feature.0 (λ q. out ((λ i. (same i).feature.0) ∙ sym q)) in
@@ -76,8 +76,8 @@ holding_at l e k o two is at = ap (λ (c : Option FeatureNo). held_through c l (
     by_far ne (Proxy t) h = absurd (none-some _ (sym (indexed_proxy l e t h ne) ∙ at))
 
 -- a link holds through its containing feature
-pub holding-feature : (l : Link) (x : Node) (d : End) → holding l x ≡ Some d → (h : FeatureNo) × (l.container ≡ Some h) × (d.feature.0 ≡ h.0)
-holding-feature l x d at = through l.container refl at
+pub holding_end-feature : (l : Link) (x : Node) (d : End) → holding_end l x ≡ Some d → (h : FeatureNo) × (l.container ≡ Some h) × (d.feature.0 ≡ h.0)
+holding_end-feature l x d at = through l.container refl at
   where
     far : (f : Far) (h : FeatureNo) → far_holding f h l.end.node x ≡ Some d → d.feature.0 ≡ h.0
     far (At c j) h q =

@@ -27,7 +27,7 @@ use Rattle.links.proofs.PlaceLemmas.{same_feature-true}
 use Rattle.models.specs.Legal.{IsLegal, kinds_of}
 use Rattle.models.specs.Model.{Model, reading, values_at}
 use Rattle.models.specs.Reading.{Reading, all_features_of, at_end, has_feature, has_resource, is_within, objects_of}
-use Rattle.containment.proofs.HolderLemmas.{container_at, holding-feature}
+use Rattle.containment.proofs.HolderLemmas.{container_at, holding_end-feature}
 use Rattle.containment.proofs.PartLemmas.{IsPart, contains-reference, contents-parts, kinds-are, legal-at, values-linked}
 use Rattle.containment.proofs.TreeLemmas.{subtree-levels}
 use Rattle.containment.specs.Forest.{contents, is_node_among, node_subtree, subtree, tree}
@@ -137,7 +137,7 @@ module _ (s : Model) (legal : IsLegal s) where
       let at = indexed_held l.0 (node.Object c) e (legal.links.set.placed.sides l.0 l.1) l.2 in
       let there = (legal.links.set.placed.ends e).has at.0 (value.Object c) (l.0, l.1, at.1) in
       let own = own-feature (reading s) e.node e.feature (legal-at (reading s) e (end s.links e) at.0 (value.Object c) (legal.links.ends e) there).0 in
-      let by = holding-feature l.0 (node.Object c) e l.2 in
+      let by = holding_end-feature l.0 (node.Object c) e l.2 in
       let whose : (shape m e.feature).containing ≡ Some by.0 = sym (container_at (kinds_of m) (kinds-are m legal.metamodel) l.0 e (at.0, value.Object c) (legal.links.kinds l.0 l.1) at.1) ∙ by.1 in
       let contains : is_containment m e.feature ≡ true = ap (is_feature e.feature) whose ∙ eq-eqb e.feature.0 by.0.0 by.2 in
       let listed = in-filter (is_containment m) (all_features_of (reading s) e.node) e.feature own contains in

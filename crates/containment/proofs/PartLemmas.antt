@@ -6,6 +6,7 @@ use Rattle.std.specs.Option.{option_map_or}
 use Rattle.std.proofs.lemmas.Bool.{and_parts, eqb-true, false≢true, ltb-false, ltb-true}
 use Rattle.std.proofs.lemmas.List.{get_or_past}
 use Rattle.std.proofs.lemmas.Option.{none-some, same_Some}
+use Rattle.mm_meta.proofs.FeatureListLemmas.{all-append}
 use Rattle.mm_meta.proofs.ShapeLemmas.{opposites_are_pairs}
 use Rattle.mm_types.specs.Lookups as lookups
 use Rattle.mm_types.specs.OfDocument.{IsOfDocument}
@@ -38,10 +39,6 @@ use Rattle.containment.proofs.HolderLemmas.{container_at, holding_at}
 use Rattle.containment.specs.Forest.{contents, parts}
 
 ---------------------------------------------------------------- lists
-
-pub all-append : {X : Type 0} (P : X → Type 0) (xs ys : List X) → AllByRecursion P xs → AllByRecursion P ys → AllByRecursion P (xs ++ ys)
-all-append P [] ys a b = b
-all-append P (x ∷ xs) ys a b = (a.0, all-append P xs ys a.1 b)
 
 pub all-objects : (P : ObjectNo → Type 0) (vs : List Value) → ((k : ℕ) (c : ObjectNo) → slice_get vs k ≡ Some (value.Object c) → P c) → AllByRecursion P (objects_of vs)
 all-objects P [] h = tt

@@ -2,9 +2,9 @@
 use Rattle.std.specs.Prelude.{ℕ, List, map}
 use Rattle.mm_types.specs.declared.numbers.ObjectNo.{ObjectNo}
 
-abbrev pub numbered : ℕ → ObjectNo
-numbered n = record { 0 = n }
+abbrev pub object_no : ℕ → ObjectNo
+object_no n = record { 0 = n }
 
 -- the objects of some numbers
 abbrev pub waiting_objects : List ℕ → List ObjectNo
-waiting_objects ns = map numbered ns
+waiting_objects ns = map object_no ns

@@ -1,8 +1,9 @@
 //! What contains an object, and what a node contains.
-ghost use Rattle.std.specs.Prelude.{◌≡◌, ◌∷◌, ◌++◌, [], IfOk, OnOk, option_to_list, true};
-ghost use Rattle.mm_types.specs.Shapes.{shape};
+ghost use Rattle.std.specs.Prelude.{◌≡◌, ◌∷◌, ◌++◌, [], false, IfOk, OnOk, option_to_list, true};
+ghost use Rattle.std.specs.List.{list_any};
+ghost use Rattle.mm_types.specs.Shapes.{is_containment, shape};
 ghost use Rattle.models.specs.Model.{reading};
-ghost use Rattle.models.specs.Reading.{objects_of};
+ghost use Rattle.models.specs.Reading.{all_features_of, objects_of};
 ghost use Rattle.containment.specs.Forest as forest;
 
 use links::LinkStore;
@@ -20,6 +21,19 @@ pub fn container<L: LinkStore>(model: &ModelRef<L>, object: ObjectNo) -> Option<
     }
 }
 
+/// Whether a feature of a node may be a containment. Takes no memory.
+fn may_contain<L: LinkStore>(model: &ModelRef<L>, node: Node) -> bool
+    ensures { result ≡ false → list_any (is_containment model.now.metamodel) (all_features_of (reading model.now) node) ≡ false }
+{
+    match node {
+        Node::Object(object) => match model.class(object) {
+            Some(class) => model.meta().has_containment(class),
+            None => false,
+        },
+        Node::Resource(_) => true,
+    }
+}
+
 /// The objects that a node directly contains, by feature in the order of all features, and then by position (EMF:
 /// EObject.eContents). Errs only if memory is refused.
 pub fn contents<L: LinkStore>(
@@ -30,6 +44,10 @@ pub fn contents<L: LinkStore>(
     ensures { IfOk result (λ r. r.items ≡ forest.contents (reading model.now) node) }
 {
     let mut out = Vec::new(alloc);
+    // Most classes contain nothing.
+    if !may_contain(model, node) {
+        return Ok(out);
+    }
     let features = model.all_features(node);
     for feature in features {
         push_parts(model, node, *feature, &mut out)?;

@@ -22,7 +22,7 @@ use Rattle.resource_docs.specs.Read.{values_in}
 use Rattle.resource_docs.specs.declared.doc.Content.{Content}
 use Rattle.resource_docs.specs.declared.doc.Doc.{Doc}
 use Rattle.doc_loader.specs.LoadEdits.{far_edits, in_order, is_ascending_from, puts_again}
-use Rattle.doc_loader.specs.Loading.{loaded, object_end, of_contents, of_object}
+use Rattle.doc_loader.specs.Loading.{loaded_number, object_end, of_contents, of_object}
 use Rattle.doc_loader.specs.Pairs.{lower_of}
 use Rattle.doc_loader.specs.ListIndexes.{reference_key, index_among}
 use Rattle.doc_loader.proofs.FillLemmas.{is_no_proxy, others}
@@ -84,7 +84,7 @@ module _ (m : Metamodel) (doc : Doc) (sound : IsSound m doc) where
 
 module _ (m : Metamodel) (n : ℕ) (doc : Doc) (sound : IsSound m doc) where
   abbrev value_again : FeatureNo → FeatureNo → ObjectNo → Value → List Again
-  value_again f g b (value.Object a) = record { near = object_end n a f; index = index_among m doc.objects (reference_key a f b); object = loaded n b; far = g } ∷ []
+  value_again f g b (value.Object a) = record { near = object_end n a f; index = index_among m doc.objects (reference_key a f b); object = loaded_number n b; far = g } ∷ []
   value_again f g b v = []
 
   abbrev values_again : FeatureNo → ObjectNo → List Value → FeatureNo → List Again
@@ -100,7 +100,7 @@ module _ (m : Metamodel) (n : ℕ) (doc : Doc) (sound : IsSound m doc) where
   value-edits f g b [] = refl
   value-edits f g b (value.Object a ∷ vs) =
       let e = object_end n a f in
-      ap (λ (es : List Edit). edit.Cut e (loaded n b) ∷ edit.Put e (index_among m doc.objects (reference_key a f b)) (loaded n b) (shape m f).opposite (shape m f).containing ∷ es) (value-edits f g b vs)
+      ap (λ (es : List Edit). edit.Cut e (loaded_number n b) ∷ edit.Put e (index_among m doc.objects (reference_key a f b)) (loaded_number n b) (shape m f).opposite (shape m f).containing ∷ es) (value-edits f g b vs)
   value-edits f g b (value.Proxy t ∷ vs) = value-edits f g b vs
   value-edits f g b (value.Null ∷ vs) = value-edits f g b vs
   value-edits f g b (value.Bool x ∷ vs) = value-edits f g b vs
@@ -138,7 +138,7 @@ module _ (m : Metamodel) (n : ℕ) (doc : Doc) (sound : IsSound m doc) where
     Good = IsGoodAgain (kinds_of m) IsLowerEnd near_end
 
     object-good : (o : ObjectNo) (c : Content) → IsSoundContent m doc o c → (f : FeatureNo) → IsHigher m sound.kinds c.feature f → (j : ℕ) (a : ObjectNo) → slice_get c.values j ≡ Some (value.Object a)
-        → Good (record { near = object_end n a f; index = index_among m doc.objects (reference_key a f o); object = loaded n o; far = c.feature })
+        → Good (record { near = object_end n a f; index = index_among m doc.objects (reference_key a f o); object = loaded_number n o; far = c.feature })
     object-good o c s f high j a at =
         let side = higher-near m sound.kinds c.feature f high in
         let back = sound.kinds.inverse c.feature f high.pair in
@@ -206,7 +206,7 @@ module _ (m : Metamodel) (n : ℕ) (doc : Doc) (sound : IsSound m doc) where
   values-last d f g o (value.Literal x ∷ vs) all = absurd all.0
   values-last d f g o (value.Adapter x ∷ vs) all = absurd all.0
   values-last d f g o (value.Object a ∷ vs) all =
-      ap (λ (xs : List Value). (if same_end (object_end n o g) d then value.Object (loaded n a) ∷ [] else []) ++ xs) (values-last d f g o vs all.1) ∙ step (same_end (object_end n o g) d) (value.Object (loaded n a)) (loaded_values n (others vs))
+      ap (λ (xs : List Value). (if same_end (object_end n o g) d then value.Object (loaded_number n a) ∷ [] else []) ++ xs) (values-last d f g o vs all.1) ∙ step (same_end (object_end n o g) d) (value.Object (loaded_number n a)) (loaded_values n (others vs))
     where
       step : (t : Bool) (x : Value) (xs : List Value) → (if t then x ∷ [] else []) ++ cond t xs [] ≡ cond t (x ∷ xs) []
       step true x xs = refl

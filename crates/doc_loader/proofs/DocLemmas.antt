@@ -33,8 +33,8 @@ use Rattle.resource_docs.specs.Causes.{repeats_value}
 use Rattle.resource_docs.specs.Read.{values_read}
 use Rattle.resource_docs.specs.Texts.{Base, target}
 use Rattle.resource_docs.specs.Values.{led_to, object_of, value_of}
-use Rattle.resource_docs.specs.declared.target.Target.{Target}
-use Rattle.resource_docs.specs.declared.target.Target.TheVariants.{Here, Elsewhere}
+use Rattle.resource_docs.specs.declared.referent.Referent.{Referent}
+use Rattle.resource_docs.specs.declared.referent.Referent.TheVariants.{Here, Elsewhere}
 use Rattle.doc_loader.proofs.PairLemmas.{all-at, all-every, all-filter_map, all-more}
 use Rattle.doc_loader.proofs.SoundLemmas.{IsSort, all-none, filter_map-at}
 
@@ -96,12 +96,12 @@ module _ (P : Value → Type 0) (each : (n : ℕ) → P (object_of n)) (m : Meta
   here-each None = tt
   here-each (Some n) = found-each n (slice_get ps n)
 
-  pub led-each : (o : Option Target) → ((t : List ℕ) → o ≡ Some (Elsewhere t) → P (value.Proxy t)) → IfSome (o >>= led_to m ps class) P
+  pub led-each : (o : Option Referent) → ((t : List ℕ) → o ≡ Some (Elsewhere t) → P (value.Proxy t)) → IfSome (o >>= led_to m ps class) P
   led-each None elsewhere = tt
   led-each (Some (Here q)) elsewhere = here-each (number_of ps q)
   led-each (Some (Elsewhere t)) elsewhere = elsewhere t refl
 
-led-linked : (m : Metamodel) (ps : List Part) (class : ClassNo) (o : Option Target) → IfSome (o >>= led_to m ps class) IsLinked
+led-linked : (m : Metamodel) (ps : List Part) (class : ClassNo) (o : Option Referent) → IfSome (o >>= led_to m ps class) IsLinked
 led-linked m ps class o = led-each IsLinked (λ n. tt) m ps class o (λ t is. tt)
 
 pub if-some : {X Y : Type 0} (P : Y → Type 0) (h : X → Option Y) (xs : List X) → ((x : X) → IfSome (h x) P) → AllByRecursion P (filter_map h xs)

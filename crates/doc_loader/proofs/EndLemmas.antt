@@ -14,11 +14,11 @@ use Rattle.mm_types.specs.declared.value.Value.{Value}
 use Rattle.mm_types.specs.declared.value.Value.TheVariants as value
 use Rattle.links.proofs.CycleLemmas.{plan_makes_no_cycle}
 use Rattle.links.proofs.KindLemmas.{plan_keeps_kinds}
-use Rattle.links.proofs.LegalLemmas.{PlanFits-append, PlanMakesNoCycle-append, applied-append, plan_keeps_legal}
+use Rattle.links.proofs.LegalLemmas.{PlanFits-append, PlanMakesNoCycle-append, links_after_edits-append, plan_keeps_legal}
 use Rattle.links.specs.Holders.{HasNoCycle}
 use Rattle.links.specs.LegalSets.{AreOfKind, IsLegalSet}
 use Rattle.links.specs.Links.{Links, end}
-use Rattle.links.specs.Plans.{PlanFits, PlanMakesNoCycle, applied}
+use Rattle.links.specs.Plans.{PlanFits, PlanMakesNoCycle, links_after_edits}
 use Rattle.links.specs.declared.plan.Edit.{Edit}
 use Rattle.models.specs.Legal.{kinds_of}
 use Rattle.resource_docs.specs.Read.{values_in, values_under}
@@ -26,7 +26,7 @@ use Rattle.resource_docs.specs.declared.doc.Doc.{Doc}
 use Rattle.resource_docs.specs.declared.doc.DocObject.{DocObject}
 use Rattle.doc_loader.specs.Laws.{IsRoomFor}
 use Rattle.doc_loader.specs.LoadEdits.{is_ascending_from, load_edits, near_edits, proxy_edits, root_puts}
-use Rattle.doc_loader.specs.Loading.{loaded, loaded_value, object_end, of_contents, roots_loaded}
+use Rattle.doc_loader.specs.Loading.{loaded_number, loaded_value, object_end, of_contents, roots_loaded}
 use Rattle.doc_loader.specs.Pairs.{lower_of}
 use Rattle.doc_loader.proofs.AgainLemmas.{IsLowerEnd, IsNotHigher, again-edits, agains, agains-good, answered-in, last-higher, last-none, target-in, target-object}
 use Rattle.doc_loader.proofs.FillLemmas.{AreFilled, IsReady, all_filled, at-others, end_filled, fills-kinds, is_no_proxy, others, others-ascending, others-at, others-distinct, others-loaded, proxies-loaded}
@@ -48,16 +48,16 @@ module _ (m : Metamodel) (n : ℕ) (k : ResourceNo) (doc : Doc) (sound : IsSound
   again_plan = all_again (kinds_of m) (agains m n doc sound)
 
   abbrev first : Links
-  first = applied s (root_puts m n k doc ++ of_contents (near_edits m n) doc)
+  first = links_after_edits s (root_puts m n k doc ++ of_contents (near_edits m n) doc)
 
   abbrev second : Links
-  second = applied (applied s (root_puts m n k doc ++ of_contents (near_edits m n) doc)) (all_again (kinds_of m) (agains m n doc sound))
+  second = links_after_edits (links_after_edits s (root_puts m n k doc ++ of_contents (near_edits m n) doc)) (all_again (kinds_of m) (agains m n doc sound))
 
   abbrev fill_plan : List Edit
   fill_plan = of_contents (proxy_edits m n) doc
 
   abbrev pub loaded_set : Links
-  loaded_set = applied (applied (applied s (root_puts m n k doc ++ of_contents (near_edits m n) doc)) (all_again (kinds_of m) (agains m n doc sound))) (of_contents (proxy_edits m n) doc)
+  loaded_set = links_after_edits (links_after_edits (links_after_edits s (root_puts m n k doc ++ of_contents (near_edits m n) doc)) (all_again (kinds_of m) (agains m n doc sound))) (of_contents (proxy_edits m n) doc)
 
   first-made : IsMade (kinds_of m) sound.kinds n (near_end m n k doc sound s legal kinds free room fit) (good-ends m n k doc sound s legal kinds free room fit) s first_plan
   first-made = near_made m n k doc sound s legal kinds free room fit
@@ -113,13 +113,13 @@ module _ (m : Metamodel) (n : ℕ) (k : ResourceNo) (doc : Doc) (sound : IsSound
         let kept = at-others vs there.0 (value.Object r.0) refl there.1 in
         (kept.0, loaded-at n (others vs) kept.0 (value.Object r.0) kept.1 ∙ ap Some (sym r.3))
 
-    from-object : (i : ℕ) (a : ObjectNo) → slice_get (values_in doc b g) i ≡ Some (value.Object a) → (j : ℕ) × (slice_get from j ≡ Some (value.Object (loaded n a)))
+    from-object : (i : ℕ) (a : ObjectNo) → slice_get (values_in doc b g) i ≡ Some (value.Object a) → (j : ℕ) × (slice_get from j ≡ Some (value.Object (loaded_number n a)))
     from-object i a at =
         let named = answered-in m doc sound b g f a i high.plain high.pair at in
         let x = object-there doc a f named.0 (value.Object b) named.1 in
         at-source n (λ (x : DocObject). values_under x f) b doc.objects a x.0 named.0 x.1 x.2
 
-    loaded-is : (u v : Value) (a : ObjectNo) → u ≡ value.Object a → loaded_value n u ≡ v → value.Object (loaded n a) ≡ v
+    loaded-is : (u v : Value) (a : ObjectNo) → u ≡ value.Object a → loaded_value n u ≡ v → value.Object (loaded_number n a) ≡ v
     loaded-is u v a is h = sym (ap (loaded_value n) is) ∙ h
 
     in-from : (i : ℕ) (v : Value) → slice_get (loaded_values n (others vs)) i ≡ Some v → (j : ℕ) × (slice_get from j ≡ Some v)
@@ -228,8 +228,8 @@ module _ (m : Metamodel) (n : ℕ) (k : ResourceNo) (doc : Doc) (sound : IsSound
       ∙ append_assoc (root_puts m n k doc) (of_contents (near_edits m n) doc) (again_plan ++ fill_plan)
       ∙ ap (λ (es : List Edit). root_puts m n k doc ++ (of_contents (near_edits m n) doc ++ (es ++ fill_plan))) (again-edits m n doc sound)
 
-  second-is : applied s two_plans ≡ second
-  second-is = applied-append s first_plan again_plan
+  second-is : links_after_edits s two_plans ≡ second
+  second-is = links_after_edits-append s first_plan again_plan
 
   pub loaded-fits : PlanFits s (load_edits m n k doc)
   loaded-fits =
@@ -241,8 +241,8 @@ module _ (m : Metamodel) (n : ℕ) (k : ResourceNo) (doc : Doc) (sound : IsSound
       subst (PlanMakesNoCycle s) whole (PlanMakesNoCycle-append s two_plans fill_plan (PlanMakesNoCycle-append s first_plan again_plan first-made.no_cycle again-made.no_cycle)
       (subst (λ (t : Links). PlanMakesNoCycle t fill_plan) (sym second-is) fill-made.no_cycle))
 
-  pub loaded-set_is : applied s (load_edits m n k doc) ≡ loaded_set
-  loaded-set_is = ap (applied s) (sym whole) ∙ applied-append s two_plans fill_plan ∙ ap (λ (t : Links). applied t fill_plan) second-is
+  pub loaded-set_is : links_after_edits s (load_edits m n k doc) ≡ loaded_set
+  loaded-set_is = ap (links_after_edits s) (sym whole) ∙ links_after_edits-append s two_plans fill_plan ∙ ap (λ (t : Links). links_after_edits t fill_plan) second-is
 
   pub end-roots : end loaded_set (contents_end m k) ≡ roots_loaded n doc
   end-roots = end-stays (contents_end m k) (λ b g f high q. not-contents m n k b g q) ∙ near_end-roots m n k doc sound s legal kinds free room fit
@@ -261,8 +261,8 @@ module _ (m : Metamodel) (n : ℕ) (k : ResourceNo) (doc : Doc) (sound : IsSound
       by None none = end-near o f (near-side m sound.kinds f plain (near-reference (shape m f) f reference none))
       by (Some g) some = end-higher o f g (higher m sound.kinds f g some)
 
-  same-source : (u v : Value) (a c : ObjectNo) → u ≡ value.Object (loaded n a) → v ≡ value.Object (loaded n c) → a ≡ c → u ≡ v
-  same-source u v a c p q same = p ∙ ap (λ (x : ObjectNo). value.Object (loaded n x)) same ∙ sym q
+  same-source : (u v : Value) (a c : ObjectNo) → u ≡ value.Object (loaded_number n a) → v ≡ value.Object (loaded_number n c) → a ≡ c → u ≡ v
+  same-source u v a c p q same = p ∙ ap (λ (x : ObjectNo). value.Object (loaded_number n x)) same ∙ sym q
 
   -- at most one object names an object under a containment
   pub one-source : (b : ObjectNo) (f h : FeatureNo) → (shape m f).containing ≡ Some h → (i j : ℕ) (u v : Value)

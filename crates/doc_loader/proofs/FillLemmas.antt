@@ -9,7 +9,7 @@ use Rattle.links.proofs.LegalLemmas.{edited_legal}
 use Rattle.links.proofs.PutLemmas.{end-put_proxy_near, end-put_proxy_other}
 use Rattle.links.specs.LegalSets.{IsDistinct, IsLegalSet, Kinds, most}
 use Rattle.links.specs.Links.{Links, end, put_proxy}
-use Rattle.links.specs.Plans.{IsPlanOfKind, PlanFits, PlanMakesNoCycle, PutFits, applied}
+use Rattle.links.specs.Plans.{IsPlanOfKind, PlanFits, PlanMakesNoCycle, PutFits, links_after_edits}
 use Rattle.links.specs.declared.plan.Edit.TheVariants as edit
 use Rattle.links.specs.declared.plan.Edit.{Edit}
 use Rattle.mm_types.proofs.SameLemmas.{same_end-self, same_end-true}
@@ -18,7 +18,7 @@ use Rattle.mm_types.specs.declared.end.End.{End}
 use Rattle.mm_types.specs.declared.value.Value.TheVariants as value
 use Rattle.mm_types.specs.declared.value.Value.{Value}
 use Rattle.doc_loader.specs.LoadEdits.{is_ascending_from}
-use Rattle.doc_loader.specs.Loading.{loaded}
+use Rattle.doc_loader.specs.Loading.{loaded_number}
 use Rattle.doc_loader.proofs.GainLemmas.{got_left, got_mid}
 use Rattle.doc_loader.proofs.SoundLemmas.{filter-at}
 use Rattle.doc_loader.proofs.SourceLemmas.{loaded_values}
@@ -150,7 +150,7 @@ others-ascending k (value.Adapter b ∷ vs) = others-ascending k vs
 pub others-loaded : (n : ℕ) (vs : List Value) → others (loaded_values n vs) ≡ loaded_values n (others vs)
 others-loaded n [] = refl
 others-loaded n (value.Proxy t ∷ vs) = others-loaded n vs
-others-loaded n (value.Object a ∷ vs) = ap (λ (xs : List Value). value.Object (loaded n a) ∷ xs) (others-loaded n vs)
+others-loaded n (value.Object a ∷ vs) = ap (λ (xs : List Value). value.Object (loaded_number n a) ∷ xs) (others-loaded n vs)
 others-loaded n (value.Null ∷ vs) = ap (λ (xs : List Value). value.Null ∷ xs) (others-loaded n vs)
 others-loaded n (value.Bool b ∷ vs) = ap (λ (xs : List Value). value.Bool b ∷ xs) (others-loaded n vs)
 others-loaded n (value.Int b ∷ vs) = ap (λ (xs : List Value). value.Int b ∷ xs) (others-loaded n vs)
@@ -330,7 +330,7 @@ all_filled m (edit.CutProxy e p ∷ ys) t legal all ready = absurd all.0
 all_filled m (edit.Shift e to from ∷ ys) t legal all ready = absurd all.0
 
 -- each end gets its final list
-pub end_filled : (m : Kinds) (ys : List Edit) (t : Links) → IsLegalSet t → AllByRecursion (IsFill m) ys → PlanFits t ys → (d : End) (r : IsReady t ys d) → end (applied t ys) d ≡ r.last
+pub end_filled : (m : Kinds) (ys : List Edit) (t : Links) → IsLegalSet t → AllByRecursion (IsFill m) ys → PlanFits t ys → (d : End) (r : IsReady t ys d) → end (links_after_edits t ys) d ≡ r.last
 end_filled m [] t legal all fits d r = let w = r.waits in w.now ∙ ap (λ (xs : List Value). w.there ++ xs) (without_proxies (length w.there) w.waiting (sym w.next)) ∙ sym w.whole
 end_filled m (edit.PutProxy e i p ∷ ys) t legal all fits d r =
     end_filled m ys (put_proxy t e i p) (edited_legal t (edit.PutProxy e i p) legal fits.0) all.1 fits.1 d (record { last = r.last; distinct = r.distinct; few = r.few; waits = next-ready t legal ys e i p fits.0 d r })

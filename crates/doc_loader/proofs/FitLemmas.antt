@@ -36,8 +36,8 @@ use Rattle.resource_docs.specs.Read.{content_read, contents_read, doc_read, obje
 use Rattle.resource_docs.specs.Texts.{Base, base_of, target}
 use Rattle.resource_docs.specs.Values.{led_to, object_of, value_of}
 use Rattle.resource_docs.specs.declared.doc.Doc.{Doc}
-use Rattle.resource_docs.specs.declared.target.Target.{Target}
-use Rattle.resource_docs.specs.declared.target.Target.TheVariants.{Here, Elsewhere}
+use Rattle.resource_docs.specs.declared.referent.Referent.{Referent}
+use Rattle.resource_docs.specs.declared.referent.Referent.TheVariants.{Here, Elsewhere}
 use Rattle.doc_loader.proofs.CauseLemmas.{read-faultless}
 use Rattle.doc_loader.specs.Fits.{IsFitting, IsFittingContent, IsFittingObject, IsNumbered, IsValueNumbered}
 
@@ -123,7 +123,7 @@ here-numbered : (m : Metamodel) (ps : List Part) (class : ClassNo) (n : ℕ) (o 
 here-numbered m ps class n None below = tt
 here-numbered m ps class n (Some k) below = found-numbered n k m class (slice_get ps k) below
 
-led-numbered : (m : Metamodel) (ps : List Part) (class : ClassNo) (n : ℕ) (o : Option Target) → n + length ps ≤ OBJECTS → IfSome (o >>= led_to m ps class) (IsValueNumbered n)
+led-numbered : (m : Metamodel) (ps : List Part) (class : ClassNo) (n : ℕ) (o : Option Referent) → n + length ps ≤ OBJECTS → IfSome (o >>= led_to m ps class) (IsValueNumbered n)
 led-numbered m ps class n None room = tt
 led-numbered m ps class n (Some (Here q)) room = here-numbered m ps class n (number_of ps q) (numbered ps n q (number_of ps q) refl room)
 led-numbered m ps class n (Some (Elsewhere t)) room = tt

@@ -13,11 +13,11 @@ use Rattle.links.proofs.ListLemmas.{insert_end_is}
 use Rattle.links.proofs.PlaceLemmas.{ne-same_end}
 use Rattle.links.proofs.PutLemmas.{end-put_proxy_near, end-put_proxy_other}
 use Rattle.links.proofs.PutEndLemmas.{end-put, put_outside}
-use Rattle.links.specs.Holders.{HasNoCycle, IsUnder, above, climb, contained, containing, holder}
+use Rattle.links.specs.Holders.{HasNoCycle, IsUnder, above, climb, end_containing, holder, node_contained}
 use Rattle.links.specs.Laws.{IsPutOutside, is_far}
 use Rattle.links.specs.LegalSets.{AreKinds, AreOfKind, IsDistinct, IsLegalSet, IsObject, Kinds, most}
 use Rattle.links.specs.Links.{Links, end, far_end, put, put_proxy}
-use Rattle.links.specs.Plans.{EditFits, FarFitsIn, IsFree, IsPlanOfKind, MakesNoCycle, PlanFits, PlanMakesNoCycle, PutFits, applied, edited}
+use Rattle.links.specs.Plans.{EditFits, FarFitsIn, IsFree, IsPlanOfKind, MakesNoCycle, PlanFits, PlanMakesNoCycle, PutFits, links_after_edit, links_after_edits}
 use Rattle.links.specs.declared.plan.Edit.TheVariants as edit
 use Rattle.links.specs.declared.plan.Edit.{Edit}
 use Rattle.mm_types.proofs.SameLemmas.{same_end-self, same_end-true, same_node-true}
@@ -193,13 +193,13 @@ module _ (m : Kinds) (ok : AreKinds m) (n : ℕ) (T : End → List Value) (good 
               absurd (not_before (end t e) (value.Object o) (flat_map (gains e) ys) (T e) at_near (good.distinct e) at.0 (subst (λ (x : End). slice_get (end t x) at.0 ≡ Some (value.Object o)) same at.1))
         ] refl
 
-    contained-is : (h : FeatureNo) → c ≡ Some h → contained e o (Some h) ≡ Some (node.Object o)
+    contained-is : (h : FeatureNo) → c ≡ Some h → node_contained e o (Some h) ≡ Some (node.Object o)
     contained-is h is = let same = eq-eqb h.0 e.feature.0 (ap (λ (x : FeatureNo). x.0) (put_good.own h is)) in rw same refl
 
-    containing-is : (h : FeatureNo) → c ≡ Some h → containing e o (Some h) ≡ Some e
+    containing-is : (h : FeatureNo) → c ≡ Some h → end_containing e o (Some h) ≡ Some e
     containing-is h is = let same = eq-eqb h.0 e.feature.0 (ap (λ (x : FeatureNo). x.0) (put_good.own h is)) in rw same refl
 
-    free-fits : (x : Option FeatureNo) → c ≡ x → IsFree t (contained e o x)
+    free-fits : (x : Option FeatureNo) → c ≡ x → IsFree t (node_contained e o x)
     free-fits None is = tt
     free-fits (Some h) is = subst (λ (y : Option Node). IsFree t y) (sym (contained-is h is)) (is-free h is)
 
@@ -267,9 +267,9 @@ module _ (m : Kinds) (ok : AreKinds m) (n : ℕ) (T : End → List Value) (good 
   pub record IsMade (t : Links) (ys : List Edit) : Type 0 where
     pub fits : PlanFits t ys
     pub no_cycle : PlanMakesNoCycle t ys
-    pub ends : (d : End) → end (applied t ys) d ≡ T d
+    pub ends : (d : End) → end (links_after_edits t ys) d ≡ T d
 
-  made-more : (t : Links) (y : Edit) (ys : List Edit) → EditFits t y → MakesNoCycle t y → IsMade (edited t y) ys → IsMade t (y ∷ ys)
+  made-more : (t : Links) (y : Edit) (ys : List Edit) → EditFits t y → MakesNoCycle t y → IsMade (links_after_edit t y) ys → IsMade t (y ∷ ys)
   made-more t y ys fits no_cycle made = record { fits = (fits, made.fits); no_cycle = (no_cycle, made.no_cycle); ends = made.ends }
 
   pub plan_made : (ys : List Edit) (t : Links) → IsLegalSet t → AreOfKind m t → HasNoCycle t → Comes t ys → AllByRecursion (IsGood m n T) ys → IsMade t ys

@@ -20,8 +20,8 @@ use Rattle.links.proofs.CutLemmas.{indexed_at, indexed_near}
 use Rattle.links.proofs.EditLemmas.{In-insert, In_insert_new, In_insert_old}
 use Rattle.links.specs.Holders.{HasNoCycle}
 use Rattle.links.specs.LegalSets.{AreKinds, AreOfKind, HasTwoSides, IsLegalSet, IsObject, Kinds}
-use Rattle.links.specs.Links.{In, Links, end, far_end, joined}
-use Rattle.links.specs.Indexed.{far_value, indexed}
+use Rattle.links.specs.Links.{In, Links, end, far_end, joined_link}
+use Rattle.links.specs.Indexed.{far_value, indexed_value}
 use Rattle.links.specs.declared.link.Far.{Far}
 use Rattle.links.specs.declared.link.Far.TheVariants.{At, Alone, Proxy}
 use Rattle.links.specs.declared.link.Link.{Link}
@@ -32,7 +32,7 @@ use Rattle.resource_docs.specs.declared.doc.Content.{Content}
 use Rattle.resource_docs.specs.declared.doc.Doc.{Doc}
 use Rattle.resource_docs.specs.declared.doc.DocObject.{DocObject}
 use Rattle.doc_loader.specs.Laws.{IsRoomFor}
-use Rattle.doc_loader.specs.Loading.{content_links, far_index, link_of, link_to, loaded, loaded_links, loaded_value, object_end, of_contents, of_object, root_link, with_links}
+use Rattle.doc_loader.specs.Loading.{content_links, far_index, link_of, link_to, loaded_links, loaded_number, loaded_value, object_end, of_contents, of_object, root_link, with_links}
 use Rattle.doc_loader.proofs.AgainLemmas.{answered-in}
 use Rattle.doc_loader.proofs.EndLemmas.{end-elsewhere, end-held, end-roots, end-values, one-source, loaded-kinds, loaded-legal, loaded_set}
 use Rattle.doc_loader.proofs.PairLemmas.{numbered-all, all-append, all-at, all-filter_map, all-flat_map, all-map, all-more}
@@ -70,9 +70,9 @@ at-index : (d e : End) (j i : ℕ) → At d j ≡ At e i → j ≡ i
 at-index d e j i h = cc
 
 -- a link with two ends is in the set if both ends have it
-shown-joined : (kinds : Kinds) → AreKinds kinds → (t : Links) (x y : End) (i j : ℕ) → kinds.opposite x.feature ≡ Some y.feature → IsObject x.node → IsObject y.node
-    → slice_get (end t x) i ≡ Some (node_value y.node) → slice_get (end t y) j ≡ Some (node_value x.node) → IsShown kinds t (joined x i y j (kinds.container x.feature))
-shown-joined kinds ok t x y i j pair ox oy near far =
+shown-joined_link : (kinds : Kinds) → AreKinds kinds → (t : Links) (x y : End) (i j : ℕ) → kinds.opposite x.feature ≡ Some y.feature → IsObject x.node → IsObject y.node
+    → slice_get (end t x) i ≡ Some (node_value y.node) → slice_get (end t y) j ≡ Some (node_value x.node) → IsShown kinds t (joined_link x i y j (kinds.container x.feature))
+shown-joined_link kinds ok t x y i j pair ox oy near far =
     let back = ok.inverse x.feature y.feature pair in
     let apart = ok.two x.feature y.feature pair in
     elim (ltb x.feature.0 y.feature.0) as (λ b. ltb x.feature.0 y.feature.0 ≡ b → IsShown kinds t (if b then record { end = x; index = i; far = At y j; container = kinds.container x.feature } else record { end = y; index = j; far = At x i; container = kinds.container x.feature })) [
@@ -131,7 +131,7 @@ module _ (m : Metamodel) (n : ℕ) (k : ResourceNo) (doc : Doc) (sound : IsSound
       (λ o f reference q. none-some v (sym (ap (λ (vs : List Value). slice_get vs i) (ap (end s) (sym q) ∙ room.ends o f)) ∙ at))
       (λ q. none-some v (sym (ap (λ (vs : List Value). slice_get vs i) (ap (end s) (sym q) ∙ room.roots)) ∙ at))
 
-  stood : (l : Link) → In l s → (d : End) (i : ℕ) (v : Value) → indexed l d ≡ Some (i, v) → slice_get (end t d) i ≡ Some v
+  stood : (l : Link) → In l s → (d : End) (i : ℕ) (v : Value) → indexed_value l d ≡ Some (i, v) → slice_get (end t d) i ≡ Some v
   stood l h d i v at = let was = (legal.placed.ends d).has i v (l, h, at) in ap (λ (vs : List Value). slice_get vs i) (old-end d i v was) ∙ was
 
   pub old-in : (l : Link) → In l s → In l t
@@ -152,8 +152,8 @@ module _ (m : Metamodel) (n : ℕ) (k : ResourceNo) (doc : Doc) (sound : IsSound
       shown (root_link m n k x) (record {
         kind = record { far = ap (λ (a : Shape). a.opposite) q; container = refl };
         sides = tt;
-        near = ap (λ (vs : List Value). slice_get vs x.0) (end-roots m n k doc sound s legal kinds free room fit) ∙ at-map (λ o. value.Object (loaded n o)) doc.roots x.0 x.1 at;
-        far = λ d j h. absurd (alone-at (loaded n x.1) d j h);
+        near = ap (λ (vs : List Value). slice_get vs x.0) (end-roots m n k doc sound s legal kinds free room fit) ∙ at-map (λ o. value.Object (loaded_number n o)) doc.roots x.0 x.1 at;
+        far = λ d j h. absurd (alone-at (loaded_number n x.1) d j h);
       })
     where
       alone-at : (o : ObjectNo) (d : End) (j : ℕ) → Alone o ≡ At d j → ⊥
@@ -161,7 +161,7 @@ module _ (m : Metamodel) (n : ℕ) (k : ResourceNo) (doc : Doc) (sound : IsSound
 
   -- the position of the object at the end of the other object
   far-there : (o : ObjectNo) (f : FeatureNo) (b : ObjectNo) (g : FeatureNo) (i : ℕ) → (shape m f).is_reference ≡ true → IsPlainFeature m f → (shape m f).opposite ≡ Some g → slice_get (values_in doc o f) i ≡ Some (value.Object b)
-      → slice_get (end t (object_end n b g)) (far_index (shape m f) doc o f b g) ≡ Some (value.Object (loaded n o))
+      → slice_get (end t (object_end n b g)) (far_index (shape m f) doc o f b g) ≡ Some (value.Object (loaded_number n o))
   far-there o f b g i reference plain pair at = by (shape m f).containing refl
     where
       back : (shape m g).opposite ≡ Some f
@@ -170,7 +170,7 @@ module _ (m : Metamodel) (n : ℕ) (k : ResourceNo) (doc : Doc) (sound : IsSound
       one : (shape m f).containing ≡ (shape m g).containing
       one = sound.kinds.one_container f g pair
 
-      from-one : (side : IsNearSide m g ⊎ ((h : FeatureNo) × IsFarSide m g h)) (h : FeatureNo) → (shape m f).containing ≡ Some h → slice_get (end t (object_end n b g)) 0 ≡ Some (value.Object (loaded n o))
+      from-one : (side : IsNearSide m g ⊎ ((h : FeatureNo) × IsFarSide m g h)) (h : FeatureNo) → (shape m f).containing ≡ Some h → slice_get (end t (object_end n b g)) 0 ≡ Some (value.Object (loaded_number n o))
       from-one (inl side) h contains = absurd (side.alone f plain (near-contained m f h reference contains) pair)
       from-one (inr side) h contains =
           let f' = side.0 in
@@ -179,12 +179,12 @@ module _ (m : Metamodel) (n : ℕ) (k : ResourceNo) (doc : Doc) (sound : IsSound
           end-held m n k doc sound s legal kinds free room fit b g f' h side.1 (sym one ∙ contains) ∙ ap (λ (e : FeatureNo). sources_from n (λ (x : DocObject). values_under x e) b 0 doc.objects) same in
           let x = object-there doc o f i (value.Object b) at in
           let r = at-source n (λ (x : DocObject). values_under x f) b doc.objects o x.0 i x.1 x.2 in
-          let z = first-of (sources_from n (λ (x : DocObject). values_under x f) b 0 doc.objects) r.0 (value.Object (loaded n o)) r.1 in
-          let only = one-source m n k doc sound s legal kinds free room fit b f h contains 0 r.0 z.0 (value.Object (loaded n o)) z.1 r.1 in
+          let z = first-of (sources_from n (λ (x : DocObject). values_under x f) b 0 doc.objects) r.0 (value.Object (loaded_number n o)) r.1 in
+          let only = one-source m n k doc sound s legal kinds free room fit b f h contains 0 r.0 z.0 (value.Object (loaded_number n o)) z.1 r.1 in
           ap (λ (vs : List Value). slice_get vs 0) is
           ∙ subst (λ (v : Value). slice_get (sources_from n (λ (x : DocObject). values_under x f) b 0 doc.objects) 0 ≡ Some v) only z.1
 
-      by : (h : Option FeatureNo) → (shape m f).containing ≡ h → slice_get (end t (object_end n b g)) (far_index (shape m f) doc o f b g) ≡ Some (value.Object (loaded n o))
+      by : (h : Option FeatureNo) → (shape m f).containing ≡ h → slice_get (end t (object_end n b g)) (far_index (shape m f) doc o f b g) ≡ Some (value.Object (loaded_number n o))
       by (Some h) contains =
           let is : is_feature f (shape m f).containing ≡ true = ap (is_feature f) contains ∙ eq-eqb f.0 h.0 (ap (λ (x : FeatureNo). x.0) (sym (plain h contains))) in
           ap (λ (c : Bool). slice_get (end t (object_end n b g)) (if c then 0 else unwrap_or (position (same_value (value.Object o)) (values_in doc b g)) 0)) is
@@ -202,14 +202,14 @@ module _ (m : Metamodel) (n : ℕ) (k : ResourceNo) (doc : Doc) (sound : IsSound
     kind = record { far = none; container = refl };
     sides = tt;
     near = values-end o f reference plain i (value.Object b) at;
-    far = λ d j q. absurd (alone-at (loaded n b) d j q);
+    far = λ d j q. absurd (alone-at (loaded_number n b) d j q);
   })
     where
       alone-at : (o : ObjectNo) (d : End) (j : ℕ) → Alone o ≡ At d j → ⊥
       alone-at o d j h = cc
   object-in o f i b reference plain at (Some g) pair =
       shown (link_to m n doc o f i b (Some g))
-      (shown-joined (kinds_of m) sound.kinds t (object_end n o f) (far_end (loaded n b) g) i (far_index (shape m f) doc o f b g) pair tt tt
+      (shown-joined_link (kinds_of m) sound.kinds t (object_end n o f) (far_end (loaded_number n b) g) i (far_index (shape m f) doc o f b g) pair tt tt
       (values-end o f reference plain i (value.Object b) at) (far-there o f b g i reference plain pair at))
 
   proxy-in : (o : ObjectNo) (f : FeatureNo) (i : ℕ) (p : List ℕ) → (shape m f).is_reference ≡ true → IsPlainFeature m f → (shape m f).containing ≡ None → slice_get (values_in doc o f) i ≡ Some (value.Proxy p)

@@ -5,15 +5,15 @@ use Rattle.std.specs.List.{AllByRecursion, list_any}
 use Rattle.std.specs.Option.{option_map_or}
 use Rattle.std.proofs.lemmas.Bool.{eq-eqb, eqb-true, false_from_ne_true, false≢true, or_left, or_right}
 use Rattle.std.proofs.lemmas.Option.{same_Some}
-use Rattle.mm_types.specs.Features.{all_features, listed, with_new}
+use Rattle.mm_types.specs.Features.{all_features, listed_features, with_new}
 use Rattle.mm_types.specs.Lookups as lookups
 use Rattle.mm_types.specs.OfDocument.{IsOfDocument}
-use Rattle.mm_types.specs.Resolved.{Metamodel, classes_from, feature_no, graph_of, own_of, resolved}
+use Rattle.mm_types.specs.Resolved.{Metamodel, classes_from, feature_no, graph_of, own_of, resolved_metamodel}
 use Rattle.mm_types.specs.declared.class.Class.{Class}
 use Rattle.mm_types.specs.declared.numbers.ClassNo.{ClassNo}
 use Rattle.mm_types.specs.declared.numbers.FeatureNo.{FeatureNo}
 use Rattle.mm_types.specs.declared.raw.RawClass.{RawClass}
-use Rattle.fragment_paths.proofs.NameLemmas.{own-name}
+use Rattle.mm_meta.proofs.OwnNameLemmas.{own-name}
 use Rattle.doc_loader.proofs.PairLemmas.{Apart, all-append, all-more, apart-both, apart-map, apart-more}
 use Rattle.doc_loader.proofs.WholeLemmas.{NamesAreApart}
 
@@ -39,7 +39,7 @@ apart-new seen (x ∷ xs) d =
 
 apart-all_features : (g own : List (List ℕ)) (c : ℕ) → Apart Differ (all_features g own c)
 unfolding all_features
-apart-all_features g own c = apart-new [] (listed g own (length g) c) tt
+apart-all_features g own c = apart-new [] (listed_features g own (length g) c) tt
 
 ---------------------------------------------------------------- features
 
@@ -56,7 +56,7 @@ class-at (k ∷ ks) zero all = all.0
 class-at (k ∷ ks) (suc i) all = class-at ks i all.1
 
 features-apart : (m : Metamodel) → IsOfDocument m → (c : ClassNo) → Apart AreOther (unwrap_or (lookups.features m c) [])
-unfolding resolved
+unfolding resolved_metamodel
 features-apart m d c = class-at m.classes c.0 (subst (λ (x : Metamodel). AllByRecursion (λ (k : Class). Apart AreOther k.all) x.classes) (sym d.is) (classes-apart d.raw.classes 0 d.raw.classes))
 
 ---------------------------------------------------------------- names

@@ -31,13 +31,13 @@ use Rattle.resource_docs.specs.declared.doc.Doc.{Doc}
 use Rattle.resource_docs.specs.declared.doc.DocObject.{DocObject}
 use Rattle.doc_loader.specs.Laws.{IsRoomFor}
 use Rattle.doc_loader.specs.LoadEdits.{near_edits, put_at, root_puts, value_puts}
-use Rattle.doc_loader.specs.Loading.{loaded, loaded_value, object_end, of_contents, of_object, roots_loaded}
+use Rattle.doc_loader.specs.Loading.{loaded_number, loaded_value, object_end, of_contents, of_object, roots_loaded}
 use Rattle.doc_loader.specs.Pairs.{is_near}
 use Rattle.doc_loader.proofs.GainLemmas.{AreGood, IsBefore, IsGood, IsMade, gains, plan_made}
 use Rattle.doc_loader.proofs.PairLemmas.{all-more, numbered-all, all-append, all-at, all-flat_map, all-map}
 use Rattle.doc_loader.proofs.SideLemmas.{IsFarSide, IsNearSide, contents-shape, near-side, sides}
 use Rattle.doc_loader.proofs.SoundLemmas.{at-map, AreSoundContents, IsSort, IsSound, IsSoundContent, has-content, map-at}
-use Rattle.doc_loader.proofs.SourceLemmas.{ascending-distinct, at-loaded, loaded-at, loaded-distinct, loaded-same, loaded-value-object, loaded_values, sources-ascending, sources-few, sources_from}
+use Rattle.doc_loader.proofs.SourceLemmas.{ascending-distinct, at-loaded, loaded-at, loaded-distinct, loaded_number-same, loaded_number-value-object, loaded_values, sources-ascending, sources-few, sources_from}
 use Rattle.doc_loader.proofs.TotalLemmas.{IsElsewhere, near-far, near-none, near-own, root-gain-none, root-gain-own}
 use Rattle.models.specs.Reading.{contents_end}
 
@@ -145,9 +145,9 @@ module _ (m : Metamodel) (n : ℕ) (k : ResourceNo) (doc : Doc) (sound : IsSound
 
   roots-distinct : IsDistinct (roots_loaded n doc)
   roots-distinct i j v x y =
-      let a = map-at (λ o. value.Object (loaded n o)) doc.roots i v x in
-      let b = map-at (λ o. value.Object (loaded n o)) doc.roots j v y in
-      let same = loaded-same n b.0 a.0 (object_value (loaded n b.0) (loaded n a.0) (b.2 ∙ sym a.2)) in
+      let a = map-at (λ o. value.Object (loaded_number n o)) doc.roots i v x in
+      let b = map-at (λ o. value.Object (loaded_number n o)) doc.roots j v y in
+      let same = loaded_number-same n b.0 a.0 (object_value (loaded_number n b.0) (loaded_number n a.0) (b.2 ∙ sym a.2)) in
       sound.roots_distinct i j a.0 a.1 (b.1 ∙ ap Some same)
 
   distinct-at : (d : End) → IsPlaceOf d → IsDistinct (near_end d)
@@ -160,7 +160,7 @@ module _ (m : Metamodel) (n : ℕ) (k : ResourceNo) (doc : Doc) (sound : IsSound
 
   few-at : (d : End) → IsPlaceOf d → length (near_end d) ≤ most
   few-at d (at_roots q) =
-      subst (λ (x : End). length (near_end x) ≤ most) q (subst (λ (vs : List Value). length vs ≤ most) (sym near_end-roots) (let e = length-map doc.roots (λ o. value.Object (loaded n o)) in let few = sound.few_roots in omega (arith, e, few)))
+      subst (λ (x : End). length (near_end x) ≤ most) q (subst (λ (vs : List Value). length vs ≤ most) (sym near_end-roots) (let e = length-map doc.roots (λ o. value.Object (loaded_number n o)) in let few = sound.few_roots in omega (arith, e, few)))
   few-at d (at_near a f q side) =
       subst (λ (x : End). length (near_end x) ≤ most) q (subst (λ (vs : List Value). length vs ≤ most) (sym (near_end-own a f side)) (let e = length-map (values_in doc a f) (loaded_value n) in let few = values-few a f in omega (arith, e, few)))
   few-at d (at_far b g f q side) =
@@ -173,15 +173,15 @@ module _ (m : Metamodel) (n : ℕ) (k : ResourceNo) (doc : Doc) (sound : IsSound
     as_root : {d : End} {b : ObjectNo} (j : ℕ) → contents_end m k ≡ d → slice_get doc.roots j ≡ Some b → IsHeld d b
     as_part : {d : End} {b : ObjectNo} (a : ObjectNo) (f : FeatureNo) (j : ℕ) → object_end n a f ≡ d → (shape m f).containing ≡ Some f → slice_get (values_in doc a f) j ≡ Some (value.Object b) → IsHeld d b
 
-  held-at : (d : End) (b : ObjectNo) (j : ℕ) → IsPlaceOf d → n ≤ b.0 → (shape m d.feature).containing ≡ Some d.feature → slice_get (near_end d) j ≡ Some (value.Object b) → (a : ObjectNo) × (b ≡ loaded n a) × IsHeld d a
+  held-at : (d : End) (b : ObjectNo) (j : ℕ) → IsPlaceOf d → n ≤ b.0 → (shape m d.feature).containing ≡ Some d.feature → slice_get (near_end d) j ≡ Some (value.Object b) → (a : ObjectNo) × (b ≡ loaded_number n a) × IsHeld d a
   held-at d b j (at_roots q) new contains at =
       let here = subst (λ (vs : List Value). slice_get vs j ≡ Some (value.Object b)) (ap near_end (sym q) ∙ near_end-roots) at in
-      let r = map-at (λ o. value.Object (loaded n o)) doc.roots j (value.Object b) here in
-      (r.0, sym (object_value (loaded n r.0) b r.2), as_root j q r.1)
+      let r = map-at (λ o. value.Object (loaded_number n o)) doc.roots j (value.Object b) here in
+      (r.0, sym (object_value (loaded_number n r.0) b r.2), as_root j q r.1)
   held-at d b j (at_near a f q side) new contains at =
       let here = subst (λ (vs : List Value). slice_get vs j ≡ Some (value.Object b)) (ap near_end (sym q) ∙ near_end-own a f side) at in
       let r = at-loaded n (values_in doc a f) j (value.Object b) here in
-      let o = loaded-value-object n r.0 b r.2 in
+      let o = loaded_number-value-object n r.0 b r.2 in
       (o.0, o.2, as_part a f j q (subst (λ (x : End). (shape m x.feature).containing ≡ Some x.feature) (sym q) contains) (r.1 ∙ ap Some o.1))
   held-at d b j (at_far c g f q side) new contains at = absurd (side.holds_not (subst (λ (x : End). (shape m x.feature).containing ≡ Some x.feature) (sym q) contains))
   held-at d b j (elsewhere outside other) new contains at =
@@ -197,12 +197,12 @@ module _ (m : Metamodel) (n : ℕ) (k : ResourceNo) (doc : Doc) (sound : IsSound
       let same = sound.once a c f g f g i j b contains too x y in
       sym p ∙ (λ t. object_end n (same.0 t) (same.1 t)) ∙ q
 
-  before-held : (d : End) (a : ObjectNo) → IsHeld d a → IsBefore n d.node (loaded n a)
-  before-held d b (as_root i p x) = subst (λ (y : End). IsBefore n y.node (loaded n b)) p tt
+  before-held : (d : End) (a : ObjectNo) → IsHeld d a → IsBefore n d.node (loaded_number n a)
+  before-held d b (as_root i p x) = subst (λ (y : End). IsBefore n y.node (loaded_number n b)) p tt
   before-held d b (as_part a f i p contains x) =
       let c = has-content m doc sound a f i (value.Object b) x in
       let low = c.is_sound.before f i b (ap (λ (g : FeatureNo). (shape m g).containing) c.of ∙ contains) (ap (λ (vs : List Value). slice_get vs i) (sym c.values) ∙ x) in
-      subst (λ (y : End). IsBefore n y.node (loaded n b)) p (omega arith, omega (arith, low))
+      subst (λ (y : End). IsBefore n y.node (loaded_number n b)) p (omega arith, omega (arith, low))
 
   pub good-ends : AreGood (kinds_of m) n near_end
   good-ends = record {
@@ -211,7 +211,7 @@ module _ (m : Metamodel) (n : ℕ) (k : ResourceNo) (doc : Doc) (sound : IsSound
     one = (λ d e b i j new p q x y. (
         let g = held-at d b i (place_of d) new p x in
         let h = held-at e b j (place_of e) new q y in
-        one-end d e g.0 g.2 (subst (IsHeld e) (loaded-same n h.0 g.0 (sym h.1 ∙ g.1)) h.2)));
+        one-end d e g.0 g.2 (subst (IsHeld e) (loaded_number-same n h.0 g.0 (sym h.1 ∙ g.1)) h.2)));
     before = (λ d b i new p x. (let g = held-at d b i (place_of d) new p x in subst (IsBefore n d.node) (sym g.1) (before-held d g.0 g.2)));
   }
 
@@ -228,7 +228,7 @@ module _ (m : Metamodel) (n : ℕ) (k : ResourceNo) (doc : Doc) (sound : IsSound
         own = (λ h p. same_Some h (lookups.contents m) (sym p ∙ ap (λ (a : Shape). a.containing) q));
         new = omega arith;
         object = (λ h p. absurd (none-some h (sym (ap (λ (a : Shape). a.opposite) q) ∙ p)));
-        at = ap (λ (vs : List Value). slice_get vs x.0) near_end-roots ∙ at-map (λ o. value.Object (loaded n o)) doc.roots x.0 x.1 at;
+        at = ap (λ (vs : List Value). slice_get vs x.0) near_end-roots ∙ at-map (λ o. value.Object (loaded_number n o)) doc.roots x.0 x.1 at;
       })) (numbered-all doc.roots))
 
   value-good : (o : ObjectNo) (c : Content) → IsSoundContent m doc o c → IsNearSide m c.feature → (i : ℕ) (v : Value) → IsSort (shape m c.feature) v → slice_get c.values i ≡ Some v

@@ -17,7 +17,7 @@ use Rattle.resource_docs.specs.declared.doc.Content.{Content}
 use Rattle.resource_docs.specs.declared.doc.Doc.{Doc}
 use Rattle.doc_loader.specs.Loading.{of_object}
 use Rattle.doc_loader.specs.Pairs.{is_below, is_lower}
-use Rattle.doc_loader.specs.ListIndexes.{all_indexes, content_indexes, last_index, reference_key, index_among, placed, same_reference_key}
+use Rattle.doc_loader.specs.ListIndexes.{all_indexes, content_indexes, last_index, reference_key, index_among, key_and_index, same_reference_key}
 use Rattle.doc_loader.specs.declared.indexes.ReferenceKey.{ReferenceKey}
 use Rattle.doc_loader.proofs.PairLemmas.{numbered-all, all-flat_map}
 use Rattle.doc_loader.proofs.SoundLemmas.{AreSoundContents, IsSound, IsSoundContent, at-flat_map, at-numbered, has-content}
@@ -56,8 +56,8 @@ chosen-at false xs k x is at = absurd (true≢false (sym is))
 ---------------------------------------------------------------- the indexes of a document
 
 module _ (m : Metamodel) (doc : Doc) (sound : IsSound m doc) (a : ObjectNo) (f : FeatureNo) (b : ObjectNo) (i : ℕ) (distinct : IsDistinct (values_in doc a f)) (at : slice_get (values_in doc a f) i ≡ Some (value.Object b)) where
-  value-placed : (o : ObjectNo) (c : Content) → IsSoundContent m doc o c → (j : ℕ) (v : Value) → slice_get c.values j ≡ Some v → AllByRecursion (IsPlaced (reference_key a f b) i) (placed o c.feature (j, v))
-  value-placed o c s j (value.Object d) there = (
+  value-key_and_index : (o : ObjectNo) (c : Content) → IsSoundContent m doc o c → (j : ℕ) (v : Value) → slice_get c.values j ≡ Some v → AllByRecursion (IsPlaced (reference_key a f b) i) (key_and_index o c.feature (j, v))
+  value-key_and_index o c s j (value.Object d) there = (
     (λ same. (
         let first = and_parts (nat_eq o.0 a.0) (nat_eq c.feature.0 f.0 && nat_eq d.0 b.0) same in
         let second = and_parts (nat_eq c.feature.0 f.0) (nat_eq d.0 b.0) first.1 in
@@ -67,19 +67,19 @@ module _ (m : Metamodel) (doc : Doc) (sound : IsSound m doc) (a : ObjectNo) (f :
         distinct j i (value.Object b) (ap (λ (vs : List Value). slice_get vs j) values ∙ there ∙ ap (λ (x : ObjectNo). Some (value.Object x)) named) at)),
     tt,
   )
-  value-placed o c s j (value.Proxy t) there = tt
-  value-placed o c s j value.Null there = tt
-  value-placed o c s j (value.Bool x) there = tt
-  value-placed o c s j (value.Int x) there = tt
-  value-placed o c s j (value.Text x) there = tt
-  value-placed o c s j (value.Literal x) there = tt
-  value-placed o c s j (value.Adapter x) there = tt
+  value-key_and_index o c s j (value.Proxy t) there = tt
+  value-key_and_index o c s j value.Null there = tt
+  value-key_and_index o c s j (value.Bool x) there = tt
+  value-key_and_index o c s j (value.Int x) there = tt
+  value-key_and_index o c s j (value.Text x) there = tt
+  value-key_and_index o c s j (value.Literal x) there = tt
+  value-key_and_index o c s j (value.Adapter x) there = tt
 
   content-placed : (o : ObjectNo) (c : Content) → IsSoundContent m doc o c → AllByRecursion (IsPlaced (reference_key a f b) i) (content_indexes m o c)
   content-placed o c s =
-      elim (is_lower (shape m c.feature) c.feature) as (λ t. AllByRecursion (IsPlaced (reference_key a f b) i) (if t then flat_map (placed o c.feature) (enumerate_from 0 c.values) else [])) [
+      elim (is_lower (shape m c.feature) c.feature) as (λ t. AllByRecursion (IsPlaced (reference_key a f b) i) (if t then flat_map (key_and_index o c.feature) (enumerate_from 0 c.values) else [])) [
         | true ↦
-            all-flat_map (λ (x : ℕ × Value). slice_get c.values x.0 ≡ Some x.1) (IsPlaced (reference_key a f b) i) (placed o c.feature) (enumerate_from 0 c.values) (λ x there. value-placed o c s x.0 x.1 there)
+            all-flat_map (λ (x : ℕ × Value). slice_get c.values x.0 ≡ Some x.1) (IsPlaced (reference_key a f b) i) (key_and_index o c.feature) (enumerate_from 0 c.values) (λ x there. value-key_and_index o c s x.0 x.1 there)
             (numbered-all c.values)
         | false ↦ tt
       ]
@@ -97,9 +97,9 @@ module _ (m : Metamodel) (doc : Doc) (sound : IsSound m doc) (a : ObjectNo) (f :
       let same : y.0 ≡ a.0 = omega (arith, number) in
       let v = at-numbered c.content.values 0 i (value.Object b) (ap (λ (vs : List Value). slice_get vs i) (sym c.values) ∙ at) in
       let o : ObjectNo = record { 0 = y.0 } in
-      let in_content = at-flat_map (placed o c.content.feature) (enumerate_from 0 c.content.values) i 0 (v.0, value.Object b) (reference_key o c.content.feature b, v.0) v.2 refl in
+      let in_content = at-flat_map (key_and_index o c.content.feature) (enumerate_from 0 c.content.values) i 0 (v.0, value.Object b) (reference_key o c.content.feature b, v.0) v.2 refl in
       let kept : is_lower (shape m c.content.feature) c.content.feature ≡ true = subst (λ (g : FeatureNo). is_lower (shape m g) g ≡ true) (sym c.of) lower in
-      let in_places = chosen-at (is_lower (shape m c.content.feature) c.content.feature) (flat_map (placed o c.content.feature) (enumerate_from 0 c.content.values)) in_content.0 (reference_key o c.content.feature b, v.0) kept in_content.1 in
+      let in_places = chosen-at (is_lower (shape m c.content.feature) c.content.feature) (flat_map (key_and_index o c.content.feature) (enumerate_from 0 c.content.values)) in_content.0 (reference_key o c.content.feature b, v.0) kept in_content.1 in
       let in_object = at-flat_map (content_indexes m o) c.there.object.contents c.there.index in_content.0 c.content (reference_key o c.content.feature b, v.0) c.there.in_object in_places in
       let in_all = at-flat_map (of_object (content_indexes m)) (enumerate_from 0 doc.objects) a.0 in_object.0 (y.0, c.there.object) (reference_key o c.content.feature b, v.0) y.2 in_object.1 in (
         in_all.0,

@@ -30,7 +30,7 @@ use Rattle.links.specs.declared.link.Far.{Far}
 use Rattle.links.specs.declared.link.Far.TheVariants.{At, Alone, Proxy}
 use Rattle.links.specs.declared.link.Link.{Link}
 use Rattle.web_uris.specs.Addresses.{IsProxyText, address_text, fragment_part, has_mark, uri_part}
-use Rattle.web_uris.specs.Joined.{joined}
+use Rattle.web_uris.specs.Joined.{joined_uri}
 use Rattle.web_uris.specs.Paths.{parse, with_step}
 use Rattle.web_uris.specs.declared.path.Path.{Path}
 use Rattle.web_uris.proofs.AddressFacts.{proxy_text}
@@ -43,9 +43,9 @@ use Rattle.resource_docs.specs.Values.{OfProxy, led_to, object_of, value_of}
 use Rattle.resource_docs.specs.declared.doc.Content.{Content}
 use Rattle.resource_docs.specs.declared.doc.Doc.{Doc}
 use Rattle.resource_docs.specs.declared.doc.DocObject.{DocObject}
-use Rattle.resource_docs.specs.declared.target.Target.{Target}
-use Rattle.resource_docs.specs.declared.target.Target.TheVariants.{Here, Elsewhere}
-use Rattle.doc_loader.specs.Loading.{content_links, far_index, link_of, link_to, loaded, loaded_links, object_end, of_contents, of_object, root_link}
+use Rattle.resource_docs.specs.declared.referent.Referent.{Referent}
+use Rattle.resource_docs.specs.declared.referent.Referent.TheVariants.{Here, Elsewhere}
+use Rattle.doc_loader.specs.Loading.{content_links, far_index, link_of, link_to, loaded_links, loaded_number, object_end, of_contents, of_object, root_link}
 use Rattle.doc_loader.proofs.CauseLemmas.{read-faultless}
 use Rattle.doc_loader.proofs.DocLemmas.{IsPlain, attribute-plain, led-each}
 use Rattle.doc_loader.proofs.DocSoundLemmas.{objects-are}
@@ -54,13 +54,13 @@ use Rattle.doc_loader.proofs.PairLemmas.{all-append, all-at, all-every, all-filt
 
 ---------------------------------------------------------------- targets
 
-abbrev HasText : Target → Type 0
+abbrev HasText : Referent → Type 0
 HasText (Here p) = Unit {0}
 HasText (Elsewhere t) = IsProxyText t
 
-joined-target : (uri reference rest : List ℕ) (p : Path) (o : Option (List ℕ)) → joined uri reference ≡ o → parse rest ≡ Some p → IfSome (option_map (λ u. target_in (base_of uri) rest u p) o) HasText
-joined-target uri reference rest p None is parsed = tt
-joined-target uri reference rest p (Some u) is parsed = by (bytes_eq u uri)
+joined_uri-target : (uri reference rest : List ℕ) (p : Path) (o : Option (List ℕ)) → joined_uri uri reference ≡ o → parse rest ≡ Some p → IfSome (option_map (λ u. target_in (base_of uri) rest u p) o) HasText
+joined_uri-target uri reference rest p None is parsed = tt
+joined_uri-target uri reference rest p (Some u) is parsed = by (bytes_eq u uri)
   where
     by : (b : Bool) → HasText (if b then Here p else Elsewhere (address_text u rest))
     by true = tt
@@ -68,7 +68,7 @@ joined-target uri reference rest p (Some u) is parsed = by (bytes_eq u uri)
 
 meant-target : (uri part rest : List ℕ) (p : Path) → parse rest ≡ Some p → IfSome (option_map (λ u. target_in (base_of uri) rest u p) (uri_meant (base_of uri) part)) HasText
 meant-target uri [] rest p parsed = subst (λ (b : Bool). HasText (if b then Here p else Elsewhere (address_text uri rest))) (sym ((bytes_eq-Decides uri uri).1 refl)) tt
-meant-target uri (c ∷ cs) rest p parsed = joined-target uri (c ∷ cs) rest p (joined uri (c ∷ cs)) refl parsed
+meant-target uri (c ∷ cs) rest p parsed = joined_uri-target uri (c ∷ cs) rest p (joined_uri uri (c ∷ cs)) refl parsed
 
 behind-mark : (uri part rest : List ℕ) (o : Option Path) → parse rest ≡ o → IfSome (o >>= (λ p. option_map (λ u. target_in (base_of uri) rest u p) (uri_meant (base_of uri) part))) HasText
 behind-mark uri part rest None is = tt
@@ -103,7 +103,7 @@ module _ (m : Metamodel) (uri : List ℕ) (ps : List Part) where
   reference-fine : (class : ClassNo) (o : Option (List ℕ)) → IfSome (o >>= target (base_of uri) >>= led_to m ps class) IsFine
   reference-fine class None = tt
   reference-fine class (Some t) =
-      led-each IsFine (λ n. tt) m ps class (target (base_of uri) t) (λ u is. subst (λ (o : Option Target). IfSome o HasText) is (target-text uri t))
+      led-each IsFine (λ n. tt) m ps class (target (base_of uri) t) (λ u is. subst (λ (o : Option Referent). IfSome o HasText) is (target-text uri t))
 
   part-fine : (o : Option ℕ) → IfSome (option_map object_of o) IsFine
   part-fine None = tt
@@ -158,8 +158,8 @@ at-no_proxy d j t h = cc
 same_proxy : (t u : List ℕ) → Proxy t ≡ Proxy u → t ≡ u
 same_proxy t u h = cc
 
-pub joined-no_proxy : (x : End) (i : ℕ) (y : End) (j : ℕ) (c : Option FeatureNo) (t : List ℕ) → far_of (links.joined x i y j c) ≡ Proxy t → ⊥
-joined-no_proxy x i y j c t =
+pub joined_uri-no_proxy : (x : End) (i : ℕ) (y : End) (j : ℕ) (c : Option FeatureNo) (t : List ℕ) → far_of (links.joined_link x i y j c) ≡ Proxy t → ⊥
+joined_uri-no_proxy x i y j c t =
     elim (nat_lt x.feature.0 y.feature.0) as (λ b. far_of (if b then record { end = x; index = i; far = At y j; container = c } else record { end = y; index = j; far = At x i; container = c }) ≡ Proxy t → ⊥) [
       | true ↦ at-no_proxy y j t
       | false ↦ at-no_proxy x i t
@@ -172,8 +172,8 @@ module _ (Holds : List ℕ → Type 0) where
 
   module _ (m : Metamodel) (n : ℕ) (doc : Doc) where
     link_to-no_proxy : (o : ObjectNo) (f : FeatureNo) (i : ℕ) (b : ObjectNo) (g : Option FeatureNo) (t : List ℕ) → far_of (link_to m n doc o f i b g) ≡ Proxy t → ⊥
-    link_to-no_proxy o f i b None t h = alone-no_proxy (loaded n b) t h
-    link_to-no_proxy o f i b (Some g) t h = joined-no_proxy (object_end n o f) i (far_end (loaded n b) g) (far_index (shape m f) doc o f b g) (shape m f).containing t h
+    link_to-no_proxy o f i b None t h = alone-no_proxy (loaded_number n b) t h
+    link_to-no_proxy o f i b (Some g) t h = joined_uri-no_proxy (object_end n o f) i (far_end (loaded_number n b) g) (far_index (shape m f) doc o f b g) (shape m f).containing t h
 
     link-of : (o : ObjectNo) (f : FeatureNo) (i : ℕ) (v : Value) (l : Link) → OfProxy Holds v → link_of m n doc o f (i, v) ≡ Some l → OfLink l
     link-of o f i (value.Object b) l of is = subst OfLink (same_Some (link_to m n doc o f i b (shape m f).opposite) l is) (λ t far. absurd (link_to-no_proxy o f i b (shape m f).opposite t far))
@@ -193,7 +193,7 @@ module _ (Holds : List ℕ → Type 0) where
         (all-numbered (λ (x : DocObject). All Fine x.contents) doc.objects all))
       where
         root-no_proxy : (x : ℕ × ObjectNo) (t : List ℕ) → far_of (root_link m n k x) ≡ Proxy t → ⊥
-        root-no_proxy x t h = alone-no_proxy (loaded n x.1) t h
+        root-no_proxy x t h = alone-no_proxy (loaded_number n x.1) t h
 
         content-of : (o : ObjectNo) (c : Content) → All (OfProxy Holds) c.values → AllByRecursion OfLink (content_links m n doc o c)
         content-of o c fine =

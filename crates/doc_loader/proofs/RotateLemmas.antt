@@ -18,7 +18,7 @@ use Rattle.links.specs.Holders.{HasNoCycle}
 use Rattle.links.specs.Laws.{names, names_far}
 use Rattle.links.specs.LegalSets.{AreKinds, AreOfKind, IsDistinct, IsLegalSet, IsObject, Kinds, most}
 use Rattle.links.specs.Links.{Links, cut_value, end, far_end, put}
-use Rattle.links.specs.Plans.{EditFits, IsPlanOfKind, MakesNoCycle, PlanFits, PlanMakesNoCycle, applied}
+use Rattle.links.specs.Plans.{EditFits, IsPlanOfKind, MakesNoCycle, PlanFits, PlanMakesNoCycle, links_after_edits}
 use Rattle.links.specs.declared.plan.Edit.TheVariants as edit
 use Rattle.links.specs.declared.plan.Edit.{Edit}
 use Rattle.mm_types.proofs.SameLemmas.{same_end-self, same_end-true}
@@ -241,7 +241,7 @@ pub record IsGoodAgain (m : Kinds) (Near : End → Type 0) (N : End → List Val
 pub record ArePutAgain (m : Kinds) (t : Links) (xs : List Again) (plan : List Edit) : Type 0 where
   pub fits : PlanFits t plan
   pub no_cycle : PlanMakesNoCycle t plan
-  pub ends : (d : End) → end (applied t plan) d ≡ put_all_last (flat_map (again_at d) xs) (end t d)
+  pub ends : (d : End) → end (links_after_edits t plan) d ≡ put_all_last (flat_map (again_at d) xs) (end t d)
 
 last-more : (b : Bool) (v : Value) (us vs : List Value) → put_all_last us (if b then put_last v vs else vs) ≡ put_all_last ((if b then v ∷ [] else []) ++ us) vs
 last-more true v us vs = refl

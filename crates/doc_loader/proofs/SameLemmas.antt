@@ -16,12 +16,12 @@ use Rattle.mm_types.specs.declared.numbers.ResourceNo.{ResourceNo}
 use Rattle.mm_types.specs.declared.value.Value.{Value}
 use Rattle.mm_types.specs.declared.value.Value.TheVariants as value
 use Rattle.links.proofs.CutLemmas.{indexed_near}
-use Rattle.links.proofs.PutLemmas.{indexed-joined_far, indexed-joined_near}
+use Rattle.links.proofs.PutLemmas.{indexed_value-joined_far, indexed_value-joined_near}
 use Rattle.links.proofs.ScanLemmas.{same_links}
 use Rattle.links.specs.Holders.{HasNoCycle}
 use Rattle.links.specs.LegalSets.{AreOfKind, IsLegalSet}
 use Rattle.links.specs.Links.{In, Links, end, far_end}
-use Rattle.links.specs.Indexed.{far_value, indexed}
+use Rattle.links.specs.Indexed.{far_value, indexed_value}
 use Rattle.links.specs.declared.link.Far.TheVariants.{Proxy}
 use Rattle.links.specs.declared.link.Link.{Link}
 use Rattle.models.specs.Legal.{kinds_of}
@@ -30,7 +30,7 @@ use Rattle.resource_docs.specs.Read.{values_in, values_under}
 use Rattle.resource_docs.specs.declared.doc.Doc.{Doc}
 use Rattle.resource_docs.specs.declared.doc.DocObject.{DocObject}
 use Rattle.doc_loader.specs.Laws.{IsRoomFor, MakesLinks}
-use Rattle.doc_loader.specs.Loading.{content_links, far_index, link_of, link_to, loaded, loaded_links, object_end, of_contents, of_object, root_link, with_links}
+use Rattle.doc_loader.specs.Loading.{content_links, far_index, link_of, link_to, loaded_links, loaded_number, object_end, of_contents, of_object, root_link, with_links}
 use Rattle.doc_loader.proofs.DocSoundLemmas.{read-sound}
 use Rattle.doc_loader.proofs.EndLemmas.{end-elsewhere, end-held, end-near, end-roots, end-values, one-source, loaded-fits, loaded-set_is, loaded-no_cycle, loaded_set}
 use Rattle.doc_loader.proofs.GainLemmas.{got_left}
@@ -58,14 +58,14 @@ module _ (m : Metamodel) (n : ℕ) (k : ResourceNo) (doc : Doc) (sound : IsSound
   in-new j l h = inserted-new (loaded_links m n k doc) s j l h
 
   -- a link of the set is the one of the document that is at its index
-  same-in : (l x : Link) → In l t → In x w → (v : Value) → indexed x l.end ≡ Some (l.index, v) → In l w
+  same-in : (l x : Link) → In l t → In x w → (v : Value) → indexed_value x l.end ≡ Some (l.index, v) → In l w
   same-in l x h g v at =
       let one = (t-legal m n k doc sound s legal kinds free room fit).placed.once l x l.end l.index (far_value l.far) v h (made-in m n k doc sound s legal kinds free room fit x g) (indexed_near l) at in
       subst (λ (y : Link). In y w) (sym one) g
 
   ---------------------------------------------------------------- links of the document
 
-  root-link-in : (i : ℕ) (o : ObjectNo) → slice_get doc.roots i ≡ Some o → (x : Link) × In x w × (indexed x (contents_end m k) ≡ Some (i, value.Object (loaded n o)))
+  root-link-in : (i : ℕ) (o : ObjectNo) → slice_get doc.roots i ≡ Some o → (x : Link) × In x w × (indexed_value x (contents_end m k) ≡ Some (i, value.Object (loaded_number n o)))
   root-link-in i o at =
       let r = at-numbered doc.roots 0 i o at in
       let number = r.1 in
@@ -73,7 +73,7 @@ module _ (m : Metamodel) (n : ℕ) (k : ResourceNo) (doc : Doc) (sound : IsSound
       let x = root_link m n k (r.0, o) in (
         x,
         in-new i x (got_left (map (root_link m n k) (enumerate_from 0 doc.roots)) (of_contents (content_links m n doc) doc) i x (at-map (root_link m n k) (enumerate_from 0 doc.roots) i (r.0, o) r.2)),
-        indexed_near x ∙ ap (λ (j : ℕ). Some (j, value.Object (loaded n o))) same,
+        indexed_near x ∙ ap (λ (j : ℕ). Some (j, value.Object (loaded_number n o))) same,
       )
 
   -- the link of a value is in the set
@@ -115,18 +115,18 @@ module _ (m : Metamodel) (n : ℕ) (k : ResourceNo) (doc : Doc) (sound : IsSound
       }
 
   -- the link is at the end of the value
-  link-near : (o : ObjectNo) (f : FeatureNo) (i : ℕ) (v : Value) → (shape m f).is_reference ≡ true → IsSort (shape m f) v → (x : Link) × (link_of m n doc o f (i, v) ≡ Some x) × ((u : Value) × (indexed x (object_end n o f) ≡ Some (i, u)))
+  link-near : (o : ObjectNo) (f : FeatureNo) (i : ℕ) (v : Value) → (shape m f).is_reference ≡ true → IsSort (shape m f) v → (x : Link) × (link_of m n doc o f (i, v) ≡ Some x) × ((u : Value) × (indexed_value x (object_end n o f) ≡ Some (i, u)))
   link-near o f i (value.Object b) reference sort = by (shape m f).opposite refl
     where
-      by : (h : Option FeatureNo) → (shape m f).opposite ≡ h → (x : Link) × (Some (link_to m n doc o f i b (shape m f).opposite) ≡ Some x) × ((u : Value) × (indexed x (object_end n o f) ≡ Some (i, u)))
-      by None none = let x = link_to m n doc o f i b None in (x, ap (λ (h : Option FeatureNo). Some (link_to m n doc o f i b h)) none, (value.Object (loaded n b), indexed_near x))
+      by : (h : Option FeatureNo) → (shape m f).opposite ≡ h → (x : Link) × (Some (link_to m n doc o f i b (shape m f).opposite) ≡ Some x) × ((u : Value) × (indexed_value x (object_end n o f) ≡ Some (i, u)))
+      by None none = let x = link_to m n doc o f i b None in (x, ap (λ (h : Option FeatureNo). Some (link_to m n doc o f i b h)) none, (value.Object (loaded_number n b), indexed_near x))
       by (Some g) pair =
           let d = object_end n o f in
-          let e = far_end (loaded n b) g in
+          let e = far_end (loaded_number n b) g in
           let j = far_index (shape m f) doc o f b g in (
             link_to m n doc o f i b (Some g),
             ap (λ (h : Option FeatureNo). Some (link_to m n doc o f i b h)) pair,
-            (node_value e.node, indexed-joined_near d i e j (shape m f).containing (λ q. sound.kinds.two f g pair (ap (λ (x : End). x.feature.0) (sym q)))),
+            (node_value e.node, indexed_value-joined_near d i e j (shape m f).containing (λ q. sound.kinds.two f g pair (ap (λ (x : End). x.feature.0) (sym q)))),
           )
   link-near o f i (value.Proxy p) reference sort = let x : Link = record { end = object_end n o f; index = i; far = Proxy p; container = None } in (x, refl, (value.Proxy p, indexed_near x))
   link-near o f i value.Null reference sort = absurd (true≢false (sym reference ∙ sort))
@@ -136,33 +136,33 @@ module _ (m : Metamodel) (n : ℕ) (k : ResourceNo) (doc : Doc) (sound : IsSound
   link-near o f i (value.Literal x) reference sort = absurd (true≢false (sym reference ∙ sort))
   link-near o f i (value.Adapter x) reference sort = absurd (true≢false (sym reference ∙ sort))
 
-  value-link-in : (a : ObjectNo) (f : FeatureNo) (i : ℕ) (v : Value) → (shape m f).is_reference ≡ true → slice_get (values_in doc a f) i ≡ Some v → (x : Link) × In x w × ((u : Value) × (indexed x (object_end n a f) ≡ Some (i, u)))
+  value-link-in : (a : ObjectNo) (f : FeatureNo) (i : ℕ) (v : Value) → (shape m f).is_reference ≡ true → slice_get (values_in doc a f) i ≡ Some v → (x : Link) × In x w × ((u : Value) × (indexed_value x (object_end n a f) ≡ Some (i, u)))
   value-link-in a f i v reference at =
       let r = linked a f i v at in
       let x = link-near r.object r.feature r.index v (ap (λ (g : FeatureNo). (shape m g).is_reference) r.feature_is ∙ reference) r.sort in
-      (x.0, r.there x.0 x.1, (x.2.0, (λ j. indexed x.0 (object_end n (sym r.object_is j) (sym r.feature_is j))) ∙ x.2.1 ∙ ap (λ (l : ℕ). Some (l, x.2.0)) r.index_is))
+      (x.0, r.there x.0 x.1, (x.2.0, (λ j. indexed_value x.0 (object_end n (sym r.object_is j) (sym r.feature_is j))) ∙ x.2.1 ∙ ap (λ (l : ℕ). Some (l, x.2.0)) r.index_is))
 
   -- if the feature is a containment, the link is first at the container reference
   link-held : (o : ObjectNo) (f g h : FeatureNo) (i : ℕ) (b : ObjectNo) → (shape m f).opposite ≡ Some g → (shape m f).containing ≡ Some h → h ≡ f
-      → (x : Link) × (link_of m n doc o f (i, value.Object b) ≡ Some x) × (indexed x (object_end n b g) ≡ Some (0, value.Object (loaded n o)))
+      → (x : Link) × (link_of m n doc o f (i, value.Object b) ≡ Some x) × (indexed_value x (object_end n b g) ≡ Some (0, value.Object (loaded_number n o)))
   link-held o f g h i b pair contains own =
       let d = object_end n o f in
-      let e = far_end (loaded n b) g in
+      let e = far_end (loaded_number n b) g in
       let j = far_index (shape m f) doc o f b g in
       let is : is_feature f (shape m f).containing ≡ true = ap (is_feature f) contains ∙ eq-eqb f.0 h.0 (ap (λ (x : FeatureNo). x.0) (sym own)) in (
         link_to m n doc o f i b (Some g),
         ap (λ (z : Option FeatureNo). Some (link_to m n doc o f i b z)) pair,
-        indexed-joined_far d i e j (shape m f).containing (λ q. sound.kinds.two f g pair (ap (λ (x : End). x.feature.0) (sym q)))
-            ∙ ap (λ (c : Bool). Some (if c then 0 else unwrap_or (position (same_value (value.Object o)) (values_in doc b g)) 0, value.Object (loaded n o))) is,
+        indexed_value-joined_far d i e j (shape m f).containing (λ q. sound.kinds.two f g pair (ap (λ (x : End). x.feature.0) (sym q)))
+            ∙ ap (λ (c : Bool). Some (if c then 0 else unwrap_or (position (same_value (value.Object o)) (values_in doc b g)) 0, value.Object (loaded_number n o))) is,
       )
 
   held-link-in : (a : ObjectNo) (f g h : FeatureNo) (i : ℕ) (b : ObjectNo) → (shape m f).opposite ≡ Some g → (shape m f).containing ≡ Some h → slice_get (values_in doc a f) i ≡ Some (value.Object b)
-      → (x : Link) × In x w × (indexed x (object_end n b g) ≡ Some (0, value.Object (loaded n a)))
+      → (x : Link) × In x w × (indexed_value x (object_end n b g) ≡ Some (0, value.Object (loaded_number n a)))
   held-link-in a f g h i b pair contains at =
       let r = linked a f i (value.Object b) at in
       let has = ap (λ (y : FeatureNo). (shape m y).containing) r.feature_is ∙ contains in
       let x = link-held r.object r.feature g h r.index b (ap (λ (y : FeatureNo). (shape m y).opposite) r.feature_is ∙ pair) has (r.plain h has) in
-      (x.0, r.there x.0 x.1, x.2 ∙ ap (λ (o : ObjectNo). Some (0, value.Object (loaded n o))) r.object_is)
+      (x.0, r.there x.0 x.1, x.2 ∙ ap (λ (o : ObjectNo). Some (0, value.Object (loaded_number n o))) r.object_is)
 
   ---------------------------------------------------------------- all links of the set
 
@@ -173,14 +173,14 @@ module _ (m : Metamodel) (n : ℕ) (k : ResourceNo) (doc : Doc) (sound : IsSound
     stands-at : (d : End) → d ≡ l.end → slice_get (end t d) l.index ≡ Some (far_value l.far)
     stands-at d q = ap (λ (x : End). slice_get (end t x) l.index) q ∙ stands
 
-    stands-first : (x : Link) (d : End) (v : Value) → d ≡ l.end → indexed x d ≡ Some (0, v) → 0 ≡ l.index → indexed x l.end ≡ Some (l.index, v)
-    stands-first x d v q at zero_is = ap (indexed x) (sym q) ∙ at ∙ ap (λ (i : ℕ). Some (i, v)) zero_is
+    stands-first : (x : Link) (d : End) (v : Value) → d ≡ l.end → indexed_value x d ≡ Some (0, v) → 0 ≡ l.index → indexed_value x l.end ≡ Some (l.index, v)
+    stands-first x d v q at zero_is = ap (indexed_value x) (sym q) ∙ at ∙ ap (λ (i : ℕ). Some (i, v)) zero_is
 
     from-values : (a : ObjectNo) (f : FeatureNo) → object_end n a f ≡ l.end → (shape m f).is_reference ≡ true → end t (object_end n a f) ≡ loaded_values n (values_in doc a f) → In l w
     from-values a f q reference is =
         let v = at-loaded n (values_in doc a f) l.index (far_value l.far) (sym (ap (λ (vs : List Value). slice_get vs l.index) is) ∙ stands-at (object_end n a f) q) in
         let x = value-link-in a f l.index v.0 reference v.1 in
-        same-in l x.0 h x.1 x.2.0 (ap (indexed x.0) (sym q) ∙ x.2.1)
+        same-in l x.0 h x.1 x.2.0 (ap (indexed_value x.0) (sym q) ∙ x.2.1)
 
     from-held : (b : ObjectNo) (g f c : FeatureNo) → object_end n b g ≡ l.end → IsFarSide m g f → (shape m g).containing ≡ Some c → In l w
     from-held b g f c q side contains =
@@ -194,14 +194,14 @@ module _ (m : Metamodel) (n : ℕ) (k : ResourceNo) (doc : Doc) (sound : IsSound
         let first = subst (λ (v : Value). slice_get (sources_from n (λ (x : DocObject). values_under x f) b 0 doc.objects) 0 ≡ Some v) only z.1 in
         let zero_is = ascending-distinct (n + 0) from (sources-ascending n (λ (x : DocObject). values_under x f) b 0 doc.objects) 0 l.index (far_value l.far) first at in
         let x = held-link-in r.0 f g c r.4.0 b side.back holds (there-object doc r.0 f r.1 r.4.0 (value.Object b) r.2 r.4.1) in
-        same-in l x.0 h x.1 (value.Object (loaded n r.0)) (stands-first x.0 (object_end n b g) (value.Object (loaded n r.0)) q x.2 zero_is)
+        same-in l x.0 h x.1 (value.Object (loaded_number n r.0)) (stands-first x.0 (object_end n b g) (value.Object (loaded_number n r.0)) q x.2 zero_is)
 
     from-index_of : IsPlaceOf m n k doc sound s legal kinds free room fit l.end → In l w
     from-index_of (at_roots q) =
         let at = sym (ap (λ (vs : List Value). slice_get vs l.index) (end-roots m n k doc sound s legal kinds free room fit)) ∙ stands-at (contents_end m k) q in
-        let o = map-at (λ o. value.Object (loaded n o)) doc.roots l.index (far_value l.far) at in
+        let o = map-at (λ o. value.Object (loaded_number n o)) doc.roots l.index (far_value l.far) at in
         let x = root-link-in l.index o.0 o.1 in
-        same-in l x.0 h x.1 (value.Object (loaded n o.0)) (ap (indexed x.0) (sym q) ∙ x.2)
+        same-in l x.0 h x.1 (value.Object (loaded_number n o.0)) (ap (indexed_value x.0) (sym q) ∙ x.2)
     from-index_of (at_near a f q side) = from-values a f q side.reference (end-near m n k doc sound s legal kinds free room fit a f side)
     from-index_of (at_far b g f q side) = by (shape m g).containing refl
       where

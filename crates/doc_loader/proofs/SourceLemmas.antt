@@ -16,7 +16,7 @@ use Rattle.links.specs.LegalSets.{IsDistinct}
 use Rattle.links.proofs.ShownLemmas.{object_value}
 use Rattle.resource_docs.specs.declared.doc.Content.{Content}
 use Rattle.doc_loader.specs.LoadEdits.{is_ascending_from}
-use Rattle.doc_loader.specs.Loading.{loaded, loaded_value}
+use Rattle.doc_loader.specs.Loading.{loaded_number, loaded_value}
 use Rattle.doc_loader.proofs.PairLemmas.{Apart, all-more, numbered-at}
 use Rattle.doc_loader.proofs.SoundLemmas.{at-map, map-at, HaveOtherFeatures, any-at, at-flat_map, at-numbered, flat_map-at}
 
@@ -75,21 +75,21 @@ value-object : Value → ℕ
 value-object (value.Object o) = o.0
 value-object _ = 0
 
-pub loaded-same : (n : ℕ) (a b : ObjectNo) → loaded n a ≡ loaded n b → a ≡ b
-loaded-same n a b h = let e = ap (λ (x : ObjectNo). x.0) h in let same : a.0 ≡ b.0 = omega (arith, e) in λ i. record { 0 = same i }
+pub loaded_number-same : (n : ℕ) (a b : ObjectNo) → loaded_number n a ≡ loaded_number n b → a ≡ b
+loaded_number-same n a b h = let e = ap (λ (x : ObjectNo). x.0) h in let same : a.0 ≡ b.0 = omega (arith, e) in λ i. record { 0 = same i }
 
-pub loaded-value-object : (n : ℕ) (v : Value) (b : ObjectNo) → loaded_value n v ≡ value.Object b → (a : ObjectNo) × (v ≡ value.Object a) × (b ≡ loaded n a)
-loaded-value-object n (value.Object a) b h = (a, refl, sym (object_value (loaded n a) b h))
-loaded-value-object n value.Null b h = cc
-loaded-value-object n (value.Bool x) b h = cc
-loaded-value-object n (value.Int x) b h = cc
-loaded-value-object n (value.Text x) b h = cc
-loaded-value-object n (value.Literal x) b h = cc
-loaded-value-object n (value.Proxy x) b h = cc
-loaded-value-object n (value.Adapter x) b h = cc
+pub loaded_number-value-object : (n : ℕ) (v : Value) (b : ObjectNo) → loaded_value n v ≡ value.Object b → (a : ObjectNo) × (v ≡ value.Object a) × (b ≡ loaded_number n a)
+loaded_number-value-object n (value.Object a) b h = (a, refl, sym (object_value (loaded_number n a) b h))
+loaded_number-value-object n value.Null b h = cc
+loaded_number-value-object n (value.Bool x) b h = cc
+loaded_number-value-object n (value.Int x) b h = cc
+loaded_number-value-object n (value.Text x) b h = cc
+loaded_number-value-object n (value.Literal x) b h = cc
+loaded_number-value-object n (value.Proxy x) b h = cc
+loaded_number-value-object n (value.Adapter x) b h = cc
 
 pub loaded-value-same : (n : ℕ) (v w : Value) → loaded_value n v ≡ loaded_value n w → v ≡ w
-loaded-value-same n (value.Object a) w h = let r = loaded-value-object n w (loaded n a) (sym h) in ap value.Object (loaded-same n a r.0 r.2) ∙ sym r.1
+loaded-value-same n (value.Object a) w h = let r = loaded_number-value-object n w (loaded_number n a) (sym h) in ap value.Object (loaded_number-same n a r.0 r.2) ∙ sym r.1
 loaded-value-same n value.Null (value.Object b) h = cc
 loaded-value-same n (value.Bool x) (value.Object b) h = cc
 loaded-value-same n (value.Int x) (value.Object b) h = cc
@@ -213,14 +213,14 @@ module _ {X : Type 0} (n : ℕ) (lists : X → List Value) (b : ObjectNo) where
 
   -- an object is a source exactly if its list has the other
   pub source-at : (xs : List X) (k : ℕ) (v : Value) → slice_get (sources_from n lists b 0 xs) k ≡ Some v
-      → (a : ObjectNo) × (x : X) × (slice_get xs a.0 ≡ Some x) × (v ≡ value.Object (loaded n a)) × ((j : ℕ) × (slice_get (lists x) j ≡ Some (value.Object b)))
+      → (a : ObjectNo) × (x : X) × (slice_get xs a.0 ≡ Some x) × (v ≡ value.Object (loaded_number n a)) × ((j : ℕ) × (slice_get (lists x) j ≡ Some (value.Object b)))
   source-at xs k v at =
       let r = flat_map-at (λ (y : ℕ × X). cond (list_any (same_value (value.Object b)) (lists y.1)) (value.Object (record { 0 = n + y.0 }) ∷ []) []) (enumerate_from 0 xs) k v at in
       let y = numbered-at xs 0 r.0 r.1 r.3 in
       let number = y.0 in
       let same : r.0 ≡ r.1.0 = omega (arith, number) in
       elim (list_any (same_value (value.Object b)) (lists r.1.1)) as (λ t. list_any (same_value (value.Object b)) (lists r.1.1) ≡ t → slice_get (cond t (value.Object (record { 0 = n + r.1.0 }) ∷ []) []) r.2 ≡ Some v
-      → (a : ObjectNo) × (x : X) × (slice_get xs a.0 ≡ Some x) × (v ≡ value.Object (loaded n a)) × ((j : ℕ) × (slice_get (lists x) j ≡ Some (value.Object b)))) [
+      → (a : ObjectNo) × (x : X) × (slice_get xs a.0 ≡ Some x) × (v ≡ value.Object (loaded_number n a)) × ((j : ℕ) × (slice_get (lists x) j ≡ Some (value.Object b)))) [
         | true ↦ λ q here.
             let w = any-at (same_value (value.Object b)) (lists r.1.1) q in
             (record { 0 = r.1.0 }, r.1.1, subst (λ (i : ℕ). slice_get xs i ≡ Some r.1.1) same y.1, first r.1.0 r.2 here, (w.0, w.2 ∙ ap Some (sym (same_value-true (value.Object b) w.1 w.3))))
@@ -231,13 +231,13 @@ module _ {X : Type 0} (n : ℕ) (lists : X → List Value) (b : ObjectNo) where
       first i zero h = sym (same_Some (value.Object (record { 0 = n + i })) v h)
       first i (suc j) h = absurd (none-some v h)
 
-  pub at-source : (xs : List X) (a : ObjectNo) (x : X) (j : ℕ) → slice_get xs a.0 ≡ Some x → slice_get (lists x) j ≡ Some (value.Object b) → (k : ℕ) × (slice_get (sources_from n lists b 0 xs) k ≡ Some (value.Object (loaded n a)))
+  pub at-source : (xs : List X) (a : ObjectNo) (x : X) (j : ℕ) → slice_get xs a.0 ≡ Some x → slice_get (lists x) j ≡ Some (value.Object b) → (k : ℕ) × (slice_get (sources_from n lists b 0 xs) k ≡ Some (value.Object (loaded_number n a)))
   at-source xs a x j at has =
       let y = at-numbered xs 0 a.0 x at in
       let number = y.1 in
       let same : y.0 ≡ a.0 = omega (arith, number) in
       let found = any-from (lists x) j has in
-      at-flat_map (λ (y : ℕ × X). cond (list_any (same_value (value.Object b)) (lists y.1)) (value.Object (record { 0 = n + y.0 }) ∷ []) []) (enumerate_from 0 xs) a.0 0 (y.0, x) (value.Object (loaded n a)) y.2
+      at-flat_map (λ (y : ℕ × X). cond (list_any (same_value (value.Object b)) (lists y.1)) (value.Object (record { 0 = n + y.0 }) ∷ []) []) (enumerate_from 0 xs) a.0 0 (y.0, x) (value.Object (loaded_number n a)) y.2
       (ap (λ (t : Bool). slice_get (cond t (value.Object (record { 0 = n + y.0 }) ∷ []) []) 0) found ∙ ap (λ (i : ℕ). Some (value.Object (record { 0 = n + i }))) same)
     where
       any-from : (vs : List Value) (i : ℕ) → slice_get vs i ≡ Some (value.Object b) → list_any (same_value (value.Object b)) vs ≡ true

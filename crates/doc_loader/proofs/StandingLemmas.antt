@@ -22,7 +22,7 @@ use Rattle.web_uris.specs.declared.path.Path.{Path}
 use Rattle.web_uris.specs.declared.path.Step.{Step}
 use Rattle.doc_parts.specs.Contents.{conforms_to, is_content, is_value, may_stand}
 use Rattle.doc_parts.specs.Faults.{has_no_class, is_misshapen}
-use Rattle.doc_parts.specs.Layout.{Written, written}
+use Rattle.doc_parts.specs.Layout.{Written, written_object}
 use Rattle.doc_parts.specs.Parts.{Entry, Part, class_of, content_at, entries, entries_in, entry_at, number_of, parts, parts_from, parts_in, root_parts, step_to, values_of}
 use Rattle.doc_loader.proofs.CauseLemmas.{IsShapely}
 use Rattle.doc_loader.proofs.NameLemmas.{class-features}
@@ -73,7 +73,7 @@ shape-is m f g is = ap (λ (x : Option Feature). option_map_or (λ y. shape_of m
 
 -- each entry is of a feature of the object's class
 pub entries-have : (m : Metamodel) (d : Data) (c : ClassNo) → class_of m d ≡ Some c → AllByRecursion (λ e. lookups.has_feature m c e.feature ≡ true) (entries m d)
-entries-have m d c is = by (written d) is
+entries-have m d c is = by (written_object d) is
   where
     named : (w : Written) (o : Option ClassNo) → o ≡ Some c → AllByRecursion (λ e. lookups.has_feature m c e.feature ≡ true) (option_map_or (λ (k : ClassNo × Members). entries_in m k.0 k.1) (option_map (λ x. (x, w.features)) o) [])
     named w None h = tt
@@ -106,8 +106,8 @@ record IsInner (m : Metamodel) (all : List Part) (q : Part) : Type 0 where
 abbrev IsRoot : Part → Type 0
 IsRoot p = (i : ℕ) × (p.path ≡ new_path i [])
 
-abbrev Stands : Metamodel → List Part → Part → Type 0
-Stands m all q = IsRoot q ⊎ IsInner m all q
+abbrev IsRootOrInner : Metamodel → List Part → Part → Type 0
+IsRootOrInner m all q = IsRoot q ⊎ IsInner m all q
 
 abbrev part_at : Metamodel → Path → FeatureNo → ℕ × Data → Part
 part_at m r f v = record { path = with_step r (step_to m f v.0); json = v.1 }
@@ -127,21 +127,21 @@ module _ (m : Metamodel) (all : List Part) where
   inner-parts p here =
       all-flat_map (IsIn (entries m p.json)) (IsInner m all) (parts_in m p.path) (entries m p.json) (λ e there. inner-at p here.0 there.0 e here.1 there.1) (all-in (entries m p.json))
 
-  stand-from : (n : ℕ) (p : Part) → Stands m all p → AllByRecursion (IsIn all) (parts_from m n p) → AllByRecursion (Stands m all) (parts_from m n p)
+  stand-from : (n : ℕ) (p : Part) → IsRootOrInner m all p → AllByRecursion (IsIn all) (parts_from m n p) → AllByRecursion (IsRootOrInner m all) (parts_from m n p)
   stand-from zero p here there = tt
   stand-from (suc n) p here there =
       let cs = flat_map (parts_in m p.path) (entries m p.json) in (
         here,
-        all-flat_map (λ c. IsInner m all c × AllByRecursion (IsIn all) (parts_from m n c)) (Stands m all) (parts_from m n) cs (λ c both. stand-from n c (inr both.0) both.1)
+        all-flat_map (λ c. IsInner m all c × AllByRecursion (IsIn all) (parts_from m n c)) (IsRootOrInner m all) (parts_from m n) cs (λ c both. stand-from n c (inr both.0) both.1)
             (all-both (IsInner m all) (λ c. AllByRecursion (IsIn all) (parts_from m n c)) cs (inner-parts p there.0) (all-each (IsIn all) (parts_from m n) cs there.1)),
       )
 
 -- each part is a root, or is in another one
-all-stand : (m : Metamodel) → NamesAreApart m → (d : Data) → AllByRecursion (Stands m (parts m d)) (parts m d)
+all-stand : (m : Metamodel) → NamesAreApart m → (d : Data) → AllByRecursion (IsRootOrInner m (parts m d)) (parts m d)
 unfolding parts
 all-stand m names d =
     let all = parts m d in
-    all-flat_map (λ p. IsRoot p × AllByRecursion (IsIn all) (parts_from m (depth d) p)) (Stands m all) (parts_from m (depth d)) (root_parts d) (λ p both. stand-from m all (depth d) p (inl both.0) both.1)
+    all-flat_map (λ p. IsRoot p × AllByRecursion (IsIn all) (parts_from m (depth d) p)) (IsRootOrInner m all) (parts_from m (depth d)) (root_parts d) (λ p both. stand-from m all (depth d) p (inl both.0) both.1)
     (all-both IsRoot (λ p. AllByRecursion (IsIn all) (parts_from m (depth d) p)) (root_parts d) (roots-are m names d) (all-each (IsIn all) (parts_from m (depth d)) (root_parts d) (all-in all)))
 
 ---------------------------------------------------------------- objects and their classes
@@ -194,12 +194,12 @@ module _ (m : Metamodel) (names : NamesAreApart m) (d : Data) (good : IsShapely 
       let contains = contains-kind m f v.0 v.0.kind plain (sym (ap (λ (x : Shape). is_feature f x.containing) (shape-is m f v.0 v.1)) ∙ i.contains) in
       value-object m (shape m f).is_single v.0.kind q.json contains v.2
 
-  part-written : (k : ℕ) (q : Part) → slice_get (parts m d) k ≡ Some q → is_some (written q.json) ≡ true
-  part-written k q here =
+  part-written_object : (k : ℕ) (q : Part) → slice_get (parts m d) k ≡ Some q → is_some (written_object q.json) ≡ true
+  part-written_object k q here =
       let level = length q.path.steps in
       let fine = all-at (λ p. is_misshapen p ≡ false) (parts m d) k q (all-none is_misshapen (parts m d) good.layout) here in
-      shaped (is_some (written q.json)) ((suc level == 1) || is_some (as_object q.json)) fine
-      (elim (all-at (Stands m (parts m d)) (parts m d) k q (all-stand m names d) here) [
+      shaped (is_some (written_object q.json)) ((suc level == 1) || is_some (as_object q.json)) fine
+      (elim (all-at (IsRootOrInner m (parts m d)) (parts m d) k q (all-stand m names d) here) [
         | inl root ↦ ap (λ (p : Path). (suc (length p.steps) == 1) || is_some (as_object q.json)) root.1
         | inr inner ↦ or_right (suc level == 1) (is_some (as_object q.json)) (inner-object q inner)
       ])
@@ -207,8 +207,8 @@ module _ (m : Metamodel) (names : NamesAreApart m) (d : Data) (good : IsShapely 
   -- each part is an object of a concrete class
   pub part-class : (k : ℕ) (q : Part) → slice_get (parts m d) k ≡ Some q → (c : ClassNo) × (class_of m q.json ≡ Some c) × (lookups.is_concrete m c ≡ true)
   part-class k q here =
-      class-there m (written q.json) (part-written k q here)
-      (all-at (λ p. option_map_or (has_no_class m) (written p.json) false ≡ false) (parts m d) k q (all-none (λ p. option_map_or (has_no_class m) (written p.json) false) (parts m d) good.classes) here)
+      class-there m (written_object q.json) (part-written_object k q here)
+      (all-at (λ p. option_map_or (has_no_class m) (written_object p.json) false ≡ false) (parts m d) k q (all-none (λ p. option_map_or (has_no_class m) (written_object p.json) false) (parts m d) good.classes) here)
 
   -- the part that is found by a step to a containment reference conforms to the reference's target
   pub contained-conforms : (k i n position : ℕ) (p : Part) (e : Entry) (g : Feature) (target : ClassNo) (opposite : Option FeatureNo) → slice_get (parts m d) k ≡ Some p → slice_get (entries m p.json) i ≡ Some e
@@ -218,7 +218,7 @@ module _ (m : Metamodel) (names : NamesAreApart m) (d : Data) (good : IsShapely 
       let step = step_to m e.feature position in
       let q = number-at (parts m d) (with_step p.path step) n number in
       let class = part-class n q.0 q.1 in
-      elim (all-at (Stands m (parts m d)) (parts m d) n q.0 (all-stand m names d) q.1) [
+      elim (all-at (IsRootOrInner m (parts m d)) (parts m d) n q.0 (all-stand m names d) q.1) [
         | inl root ↦ absurd (not-root root.0 p.path step (sym root.1 ∙ q.2))
         | inr inner ↦
             let same = step-same p.path inner.whole.path step (step_to m inner.entry.feature inner.position) (sym q.2 ∙ inner.path) in

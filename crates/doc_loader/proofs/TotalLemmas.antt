@@ -26,7 +26,7 @@ use Rattle.resource_docs.specs.declared.doc.Content.{Content}
 use Rattle.resource_docs.specs.declared.doc.Doc.{Doc}
 use Rattle.resource_docs.specs.declared.doc.DocObject.{DocObject}
 use Rattle.doc_loader.specs.LoadEdits.{near_edits, put_at, root_puts, value_puts}
-use Rattle.doc_loader.specs.Loading.{loaded, object_end, of_contents, roots_loaded}
+use Rattle.doc_loader.specs.Loading.{loaded_number, object_end, of_contents, roots_loaded}
 use Rattle.doc_loader.specs.Pairs.{is_near, lower_of}
 use Rattle.doc_loader.proofs.GainLemmas.{gains}
 use Rattle.doc_loader.proofs.GatherLemmas.{gathered, gathered-none, gathered-one}
@@ -68,8 +68,8 @@ module _ (m : Metamodel) (n : ℕ) (e d : End) where
   values-own true is not_far reference i [] sorts = refl
   values-own false is not_far reference i [] sorts = refl
   values-own t is not_far reference i (value.Object b ∷ vs) sorts =
-      let none = not_far (loaded n b) in
-      (λ j. (cond (is j) (value.Object (loaded n b) ∷ []) (cond (none j) (node_value e.node ∷ []) [])) ++ values-own t is not_far reference (i + 1) vs sorts.1 j) ∙ step t (value.Object (loaded n b)) vs
+      let none = not_far (loaded_number n b) in
+      (λ j. (cond (is j) (value.Object (loaded_number n b) ∷ []) (cond (none j) (node_value e.node ∷ []) [])) ++ values-own t is not_far reference (i + 1) vs sorts.1 j) ∙ step t (value.Object (loaded_number n b)) vs
     where
       step : (t : Bool) (w : Value) (vs : List Value) → cond t (w ∷ []) [] ++ cond t (loaded_values n vs) [] ≡ cond t (w ∷ loaded_values n vs) []
       step t w vs = step-cond t w (loaded_values n vs)
@@ -83,11 +83,11 @@ module _ (m : Metamodel) (n : ℕ) (e d : End) where
   values-own t is not_far reference i (value.Adapter x ∷ vs) sorts = absurd (true≢false (sym reference ∙ sorts.0))
 
   -- the end of an object under the opposite gains the node for each value that is the object
-  values-far : same_end e d ≡ false → (b : ObjectNo) → ((o : ObjectNo) → is_far (loaded n o) (shape m e.feature).opposite d ≡ same_value (value.Object b) (value.Object o))
+  values-far : same_end e d ≡ false → (b : ObjectNo) → ((o : ObjectNo) → is_far (loaded_number n o) (shape m e.feature).opposite d ≡ same_value (value.Object b) (value.Object o))
       → (i : ℕ) (vs : List Value) → gained i vs ≡ flat_map (λ v. cond (same_value (value.Object b) v) (node_value e.node ∷ []) []) vs
   unfolding gained
   values-far other b far i [] = refl
-  values-far other b far i (value.Object o ∷ vs) = let is = far o in λ j. (cond (other j) (value.Object (loaded n o) ∷ []) (cond (is j) (node_value e.node ∷ []) [])) ++ values-far other b far (i + 1) vs j
+  values-far other b far i (value.Object o ∷ vs) = let is = far o in λ j. (cond (other j) (value.Object (loaded_number n o) ∷ []) (cond (is j) (node_value e.node ∷ []) [])) ++ values-far other b far (i + 1) vs j
   values-far other b far i (value.Proxy p ∷ vs) = λ j. (cond (other j) (value.Proxy p ∷ []) []) ++ values-far other b far (i + 1) vs j
   values-far other b far i (value.Null ∷ vs) = values-far other b far (i + 1) vs
   values-far other b far i (value.Bool x ∷ vs) = values-far other b far (i + 1) vs
@@ -97,10 +97,10 @@ module _ (m : Metamodel) (n : ℕ) (e d : End) where
   values-far other b far i (value.Adapter x ∷ vs) = values-far other b far (i + 1) vs
 
   -- another end gains nothing
-  values-none : same_end e d ≡ false → ((o : ObjectNo) → is_far (loaded n o) (shape m e.feature).opposite d ≡ false) → (i : ℕ) (vs : List Value) → gained i vs ≡ []
+  values-none : same_end e d ≡ false → ((o : ObjectNo) → is_far (loaded_number n o) (shape m e.feature).opposite d ≡ false) → (i : ℕ) (vs : List Value) → gained i vs ≡ []
   unfolding gained
   values-none other far i [] = refl
-  values-none other far i (value.Object o ∷ vs) = let is = far o in λ j. (cond (other j) (value.Object (loaded n o) ∷ []) (cond (is j) (node_value e.node ∷ []) [])) ++ values-none other far (i + 1) vs j
+  values-none other far i (value.Object o ∷ vs) = let is = far o in λ j. (cond (other j) (value.Object (loaded_number n o) ∷ []) (cond (is j) (node_value e.node ∷ []) [])) ++ values-none other far (i + 1) vs j
   values-none other far i (value.Proxy p ∷ vs) = λ j. (cond (other j) (value.Proxy p ∷ []) []) ++ values-none other far (i + 1) vs j
   values-none other far i (value.Null ∷ vs) = values-none other far (i + 1) vs
   values-none other far i (value.Bool x ∷ vs) = values-none other far (i + 1) vs
@@ -155,30 +155,30 @@ module _ (m : Metamodel) (n : ℕ) (doc : Doc) (sound : IsSound m doc) where
       ] refl
 
   content-far : (b : ObjectNo) (g f : FeatureNo) → IsFarSide m g f → (o : ObjectNo) (c : Content) → IsSoundContent m doc o c
-      → gain_of (object_end n b g) o c ≡ cond (same_feature f c.feature) (cond (list_any (same_value (value.Object b)) c.values) (value.Object (loaded n o) ∷ []) []) []
+      → gain_of (object_end n b g) o c ≡ cond (same_feature f c.feature) (cond (list_any (same_value (value.Object b)) c.values) (value.Object (loaded_number n o) ∷ []) []) []
   unfolding gained
   content-far b g f side o c s =
       let d = object_end n b g in
       let e = object_end n o c.feature in
-      elim (is_near (shape m c.feature) c.feature) as (λ t. is_near (shape m c.feature) c.feature ≡ t → put_values (object_end n b g) o c t ≡ cond (same_feature f c.feature) (cond (list_any (same_value (value.Object b)) c.values) (value.Object (loaded n o) ∷ []) []) []) [
+      elim (is_near (shape m c.feature) c.feature) as (λ t. is_near (shape m c.feature) c.feature ≡ t → put_values (object_end n b g) o c t ≡ cond (same_feature f c.feature) (cond (list_any (same_value (value.Object b)) c.values) (value.Object (loaded_number n o) ∷ []) []) []) [
         | true ↦ λ near.
             let reference = (and_parts (shape m c.feature).is_reference (not (is_some (lower_of (shape m c.feature) c.feature))) near).0 in
             let apart : c.feature ≢ g = λ q. side.other (subst (λ (x : FeatureNo). IsPlainFeature m x) q s.plain) (subst (λ (x : FeatureNo). is_near (shape m x) x ≡ true) q near) in
             let other = ne-same_end e d (λ q. apart (ap (λ (x : End). x.feature) q)) in
-            elim (same_feature f c.feature) as (λ t. same_feature f c.feature ≡ t → gained m n e d 0 c.values ≡ cond t (cond (list_any (same_value (value.Object b)) c.values) (value.Object (loaded n o) ∷ []) []) []) [
+            elim (same_feature f c.feature) as (λ t. same_feature f c.feature ≡ t → gained m n e d 0 c.values ≡ cond t (cond (list_any (same_value (value.Object b)) c.values) (value.Object (loaded_number n o) ∷ []) []) []) [
               | true ↦ λ q.
                   let pair : (shape m c.feature).opposite ≡ Some g = subst (λ (x : FeatureNo). (shape m x).opposite ≡ Some g) (numbered_alike f c.feature (eqb-true f.0 c.feature.0 q)) side.back in
-                  values-far m n e d other b (λ x. ap (λ (h : Option FeatureNo). is_far (loaded n x) h d) pair ∙ far-object x b g) 0 c.values
-                  ∙ once-any (value.Object b) (value.Object (loaded n o)) c.values (s.distinct reference)
-              | false ↦ λ q. values-none m n e d other (λ x. not-far (loaded n x) (shape m c.feature).opposite d (λ pair.
+                  values-far m n e d other b (λ x. ap (λ (h : Option FeatureNo). is_far (loaded_number n x) h d) pair ∙ far-object x b g) 0 c.values
+                  ∙ once-any (value.Object b) (value.Object (loaded_number n o)) c.values (s.distinct reference)
+              | false ↦ λ q. values-none m n e d other (λ x. not-far (loaded_number n x) (shape m c.feature).opposite d (λ pair.
                   true≢false (sym (eq-eqb f.0 c.feature.0 (ap (λ (y : FeatureNo). y.0) (same_Some f c.feature (sym side.pair ∙ sound.kinds.inverse c.feature g pair)))) ∙ q))) 0 c.values
             ] refl
         | false ↦ λ near. (
             let other = false_from_ne_true (same_feature f c.feature) (λ q. true≢false (sym (subst (λ (x : FeatureNo). is_near (shape m x) x ≡ true) (numbered_alike f c.feature (eqb-true f.0 c.feature.0 q)) side.near) ∙ near)) in
-            ap (λ (t : Bool). cond t (cond (list_any (same_value (value.Object b)) c.values) (value.Object (loaded n o) ∷ []) []) []) (sym other))
+            ap (λ (t : Bool). cond t (cond (list_any (same_value (value.Object b)) c.values) (value.Object (loaded_number n o) ∷ []) []) []) (sym other))
       ] refl
     where
-      far-object : (x b : ObjectNo) (g : FeatureNo) → same_end (far_end (loaded n x) g) (object_end n b g) ≡ nat_eq b.0 x.0
+      far-object : (x b : ObjectNo) (g : FeatureNo) → same_end (far_end (loaded_number n x) g) (object_end n b g) ≡ nat_eq b.0 x.0
       far-object x b g =
           let self = eq-eqb g.0 g.0 refl in
           (λ i. add-eq n x.0 b.0 i && self i) ∙ and-true (nat_eq x.0 b.0) ∙ nat_eq-turned x.0 b.0
@@ -202,9 +202,9 @@ module _ (m : Metamodel) (n : ℕ) (doc : Doc) (sound : IsSound m doc) where
         | false ↦ λ near. refl
       ] refl
     where
-      far-none : (b : ObjectNo) (h : Option FeatureNo) → (shape m c.feature).opposite ≡ h → is_far (loaded n b) h d ≡ false
+      far-none : (b : ObjectNo) (h : Option FeatureNo) → (shape m c.feature).opposite ≡ h → is_far (loaded_number n b) h d ≡ false
       far-none b None pair = refl
-      far-none b (Some g) pair = ne-same_end (far_end (loaded n b) g) d (outside b g (opposite-reference m g c.feature (sound.kinds.inverse c.feature g pair)))
+      far-none b (Some g) pair = ne-same_end (far_end (loaded_number n b) g) d (outside b g (opposite-reference m g c.feature (sound.kinds.inverse c.feature g pair)))
 
   ---------------------------------------------------------------- all objects
 
@@ -229,16 +229,16 @@ module _ (m : Metamodel) (n : ℕ) (k : ResourceNo) where
   contents-far : (o : ObjectNo) (d : End) → is_far o (shape m (lookups.contents m)).opposite d ≡ false
   contents-far o d = ap (λ (a : Shape). is_far o a.opposite d) (contents-shape m)
 
-  roots-own : (i : ℕ) (rs : List ObjectNo) → flat_map (gains (contents_end m k)) (root_list i rs) ≡ map (λ o. value.Object (loaded n o)) rs
+  roots-own : (i : ℕ) (rs : List ObjectNo) → flat_map (gains (contents_end m k)) (root_list i rs) ≡ map (λ o. value.Object (loaded_number n o)) rs
   roots-own i [] = refl
-  roots-own i (o ∷ rs) = let self = same_end-self (contents_end m k) in λ j. (cond (self j) (value.Object (loaded n o) ∷ []) (cond (is_far (loaded n o) (shape m (lookups.contents m)).opposite (contents_end m k)) (value.Null ∷ []) [])) ++ roots-own (i + 1) rs j
+  roots-own i (o ∷ rs) = let self = same_end-self (contents_end m k) in λ j. (cond (self j) (value.Object (loaded_number n o) ∷ []) (cond (is_far (loaded_number n o) (shape m (lookups.contents m)).opposite (contents_end m k)) (value.Null ∷ []) [])) ++ roots-own (i + 1) rs j
 
   roots-none : (d : End) → contents_end m k ≢ d → (i : ℕ) (rs : List ObjectNo) → flat_map (gains d) (root_list i rs) ≡ []
   roots-none d other i [] = refl
   roots-none d other i (o ∷ rs) =
       let ne = ne-same_end (contents_end m k) d other in
-      let far = contents-far (loaded n o) d in
-      λ j. (cond (ne j) (value.Object (loaded n o) ∷ []) (cond (far j) (value.Null ∷ []) [])) ++ roots-none d other (i + 1) rs j
+      let far = contents-far (loaded_number n o) d in
+      λ j. (cond (ne j) (value.Object (loaded_number n o) ∷ []) (cond (far j) (value.Null ∷ []) [])) ++ roots-none d other (i + 1) rs j
 
   pub root-gain-own : (doc : Doc) → flat_map (gains (contents_end m k)) (root_puts m n k doc) ≡ roots_loaded n doc
   root-gain-own doc = roots-own 0 doc.roots

@@ -34,8 +34,8 @@ use Rattle.resource_docs.specs.Read.{values_read}
 use Rattle.resource_docs.specs.Texts.{Base, target}
 use Rattle.resource_docs.specs.Values.{led_to, object_of, value_of}
 use Rattle.resource_docs.specs.declared.doc.Doc.{Doc}
-use Rattle.resource_docs.specs.declared.target.Target.{Target}
-use Rattle.resource_docs.specs.declared.target.Target.TheVariants.{Here, Elsewhere}
+use Rattle.resource_docs.specs.declared.referent.Referent.{Referent}
+use Rattle.resource_docs.specs.declared.referent.Referent.TheVariants.{Here, Elsewhere}
 use Rattle.doc_loader.specs.Typed.{IsTypedValue, class_in}
 use Rattle.doc_loader.proofs.DocLemmas.{if-some}
 use Rattle.doc_loader.proofs.SoundLemmas.{IsSort}
@@ -188,7 +188,7 @@ module _ (m : Metamodel) (b : Base) (ps : List Part) (doc : Doc) (classes : HasC
   here-taken target opposite None kind = tt
   here-taken target opposite (Some n) kind = found-taken target opposite n (slice_get ps n) kind refl
 
-  led-taken : (class : ClassNo) (opposite : Option FeatureNo) (o : Option Target) → g.kind ≡ Reference class false opposite → IfSome (o >>= led_to m ps class) (IsTaken m doc e.feature)
+  led-taken : (class : ClassNo) (opposite : Option FeatureNo) (o : Option Referent) → g.kind ≡ Reference class false opposite → IfSome (o >>= led_to m ps class) (IsTaken m doc e.feature)
   led-taken class opposite None kind = tt
   led-taken class opposite (Some (Here q)) kind = here-taken class opposite (number_of ps q) kind
   led-taken class opposite (Some (Elsewhere t)) kind = tt

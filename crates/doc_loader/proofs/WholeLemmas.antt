@@ -16,7 +16,7 @@ use Rattle.web_uris.specs.Paths.{new_path, new_step, same_path, with_step}
 use Rattle.web_uris.specs.declared.path.Path.{Path}
 use Rattle.web_uris.specs.declared.path.Step.{Step}
 use Rattle.doc_parts.specs.Layout.{Top, top}
-use Rattle.doc_parts.specs.Parts.{Entry, Part, content_at, entries, entries_in, entry_at, known, list_of, new_entry, number_of, parts, parts_from, parts_in, root_parts, step_to, values_of}
+use Rattle.doc_parts.specs.Parts.{Entry, Part, class_and_members, content_at, entries, entries_in, entry_at, list_of, new_entry, number_of, parts, parts_from, parts_in, root_parts, step_to, values_of}
 use Rattle.doc_parts.proofs.WayLemmas.{number_tells, position_cons, same_path_tells}
 use Rattle.doc_loader.proofs.GainLemmas.{got_left, got_mid}
 use Rattle.doc_loader.proofs.PairLemmas.{AllPairs, Apart, all-at, all-every, all-flat_map, all-flat_map_every, all-map, all-more, apart-both, apart-filter_map, apart-flat_map, apart-map, pairs-of}
@@ -126,7 +126,7 @@ entry-feature f None e h = absurd (none-some e h)
 entry-feature f (Some d) e h = ap (λ (x : Entry). x.feature) (sym (same_Some (new_entry f d) e h))
 
 pub entries-apart : (m : Metamodel) → NamesAreApart m → (d : Data) → Apart (HaveOtherNames m) (entries m d)
-entries-apart m names d = by (known m d)
+entries-apart m names d = by (class_and_members m d)
   where
     by : (o : Option (ClassNo × Members)) → Apart (HaveOtherNames m) (option_map_or (λ k. entries_in m k.0 k.1) o [])
     by None = tt

@@ -13,7 +13,7 @@ use Rattle.mm_types.specs.Same.{is_nil}
 use Rattle.mm_types.specs.declared.numbers.ClassNo.{ClassNo}
 use Rattle.mm_types.specs.declared.numbers.FeatureNo.{FeatureNo}
 use Rattle.mm_types.specs.declared.numbers.ObjectNo.{ObjectNo}
-use Rattle.doc_parts.specs.Parts.{Entry, Part, entries, entries_in, entry_at, known, new_entry}
+use Rattle.doc_parts.specs.Parts.{Entry, Part, class_and_members, entries, entries_in, entry_at, new_entry}
 use Rattle.resource_docs.specs.Causes.{of_content}
 use Rattle.resource_docs.specs.Read.{content_read, contents_read, object_read}
 use Rattle.resource_docs.specs.Texts.{Base}
@@ -38,7 +38,7 @@ plain-entry m ms f e h =
     get g = get_member (lookups.feature_name m g) ms
 
 pub plain-entries : (m : Metamodel) (d : Data) → AllByRecursion (λ e. lookups.is_container m e.feature ≡ false) (entries m d)
-plain-entries m d = by (known m d)
+plain-entries m d = by (class_and_members m d)
   where
     by : (o : Option (ClassNo × Members)) → AllByRecursion (λ e. lookups.is_container m e.feature ≡ false) (option_map_or (λ k. entries_in m k.0 k.1) o [])
     by None = tt

@@ -7,20 +7,20 @@ use Rattle.mm_types.specs.declared.numbers.ObjectNo.{ObjectNo}
 use Rattle.mm_types.specs.declared.numbers.ResourceNo.{ResourceNo}
 use Rattle.mm_types.specs.declared.value.Value.TheVariants as value
 use Rattle.links.specs.Links.{Links, end}
-use Rattle.links.specs.Plans.{Lacks, PlanFits, PlanMakesNoCycle, applied}
+use Rattle.links.specs.Plans.{Lacks, PlanFits, PlanMakesNoCycle, links_after_edits}
 use Rattle.resource_docs.specs.declared.doc.Doc.{Doc}
 use Rattle.doc_loader.specs.LoadEdits.{load_edits}
-use Rattle.doc_loader.specs.Loading.{loaded, loaded_links, object_end, with_links}
+use Rattle.doc_loader.specs.Loading.{loaded_links, loaded_number, object_end, with_links}
 use Rattle.models.specs.Reading.{contents_end}
 
 -- no link names a number that the document's objects get, and the resource is empty
 pub record IsRoomFor (m : Metamodel) (n : ℕ) (k : ResourceNo) (s : Links) : Type 0 where
   pub roots : end s (contents_end m k) ≡ []
   pub ends : (o : ObjectNo) (f : FeatureNo) → end s (object_end n o f) ≡ []
-  pub values : (e : End) (o : ObjectNo) → Lacks s e (value.Object (loaded n o))
+  pub values : (e : End) (o : ObjectNo) → Lacks s e (value.Object (loaded_number n o))
 
 -- the edits fit, put no node below itself, and make the links of the document
 pub record MakesLinks (m : Metamodel) (n : ℕ) (k : ResourceNo) (doc : Doc) (s : Links) : Type 0 where
   pub fits : PlanFits s (load_edits m n k doc)
   pub no_cycle : PlanMakesNoCycle s (load_edits m n k doc)
-  pub makes : applied s (load_edits m n k doc) ≡ with_links s (loaded_links m n k doc)
+  pub makes : links_after_edits s (load_edits m n k doc) ≡ with_links s (loaded_links m n k doc)

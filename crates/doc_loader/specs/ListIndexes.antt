@@ -23,14 +23,14 @@ abbrev pub same_reference_key : ReferenceKey → ReferenceKey → Bool
 same_reference_key j k = nat_eq j.object k.object && (nat_eq j.feature k.feature && nat_eq j.named k.named)
 
 -- the key and the index of an object at a position; nothing for another value
-abbrev pub placed : ObjectNo → FeatureNo → ℕ × Value → List (ReferenceKey × ℕ)
-placed o f (i, value.Object b) = (reference_key o f b, i) ∷ []
-placed o f (i, v) = []
+abbrev pub key_and_index : ObjectNo → FeatureNo → ℕ × Value → List (ReferenceKey × ℕ)
+key_and_index o f (i, value.Object b) = (reference_key o f b, i) ∷ []
+key_and_index o f (i, v) = []
 
 -- the keys and indexes of a content; they are needed only for the lower feature of a pair
 abbrev pub content_indexes : Metamodel → ObjectNo → Content → List (ReferenceKey × ℕ)
 content_indexes m o c =
-    if is_lower (shape m c.feature) c.feature then flat_map (placed o c.feature) (enumerate_from 0 c.values) else []
+    if is_lower (shape m c.feature) c.feature then flat_map (key_and_index o c.feature) (enumerate_from 0 c.values) else []
 
 abbrev pub all_indexes : Metamodel → List DocObject → List (ReferenceKey × ℕ)
 all_indexes m os = flat_map (of_object (content_indexes m)) (enumerate_from 0 os)

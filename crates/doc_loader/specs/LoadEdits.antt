@@ -19,7 +19,7 @@ use Rattle.links.specs.declared.plan.Edit.{Edit}
 use Rattle.links.specs.declared.plan.Edit.TheVariants.{Cut, Put, PutProxy}
 use Rattle.resource_docs.specs.declared.doc.Content.{Content}
 use Rattle.resource_docs.specs.declared.doc.Doc.{Doc}
-use Rattle.doc_loader.specs.Loading.{loaded, object_end, of_contents}
+use Rattle.doc_loader.specs.Loading.{loaded_number, object_end, of_contents}
 use Rattle.doc_loader.specs.Pairs.{is_near, lower_of}
 use Rattle.doc_loader.specs.ListIndexes.{reference_key, index_among}
 use Rattle.doc_loader.specs.declared.passes.Pass.{Pass}
@@ -29,7 +29,7 @@ use Rattle.models.specs.Reading.{contents_end}
 
 -- puts an object of the document at a position
 abbrev pub put_at : Metamodel → ℕ → End → ℕ → ObjectNo → Edit
-put_at m n e i b = Put e i (loaded n b) (shape m e.feature).opposite (shape m e.feature).containing
+put_at m n e i b = Put e i (loaded_number n b) (shape m e.feature).opposite (shape m e.feature).containing
 
 abbrev pub root_puts : Metamodel → ℕ → ResourceNo → Doc → List Edit
 root_puts m n k doc = map (λ x. put_at m n (contents_end m k) x.0 x.1) (enumerate_from 0 doc.roots)
@@ -58,7 +58,7 @@ is_ascending_from k (v ∷ vs) = is_ascending_from k vs
 abbrev pub puts_again : Metamodel → ℕ → (ReferenceKey → ℕ) → ObjectNo → FeatureNo → Value → List Edit
 puts_again m n index_of b f (value.Object a) =
     let e = object_end n a f in
-    Cut e (loaded n b) ∷ put_at m n e (index_of (reference_key a f b)) b ∷ []
+    Cut e (loaded_number n b) ∷ put_at m n e (index_of (reference_key a f b)) b ∷ []
 puts_again m n index_of b f v = []
 
 abbrev pub in_order : Metamodel → ℕ → (ReferenceKey → ℕ) → ObjectNo → List Value → FeatureNo → List Edit

@@ -13,11 +13,11 @@ use Rattle.mm_types.specs.declared.numbers.Node.TheVariants as node
 use Rattle.mm_types.specs.declared.end.End.{End}
 use Rattle.mm_types.specs.declared.value.Value.{Value}
 use Rattle.mm_types.specs.declared.value.Value.TheVariants as value
-use Rattle.mm_values.specs.declared.edit.ValueEdit.{ValueEdit}
-use Rattle.mm_values.specs.declared.edit.ValueEdit.TheVariants.{NewObject, PutList}
+use Rattle.mm_values.specs.declared.value_edit.ValueEdit.{ValueEdit}
+use Rattle.mm_values.specs.declared.value_edit.ValueEdit.TheVariants.{NewObject, PutList}
 use Rattle.links.specs.declared.link.Far.TheVariants.{Alone, Proxy}
 use Rattle.links.specs.declared.link.Link.{Link}
-use Rattle.links.specs.Links.{Links, far_end, joined}
+use Rattle.links.specs.Links.{Links, far_end, joined_link}
 use Rattle.models.specs.Reading.{Reading, at_end, contents_end}
 use Rattle.resource_docs.specs.declared.doc.Content.{Content}
 use Rattle.resource_docs.specs.declared.doc.Doc.{Doc}
@@ -25,16 +25,16 @@ use Rattle.resource_docs.specs.declared.doc.DocObject.{DocObject}
 use Rattle.resource_docs.specs.Read.{values_in}
 
 -- the number that an object of a document gets, if the first object gets n
-abbrev pub loaded : ℕ → ObjectNo → ObjectNo
-loaded n o = record { 0 = n + o.0 }
+abbrev pub loaded_number : ℕ → ObjectNo → ObjectNo
+loaded_number n o = record { 0 = n + o.0 }
 
 -- a value of a document, with an object named by the number that it gets
 abbrev pub loaded_value : ℕ → Value → Value
-loaded_value n (value.Object b) = value.Object (loaded n b)
+loaded_value n (value.Object b) = value.Object (loaded_number n b)
 loaded_value n v = v
 
 abbrev pub roots_loaded : ℕ → Doc → List Value
-roots_loaded n doc = map (λ o. value.Object (loaded n o)) doc.roots
+roots_loaded n doc = map (λ o. value.Object (loaded_number n o)) doc.roots
 
 -- the results of `make` for each content of an object, which has a number in its document
 abbrev pub of_object : {X : Type 0} → (ObjectNo → Content → List X) → ℕ × DocObject → List X
@@ -50,7 +50,7 @@ of_contents make doc = flat_map (of_object make) (enumerate_from 0 doc.objects)
 abbrev pub attribute_edits : Metamodel → ℕ → ObjectNo → Content → List ValueEdit
 attribute_edits m n o c =
     let a = shape m c.feature in
-    if a.is_reference then [] else PutList (loaded n o) c.feature c.values (a.is_unsettable && a.is_single) ∷ []
+    if a.is_reference then [] else PutList (loaded_number n o) c.feature c.values (a.is_unsettable && a.is_single) ∷ []
 
 abbrev pub loaded_values : Metamodel → ℕ → Doc → List ValueEdit
 loaded_values m n doc = map (λ o. NewObject o.class) doc.objects ++ of_contents (attribute_edits m n) doc
@@ -59,7 +59,7 @@ loaded_values m n doc = map (λ o. NewObject o.class) doc.objects ++ of_contents
 
 -- the end of an object of the document
 abbrev pub object_end : ℕ → ObjectNo → FeatureNo → End
-object_end n o f = at_end (node.Object (loaded n o)) f
+object_end n o f = at_end (node.Object (loaded_number n o)) f
 
 abbrev pub is_empty_resource : Reading → ResourceNo → Bool
 is_empty_resource r k = is_nil (r.values (contents_end r.metamodel k))
@@ -71,9 +71,9 @@ far_index a doc o f b g = if is_feature f a.containing then 0 else unwrap_or (po
 
 -- the link between index i of feature f, of the document's object o, and the document's object b
 abbrev pub link_to : Metamodel → ℕ → Doc → ObjectNo → FeatureNo → ℕ → ObjectNo → Option FeatureNo → Link
-link_to m n doc o f i b None = record { end = object_end n o f; index = i; far = Alone (loaded n b); container = (shape m f).containing }
+link_to m n doc o f i b None = record { end = object_end n o f; index = i; far = Alone (loaded_number n b); container = (shape m f).containing }
 link_to m n doc o f i b (Some g) =
-    joined (object_end n o f) i (far_end (loaded n b) g) (far_index (shape m f) doc o f b g) (shape m f).containing
+    joined_link (object_end n o f) i (far_end (loaded_number n b) g) (far_index (shape m f) doc o f b g) (shape m f).containing
 
 -- the link, or the proxy, of a value at a position; both ends of a pair give the same link
 abbrev pub link_of : Metamodel → ℕ → Doc → ObjectNo → FeatureNo → ℕ × Value → Option Link
@@ -87,7 +87,7 @@ content_links m n doc o c = filter_map (link_of m n doc o c.feature) (enumerate_
 abbrev pub root_link : Metamodel → ℕ → ResourceNo → ℕ × ObjectNo → Link
 root_link m n k x =
     let e = contents_end m k in
-    record { end = e; index = x.0; far = Alone (loaded n x.1); container = (shape m e.feature).containing }
+    record { end = e; index = x.0; far = Alone (loaded_number n x.1); container = (shape m e.feature).containing }
 
 abbrev pub loaded_links : Metamodel → ℕ → ResourceNo → Doc → List Link
 loaded_links m n k doc = map (root_link m n k) (enumerate_from 0 doc.roots) ++ of_contents (content_links m n doc) doc

@@ -20,7 +20,7 @@ use std::alloc::{AllocError, Global};
 /// The data from which the edits are made: the metamodel, the number that the document's first object gets, and the index of each object in
 /// the document's lists.
 #[derive(Clone, Copy)]
-struct Source<'r> {
+struct LoadContext<'r> {
     meta: &'r Meta,
     next: usize,
     indexes: &'r ListIndexes,
@@ -79,7 +79,7 @@ pub(crate) fn push_in_order(
         return Ok(());
     }
     let indexes = ListIndexes::of(alloc, meta, objects)?;
-    let source = Source {
+    let source = LoadContext {
         meta,
         next,
         indexes: &indexes,
@@ -89,7 +89,7 @@ pub(crate) fn push_in_order(
 
 /// Adds the edits that put objects' ends in order.
 fn push_objects(
-    source: &Source,
+    source: &LoadContext,
     objects: &[DocObject],
     edits: &mut Vec<Edit>,
 ) -> Result<(), AllocError>
@@ -106,7 +106,7 @@ fn push_objects(
 
 /// Adds the edits that put an object's ends in order.
 fn push_object(
-    source: &Source,
+    source: &LoadContext,
     object: ObjectNo,
     contents: &[Content],
     edits: &mut Vec<Edit>,
@@ -123,7 +123,7 @@ fn push_object(
 
 /// Adds the edits that put an object's end of a feature in order, if the feature is the higher of a pair and the end is not in order.
 fn push_content(
-    source: &Source,
+    source: &LoadContext,
     object: ObjectNo,
     content: &Content,
     edits: &mut Vec<Edit>,
@@ -144,7 +144,7 @@ fn push_content(
 
 /// Adds the edits that take an object out of the ends of values and put it there again.
 fn push_values(
-    source: &Source,
+    source: &LoadContext,
     object: ObjectNo,
     lower: FeatureNo,
     values: &[Value],
@@ -162,7 +162,7 @@ fn push_values(
 
 /// Adds the edits that take an object out of the end of a value and put it there again.
 fn push_again(
-    source: &Source,
+    source: &LoadContext,
     object: ObjectNo,
     lower: FeatureNo,
     value: &Value,

@@ -109,7 +109,7 @@ impl ListIndexes {
         values: &[Value],
     ) -> Result<(), AllocError>
         requires short { length values.now ≤ LIST_VALUES }
-        ensures { OnOk result ((k : ReferenceKey) → p.index_at self.new k ≡ option_or (p.last_index (flat_map (p.placed object feature) (enumerate_from 0 values.now)) k) (p.index_at self.old k)) }
+        ensures { OnOk result ((k : ReferenceKey) → p.index_at self.new k ≡ option_or (p.last_index (flat_map (p.key_and_index object feature) (enumerate_from 0 values.now)) k) (p.index_at self.old k)) }
     {
         'values: for (i, value) in values.iter().enumerate() {
             self.add_value(object, feature, i as u32, value)?;
@@ -125,7 +125,7 @@ impl ListIndexes {
         index: u32,
         value: &Value,
     ) -> Result<(), AllocError>
-        ensures { OnOk result ((k : ReferenceKey) → p.index_at self.new k ≡ option_or (p.last_index (p.placed object feature (index, value.now)) k) (p.index_at self.old k)) }
+        ensures { OnOk result ((k : ReferenceKey) → p.index_at self.new k ≡ option_or (p.last_index (p.key_and_index object feature (index, value.now)) k) (p.index_at self.old k)) }
     {
         match value {
             Value::Object(named) => self.insert(ReferenceKey::of(object, feature, *named), index),

@@ -8,7 +8,7 @@ use mm_types::{End, FeatureNo, Node, ObjectNo};
 /// The number that an object of a document gets, if the first one gets `next`. Takes no memory.
 pub fn loaded(next: usize, object: ObjectNo) -> ObjectNo
     requires fits { IsNumbered next object }
-    ensures { result ≡ l.loaded next object }
+    ensures { result ≡ l.loaded_number next object }
 {
     ObjectNo((next + object.0 as usize) as u32)
 }

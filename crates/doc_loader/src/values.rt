@@ -1,8 +1,8 @@
 //! The edits that make a document's objects and their values.
-ghost use Rattle.std.specs.Prelude.{◌≡◌, ◌≤◌, ◌+◌, ◌++◌, IfOk, OnOk, flat_map, length, map};
+ghost use Rattle.std.specs.Prelude.{◌≡◌, ◌≤◌, ◌+◌, ◌++◌, IfOk, OnOk, flat_map, length, map, option_to_list};
 ghost use Rattle.std.specs.List.{enumerate_from};
 ghost use Rattle.mm_types.specs.declared.limits.TheConstants.{OBJECTS};
-ghost use Rattle.mm_values.specs.declared.edit.ValueEdit.TheVariants.{NewObject};
+ghost use Rattle.mm_values.specs.declared.value_edit.ValueEdit.TheVariants.{NewObject};
 ghost use Rattle.doc_loader.specs.Fits.{IsFitting, IsNumbered};
 ghost use Rattle.doc_loader.specs.Loading as l;
 
@@ -10,7 +10,7 @@ use crate::numbers::loaded;
 use mm_meta::Meta;
 use mm_types::ObjectNo;
 use mm_values::{NewValues, ValueEdit};
-use resource_docs::{Content, Doc, DocObject, DocValues};
+use resource_docs::{Content, ContentParts, Contents, Doc, DocObject, DocValues};
 use std::alloc::{AllocError, Global};
 
 /// The edits that make the objects of a document, the first of which gets the number `next`, and give them the values of their
@@ -63,7 +63,7 @@ fn push_lists(
     let mut number = 0;
     'objects: for object in objects {
         let DocObject { contents, .. } = object;
-        push_object(meta, next, ObjectNo(number), contents.into_vec(), edits)?;
+        push_object(meta, next, ObjectNo(number), contents, edits)?;
         number += 1;
     }
     Ok(())
@@ -71,6 +71,43 @@ fn push_lists(
 
 /// Adds the edits that give an object of a document the values of its attributes.
 fn push_object(
+    meta: &Meta,
+    next: usize,
+    object: ObjectNo,
+    contents: Contents,
+    edits: &mut Vec<ValueEdit>,
+) -> Result<(), AllocError>
+    requires fits { IsNumbered next object }
+    ensures { OnOk result (edits.new.items ≡ edits.old.items ++ flat_map (l.attribute_edits meta.now next object) contents) }
+{
+    match contents.into_parts() {
+        ContentParts::Few(first, second) => {
+            push_some(meta, next, object, first, edits)?;
+            push_some(meta, next, object, second, edits)
+        }
+        ContentParts::Many(contents) => push_many(meta, next, object, contents, edits),
+    }
+}
+
+/// Adds the edit for a content, if there is one.
+fn push_some(
+    meta: &Meta,
+    next: usize,
+    object: ObjectNo,
+    content: Option<Content>,
+    edits: &mut Vec<ValueEdit>,
+) -> Result<(), AllocError>
+    requires fits { IsNumbered next object }
+    ensures { OnOk result (edits.new.items ≡ edits.old.items ++ flat_map (l.attribute_edits meta.now next object) (option_to_list content)) }
+{
+    match content {
+        Some(content) => push_list(meta, next, object, content, edits),
+        None => Ok(()),
+    }
+}
+
+/// Adds the edits for a list of contents.
+fn push_many(
     meta: &Meta,
     next: usize,
     object: ObjectNo,

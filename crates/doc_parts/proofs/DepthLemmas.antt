@@ -16,8 +16,8 @@ use Rattle.mm_types.specs.declared.numbers.ClassNo.{ClassNo}
 use Rattle.mm_types.specs.declared.numbers.FeatureNo.{FeatureNo}
 use Rattle.web_uris.specs.Paths.{new_path, with_step}
 use Rattle.web_uris.specs.declared.path.Path.{Path}
-use Rattle.doc_parts.specs.Layout.{Top, Written, new_top, new_written, top, top_fields, written, written_fields}
-use Rattle.doc_parts.specs.Parts.{Entry, Part, content_at, entries, entries_in, entry_at, known, list_of, new_entry, parts, parts_from, parts_in, root_parts, step_to, values_of}
+use Rattle.doc_parts.specs.Layout.{Top, Written, new_top, new_written, top, top_fields, written_fields, written_object}
+use Rattle.doc_parts.specs.Parts.{Entry, Part, class_and_members, content_at, entries, entries_in, entry_at, list_of, new_entry, parts, parts_from, parts_in, root_parts, step_to, values_of}
 
 ---------------------------------------------------------------- what holds of each
 
@@ -103,8 +103,8 @@ not_then true o d is = cc
 not_then false o d is = is
 
 -- the values of an object's features are two levels below it
-features_depth : (d : Data) (w : Written) → written d ≡ Some w → suc (suc (members_depth w.features)) ≤ depth d
-unfolding written
+features_depth : (d : Data) (w : Written) → written_object d ≡ Some w → suc (suc (members_depth w.features)) ≤ depth d
+unfolding written_object
 features_depth d w is =
     option_and_then_some (λ f. option_and_then (λ a. Some (f a)) (required_at (codes "features") as_object d)) _ w (if_some (has_only written_fields.keys d) (written_fields.reading d) w is) (λ f made rest.
     option_and_then_some (λ a. Some (f a)) (required_at (codes "features") as_object d) w rest (λ ms there whole.
@@ -116,9 +116,9 @@ features_depth d w is =
     let same : members_depth w.features ≡ members_depth ms = ap members_depth own in
     omega (arith, deep, more, same)))))
 
-known_depth : (m : Metamodel) (d : Data) (c : ClassNo) (ms : Members) → known m d ≡ Some (c, ms) → suc (suc (members_depth ms)) ≤ depth d
+known_depth : (m : Metamodel) (d : Data) (c : ClassNo) (ms : Members) → class_and_members m d ≡ Some (c, ms) → suc (suc (members_depth ms)) ≤ depth d
 known_depth m d c ms is =
-    option_and_then_some (λ w. option_map (with_class w.features) (lookups.class_by_name m w.class)) (written d) (c, ms) is (λ w there named.
+    option_and_then_some (λ w. option_map (with_class w.features) (lookups.class_by_name m w.class)) (written_object d) (c, ms) is (λ w there named.
     let deep = features_depth d w there in
     let own : w.features ≡ ms = mapped_second (lookups.class_by_name m w.class) w.features (c, ms) named in
     let same : members_depth w.features ≡ members_depth ms = ap members_depth own in
@@ -134,7 +134,7 @@ content_depth m ms f e is =
     let deep = member_depth (lookups.feature_name m f) ms d (not_then (lookups.is_container m f) (get_member (lookups.feature_name m f) ms) d there) in
     omega (arith, same, deep))
 
-entries_below : (m : Metamodel) (d : Data) (o : Option (ClassNo × Members)) → known m d ≡ o → Each (IsBelow (depth d)) (option_map_or (λ k. entries_in m k.0 k.1) o [])
+entries_below : (m : Metamodel) (d : Data) (o : Option (ClassNo × Members)) → class_and_members m d ≡ o → Each (IsBelow (depth d)) (option_map_or (λ k. entries_in m k.0 k.1) o [])
 entries_below m d None is = tt
 entries_below m d (Some (c, ms)) is =
     each-filter_map (IsBelow (depth d)) (entry_at m ms) (unwrap_or (lookups.features m c) [])
@@ -182,7 +182,7 @@ inner : (m : Metamodel) (p : Part) → Each (IsInner (depth p.json)) (flat_map (
 inner m p =
     each-flat_map (IsBelow (depth p.json)) (IsInner (depth p.json)) (parts_in m p.path) (entries m p.json)
     (λ e below. weaker (depth e.content) (depth p.json) (parts_in m p.path e) (omega (arith, below)) (parts_below m p.path e (is_containment m e.feature)))
-    (entries_below m p.json (known m p.json) refl)
+    (entries_below m p.json (class_and_members m p.json) refl)
 
 ---------------------------------------------------------------- levels
 

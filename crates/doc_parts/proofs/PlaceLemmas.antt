@@ -12,6 +12,7 @@ use Rattle.web_uris.specs.Paths.{same_index}
 use Rattle.doc_parts.specs.declared.found.PartKey.{PartKey}
 use Rattle.doc_parts.specs.declared.found.PartKey.TheVariants.{Root, Under}
 use Rattle.doc_parts.specs.Keys.{Key, RootKey, UnderKey, is_at, key_of}
+use Rattle.doc_parts.specs.contracts.found.PartKeyPartialEq.TheImpl.{ghosts}
 
 ---------------------------------------------------------------- keys
 
@@ -30,6 +31,13 @@ is_at_tells (UnderKey n w i) (Under k v j) h =
     let (second, third) = and_parts (bytes_eq w v.now) (same_index i j) rest in
     ap (λ x. UnderKey x w i) ((Decides-eqb n k).0 first) ∙ ap (λ x. UnderKey k x i) ((bytes_eq-Decides w v.now).0 second) ∙ ap (UnderKey k v.now) (same_index_tells i j third)
 
+-- two keys of parts are equal if one is at the other
+pub derived : (p q : PartKey) → ghosts.eq p q ≡ is_at (key_of p) q
+derived (Root i) (Root j) = refl
+derived (Root i) (Under n w j) = refl
+derived (Under n w i) (Root j) = refl
+derived (Under n w i) (Under k v j) = refl
+
 pub lookup_congr : {K V : Type 0} (p q : K → Bool) → ((k : K) → p k ≡ q k) → (es : List (K × V)) → lookup p es ≡ lookup q es
 lookup_congr p q same [] = refl
 lookup_congr p q same (e ∷ es) = ap (λ b. cond b (Some e.1) (lookup p es)) (same e.0) ∙ ap (λ o. cond (q e.0) (Some e.1) o) (lookup_congr p q same es)
@@ -41,6 +49,13 @@ behind false c v w o = refl
 pub lookup_push : {K V : Type 0} (p : K → Bool) (es : List (K × V)) (k : K) (v : V) → lookup p (es ++ (k, v) ∷ []) ≡ option_or (lookup p es) (cond (p k) (Some v) None)
 lookup_push p [] k v = refl
 lookup_push p (e ∷ es) k v = ap (λ o. cond (p e.0) (Some e.1) o) (lookup_push p es k v) ∙ sym (behind (p e.0) (p k) e.1 v (lookup p es))
+
+-- a key that is equal to one with a value has that value
+pub found_by_equal : {V : Type 0} (es : List (PartKey × V)) (p q : PartKey) (v : V) → lookup (ghosts.eq p) es ≡ Some v → ghosts.eq p q ≡ true → lookup (is_at (key_of q)) es ≡ Some v
+found_by_equal es p q v at same =
+    ap (λ k. lookup (is_at k) es) (sym (is_at_tells (key_of p) q (sym (derived p q) ∙ same)))
+    ∙ sym (lookup_congr (ghosts.eq p) (is_at (key_of p)) (derived p) es)
+    ∙ at
 
 ---------------------------------------------------------------- a number that is put in the place of another
 

@@ -1,13 +1,15 @@
 -- The parts that a walk finds, one after another.
 use Rattle.std.proofs.Common.{◌≡◌, ◌∙◌, ◌+◌, ◌<◌, ◌++◌, Bool, true, false, List, [], ◌∷◌, Option, Some, None, ℕ, suc, append_assoc, ap, arith, cond, get_or, length, length-append, map, refl, subst, sym, take}
 use Rattle.std.specs.Prelude.{OnOk, Result, Ok, Err, flat_map, option_map, unwrap_or, if◌then◌else◌}
-use Rattle.std.specs.List.{cons_option, enumerate_from, filter_map}
+use Rattle.std.specs.List.{cons_option, enumerate_from, filter_map, list_any}
 use Rattle.std.specs.Option.{option_map_or, option_or}
+use Rattle.std.proofs.lemmas.Bool.{false≢true, false_from_ne_true, or_left, or_right}
 use Rattle.std.proofs.lemmas.Grind.{flat_map-append}
 use Rattle.std.proofs.lemmas.List.{length-map, length-take-le, map-append, take_more, append-nil}
 use Rattle.serde_json.specs.Data.{Data, Members}
 use Rattle.borrowed_json.specs.View.{view}
 use Rattle.borrowed_json.specs.declared.value.Json.{Json}
+use Rattle.mm_meta.specs.Containments.{has_containment}
 use Rattle.mm_types.specs.Lookups as lookups
 use Rattle.mm_types.specs.Resolved.{Metamodel}
 use Rattle.mm_types.specs.Shapes.{is_containment, shape}
@@ -16,7 +18,7 @@ use Rattle.mm_types.specs.declared.numbers.FeatureNo.{FeatureNo}
 use Rattle.web_uris.specs.Paths.{new_path, new_step, same_path, with_step}
 use Rattle.web_uris.specs.declared.path.Path.{Path}
 use Rattle.doc_parts.specs.FoundParts.{FindsBelow, IsPlaced, Knows, Walks, parts_at, parts_under, roots_from}
-use Rattle.doc_parts.specs.Parts.{Entry, Part, content_at, entries, entries_in, known, level_of, new_entry, number_of, parts_from, parts_in, values_of}
+use Rattle.doc_parts.specs.Parts.{Entry, Part, class_and_members, content_at, entries, entries_in, level_of, new_entry, number_of, parts_from, parts_in, values_of}
 use Rattle.doc_parts.specs.Keys.{Key, RootKey, UnderKey}
 use Rattle.doc_parts.specs.declared.found.FoundParts.{FoundParts}
 use Rattle.doc_parts.proofs.DataLemmas.{entries_of_known}
@@ -129,22 +131,22 @@ entries_parts m path ms (f ∷ fs) =
     entry_parts m path f (content_at m ms f) (filter_map (λ g. option_map (new_entry g) (content_at m ms g)) fs)
     ∙ ap (λ xs. parts_at m path ms f ++ xs) (entries_parts m path ms fs)
 
-known_parts : (m : Metamodel) (path : Path) (d : Data) (c : ClassNo) (ms : Members) (fs : List FeatureNo) → Some (c, ms) ≡ known m d → Some fs ≡ lookups.features m c
+known_parts : (m : Metamodel) (path : Path) (d : Data) (c : ClassNo) (ms : Members) (fs : List FeatureNo) → Some (c, ms) ≡ class_and_members m d → Some fs ≡ lookups.features m c
     → flat_map (parts_at m path ms) fs ≡ flat_map (parts_in m path) (entries m d)
-known_parts m path d c ms fs is features = sym (entries_parts m path ms fs) ∙ ap (flat_map (parts_in m path)) (entries_of_known m (known m d) c ms fs is features)
+known_parts m path d c ms fs is features = sym (entries_parts m path ms fs) ∙ ap (flat_map (parts_in m path)) (entries_of_known m (class_and_members m d) c ms fs is features)
 
 abbrev pub Adds : Metamodel → FoundParts → FoundParts → Key → ℕ → Data → ℕ → Type 0
 Adds m old new k level d part =
     (ps : List Part) (p : Part) → Knows m old ps → IsPlaced ps k p.path → level ≡ level_of p → d ≡ p.json → Knows m new (ps ++ p ∷ []) × (number_of (ps ++ p ∷ []) p.path ≡ Some part)
 
 -- a part is added with its class and its members
-pub added_known : (m : Metamodel) (old new : FoundParts) (k : Key) (level : ℕ) (d : Data) (o : Option (ClassNo × Members)) (part : ℕ) → o ≡ known m d
-    → ((n : Metamodel) (ps : List Part) (p : Part) → Knows n old ps → IsPlaced ps k p.path → level ≡ level_of p → d ≡ p.json → o ≡ known n p.json → Knows n new (ps ++ p ∷ []) × (number_of (ps ++ p ∷ []) p.path ≡ Some part))
+pub added_known : (m : Metamodel) (old new : FoundParts) (k : Key) (level : ℕ) (d : Data) (o : Option (ClassNo × Members)) (part : ℕ) → o ≡ class_and_members m d
+    → ((n : Metamodel) (ps : List Part) (p : Part) → Knows n old ps → IsPlaced ps k p.path → level ≡ level_of p → d ≡ p.json → o ≡ class_and_members n p.json → Knows n new (ps ++ p ∷ []) × (number_of (ps ++ p ∷ []) p.path ≡ Some part))
     → Adds m old new k level d part
-added_known m old new k level d o part is added = λ ps p kn placed lev json. added m ps p kn placed lev json (is ∙ ap (known m) json)
+added_known m old new k level d o part is added = λ ps p kn placed lev json. added m ps p kn placed lev json (is ∙ ap (class_and_members m) json)
 
 pub walked_known : (m : Metamodel) (levels n : ℕ) (a b c : FoundParts) (k : Key) (level below : ℕ) (d : Data) (part : ℕ) (class : ClassNo) (ms : Members) (fs : List FeatureNo) → levels ≡ suc n → Adds m a b k level d part
-    → below ≡ suc level → Some (class, ms) ≡ known m d → Some fs ≡ lookups.features m class
+    → below ≡ suc level → Some (class, ms) ≡ class_and_members m d → Some fs ≡ lookups.features m class
     → FindsBelow m b c part below (λ path. flat_map (parts_from m n) (flat_map (parts_at m path ms) fs)) → Walks m levels a c k level d
 walked_known m levels n a b c k level below d part class ms fs count added next is features more = λ ps p kn placed lev json.
     let (kn2, num) = added ps p kn placed lev json in
@@ -163,10 +165,31 @@ walked_nothing m levels n a b k level d part count added none = λ ps p kn place
     ∙ ap (λ l. ps ++ parts_from m l p) (sym count))
     kn2
 
-pub no_class_entries : (m : Metamodel) (d : Data) → None ≡ known m d → entries m d ≡ []
+class_parts : (m : Metamodel) (path : Path) (d : Data) (c : ClassNo) (ms : Members) → Some (c, ms) ≡ class_and_members m d → flat_map (parts_at m path ms) (unwrap_or (lookups.features m c) []) ≡ flat_map (parts_in m path) (entries m d)
+class_parts m path d c ms is =
+    sym (entries_parts m path ms (unwrap_or (lookups.features m c) [])) ∙ ap (λ o. flat_map (parts_in m path) (option_map_or (λ k. entries_in m k.0 k.1) o [])) is
+
+-- an object whose class has no containment has no parts
+no_parts_of : (m : Metamodel) (ms : Members) (path : Path) (fs : List FeatureNo) → list_any (is_containment m) fs ≡ false → flat_map (parts_at m path ms) fs ≡ []
+no_parts_of m ms path [] plain = refl
+no_parts_of m ms path (f ∷ fs) plain =
+    let here = false_from_ne_true (is_containment m f) (λ q. false≢true (sym plain ∙ or_left (is_containment m f) (list_any (is_containment m) fs) q)) in
+    let later = false_from_ne_true (list_any (is_containment m) fs) (λ q. false≢true (sym plain ∙ or_right (is_containment m f) (list_any (is_containment m) fs) q)) in
+    ap (λ xs. xs ++ flat_map (parts_at m path ms) fs) (no_parts_at m ms f path here) ∙ no_parts_of m ms path fs later
+
+pub walked_childless : (m : Metamodel) (levels n : ℕ) (a b : FoundParts) (k : Key) (level : ℕ) (d : Data) (part : ℕ) (class : ClassNo) (ms : Members) → levels ≡ suc n → Adds m a b k level d part
+    → Some (class, ms) ≡ class_and_members m d → has_containment m class ≡ false → Walks m levels a b k level d
+walked_childless m levels n a b k level d part class ms count added is plain = λ ps p kn placed lev json.
+    let (kn2, num) = added ps p kn placed lev json in
+    subst (Knows m b)
+    (ap (λ xs. ps ++ p ∷ flat_map (parts_from m n) xs) (sym (no_parts_of m ms p.path (unwrap_or (lookups.features m class) []) plain) ∙ class_parts m p.path d class ms is ∙ ap (λ x. flat_map (parts_in m p.path) (entries m x)) json)
+    ∙ ap (λ l. ps ++ parts_from m l p) (sym count))
+    kn2
+
+pub no_class_entries : (m : Metamodel) (d : Data) → None ≡ class_and_members m d → entries m d ≡ []
 no_class_entries m d none = sym (ap (λ o. option_map_or (λ k. entries_in m k.0 k.1) o []) none)
 
-pub no_feature_entries : (m : Metamodel) (d : Data) (c : ClassNo) (ms : Members) → Some (c, ms) ≡ known m d → None ≡ lookups.features m c → entries m d ≡ []
+pub no_feature_entries : (m : Metamodel) (d : Data) (c : ClassNo) (ms : Members) → Some (c, ms) ≡ class_and_members m d → None ≡ lookups.features m c → entries m d ≡ []
 no_feature_entries m d c ms is none =
     sym (ap (λ o. option_map_or (λ k. entries_in m k.0 k.1) o []) is)
     ∙ sym (ap (λ o. filter_map (λ f. option_map (new_entry f) (content_at m ms f)) (unwrap_or o [])) none)

@@ -10,14 +10,14 @@ use Rattle.mm_types.specs.Resolved.{Metamodel}
 use Rattle.mm_types.specs.Shapes.{is_bounded, shape}
 use Rattle.mm_types.specs.declared.limits.TheConstants.{LEVELS}
 use Rattle.mm_types.specs.declared.numbers.ClassNo.{ClassNo}
-use Rattle.doc_parts.specs.Layout.{Written, written}
+use Rattle.doc_parts.specs.Layout.{Written, written_object}
 use Rattle.doc_parts.specs.Parts.{Entry, Part, entries, level_of, values_of}
 
 ---------------------------------------------------------------- of which parts
 
 -- whether some object among the parts has a property; and `of_entry`, whether the content of some feature has it
 abbrev pub of_written : (Written → Bool) → List Part → Bool
-of_written holds ps = list_any (λ p. option_map_or holds (written p.json) false) ps
+of_written holds ps = list_any (λ p. option_map_or holds (written_object p.json) false) ps
 
 abbrev pub of_entry : Metamodel → (Entry → Bool) → List Part → Bool
 of_entry m holds ps = list_any (λ p. list_any holds (entries m p.json)) ps
@@ -26,7 +26,7 @@ of_entry m holds ps = list_any (λ p. list_any holds (entries m p.json)) ps
 
 -- whether data at a level lacks the layout of an object; below the roots only JSON objects are tested
 abbrev pub is_misshapen_at : ℕ → Data → Bool
-is_misshapen_at level d = not (is_some (written d)) && (level == 1 || is_some (as_object d))
+is_misshapen_at level d = not (is_some (written_object d)) && (level == 1 || is_some (as_object d))
 
 abbrev pub is_misshapen : Part → Bool
 is_misshapen p = is_misshapen_at (level_of p) p.json

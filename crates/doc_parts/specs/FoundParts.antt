@@ -3,7 +3,7 @@ use Rattle.std.specs.Prelude.{◌≡◌, ◌≤◌, ◌&&◌, ◌++◌, ℕ, suc
 use Rattle.std.specs.List.{enumerate_from, list_all}
 use Rattle.std.specs.Option.{option_map_or}
 use Rattle.serde_json.specs.Data.{Data, Members}
-use Rattle.borrowed_json.specs.View.{view}
+use Rattle.borrowed_json.specs.View.{members_view, view}
 use Rattle.json_fields.specs.Fields.{keys_of}
 use Rattle.mm_types.specs.Lookups as lookups
 use Rattle.mm_types.specs.Resolved.{Metamodel}
@@ -12,8 +12,8 @@ use Rattle.mm_types.specs.declared.numbers.FeatureNo.{FeatureNo}
 use Rattle.web_uris.specs.Paths.{new_path, new_step, with_step}
 use Rattle.web_uris.specs.declared.path.Path.{Path}
 use Rattle.doc_parts.specs.Faults.{is_misshapen_at, is_readable}
-use Rattle.doc_parts.specs.Layout.{features_of, written}
-use Rattle.doc_parts.specs.Parts.{Part, content_at, known, level_of, new_entry, number_of, parts_from, parts_in}
+use Rattle.doc_parts.specs.Layout.{written_object}
+use Rattle.doc_parts.specs.Parts.{Part, class_and_members, content_at, level_of, new_entry, number_of, parts_from, parts_in}
 use Rattle.doc_parts.specs.Keys.{Key, RootKey, UnderKey, number_at, way_of}
 use Rattle.doc_parts.specs.declared.found.FoundParts.{FoundParts}
 use Rattle.doc_parts.specs.declared.found.Numbers.{Numbers}
@@ -36,21 +36,21 @@ pub record Seen : Type 0 where
   pub number : Option ℕ
 
 -- a part as it was found among parts; its number is the number of the first part of its path
-abbrev pub seen : Metamodel → List Part → Part → Seen
-seen m ps p = record { level = level_of p; json = p.json; known = known m p.json; number = number_of ps p.path }
+abbrev pub seen_part : Metamodel → List Part → Part → Seen
+seen_part m ps p = record { level = level_of p; json = p.json; known = class_and_members m p.json; number = number_of ps p.path }
 
 abbrev pub part_seen : FoundPart → Seen
 part_seen r =
     record {
       level = r.level;
       json = view r.json.now;
-      known = option_map (λ c. (c, features_of (view r.json.now))) r.class;
+      known = option_map (λ k. (k.0, members_view k.1.now)) r.known;
       number = Some r.number;
     }
 
 -- the found parts are these parts, as a metamodel reads them
 pub record Knows (m : Metamodel) (f : FoundParts) (ps : List Part) : Type 0 where
-  pub parts : map part_seen f.parts.items ≡ map (seen m ps) ps
+  pub parts : map part_seen f.parts.items ≡ map (seen_part m ps) ps
   pub finds : Finds f.numbers ps
 
 ---------------------------------------------------------------- tests of a part, by what was seen of it
@@ -60,7 +60,7 @@ looks_misshapen s = not (is_some s.known) && is_misshapen_at s.level s.json
 
 -- whether a part is an object whose class is unknown or abstract
 abbrev pub lacks_class : Metamodel → Seen → Bool
-lacks_class m s = option_map_or (λ k. not (lookups.is_concrete m k.0)) s.known (is_some (written s.json))
+lacks_class m s = option_map_or (λ k. not (lookups.is_concrete m k.0)) s.known (is_some (written_object s.json))
 
 abbrev pub has_other_member : Metamodel → Seen → Bool
 has_other_member m s = option_map_or (λ k. not (list_all (is_readable m k.0) (keys_of k.1))) s.known false

@@ -14,7 +14,7 @@ use Rattle.mm_types.specs.declared.numbers.FeatureNo.{FeatureNo}
 use Rattle.web_uris.specs.Paths.{new_path, new_step, same_path, with_step}
 use Rattle.web_uris.specs.declared.path.Path.{Path}
 use Rattle.web_uris.specs.declared.path.Step.{Step}
-use Rattle.doc_parts.specs.Layout.{top, written}
+use Rattle.doc_parts.specs.Layout.{top, written_object}
 
 abbrev pub list_of : Items → List Data
 list_of no_items = []
@@ -24,7 +24,7 @@ list_of (item d ds) = d ∷ list_of ds
 
 -- the class that an object names
 abbrev pub class_of : Metamodel → Data → Option ClassNo
-class_of m d = written d >>= (λ w. lookups.class_by_name m w.class)
+class_of m d = written_object d >>= (λ w. lookups.class_by_name m w.class)
 
 -- the value that is written under a feature
 pub record Entry : Type 0 where
@@ -45,12 +45,12 @@ abbrev pub entries_in : Metamodel → ClassNo → Members → List Entry
 entries_in m c ms = filter_map (entry_at m ms) (unwrap_or (lookups.features m c) [])
 
 -- the class and the members of an object whose class is known
-abbrev pub known : Metamodel → Data → Option (ClassNo × Members)
-known m d = written d >>= (λ w. option_map (λ c. (c, w.features)) (lookups.class_by_name m w.class))
+abbrev pub class_and_members : Metamodel → Data → Option (ClassNo × Members)
+class_and_members m d = written_object d >>= (λ w. option_map (λ c. (c, w.features)) (lookups.class_by_name m w.class))
 
 -- the contents of an object, in the order of all features
 abbrev pub entries : Metamodel → Data → List Entry
-entries m d = option_map_or (λ k. entries_in m k.0 k.1) (known m d) []
+entries m d = option_map_or (λ k. entries_in m k.0 k.1) (class_and_members m d) []
 
 -- the values of a content: for a many-valued feature the items of the array, and none if it is no array
 abbrev pub values_of : Metamodel → Entry → List Data

@@ -15,7 +15,7 @@ use mm_types::limits::LEVELS;
 fn is_misshapen_part(part: &FoundPart) -> bool
     ensures { result ≡ looks_misshapen (part_seen part.now) }
 {
-    part.class.is_none()
+    part.known.is_none()
         && written(part.json).is_none()
         && (part.level == 1 || part.json.is_object())
 }

@@ -3,7 +3,7 @@ ghost use Rattle.std.specs.Prelude.{◌≡◌, [], length, map, option_map};
 ghost use Rattle.mm_types.specs.Lookups as lookups;
 ghost use Rattle.mm_types.specs.Shapes.{shape};
 ghost use Rattle.borrowed_json.specs.View.{members_view, view};
-ghost use Rattle.doc_parts.specs.Parts.{class_of as class_meant, content_at as content_meant, known as known_meant, new_entry, values_of as values_meant};
+ghost use Rattle.doc_parts.specs.Parts.{class_and_members as known_meant, class_of as class_meant, content_at as content_meant, new_entry, values_of as values_meant};
 
 use crate::layout::written;
 use borrowed_json::{Json, Members, find};

@@ -1,7 +1,6 @@
 //! The parts of a document that are looked at, as they are found.
 ghost use Rattle.std.specs.Prelude.{◌≡◌, ◌++◌, ◌∷◌, ◌≤◌, ◌^◌, [], IfErr, IfOk, List, None, OnOk, Some, if◌then◌else◌, length, option_map};
 
-use crate::layout::features_of;
 use borrowed_json::{Json, Members};
 use indexmap::IndexMap;
 use mm_types::ClassNo;
@@ -36,25 +35,24 @@ pub struct Numbers<'m> {
     numbers: IndexMap<PartKey<'m>, u32>,
 }
 
-/// A part: its JSON value, its class if that is known, its level, and the number of the first part of its path.
+/// A part: its JSON value, its class and members if the class is known, its level, and the number of the first part of its path.
 #[derive(Clone, Copy)]
 pub struct FoundPart<'t> {
     pub json: &'t Json<'t>,
-    pub class: Option<ClassNo>,
+    pub known: Option<(ClassNo, Members<'t>)>,
     pub level: u32,
     pub number: u32,
 }
 
 impl<'t> FoundPart<'t> {
-    ghost use Rattle.borrowed_json.specs.View.{members_view};
     ghost use Rattle.doc_parts.specs.FoundParts.{part_seen};
 
-    /// The class and the members of the object, if its class is known. Takes no memory.
-    pub fn known(&self) -> Option<(ClassNo, Members<'t>)>
-        ensures { option_map (λ k. (k.0, members_view k.1.now)) result ≡ (part_seen self.now).known }
+    /// The class of the object, if it is known. Takes no memory.
+    pub fn class(&self) -> Option<ClassNo>
+        ensures { result ≡ option_map (λ k. k.0) (part_seen self.now).known }
     {
-        match self.class {
-            Some(class) => Some((class, features_of(self.json))),
+        match self.known {
+            Some((class, _)) => Some(class),
             None => None,
         }
     }
@@ -93,6 +91,16 @@ impl<'m> Numbers<'m> {
         ensures { result ≡ number_at self.now (key_of key.entry) }
     {
         self.numbers.get(&key).copied()
+    }
+
+    /// The number of the part at a key, which is looked for first at the number that it is likely to have. Takes no memory.
+    pub fn at_likely(&self, key: PartKey, likely: u32) -> Option<u32>
+        ensures { result ≡ number_at self.now (key_of key.entry) }
+    {
+        match self.numbers.get_index(likely as usize) {
+            Some((found, number)) if *found == key => Some(*number),
+            _ => self.at(key),
+        }
     }
 
     /// The number of the part to which steps lead from a part.
@@ -148,21 +156,11 @@ impl<'m> Numbers<'m> {
     }
 }
 
-/// The class of an object, if it is known.
-fn class_in(known: Option<(ClassNo, Members)>) -> Option<ClassNo>
-    ensures { result ≡ option_map (λ k. k.0) known.entry }
-{
-    match known {
-        Some((class, _)) => Some(class),
-        None => None,
-    }
-}
-
 impl<'t, 'm> FoundParts<'t, 'm> {
     ghost use Rattle.mm_types.specs.Resolved.{Metamodel};
     ghost use Rattle.borrowed_json.specs.View.{members_view, view};
     ghost use Rattle.doc_parts.specs.FoundParts.{IsPlaced, Knows};
-    ghost use Rattle.doc_parts.specs.Parts.{Part, known as known_meant, level_of, number_of};
+    ghost use Rattle.doc_parts.specs.Parts.{Part, class_and_members as known_meant, level_of, number_of};
     ghost use Rattle.doc_parts.specs.Keys.{key_of};
 
     /// No parts. Takes no memory.
@@ -202,7 +200,7 @@ impl<'t, 'm> FoundParts<'t, 'm> {
         let number = self.numbers.number(key, count as u32)?;
         self.parts.push(FoundPart {
             json,
-            class: class_in(known),
+            known,
             level,
             number,
         })?;

@@ -1,9 +1,9 @@
 //! The layout of a document: the top, and an object.
 ghost use Rattle.std.specs.Prelude.{◌≡◌, IsTrue, option_map};
-ghost use Rattle.serde_json.specs.Data.{no_members, object};
+ghost use Rattle.serde_json.specs.Data.{object};
 ghost use Rattle.serde_json.specs.Find.{as_object, as_str};
 ghost use Rattle.borrowed_json.specs.View.{items_view, members_view, view};
-ghost use Rattle.doc_parts.specs.Layout.{IsInOrder, features_of as features_meant, new_top, new_written, top as top_meant, written as written_meant, written_by};
+ghost use Rattle.doc_parts.specs.Layout.{IsInOrder, new_top, new_written, top as top_meant, written_by, written_object as written_meant};
 
 use borrowed_json::{Json, Members, find, has_only_keys};
 
@@ -52,7 +52,7 @@ fn of_two<'t>(class: &'t Json<'t>, features: &'t Json<'t>) -> Option<ObjectMembe
 }
 
 /// The class and the features of an object that is written with these members; `None` if they are not the members of an object.
-#[tactic(auto, unfolding(crate::specs::Layout::written))]
+#[tactic(auto, unfolding(crate::specs::Layout::written_object))]
 fn of_members<'t>(members: Members<'t>) -> Option<ObjectMembers<'t>>
     ensures { option_map (λ w. new_written w.class.now (members_view w.features.now)) result ≡ written_meant (object (members_view members.now)) }
 {
@@ -65,7 +65,7 @@ fn of_members<'t>(members: Members<'t>) -> Option<ObjectMembers<'t>>
 }
 
 /// The members of an object; `None` if the value is no object of a document. Takes no memory.
-#[tactic(auto, unfolding(crate::specs::Layout::written))]
+#[tactic(auto, unfolding(crate::specs::Layout::written_object))]
 pub(crate) fn written<'t>(json: &Json<'t>) -> Option<ObjectMembers<'t>>
     ensures { option_map (λ w. new_written w.class.now (members_view w.features.now)) result ≡ written_meant (view json.now) }
 {
@@ -75,20 +75,4 @@ pub(crate) fn written<'t>(json: &Json<'t>) -> Option<ObjectMembers<'t>>
         return of_two(&members[0].1, &members[1].1);
     }
     of_members(members)
-}
-
-fn no_members<'t>() -> Members<'t>
-    ensures { members_view result.now ≡ no_members }
-{
-    &[]
-}
-
-/// The contents of an object's features, by their names; empty if the value is no object. Takes no memory.
-pub(crate) fn features_of<'t>(json: &Json<'t>) -> Members<'t>
-    ensures { members_view result.now ≡ features_meant (view json.now) }
-{
-    let Some(object) = written(json) else {
-        return no_members();
-    };
-    object.features
 }

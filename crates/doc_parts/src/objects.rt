@@ -16,8 +16,8 @@ use mm_types::ClassNo;
 pub(crate) fn has_no_class(meta: &Meta, part: &FoundPart) -> bool
     ensures { result ≡ lacks_class meta.now (part_seen part.now) }
 {
-    match part.class {
-        Some(class) => !meta.is_concrete(class),
+    match part.known {
+        Some((class, _)) => !meta.is_concrete(class),
         None => written(part.json).is_some(),
     }
 }
@@ -50,7 +50,7 @@ fn has_only_features(meta: &Meta, class: ClassNo, members: Members) -> bool
 pub(crate) fn has_other_key(meta: &Meta, part: &FoundPart) -> bool
     ensures { result ≡ has_other_member meta.now (part_seen part.now) }
 {
-    match part.known() {
+    match part.known {
         Some((class, members)) => !has_only_features(meta, class, members),
         None => false,
     }

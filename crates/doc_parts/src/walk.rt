@@ -41,10 +41,15 @@ pub(crate) fn walk<'t, 'm>(
     };
     let below = Below { part, level };
     match seen {
-        Some((class, members)) => match meta.features(class) {
-            Some(features) => walk_features(found, meta, levels - 1, below, members, features),
-            None => Ok(()),
-        },
+        Some((class, members)) => {
+            if !meta.has_containment(class) {
+                return Ok(());
+            }
+            match meta.features(class) {
+                Some(features) => walk_features(found, meta, levels - 1, below, members, features),
+                None => Ok(()),
+            }
+        }
         None => Ok(()),
     }
 }

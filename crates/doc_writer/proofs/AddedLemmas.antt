@@ -21,7 +21,7 @@ use Rattle.serde_json.specs.Written.{compact_text, items_outline, members_outlin
 use Rattle.serde_json.proofs.Numbers.{number_of-decimal, number_of-negative}
 use Rattle.serde_json.proofs.Texts.{print-outline}
 use Rattle.doc_writer.specs.Added.{Adds, AddsMember, IsInOrder, puts_by}
-use Rattle.doc_writer.specs.Document.{members, two}
+use Rattle.doc_writer.specs.Document.{members, two_members}
 use Rattle.doc_writer.proofs.OrderLemmas.{listed, listed-by, put-next}
 
 -- a value of one token
@@ -120,9 +120,9 @@ module _ {X : Type 0} (name : X → List ℕ) (held : X → Data) (xs : List X) 
       (ap (λ zs. listed (map made zs)) (take_all i xs high)) so w)
 
 -- an object of two members, whose keys are in order
-pub two-added : {E : Type 0} (r : Result (Unit {0}) E) (k l : List ℕ) (d e : Data) (old now one both new : Written) → put l e (member k d no_members) ≡ member k d (member l e no_members)
-    → now.before ≡ old.before → now.tokens ≡ old.tokens ++ begin_object ∷ [] → AddsMember k d now one → AddsMember l e one both → Writes r both new end_object → OnOk r (Adds (two k d l e) old new)
-two-added r k l d e old now one both new rising before opened first second closed =
+pub two_members-added : {E : Type 0} (r : Result (Unit {0}) E) (k l : List ℕ) (d e : Data) (old now one both new : Written) → put l e (member k d no_members) ≡ member k d (member l e no_members)
+    → now.before ≡ old.before → now.tokens ≡ old.tokens ++ begin_object ∷ [] → AddsMember k d now one → AddsMember l e one both → Writes r both new end_object → OnOk r (Adds (two_members k d l e) old new)
+two_members-added r k l d e old now one both new rising before opened first second closed =
     let all = member k d (member l e no_members) in
     let so = members-on all (member k d no_members) all no_members l e old one both rising (members-on all no_members (member k d no_members) (member l e no_members) k d old now one refl (members-open all old now before opened) first) second in
     on_ok_weaker r (λ h. subst (λ ms. Adds (object ms) old new) (sym rising) h) (members-close r all all no_members old both new refl refl so closed)

@@ -8,7 +8,7 @@ use Rattle.mm_meta.proofs.Library.{oid, v}
 use Rattle.models.specs.Reading.{Reading}
 use Rattle.fragment_paths.specs.Finding.{at}
 use Rattle.fragment_paths.specs.Fragments.{address, fragment, reference}
-use Rattle.doc_writer.specs.Document.{document, saved}
+use Rattle.doc_writer.specs.Document.{document, saved_text}
 use Rattle.doc_writer.specs.Saved.{save_refusal}
 use Rattle.doc_writer.proofs.LibraryModels.{end_of, model, o, resource, rid}
 
@@ -31,7 +31,7 @@ saved_library =
     ∷ (o 2, (Some (end_of (o 0) 2), o 0 ∷ resource 0 ∷ [])) ∷ [])
 
 -- the default of pages is left out, and so is the book's library
-its-text : saved saved_library (rid 0) ≡
+its-text : saved_text saved_library (rid 0) ≡
     codes "{\"format\":2,\"roots\":[{\"class\":\"Library\",\"features\":{\"books\":[{\"class\":\"Book\",\"features\":{\"name\":\"Emma\"}}],\"members\":[{\"class\":\"Person\",\"features\":{\"likes\":[\"//@books.0\"]}}]}}]}"
 unfolding on_literals
 its-text = refl
@@ -91,11 +91,11 @@ across =
 may-be-across : save_refusal across (rid 0) ≡ None
 may-be-across = refl
 
-its-staff : saved across (rid 0) ≡ codes "{\"format\":2,\"roots\":[{\"class\":\"Library\",\"features\":{\"staff\":[\"http://m.example/b#/\"]}}]}"
+its-staff : saved_text across (rid 0) ≡ codes "{\"format\":2,\"roots\":[{\"class\":\"Library\",\"features\":{\"staff\":[\"http://m.example/b#/\"]}}]}"
 unfolding on_literals
 its-staff = refl
 
-its-job : saved across (rid 1) ≡ codes "{\"format\":2,\"roots\":[{\"class\":\"Person\",\"features\":{\"job\":\"http://m.example/a#/\"}}]}"
+its-job : saved_text across (rid 1) ≡ codes "{\"format\":2,\"roots\":[{\"class\":\"Person\",\"features\":{\"job\":\"http://m.example/a#/\"}}]}"
 unfolding on_literals
 its-job = refl
 

@@ -12,7 +12,7 @@ use Rattle.mm_types.specs.Integers.{integer, is_of_bits}
 use Rattle.mm_types.specs.Lookups as lookups
 use Rattle.mm_types.specs.OfDocument.{IsOfDocument}
 use Rattle.mm_types.specs.Raw.{RawMetamodel}
-use Rattle.mm_types.specs.Resolved.{Metamodel, default_of, features_from, literal_named, literal_value, resolved, resolved_feature, resolved_kind, type_default}
+use Rattle.mm_types.specs.Resolved.{Metamodel, default_of, features_from, literal_named, literal_value, resolved_feature, resolved_kind, resolved_metamodel, type_default}
 use Rattle.mm_types.specs.Shapes.{contents_shape, shape, shape_of}
 use Rattle.mm_types.specs.declared.class.Enumeration.{Enumeration}
 use Rattle.mm_types.specs.declared.end.End.{End}
@@ -107,7 +107,7 @@ all-plain raw c [] = tt
 all-plain raw c (k ∷ ks) = own-plain raw c k.features (features_from raw (suc c) ks) (all-plain raw (suc c) ks)
 
 document-plain : (m : Metamodel) → IsOfDocument m → AllByRecursion HasPlainDefault m.features
-unfolding resolved
+unfolding resolved_metamodel
 document-plain m d = subst (λ (x : Metamodel). AllByRecursion HasPlainDefault x.features) (sym d.is) (all-plain d.raw 0 d.raw.classes)
 
 at-plain : (gs : List Feature) (i : ℕ) (g : Feature) → AllByRecursion HasPlainDefault gs → slice_get gs i ≡ Some g → HasPlainDefault g

@@ -37,8 +37,8 @@ members_with old ms = fold (λ found m. put m.0 m.1 found) old ms
 abbrev pub members : List (List ℕ × Data) → Members
 members = members_with no_members
 
-abbrev pub two : List ℕ → Data → List ℕ → Data → Data
-two k d l e = object (members ((k, d) ∷ (l, e) ∷ []))
+abbrev pub two_members : List ℕ → Data → List ℕ → Data → Data
+two_members k d l e = object (members ((k, d) ∷ (l, e) ∷ []))
 
 -- the JSON value of a value that is no object
 abbrev pub plain_data : Metamodel → FeatureNo → Value → Data
@@ -79,15 +79,15 @@ class_name r o = option_map_or (λ c. c.name) (option_and_then (lookups.class r.
 abbrev pub object_data : Reading → ResourceNo → ℕ → ObjectNo → Data
 object_data r k zero o = null
 object_data r k (suc n) o =
-    two (codes "class") (string (class_name r o))
+    two_members (codes "class") (string (class_name r o))
     (codes "features") (object (members (map (feature_member r k (object_data r k n) o) (written_features r o))))
 
 -- the document of a resource; no tree has more levels than objects were made
 unfoldable pub document : Reading → ResourceNo → Data
 document r k =
-    two (codes "format") (number (unsigned DOCUMENT_FORMAT))
+    two_members (codes "format") (number (unsigned DOCUMENT_FORMAT))
     (codes "roots") (array (items_of (map (object_data r k r.next) (roots r k))))
 
 -- the text that is saved: serde_json's compact text
-abbrev pub saved : Reading → ResourceNo → List ℕ
-saved r k = compact_text (document r k)
+abbrev pub saved_text : Reading → ResourceNo → List ℕ
+saved_text r k = compact_text (document r k)

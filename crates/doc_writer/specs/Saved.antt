@@ -15,7 +15,7 @@ use Rattle.mm_types.specs.declared.refused.Refused.{Refused}
 use Rattle.mm_types.specs.declared.refused.Refused.TheVariants.{Dangling, Memory, TooDeep}
 use Rattle.models.specs.Reading.{Reading, at_end, objects_of}
 use Rattle.containment.specs.Above.{resource_of}
-use Rattle.doc_writer.specs.Document.{document, saved}
+use Rattle.doc_writer.specs.Document.{document, saved_text}
 use Rattle.doc_writer.specs.Written.{is_written, level, objects_in, written_features}
 
 -- the features by which an object refers to others
@@ -55,5 +55,5 @@ IsReadAs r k text = depth (document r k) ≤ max_depth → read text ≡ Some (d
 
 -- the result of writing a document: its text, the refusal, or `Memory`
 abbrev pub Writes : Result (String Global) Refused → Reading → ResourceNo → Type 0
-Writes (Ok text) r k = (save_refusal r k ≡ None) × (string_bytes text ≡ saved r k)
+Writes (Ok text) r k = (save_refusal r k ≡ None) × (string_bytes text ≡ saved_text r k)
 Writes (Err e) r k = MatchBool (is_memory e) (Unit {0}) (save_refusal r k ≡ Some e)

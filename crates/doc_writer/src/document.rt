@@ -11,8 +11,8 @@ ghost use Rattle.doc_writer.specs.Added.{Adds, AddsMember};
 ghost use Rattle.doc_writer.specs.Document as spec;
 ghost use Rattle.doc_writer.specs.Saved.{IsReadAs};
 
-use crate::source::Source;
 use crate::values::write_object;
+use crate::write_context::WriteContext;
 use fragment_paths::Positions;
 use json::Writer;
 use links::LinkStore;
@@ -21,7 +21,7 @@ use std::alloc::{AllocError, Global};
 
 /// Writes the roots of a resource and all in them.
 fn write_roots<L: LinkStore>(
-    source: &Source<L>,
+    source: &WriteContext<L>,
     roots: &[ObjectNo],
     out: &mut Writer,
 ) -> Result<(), AllocError>
@@ -44,7 +44,7 @@ fn write_format(out: &mut Writer) -> Result<(), AllocError>
 
 /// Writes the document of a resource that has these roots.
 fn write_document<L: LinkStore>(
-    source: &Source<L>,
+    source: &WriteContext<L>,
     roots: &[ObjectNo],
     out: &mut Writer,
 ) -> Result<(), AllocError>
@@ -78,10 +78,10 @@ pub(crate) fn document_text<L: LinkStore>(
     roots: &[ObjectNo],
 ) -> Result<String, AllocError>
     requires roots { roots.now ≡ roots_of (reading positions.now) resource }
-    ensures text { IfOk result (λ t. string_bytes t ≡ spec.saved (reading positions.now) resource) }
+    ensures text { IfOk result (λ t. string_bytes t ≡ spec.saved_text (reading positions.now) resource) }
     ensures reads { IfOk result (λ t. IsReadAs (reading positions.now) resource (string_bytes t)) }
 {
-    let source = Source {
+    let source = WriteContext {
         alloc,
         positions,
         resource,

@@ -6,7 +6,7 @@ ghost use Rattle.models.specs.Model.{reading};
 ghost use Rattle.doc_writer.specs.Added.{Adds};
 ghost use Rattle.doc_writer.specs.Document as spec;
 
-use crate::source::Source;
+use crate::write_context::WriteContext;
 use fragment_paths::reference;
 use json::Writer;
 use links::LinkStore;
@@ -40,7 +40,7 @@ pub(crate) fn write_text(text: &str, out: &mut Writer) -> Result<(), AllocError>
 
 /// Writes a reference to an object.
 pub(crate) fn write_reference<L: LinkStore>(
-    source: &Source<L>,
+    source: &WriteContext<L>,
     object: ObjectNo,
     out: &mut Writer,
 ) -> Result<(), AllocError>

@@ -12,9 +12,9 @@ mod names;
 mod objects;
 mod order;
 mod refusals;
-mod source;
 mod values;
 mod ways;
+mod write_context;
 mod writing;
 mod written;
 

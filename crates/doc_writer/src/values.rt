@@ -13,7 +13,7 @@ ghost use Rattle.doc_writer.specs.Written as written;
 use crate::leaves::{write_null, write_plain, write_reference, write_text};
 use crate::names::class_name;
 use crate::order::features_by_name;
-use crate::source::Source;
+use crate::write_context::WriteContext;
 use json::Writer;
 use links::LinkStore;
 use mm_types::{End, FeatureNo, Node, ObjectNo, Value};
@@ -23,7 +23,7 @@ use std::alloc::AllocError;
 /// Writes an object under a feature: the object itself if the feature is a containment, else a reference to it.
 #[cycle(object)]
 fn write_under<L: LinkStore>(
-    source: &Source<L>,
+    source: &WriteContext<L>,
     levels: usize,
     feature: FeatureNo,
     object: ObjectNo,
@@ -41,7 +41,7 @@ fn write_under<L: LinkStore>(
 /// Writes a value of an end.
 #[cycle(object)]
 fn write_found<L: LinkStore>(
-    source: &Source<L>,
+    source: &WriteContext<L>,
     levels: usize,
     feature: FeatureNo,
     found: Found,
@@ -60,7 +60,7 @@ fn write_found<L: LinkStore>(
 /// Writes the value at a position of an end, or null past the last.
 #[cycle(object)]
 fn write_item<L: LinkStore>(
-    source: &Source<L>,
+    source: &WriteContext<L>,
     levels: usize,
     end: End,
     index: u32,
@@ -77,7 +77,7 @@ fn write_item<L: LinkStore>(
 /// Writes all values of an end.
 #[cycle(object)]
 fn write_items<L: LinkStore>(
-    source: &Source<L>,
+    source: &WriteContext<L>,
     levels: usize,
     end: End,
     out: &mut Writer,
@@ -94,7 +94,7 @@ fn write_items<L: LinkStore>(
 /// Writes the content of a feature of an object.
 #[cycle(object)]
 fn write_content<L: LinkStore>(
-    source: &Source<L>,
+    source: &WriteContext<L>,
     levels: usize,
     object: ObjectNo,
     feature: FeatureNo,
@@ -114,7 +114,7 @@ fn write_content<L: LinkStore>(
 /// Writes the name of a feature of an object, and its content.
 #[cycle(object)]
 fn write_feature<L: LinkStore>(
-    source: &Source<L>,
+    source: &WriteContext<L>,
     levels: usize,
     object: ObjectNo,
     feature: FeatureNo,
@@ -129,7 +129,7 @@ fn write_feature<L: LinkStore>(
 /// Writes the contents of an object, by the names of its features.
 #[cycle(object)]
 fn write_features<L: LinkStore>(
-    source: &Source<L>,
+    source: &WriteContext<L>,
     levels: usize,
     object: ObjectNo,
     features: &[FeatureNo],
@@ -147,7 +147,7 @@ fn write_features<L: LinkStore>(
 
 /// Writes the class of an object as a member.
 fn write_class<L: LinkStore>(
-    source: &Source<L>,
+    source: &WriteContext<L>,
     object: ObjectNo,
     out: &mut Writer,
 ) -> Result<(), AllocError>
@@ -160,7 +160,7 @@ fn write_class<L: LinkStore>(
 /// Writes the features of an object as a member.
 #[cycle(object)]
 fn write_members<L: LinkStore>(
-    source: &Source<L>,
+    source: &WriteContext<L>,
     levels: usize,
     object: ObjectNo,
     out: &mut Writer,
@@ -175,7 +175,7 @@ fn write_members<L: LinkStore>(
 /// Writes an object with all that it contains, for so many levels. Errs only if memory is refused; then a part of it may be written.
 #[cycle(object)]
 pub(crate) fn write_object<L: LinkStore>(
-    source: &Source<L>,
+    source: &WriteContext<L>,
     levels: usize,
     object: ObjectNo,
     out: &mut Writer,

@@ -5,8 +5,7 @@
 //! JSON. Neither is a text with a byte 0, which JSON never has, with a byte 255, which is not UTF-8, or with an odd number of quotes.
 use crate::library::{LIBRARY, library};
 use crate::resource::refusal;
-use mm_check::check;
-use mm_load::load_meta;
+use mm_check::check_document;
 use mm_meta::Meta;
 use mm_types::{MetaFault, Refused};
 use std::alloc::{AllocError, Global};
@@ -68,10 +67,7 @@ fn counts(read: u32, no_json: u32) -> Counts {
 
 /// The fault of a metamodel's text, if it has one.
 fn fault_of(alloc: Global, bytes: &[u8]) -> Option<MetaFault> {
-    match load_meta(alloc, bytes) {
-        Ok(raw) => check(alloc, raw).err(),
-        Err(fault) => Some(fault),
-    }
+    check_document(alloc, bytes).err()
 }
 
 /// The number of a metamodel's fault, or 0 if it is accepted; `None` if memory was refused.

@@ -1,5 +1,5 @@
 //! Metamodels that are read and checked, and the metamodel of a library.
-use mm_check::check;
+use mm_check::check_document;
 use mm_load::load_meta;
 use mm_meta::Meta;
 use mm_types::RawMeta;
@@ -51,8 +51,7 @@ pub(crate) fn loaded(alloc: Global, document: &str) -> Result<Box<RawMeta>, Fail
 
 /// The metamodel that a document describes, checked.
 pub(crate) fn checked(alloc: Global, document: &str) -> Result<Box<Meta>, Fail> {
-    let raw = load_meta(alloc, document.as_bytes())?;
-    let meta = check(alloc, raw)?;
+    let meta = check_document(alloc, document.as_bytes())?;
     Ok(Box::new(alloc, meta)?)
 }
 

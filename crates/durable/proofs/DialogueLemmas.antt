@@ -13,7 +13,7 @@ use Rattle.script_streams.specs.declared.line.LineEnd.{LineEnd}
 use Rattle.script_streams.specs.declared.line.LineEnd.TheVariants.{Input}
 use Rattle.journal.specs.Disk.{LeavesOnly}
 use Rattle.journal.specs.Journal.{IsBeforeOrAfter}
-use Rattle.journal.specs.Lines.{recovered}
+use Rattle.journal.specs.Lines.{recovered_lines}
 use Rattle.durable.specs.Answered.{EndsIn, IsTooLong, LeavesIn, StopsIn}
 use Rattle.durable.specs.Outboxes.{FailsToGive, Gives, IsAtRest, IsFull, LeavesBoth, Takes, disk_under, held_by, kept_by, noted_by, writer_of}
 use Rattle.durable.specs.Waiting.{Becomes, Fails, IsEmptied, leaves_more}
@@ -103,7 +103,7 @@ module _ {S D W : Type 0} (w : World S D W) (s : S) (o : Outbox D W) (input : Op
     running = r;
     leaves = record {
       later = omega arith;
-      each = λ c left. left_in input [] s o (none_read input) r c (inl (ap recovered (r.at_rest.durable c (w.only_now (disk_under o) c left))));
+      each = λ c left. left_in input [] s o (none_read input) r c (inl (ap recovered_lines (r.at_rest.durable c (w.only_now (disk_under o) c left))));
       before = λ t c le left. inl left;
     };
     number_is = refl;

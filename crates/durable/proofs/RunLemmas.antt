@@ -8,7 +8,7 @@ use Rattle.script_streams.specs.declared.run_fault.RunFault.{RunFault}
 use Rattle.script_streams.specs.declared.run_fault.RunFault.TheVariants.{Read, Write, TooLong, Memory, Journal}
 use Rattle.script_streams.proofs.FrontLemmas.{front_after}
 use Rattle.journal.specs.Journal.{IsBeforeOrAfter, StandsFor}
-use Rattle.journal.specs.Lines.{recovered}
+use Rattle.journal.specs.Lines.{recovered_lines}
 use Rattle.durable.specs.Answered.{Ends, LeavesFront, Stops, WritesUntil}
 use Rattle.durable.specs.Outboxes.{FailsToGive, Gives, IsAtRest, LeavesBoth, Takes, disk_under, held_by, kept_by, noted_by, writer_of}
 use Rattle.durable.specs.Printed.{Printed, Runs, RunsLines, answer, answers, kept_line, kept_lines}
@@ -131,7 +131,7 @@ module _ {S D W : Type 0} (w : World S D W) (s : S) (o : Outbox D W) where
             ∙ ap (λ (l : List ℕ). l ++ answer p) r.held
             ∙ ap (λ (l : List ℕ). answers r.printed_next ++ l) (sym (append-nil (answer p)))
             ∙ sym (answers-append r.printed_next (p ∷ []));
-        kept = ap (λ (d : D). recovered (w.seen d)) same_disk ∙ r.kept;
+        kept = ap (λ (d : D). recovered_lines (w.seen d)) same_disk ∙ r.kept;
         noted =
             one.noted
             ∙ ap (λ (xs : List (List ℕ)). xs ++ kept_line line p) r.noted
@@ -260,14 +260,14 @@ module _ {S D W : Type 0} (w : World S D W) (s : S) (o : Outbox D W) where
           → Stops w.runs fault s before all old (w.contents (writer_of m)) (w.may_leave (disk_under m))
       stops_between fault between m same_disk same_writer =
           stops fault m (writes_between fault between r.next old _ _ (subst (λ (x : W). Appends old (w.contents x) (answers r.printed)) (sym same_writer) r.written))
-          (λ c left. inl (ap recovered (r.at_rest.durable c (subst (λ (d : D). w.may_leave d c) same_disk left)) ∙ r.kept))
+          (λ c left. inl (ap recovered_lines (r.at_rest.durable c (subst (λ (d : D). w.may_leave d c) same_disk left)) ∙ r.kept))
 
       -- a read fails, when nothing is held back
       pub stops_reading : held_by n ≡ [] → noted_by n ≡ [] → Stops w.runs Read s before all old (w.contents (writer_of n)) (w.may_leave (disk_under n))
       stops_reading held noted =
           let answered : answers r.printed ≡ answers all_printed = sym (append-nil (answers r.printed)) ∙ ap (λ (l : List ℕ). answers r.printed ++ l) (sym held) ∙ held_all in
           let all_kept = sym (append-nil (kept_by w.seen n)) ∙ ap (λ (ls : List (List ℕ)). kept_by w.seen n ++ ls) (sym noted) ∙ kept_all in
-          stops_kept Read n (refl, subst (Appends old (w.contents (writer_of n))) answered r.written) (λ c left. ap recovered (r.at_rest.durable c left) ∙ all_kept)
+          stops_kept Read n (refl, subst (Appends old (w.contents (writer_of n))) answered r.written) (λ c left. ap recovered_lines (r.at_rest.durable c left) ∙ all_kept)
 
       -- the run stops in a settlement
       pub stops_within : (fault : RunFault) (m : Outbox D W) → FailsToGive w.contents w.seen w.may_leave w.faults n fault m

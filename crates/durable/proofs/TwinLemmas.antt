@@ -1,7 +1,7 @@
 -- Lines that were kept are run again.
 use Rattle.std.proofs.Common.{◌≡◌, ◌∙◌, ◌++◌, inl, inr, ℕ, true, false, List, [], ◌∷◌, ap, append_assoc, refl, subst, sym}
 use Rattle.std.proofs.lemmas.Bool.{both_ways, cases_Bool}
-use Rattle.journal.specs.Lines.{IsEntry, recovered}
+use Rattle.journal.specs.Lines.{IsEntry, recovered_lines}
 use Rattle.durable.specs.Printed.{Printed, Refuses, Runs, RunsKept, RunsLines, is_kept, is_lost, kept_line, kept_lines}
 
 module _ {S : Type 0} (runs : Runs S) where
@@ -24,20 +24,20 @@ module _ {S : Type 0} (runs : Runs S) where
     pub lines_are : all ≡ first ++ rest
     pub ran : RunsKept runs s first t
 
-  module _ (s : S) (all : List (List ℕ)) (t : S) (rest line more : List ℕ) (so_far : Replayed s all t (recovered rest)) (one : IsEntry rest line more)
+  module _ (s : S) (all : List (List ℕ)) (t : S) (rest line more : List ℕ) (so_far : Replayed s all t (recovered_lines rest)) (one : IsEntry rest line more)
       (p : Printed) (u : S) (ran : runs t line p u) where
-    all_are : all ≡ so_far.first ++ line ∷ recovered more
+    all_are : all ≡ so_far.first ++ line ∷ recovered_lines more
     all_are = so_far.lines_are ∙ ap (λ (ls : List (List ℕ)). so_far.first ++ ls) one.lines_are
 
-    pub replays : is_kept p.turn ≡ true → Replayed s all u (recovered more)
+    pub replays : is_kept p.turn ≡ true → Replayed s all u (recovered_lines more)
     replays is = record {
       first = so_far.first ++ line ∷ [];
-      lines_are = all_are ∙ sym (append_assoc so_far.first (line ∷ []) (recovered more));
+      lines_are = all_are ∙ sym (append_assoc so_far.first (line ∷ []) (recovered_lines more));
       ran = kept_push s so_far.first t line p u so_far.ran ran is;
     }
 
     pub refuses : is_kept p.turn ≡ false → is_lost p.turn ≡ false → Refuses runs s all
-    refuses is not_lost = subst (Refuses runs s) (sym all_are) (refuses_push s so_far.first t line (recovered more) p u so_far.ran ran is not_lost)
+    refuses is not_lost = subst (Refuses runs s) (sym all_are) (refuses_push s so_far.first t line (recovered_lines more) p u so_far.ran ran is not_lost)
 
   -- ---- a twin
 

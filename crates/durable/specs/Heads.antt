@@ -2,23 +2,23 @@
 use Rattle.std.specs.Prelude.{◌≡◌, ◌⊎◌, ℕ, List, [], ◌∷◌, Option, None, Some}
 use Rattle.std.specs.Borrow.{Bor}
 use Rattle.journal.specs.Journal.{StandsFor}
-use Rattle.journal.specs.Lines.{recovered}
+use Rattle.journal.specs.Lines.{recovered_lines}
 use Rattle.durable.specs.declared.opening.JournalFault.{JournalFault}
 use Rattle.durable.specs.declared.opening.JournalFault.TheVariants as refused
 
 -- the lines of a journal that is begun: only the head, if there was no line
-abbrev pub begun : List ℕ → List (List ℕ) → List (List ℕ)
-begun head [] = head ∷ []
-begun head (l ∷ ls) = l ∷ ls
+abbrev pub begun_lines : List ℕ → List (List ℕ) → List (List ℕ)
+begun_lines head [] = head ∷ []
+begun_lines head (l ∷ ls) = l ∷ ls
 
 -- the result of a search for the head: the rest of the file, or none if the file has no line
 abbrev pub FindsLines : Option (Bor (List ℕ)) → List ℕ → List ℕ → Type 0
-FindsLines None bytes head = recovered bytes ≡ []
-FindsLines (Some rest) bytes head = recovered bytes ≡ head ∷ recovered rest.now
+FindsLines None bytes head = recovered_lines bytes ≡ []
+FindsLines (Some rest) bytes head = recovered_lines bytes ≡ head ∷ recovered_lines rest.now
 
 -- a file stands for these lines, or for the lines of the journal that is begun
 abbrev pub IsBegunOrNot : List ℕ → List (List ℕ) → List ℕ → Type 0
-IsBegunOrNot head ls file = StandsFor ls file ⊎ StandsFor (begun head ls) file
+IsBegunOrNot head ls file = StandsFor ls file ⊎ StandsFor (begun_lines head ls) file
 
 -- the faults for which a file is refused as a journal before any of its lines is run
 abbrev pub IsOfHead : JournalFault → Type 0

@@ -5,7 +5,7 @@ use Rattle.script_streams.specs.Streams.{AppendsFront}
 use Rattle.script_streams.specs.declared.run_fault.RunFault.{RunFault}
 use Rattle.script_streams.specs.declared.run_fault.RunFault.TheVariants as stops
 use Rattle.journal.specs.Disk.{LeavesOnly}
-use Rattle.journal.specs.Journal.{IsBeforeOrAfter, IsSettled, StandsFor, disk_of, kept, noted}
+use Rattle.journal.specs.Journal.{IsBeforeOrAfter, IsSettled, StandsFor, disk_of, journal_lines, noted_lines}
 use Rattle.journal.specs.Lines.{entries}
 use Rattle.journal.specs.declared.disk.DiskFault.{DiskFault}
 use Rattle.journal.specs.declared.disk.DiskFault.TheVariants as fails
@@ -30,11 +30,11 @@ module _ {D W : Type 0} where
 
   -- the lines to be kept among those whose answers are held back
   abbrev pub noted_by : Outbox D W → List (List ℕ)
-  noted_by outbox = noted outbox.journal
+  noted_by outbox = noted_lines outbox.journal
 
   -- the lines that are on the disk
   abbrev pub kept_by : (D → List ℕ) → Outbox D W → List (List ℕ)
-  kept_by seen outbox = kept seen outbox.journal
+  kept_by seen outbox = journal_lines seen outbox.journal
 
   -- the journal is at rest
   abbrev pub IsAtRest : (D → List ℕ) → (D → List ℕ → Type 0) → Outbox D W → Type 0

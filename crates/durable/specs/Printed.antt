@@ -2,15 +2,15 @@
 use Rattle.std.specs.Prelude.{◌≡◌, ◌⊎◌, ℕ, Bool, true, false, List, [], ◌∷◌, ◌++◌, if◌then◌else◌}
 use Rattle.std.specs.List.{flat_map}
 use Rattle.durable.specs.declared.session.TheConstants.{NEWLINE}
-use Rattle.durable.specs.declared.session.Turn.{Turn}
-use Rattle.durable.specs.declared.session.Turn.TheVariants as turned
+use Rattle.durable.specs.declared.session.JournalTurn.{JournalTurn}
+use Rattle.durable.specs.declared.session.JournalTurn.TheVariants as turned
 
-abbrev pub is_kept : Turn → Bool
+abbrev pub is_kept : JournalTurn → Bool
 is_kept turned.Kept = true
 is_kept turned.Other = false
 is_kept turned.Lost = false
 
-abbrev pub is_lost : Turn → Bool
+abbrev pub is_lost : JournalTurn → Bool
 is_lost turned.Kept = false
 is_lost turned.Other = false
 is_lost turned.Lost = true
@@ -18,7 +18,7 @@ is_lost turned.Lost = true
 -- the output of a line, and how it ended
 pub record Printed : Type 0 where
   pub text : List ℕ
-  pub turn : Turn
+  pub turn : JournalTurn
 
 -- the answer that is written for a line: the text that it printed, and an empty line
 abbrev pub answer : Printed → List ℕ
@@ -43,7 +43,7 @@ abbrev pub Runs : Type 0 → Type 1
 Runs S = S → List ℕ → Printed → S → Type 0
 
 -- A line was run, and its output was appended to a text.
-pub record AddsRun {S : Type 0} (runs : Runs S) (s : S) (line old new : List ℕ) (turn : Turn) (t : S) : Type 0 where
+pub record AddsRun {S : Type 0} (runs : Runs S) (s : S) (line old new : List ℕ) (turn : JournalTurn) (t : S) : Type 0 where
   pub text : List ℕ
   pub added : new ≡ old ++ text
   pub ran : runs s line (record { text = text; turn = turn }) t

@@ -5,7 +5,7 @@ use Rattle.std.proofs.Common.{inl, inr, ⊎_elim, sym, ◌∙◌, ap, subst, ari
 use Rattle.std.proofs.KnownBytes.{Appends-trans}
 use Rattle.journal.specs.Disk.{LeavesOnly}
 use Rattle.journal.specs.Journal.{IsBeforeOrAfter, StandsFor}
-use Rattle.journal.specs.Lines.{recovered}
+use Rattle.journal.specs.Lines.{recovered_lines}
 use Rattle.durable.specs.Outboxes.{FailsToGive, Gives, IsAtRest, LeavesBoth, disk_under, held_by, kept_by, noted_by, writer_of}
 use Rattle.durable.specs.declared.outbox.Outbox.{Outbox}
 use Rattle.script_streams.specs.declared.run_fault.RunFault.{RunFault}
@@ -93,7 +93,7 @@ module _ {D W : Type 0} (contents : W → Option (List ℕ)) (seen : D → List 
     given = inl refl;
     moments = λ at_rest. record {
       later = omega arith;
-      each = λ c left. inl (ap recovered (at_rest.durable c (only_now (disk_under x) c left)));
+      each = λ c left. inl (ap recovered_lines (at_rest.durable c (only_now (disk_under x) c left)));
       before = λ t c le left. inl left;
     };
     later = omega arith;

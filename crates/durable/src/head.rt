@@ -1,7 +1,7 @@
 //! The first line of a journal.
 ghost use Rattle.std.specs.Prelude.{◌≡◌, ◌≢◌, ◌++◌, ◌∷◌, ℕ, List, codes, IfErr, IfOk, OnErr};
 ghost use Rattle.hex.specs.Hex.{encode_lower};
-ghost use Rattle.journal.specs.Lines.{IsLine, recovered};
+ghost use Rattle.journal.specs.Lines.{IsLine, recovered_lines};
 ghost use Rattle.durable.specs.Heads.{FindsLines, IsOfHead};
 
 use crate::opening::JournalFault;
@@ -46,7 +46,7 @@ fn is_unbegun(bytes: &[u8], head: &[u8]) -> bool {
 pub fn behind_head<'a>(bytes: &'a [u8], head: &[u8]) -> Result<Option<&'a [u8]>, JournalFault>
     ensures found { IfOk result (λ found. FindsLines found bytes.now head.now) }
     ensures kind { IfErr result IsOfHead }
-    ensures other { OnErr result ((rest : List (List ℕ)) → recovered bytes.now ≢ head.now ∷ rest) }
+    ensures other { OnErr result ((rest : List (List ℕ)) → recovered_lines bytes.now ≢ head.now ∷ rest) }
 {
     match next_entry(bytes) {
         Some((line, rest)) => {

@@ -14,4 +14,4 @@ pub use head::{behind_head, head_of};
 pub use opening::{JournalFault, open_journal};
 pub use outbox::Outbox;
 pub use recovery::{ReplayFault, replay};
-pub use session::{Session, Turn, Twin};
+pub use session::{JournalTurn, Session, Twin};

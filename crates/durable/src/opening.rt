@@ -1,9 +1,9 @@
 //! A journal is opened, and begun if it has no line.
 ghost use Rattle.std.specs.Prelude.{◌≡◌, [], ◌∷◌, IfErr, IfOk};
 ghost use Rattle.journal.specs.Disk.{IsDurable, LeavesOnly};
-ghost use Rattle.journal.specs.Journal.{IsSettled, disk_of, kept, noted};
-ghost use Rattle.journal.specs.Lines.{IsLine, recovered};
-ghost use Rattle.durable.specs.Heads.{IsBegunOrNot, begun};
+ghost use Rattle.journal.specs.Journal.{IsSettled, disk_of, journal_lines, noted_lines};
+ghost use Rattle.journal.specs.Lines.{IsLine, recovered_lines};
+ghost use Rattle.durable.specs.Heads.{IsBegunOrNot, begun_lines};
 
 use journal::{Disk, DiskFault, Journal, next_entry};
 use std::alloc::Global;
@@ -39,11 +39,11 @@ fn begin<D: Disk + Drop>(
 ) -> Result<Journal<D>, (JournalFault, D)>
     requires head { IsLine head.now }
     requires settled { IsSettled D.seen D.may_leave journal }
-    requires kept { kept D.seen journal ≡ [] }
-    requires noted { noted journal ≡ [] }
+    requires kept { journal_lines D.seen journal ≡ [] }
+    requires noted { noted_lines journal ≡ [] }
     ensures settled { IfOk result (λ after. IsSettled D.seen D.may_leave after) }
-    ensures kept { IfOk result (λ after. kept D.seen after ≡ head.now ∷ []) }
-    ensures noted { IfOk result (λ after. noted after ≡ []) }
+    ensures kept { IfOk result (λ after. journal_lines D.seen after ≡ head.now ∷ []) }
+    ensures noted { IfOk result (λ after. noted_lines after ≡ []) }
     ensures any_moment { IfOk result (λ after. LeavesOnly D.moment D.left_since (disk_of journal) (disk_of after) (IsBegunOrNot head.now [])) }
     ensures any_moment_err { IfErr result (λ e. LeavesOnly D.moment D.left_since (disk_of journal) e.1 (IsBegunOrNot head.now [])) }
 {
@@ -69,12 +69,12 @@ pub fn open_journal<D: Disk + Drop>(
     requires bytes { D.seen disk ≡ bytes.now }
     requires durable { IsDurable (D.seen disk) (D.may_leave disk) }
     ensures settled { IfOk result (λ journal. IsSettled D.seen D.may_leave journal) }
-    ensures kept { IfOk result (λ journal. kept D.seen journal ≡ begun head.now (recovered bytes.now)) }
-    ensures noted { IfOk result (λ journal. noted journal ≡ []) }
+    ensures kept { IfOk result (λ journal. journal_lines D.seen journal ≡ begun_lines head.now (recovered_lines bytes.now)) }
+    ensures noted { IfOk result (λ journal. noted_lines journal ≡ []) }
     // A crash at any moment leaves the same lines; if there was no line, it may leave only the head.
     ensures any_moment { IfOk result (λ journal. LeavesOnly D.moment D.left_since disk (disk_of journal)
-        (IsBegunOrNot head.now (recovered bytes.now))) }
-    ensures any_moment_err { IfErr result (λ e. LeavesOnly D.moment D.left_since disk e.1 (IsBegunOrNot head.now (recovered bytes.now))) }
+        (IsBegunOrNot head.now (recovered_lines bytes.now))) }
+    ensures any_moment_err { IfErr result (λ e. LeavesOnly D.moment D.left_since disk e.1 (IsBegunOrNot head.now (recovered_lines bytes.now))) }
 {
     match journal::open(alloc, disk, bytes) {
         Ok(journal) => match next_entry(bytes) {

@@ -1,6 +1,6 @@
 //! The lines of a journal are run again.
 ghost use Rattle.std.specs.Prelude.{◌≡◌, IsErrOf, OnOk};
-ghost use Rattle.journal.specs.Lines.{recovered};
+ghost use Rattle.journal.specs.Lines.{recovered_lines};
 ghost use Rattle.durable.specs.Printed.{Refuses, RunsKept};
 ghost use Rattle.durable.specs.declared.recovery.ReplayFault.TheVariants.{Memory};
 
@@ -27,8 +27,8 @@ impl From<AllocError> for ReplayFault {
 
 /// Runs the lines that the bytes of a file stand for. Each must be done, and must be a line that is to be kept.
 pub fn replay<S: Session>(alloc: Global, session: &mut S, file: &[u8]) -> Result<(), ReplayFault>
-    ensures ok { OnOk result (RunsKept S.runs session.old (recovered file.now) session.new) }
-    ensures refused { IsErrOf result ReplayFault.Refused → Refuses S.runs session.old (recovered file.now) }
+    ensures ok { OnOk result (RunsKept S.runs session.old (recovered_lines file.now) session.new) }
+    ensures refused { IsErrOf result ReplayFault.Refused → Refuses S.runs session.old (recovered_lines file.now) }
 {
     let mut text = Vec::new(alloc);
     let mut rest = file;

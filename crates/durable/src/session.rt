@@ -9,7 +9,7 @@ pub(crate) const NEWLINE: u8 = b'\n';
 
 /// How a line ended.
 #[derive(Clone, Copy, Debug, PartialEq, Eq)]
-pub enum Turn {
+pub enum JournalTurn {
     /// It was done, and is to be kept.
     Kept,
     /// It is not to be kept: it was refused or is bad, it only reads, or it concerns only this session.
@@ -18,17 +18,17 @@ pub enum Turn {
     Lost,
 }
 
-impl Turn {
+impl JournalTurn {
     pub(crate) fn is_kept(self) -> bool
         ensures { result ≡ is_kept_turn self }
     {
-        matches!(self, Turn::Kept)
+        matches!(self, JournalTurn::Kept)
     }
 
     pub(crate) fn is_lost(self) -> bool
         ensures { result ≡ is_lost_turn self }
     {
-        matches!(self, Turn::Lost)
+        matches!(self, JournalTurn::Lost)
     }
 }
 
@@ -38,7 +38,7 @@ pub trait Session {
     ghost runs: { Self → List ℕ → Printed → Self → Type 0 };
 
     /// Runs a line, and appends what it prints to a text. Errs only if memory is refused for that.
-    fn answer(&mut self, line: &[u8], text: &mut Vec<u8>) -> Result<Turn, AllocError>
+    fn answer(&mut self, line: &[u8], text: &mut Vec<u8>) -> Result<JournalTurn, AllocError>
         ensures { IfOk result (λ turn. AddsRun runs self.old line.now text.old.items text.new.items turn self.new) };
 }
 

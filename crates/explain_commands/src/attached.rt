@@ -8,8 +8,8 @@ use script_lines::Form;
 /// The adapter that a line names.
 fn adapter_in(form: &Form<'_>) -> Option<AdapterNo> {
     match form {
-        Form::Attach { no, .. } | Form::Watch { no, .. } | Form::Unwatch { no, .. } => Some(*no),
-        Form::Detach(no) | Form::Seen(no) => Some(*no),
+        Form::Attach { no, .. } | Form::Watch { no, .. } => Some(*no),
+        Form::Unwatch(no, _) | Form::Detach(no) | Form::Seen(no) => Some(*no),
         _ => None,
     }
 }

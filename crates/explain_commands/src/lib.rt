@@ -1,6 +1,6 @@
 //! Why a command of a script is refused, in words for a reader.
 //!
-//! `Watch` is called with each line after it was run, with the repository as the line left it. A refused command changes nothing, so the
+//! `Commentary` is called with each line after it was run, with the repository as the line left it. A refused command changes nothing, so the
 //! repository still has all that caused the refusal. No contract determines a text. It is proved that the functions are safe and end; cases
 //! of the program show their texts.
 #![tactic(auto)]
@@ -8,6 +8,7 @@
 mod answer;
 mod attached;
 mod called;
+mod commentary;
 mod existence;
 mod lists;
 mod named;
@@ -18,6 +19,5 @@ mod scene;
 mod trees;
 mod types;
 mod unresolved;
-mod watch;
 
-pub use watch::{Talk, Watch};
+pub use commentary::{Commentary, Talk};

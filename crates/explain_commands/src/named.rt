@@ -54,7 +54,7 @@ fn node_in(form: &Form<'_>) -> Option<Node> {
     match form {
         Form::At { node, .. } => Some(*node),
         Form::Read(Read::Under(node, _)) => Some(*node),
-        Form::Attach { target, .. } | Form::Watch { target, .. } | Form::Unwatch { target, .. } => {
+        Form::Attach { target, .. } | Form::Watch { target, .. } | Form::Unwatch(_, target) => {
             Some(*target)
         }
         Form::Load { resource, .. } | Form::Read(Read::Save(resource)) => {

@@ -30,7 +30,7 @@ impl Link<'_> {
 
 /// The data with which the links of a document are found.
 #[derive(Drop)]
-struct Source<'d, 'p> {
+struct LinkContext<'d, 'p> {
     alloc: Global,
     meta: &'d Meta,
     uri: &'d str,
@@ -38,7 +38,7 @@ struct Source<'d, 'p> {
 }
 
 fn add_links<'e>(
-    source: &Source<'_, '_>,
+    source: &LinkContext<'_, '_>,
     links: &mut Vec<Link<'e>>,
     entry: &'e Entry<'_>,
     values: &'e [Value],
@@ -71,7 +71,7 @@ fn target_of(meta: &Meta, feature: FeatureNo) -> Option<ClassNo> {
 }
 
 fn links_in<'e>(
-    source: &Source<'_, '_>,
+    source: &LinkContext<'_, '_>,
     entries: &'e [Entry<'_>],
 ) -> Result<Vec<Link<'e>>, AllocError> {
     let mut links = Vec::new(source.alloc);
@@ -93,7 +93,7 @@ pub(crate) fn links_of<'e>(
     entries: &'e [Entry<'_>],
 ) -> Result<Vec<Link<'e>>, AllocError> {
     let fragments = fragments_of(alloc, parts)?;
-    let source = Source {
+    let source = LinkContext {
         alloc,
         meta,
         uri,

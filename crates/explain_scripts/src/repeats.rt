@@ -41,9 +41,9 @@ fn unique_values<'v>(meta: &Meta, entry: &Entry<'v>) -> &'v [Value] {
 
 /// A link with its target: the part and the feature that have the link; then one more than the number of the target part, or 0 and the
 /// target's address.
-type Target<'l> = (usize, u32, usize, &'l str);
+type LinkKey<'l> = (usize, u32, usize, &'l str);
 
-fn target_of<'l>(link: &'l Link<'_>) -> Option<Target<'l>> {
+fn target_of<'l>(link: &'l Link<'_>) -> Option<LinkKey<'l>> {
     match &link.led {
         Led::Here(named) => Some((link.part, link.feature.0, named.saturating_add(1), "")),
         Led::Elsewhere(address) => Some((link.part, link.feature.0, 0, address.as_str())),
@@ -53,7 +53,7 @@ fn target_of<'l>(link: &'l Link<'_>) -> Option<Target<'l>> {
 
 /// Explains references of one list that lead to the same object.
 fn explain_links(alloc: Global, out: &mut String, links: &[Link<'_>]) -> Result<(), AllocError> {
-    let mut seen: BTreeMap<Target<'_>, usize> = BTreeMap::new(alloc);
+    let mut seen: BTreeMap<LinkKey<'_>, usize> = BTreeMap::new(alloc);
     for link in links {
         if let Some(target) = target_of(link)
             && let Some(first) = seen.insert(target, link.at.index)?

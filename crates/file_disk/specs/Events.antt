@@ -41,16 +41,16 @@ event_code =
 
 -- ---- after some events, the newest of which is the first
 
-abbrev pub seen_after : Event → List ℕ → List ℕ
-seen_after (opened bytes) old = bytes
-seen_after (written at bytes done) old = if done then take at old ++ bytes ++ drop (at + length bytes) old else old
-seen_after (cut len done) old = if done then take len old else old
-seen_after (synced done) old = old
+abbrev pub file_bytes_after : Event → List ℕ → List ℕ
+file_bytes_after (opened bytes) old = bytes
+file_bytes_after (written at bytes done) old = if done then take at old ++ bytes ++ drop (at + length bytes) old else old
+file_bytes_after (cut len done) old = if done then take len old else old
+file_bytes_after (synced done) old = old
 
 -- the bytes of the file, if no call has failed
-abbrev pub seen : List Event → List ℕ
-seen [] = []
-seen (e ∷ es) = seen_after e (seen es)
+abbrev pub file_bytes : List Event → List ℕ
+file_bytes [] = []
+file_bytes (e ∷ es) = file_bytes_after e (file_bytes es)
 
 abbrev pub left_after : Event → List ℕ → (List ℕ → Type 0) → List ℕ → Type 0
 left_after (opened bytes) old left c = c ≡ bytes
@@ -61,7 +61,7 @@ left_after (synced done) old left c = left c × (done ≡ true → c ≡ old)
 -- a crash may leave a file of these bytes
 abbrev pub MayLeave : List Event → List ℕ → Type 0
 MayLeave [] c = c ≡ []
-MayLeave (e ∷ es) c = left_after e (seen es) (MayLeave es) c
+MayLeave (e ∷ es) c = left_after e (file_bytes es) (MayLeave es) c
 
 -- a crash could have left a file of these bytes, at some moment at which there had been t events or more
 abbrev pub LeftSince : List Event → ℕ → List ℕ → Type 0

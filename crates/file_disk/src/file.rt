@@ -1,7 +1,7 @@
 //! A file of the system as a disk. Each method makes the call of the system that it records, and no other.
 ghost use Rattle.std.specs.Prelude.{◌≡◌, IfOk, length};
 ghost use Rattle.journal.specs.Disk.{IsDurable};
-ghost use Rattle.file_disk.specs.Events.{LeftSince, MayLeave, counts, failures, only, seen};
+ghost use Rattle.file_disk.specs.Events.{LeftSince, MayLeave, counts, failures, file_bytes, only};
 ghost use Rattle.file_disk.specs.Files.{events_of, outcome_of};
 
 use crate::call::Call;
@@ -46,8 +46,8 @@ fn sync_folder(rt: &HostRuntime, path: &str) -> io::Result<()> {
 /// The bytes that an earlier process wrote are put on the disk before they are read. So from then on a crash leaves the bytes that were
 /// read.
 pub fn open(rt: &HostRuntime, path: &str) -> Result<(FileDisk, Vec<u8>), OpenFault>
-    ensures bytes { IfOk result (λ opened. seen (events_of opened.0) ≡ opened.1.items) }
-    ensures durable { IfOk result (λ opened. IsDurable (seen (events_of opened.0)) (MayLeave (events_of opened.0))) }
+    ensures bytes { IfOk result (λ opened. file_bytes (events_of opened.0) ≡ opened.1.items) }
+    ensures durable { IfOk result (λ opened. IsDurable (file_bytes (events_of opened.0)) (MayLeave (events_of opened.0))) }
 {
     let mut file = OpenOptions::new()
         .read(true)
@@ -79,7 +79,7 @@ fn outcome(is_done: bool) -> Result<(), DiskFault>
 }
 
 impl Disk for FileDisk {
-    ghost seen = { λ disk. seen (events_of disk) };
+    ghost seen = { λ disk. file_bytes (events_of disk) };
 
     ghost may_leave = { λ disk. MayLeave (events_of disk) };
 

@@ -14,7 +14,7 @@ mod tally;
 
 use mmrepo_lib::{
     Adapter, AdapterNo, Answer, FeatureNo, LinkStore, Meta, MetaFault, Node, Notice, ObjectNo,
-    Refused, Reply, Repository, ResourceNo, SlotStore, Text, Value, check, load_meta,
+    Refused, Reply, Repository, ResourceNo, SlotStore, Text, Value, check_document,
 };
 use names::Names;
 use reload::load_again;
@@ -136,7 +136,7 @@ fn take_back<L: LinkStore, W: Write>(
 }
 
 fn metamodel(alloc: Global) -> Result<Meta, MetaFault> {
-    check(alloc, load_meta(alloc, LIBRARY.as_bytes())?)
+    check_document(alloc, LIBRARY.as_bytes())
 }
 
 /// Loads what is saved of a repository into another one, and prints how many objects its only resource directly contains.

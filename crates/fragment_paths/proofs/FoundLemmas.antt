@@ -15,30 +15,30 @@ use Rattle.containment.specs.Above.{resource_of}
 use Rattle.web_uris.specs.Paths.{AreWritten, IsWritable, IsWritten, new_path, with_step}
 use Rattle.web_uris.specs.declared.path.Path.{Path}
 use Rattle.web_uris.specs.declared.path.Step.{Step}
-use Rattle.fragment_paths.specs.Finding.{find, roots, stepped, walked}
+use Rattle.fragment_paths.specs.Finding.{find, object_after_step, object_after_steps, roots}
 use Rattle.fragment_paths.specs.Fragments.{has_one_root, path_of, position_in, step_into}
 use Rattle.fragment_paths.proofs.HeldLemmas.{held, held-root, one-root, root-found, step-found, step-written}
 use Rattle.fragment_paths.proofs.UpLemmas.{locate-falls, path-part, path-root, resource-none, resource-part, resource-root}
 
 ---------------------------------------------------------------- one step more
 
-walked-none : (r : Reading) (x : Option ObjectNo) → option_and_then (walked r []) x ≡ x
-walked-none r None = refl
-walked-none r (Some o) = refl
+object_after_steps-none : (r : Reading) (x : Option ObjectNo) → option_and_then (object_after_steps r []) x ≡ x
+object_after_steps-none r None = refl
+object_after_steps-none r (Some o) = refl
 
-walked-append : (r : Reading) (ss : List Step) (t : Step) (o : ObjectNo) → walked r (ss ++ t ∷ []) o ≡ option_and_then (λ p. stepped r p t) (walked r ss o)
-walked-append r [] t o = walked-none r (stepped r o t)
-walked-append r (s ∷ ss) t o =
-    elim (stepped r o s) as (λ x. option_and_then (walked r (ss ++ t ∷ [])) x ≡ option_and_then (λ p. stepped r p t) (option_and_then (walked r ss) x)) [
+object_after_steps-append : (r : Reading) (ss : List Step) (t : Step) (o : ObjectNo) → object_after_steps r (ss ++ t ∷ []) o ≡ option_and_then (λ p. object_after_step r p t) (object_after_steps r ss o)
+object_after_steps-append r [] t o = object_after_steps-none r (object_after_step r o t)
+object_after_steps-append r (s ∷ ss) t o =
+    elim (object_after_step r o s) as (λ x. option_and_then (object_after_steps r (ss ++ t ∷ [])) x ≡ option_and_then (λ p. object_after_step r p t) (option_and_then (object_after_steps r ss) x)) [
       | None ↦ refl
-      | Some p ↦ walked-append r ss t p
+      | Some p ↦ object_after_steps-append r ss t p
     ]
 
-find-step : (r : Reading) (k : ResourceNo) (q : Path) (t : Step) → find r k (with_step q t) ≡ option_and_then (λ p. stepped r p t) (find r k q)
+find-step : (r : Reading) (k : ResourceNo) (q : Path) (t : Step) → find r k (with_step q t) ≡ option_and_then (λ p. object_after_step r p t) (find r k q)
 find-step r k q t =
-    elim (slice_get (roots r k) q.root) as (λ x. option_and_then (walked r (q.steps ++ t ∷ [])) x ≡ option_and_then (λ p. stepped r p t) (option_and_then (walked r q.steps) x)) [
+    elim (slice_get (roots r k) q.root) as (λ x. option_and_then (object_after_steps r (q.steps ++ t ∷ [])) x ≡ option_and_then (λ p. object_after_step r p t) (option_and_then (object_after_steps r q.steps) x)) [
       | None ↦ refl
-      | Some o ↦ walked-append r q.steps t o
+      | Some o ↦ object_after_steps-append r q.steps t o
     ]
 
 written-more : (ss : List Step) (t : Step) → AreWritten ss → IsWritten t → AreWritten (ss ++ t ∷ [])
@@ -65,7 +65,7 @@ module _ (s : Model) (legal : IsLegal s) where
       record {
         path = new_path (position_in (reading s) e o) [];
         is = path-root s legal o e k h is;
-        finds = ap (option_and_then (walked (reading s) [])) (root-found s legal o e k at is);
+        finds = ap (option_and_then (object_after_steps (reading s) [])) (root-found s legal o e k at is);
         writable = record { root = omega arith; steps = tt };
         first = λ one. one-root s legal o e k at is one;
         there = (held-root s legal o e k at is).1;
@@ -78,7 +78,7 @@ module _ (s : Model) (legal : IsLegal s) where
       record {
         path = with_step up.path t;
         is = path-part s legal o e p h is ∙ ap (option_map (λ q. with_step q t)) up.is;
-        finds = find-step (reading s) k up.path t ∙ ap (option_and_then (λ x. stepped (reading s) x t)) up.finds ∙ step-found s legal o e p at is;
+        finds = find-step (reading s) k up.path t ∙ ap (option_and_then (λ x. object_after_step (reading s) x t)) up.finds ∙ step-found s legal o e p at is;
         writable = record { root = up.writable.root; steps = written-more up.path.steps t up.writable.steps (step-written s legal o e p at is) };
         first = up.first;
         there = up.there;

@@ -25,12 +25,12 @@ use Rattle.models.specs.Model.{Model, reading, values_at}
 use Rattle.models.specs.Reading.{at_end, has_feature, has_resource, object_of, objects_of, roots_end}
 use Rattle.models.proofs.EndLemmas.{values-single}
 use Rattle.models.proofs.PlaceLemmas.{has-at, index-at, values-few}
-use Rattle.containment.proofs.HolderLemmas.{container_at, holding-feature}
+use Rattle.containment.proofs.HolderLemmas.{container_at, holding_end-feature}
 use Rattle.containment.proofs.PartLemmas.{contains-reference, kinds-are, legal-at, values-linked}
 use Rattle.web_uris.specs.Paths.{IsWritten}
-use Rattle.fragment_paths.specs.Finding.{feature_of, goes_by, if_goes_by, roots, stepped}
+use Rattle.fragment_paths.specs.Finding.{feature_of, goes_by, if_goes_by, object_after_step, roots}
 use Rattle.fragment_paths.specs.Fragments.{has_one_root, position_in, step_into}
-use Rattle.fragment_paths.proofs.NameLemmas.{own-name, valid-feature}
+use Rattle.mm_meta.proofs.OwnNameLemmas.{own-name, valid-feature}
 use Rattle.fragment_paths.proofs.ObjectLemmas.{all-objects, objects-get}
 
 -- the end is one of a containment reference of its node, and the object is there, at its position
@@ -58,7 +58,7 @@ module _ (s : Model) (legal : IsLegal s) where
       let l = holder-some s.links (node.Object o) e h in
       let at = indexed_held l.0 (node.Object o) e (legal.links.set.placed.sides l.0 l.1) l.2 in
       let there = (legal.links.set.placed.ends e).has at.0 (value.Object o) (l.0, l.1, at.1) in
-      let by = holding-feature l.0 (node.Object o) e l.2 in
+      let by = holding_end-feature l.0 (node.Object o) e l.2 in
       let whose : (shape m e.feature).containing ≡ Some by.0 = sym (container_at (kinds_of m) (kinds-are m legal.metamodel) l.0 e (at.0, value.Object o) (legal.links.kinds l.0 l.1) at.1) ∙ by.1 in
       let refers = contains-reference m e.feature by.0 whose in
       let placed = noted-at (values_at s e) (value.Object o) at.0 (ap (λ (vs : List Value). slice_get vs at.0) (values-linked s e refers) ∙ there) in
@@ -126,7 +126,7 @@ module _ (s : Model) (legal : IsLegal s) where
       ] refl
 
   -- the step into an object leads to it
-  pub step-found : (o : ObjectNo) (e : End) (p : ObjectNo) → IsHeld s o e → e.node ≡ node.Object p → stepped (reading s) p (step_into (reading s) e o) ≡ Some o
+  pub step-found : (o : ObjectNo) (e : End) (p : ObjectNo) → IsHeld s o e → e.node ≡ node.Object p → object_after_step (reading s) p (step_into (reading s) e o) ≡ Some o
   step-found o e p h is =
       let r = reading s in
       let t = step_into r e o in

@@ -1,8 +1,6 @@
 pub mod ObjectLemmas
 pub mod PlaceLemmas
 pub mod UpLemmas
-pub mod SupertypeLemmas
-pub mod NameLemmas
 pub mod HeldLemmas
 pub mod FoundLemmas
 pub mod AddressLemmas

@@ -18,7 +18,7 @@ use Rattle.web_uris.specs.Paths.{new_path, with_step}
 use Rattle.web_uris.specs.declared.path.Path.{Path}
 use Rattle.web_uris.specs.declared.path.Step.{Step}
 use Rattle.fragment_paths.specs.Fragments.{path_of, path_under, position_in, step_into}
-use Rattle.fragment_paths.specs.Located.{located, path_by}
+use Rattle.fragment_paths.specs.Located.{location_of, path_by}
 use Rattle.fragment_paths.specs.declared.paths.Located.{Located}
 
 -- a path with more steps, the last of which comes first in the list
@@ -79,7 +79,7 @@ module _ (s : Model) (legal : IsLegal s) where
 
   -- if a resource contains the object, the path ends
   pub locate-root : (o : ObjectNo) (e : End) (k : ResourceNo) (ss : List Step) (all : Option Located) → Some e ≡ holder s.links (node.Object o) → e.node ≡ node.Resource k
-      → option_map (further ss) (located (reading s) o) ≡ all → Some (record { resource = k; path = path_by (reading s) e o ss }) ≡ all
+      → option_map (further ss) (location_of (reading s) o) ≡ all → Some (record { resource = k; path = path_by (reading s) e o ss }) ≡ all
   locate-root o e k ss all h is whole =
       sym (ap (λ (x : Option ResourceNo). option_map (further ss) (option_and_then (λ j. option_map (λ p. record { resource = j; path = p }) (path_of (reading s) o)) x)) (resource-root o e k (sym h) is)
       ∙ ap (λ (x : Option Path). option_map (further ss) (option_map (λ p. record { resource = k; path = p }) x)) (path-root o e k (sym h) is)) ∙ whole
@@ -95,16 +95,16 @@ module _ (s : Model) (legal : IsLegal s) where
       λ i. Some (record { resource = k; path = new_path p.root (steps i) })
 
   pub locate-part : (o : ObjectNo) (e : End) (p : ObjectNo) (ss new : List Step) (all : Option Located) → Some e ≡ holder s.links (node.Object o) → e.node ≡ node.Object p
-      → new ≡ ss ++ step_into (reading s) e o ∷ [] → option_map (further ss) (located (reading s) o) ≡ all → option_map (further new) (located (reading s) p) ≡ all
+      → new ≡ ss ++ step_into (reading s) e o ∷ [] → option_map (further ss) (location_of (reading s) o) ≡ all → option_map (further new) (location_of (reading s) p) ≡ all
   locate-part o e p ss new all h is pushed whole =
       let r = reading s in
-      ap (λ (ts : List Step). option_map (further ts) (located r p)) pushed
+      ap (λ (ts : List Step). option_map (further ts) (location_of r p)) pushed
       ∙ further-by (resource_of r.above p) (path_of r p) (step_into r e o) ss
       ∙ sym (ap (λ (x : Option ResourceNo). option_map (further ss) (option_and_then (λ j. option_map (λ q. record { resource = j; path = q }) (path_of r o)) x)) (resource-part o e p (sym h) is)
       ∙ ap (λ (x : Option Path). option_map (further ss) (option_and_then (λ j. option_map (λ q. record { resource = j; path = q }) x) (resource_of r.above p))) (path-part o e p (sym h) is))
       ∙ whole
 
-  pub locate-none : (o : ObjectNo) (ss : List Step) (all : Option Located) → None ≡ holder s.links (node.Object o) → option_map (further ss) (located (reading s) o) ≡ all → None ≡ all
+  pub locate-none : (o : ObjectNo) (ss : List Step) (all : Option Located) → None ≡ holder s.links (node.Object o) → option_map (further ss) (location_of (reading s) o) ≡ all → None ≡ all
   locate-none o ss all h whole =
       sym (ap (λ (x : Option ResourceNo). option_map (further ss) (option_and_then (λ j. option_map (λ p. record { resource = j; path = p }) (path_of (reading s) o)) x)) (resource-none o (sym h))) ∙ whole
 

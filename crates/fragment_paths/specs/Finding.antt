@@ -30,17 +30,17 @@ feature_of r o s =
     option_and_then (λ c. option_and_then (if_goes_by r s) (lookups.feature_by_name r.metamodel c s.name)) (r.class o)
 
 -- the object to which a step leads from object o
-abbrev pub stepped : Reading → ObjectNo → Step → Option ObjectNo
-stepped r o s =
+abbrev pub object_after_step : Reading → ObjectNo → Step → Option ObjectNo
+object_after_step r o s =
     option_and_then (λ f. slice_get (objects_of (r.values (at_end (node.Object o) f))) (unwrap_or s.index 0)) (feature_of r o s)
 
-abbrev pub walked : Reading → List Step → ObjectNo → Option ObjectNo
-walked r [] o = Some o
-walked r (s ∷ ss) o = option_and_then (walked r ss) (stepped r o s)
+abbrev pub object_after_steps : Reading → List Step → ObjectNo → Option ObjectNo
+object_after_steps r [] o = Some o
+object_after_steps r (s ∷ ss) o = option_and_then (object_after_steps r ss) (object_after_step r o s)
 
 -- the object that a path leads to: from a root, step by step
 abbrev pub find : Reading → ResourceNo → Path → Option ObjectNo
-find r k p = option_and_then (walked r p.steps) (slice_get (roots r k) p.root)
+find r k p = option_and_then (object_after_steps r p.steps) (slice_get (roots r k) p.root)
 
 -- the object that a fragment finds in a resource
 abbrev pub found_by : Reading → ResourceNo → List ℕ → Option ObjectNo

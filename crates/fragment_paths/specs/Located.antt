@@ -15,8 +15,8 @@ use Rattle.fragment_paths.specs.declared.paths.Located.{Located}
 abbrev pub path_by : Reading → End → ObjectNo → List Step → Path
 path_by r e o steps = new_path (position_in r e o) (reverse steps)
 
-abbrev pub located : Reading → ObjectNo → Option Located
-located r o = option_and_then (λ k. option_map (λ p. record { resource = k; path = p }) (path_of r o)) (resource_of r.above o)
+abbrev pub location_of : Reading → ObjectNo → Option Located
+location_of r o = option_and_then (λ k. option_map (λ p. record { resource = k; path = p }) (path_of r o)) (resource_of r.above o)
 
 -- the text of a located object's path, as it is written in its resource
 abbrev pub located_text : Reading → Located → List ℕ

@@ -34,7 +34,7 @@ fn feature_of<L: LinkStore>(model: &ModelRef<L>, object: ObjectNo, step: &Step) 
 
 /// The object to which a step leads from another.
 fn stepped<L: LinkStore>(model: &ModelRef<L>, object: ObjectNo, step: &Step) -> Option<ObjectNo>
-    ensures { result ≡ finding.stepped (reading model.now) object step.now }
+    ensures { result ≡ finding.object_after_step (reading model.now) object step.now }
 {
     let feature = feature_of(model, object, step)?;
     let node = Node::Object(object);
@@ -43,7 +43,7 @@ fn stepped<L: LinkStore>(model: &ModelRef<L>, object: ObjectNo, step: &Step) -> 
 
 /// The object to which steps lead from another.
 fn walked<L: LinkStore>(model: &ModelRef<L>, steps: &[Step], object: ObjectNo) -> Option<ObjectNo>
-    ensures { result ≡ finding.walked (reading model.now) steps.now object }
+    ensures { result ≡ finding.object_after_steps (reading model.now) steps.now object }
 {
     let mut at = object;
     'steps: for step in steps {

@@ -2,7 +2,7 @@
 ghost use Rattle.std.specs.Prelude.{◌≡◌, IfOk};
 ghost use Rattle.models.specs.Model.{reading};
 ghost use Rattle.fragment_paths.specs.Fragments as fragments;
-ghost use Rattle.fragment_paths.specs.Located.{located as located_in, path_by as path_meant};
+ghost use Rattle.fragment_paths.specs.Located.{location_of as located_in, path_by as path_meant};
 
 use crate::positions::Positions;
 use links::LinkStore;

@@ -10,8 +10,8 @@ use Rattle.mm_types.specs.declared.numbers.Node.{Node}
 use Rattle.mm_types.specs.declared.numbers.Node.TheVariants as node
 use Rattle.mm_types.specs.declared.numbers.ObjectNo.{ObjectNo}
 use Rattle.mm_types.specs.declared.value.Value.{Value}
-use Rattle.mm_values.specs.declared.edit.ValueEdit.{ValueEdit}
-use Rattle.mm_values.specs.declared.edit.ValueEdit.TheVariants.{NewObject, DropObject, PutList, InsertValue, RemoveValue as TakeValue, MoveValue, NewUri}
+use Rattle.mm_values.specs.declared.value_edit.ValueEdit.{ValueEdit}
+use Rattle.mm_values.specs.declared.value_edit.ValueEdit.TheVariants.{NewObject, DropObject, PutList, InsertValue, RemoveValue as TakeValue, MoveValue, NewUri}
 use Rattle.links.specs.Links.{Links, shift}
 use Rattle.links.specs.declared.plan.Edit.{Edit}
 use Rattle.links.specs.declared.plan.Edit.TheVariants as edit
@@ -21,7 +21,7 @@ use Rattle.removal.specs.declared.link_end.LinkEnd.{LinkEnd}
 use Rattle.resource_docs.specs.declared.doc.Content.{Content}
 use Rattle.resource_docs.specs.declared.doc.Doc.{Doc}
 use Rattle.doc_loader.specs.Loading as loading
-use Rattle.doc_loader.specs.Loading.{attribute_edits, loaded, of_contents}
+use Rattle.doc_loader.specs.Loading.{attribute_edits, loaded_number, of_contents}
 use Rattle.doc_loader.proofs.PairLemmas.{all-append, all-every, all-flat_map_every, all-map}
 use Rattle.handshake.specs.Displaced.{cut_by_new, cut_by_set, cut_link_ends, is_plain_add, is_plain_set, taken_index}
 use Rattle.handshake.specs.Edits.{made_edits, new_put}
@@ -76,7 +76,7 @@ module _ (P : ValueEdit → Type 0) (plain : (x : ValueEdit) → is_plain_edit x
   content-all : (m : Metamodel) (n : ℕ) (o : ObjectNo) (c : Content) → AllByRecursion P (attribute_edits m n o c)
   content-all m n o c =
       let a = shape m c.feature in
-      let put : ValueEdit = PutList (loaded n o) c.feature c.values (a.is_unsettable && a.is_single) in
+      let put : ValueEdit = PutList (loaded_number n o) c.feature c.values (a.is_unsettable && a.is_single) in
       elim a.is_reference as (λ b. AllByRecursion P (if b then [] else put ∷ [])) [ true ↦ tt | false ↦ (plain put refl, tt) ]
 
   loaded-all : (m : Metamodel) (n : ℕ) (doc : Doc) → AllByRecursion P (loading.loaded_values m n doc)

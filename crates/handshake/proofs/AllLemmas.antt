@@ -9,9 +9,9 @@ use Rattle.handshake.specs.FeatureChanges.{feature_changes}
 use Rattle.handshake.specs.declared.change.Change.{Change}
 use Rattle.handshake.specs.declared.change.Change.TheVariants.{ResolveAll}
 use Rattle.handshake.proofs.ChainLemmas.{one-replays}
-use Rattle.handshake.proofs.HappenedLemmas.{happened_all-at}
+use Rattle.handshake.proofs.HappenedLemmas.{ends_after_changes-at}
 use Rattle.handshake.proofs.LegalLemmas.{one-keeps-legal}
-use Rattle.handshake.proofs.ReplayLemmas.{replayed_all-told}
+use Rattle.handshake.proofs.ReplayLemmas.{ends_after_notices-change_notices}
 use Rattle.handshake.proofs.ResolveAllLemmas.{all-lead}
 
 pub change-keeps-legal : (s : Model) (c : Change) → KeepsLegal s c
@@ -23,5 +23,5 @@ chain-replays s ResolveAll legal early late read d stays old =
     let m = s.metamodel in
     let r = reading s in
     let ts = feature_changes r ResolveAll in
-    ap (λ (y : Ends). y d) (replayed_all-told m (held_at r) ts) ∙ happened_all-at m (held_at r) ts d ∙ (all-lead (sites r) s legal).replays d
+    ap (λ (y : Ends). y d) (ends_after_notices-change_notices m (held_at r) ts) ∙ ends_after_changes-at m (held_at r) ts d ∙ (all-lead (sites r) s legal).replays d
 chain-replays s c legal early late read d stays old = one-replays s c refl legal early late read d stays old

@@ -7,7 +7,7 @@ use Rattle.std.proofs.lemmas.Bool.Decides.{nat_tests}
 use Rattle.std.proofs.lemmas.Option.{none-some, same_Some}
 use Rattle.mm_meta.proofs.ShapeLemmas.{opposites_are_pairs}
 use Rattle.mm_types.proofs.SameLemmas.{same_end-self}
-use Rattle.mm_types.specs.Ends.{Ends, Held, is_set, shown, value_in, with_held}
+use Rattle.mm_types.specs.Ends.{Ends, Held, is_set, shown_values, value_in, with_held}
 use Rattle.mm_types.specs.Lookups as lookups
 use Rattle.mm_types.specs.Resolved.{Metamodel}
 use Rattle.mm_types.specs.Same.{is_nil, node_value, same_end}
@@ -25,23 +25,24 @@ use Rattle.links.specs.Plans.{Lacks}
 use Rattle.models.specs.Legal.{IsLegal}
 use Rattle.models.specs.Model.{Model, reading}
 use Rattle.models.specs.Reading.{Reading, at_end, held_at, is_repeat}
-use Rattle.notice_chain.specs.Replay.{removed, replayed_in}
+use Rattle.notice_chain.specs.Replay.{ends_after_notice, list_after_remove}
 use Rattle.notice_chain.specs.declared.kind.NoticeKind.TheVariants as kind
 use Rattle.notice_chain.specs.declared.notice.Notice.{Notice}
-use Rattle.containment.proofs.PartLemmas.{all-append, object-reference}
-use Rattle.handshake.proofs.CutLinkEndLemmas.{Stands, all_front, all_push, backwards-different, plain-not, link_end_in-different, link_end_in-stand, link_ends_at-different, link_ends_at-stand, link_ends_backwards-stand, values-linked, yields-different, yields-stand}
+use Rattle.mm_meta.proofs.FeatureListLemmas.{all-append}
+use Rattle.containment.proofs.PartLemmas.{object-reference}
+use Rattle.handshake.proofs.CutLinkEndLemmas.{HasLinkEnd, all_front, all_push, backwards-different, plain-not, link_end_in-different, link_end_in-stand, link_ends_at-different, link_ends_at-stand, link_ends_backwards-stand, values-linked, displaced_link_ends-different, displaced_link_ends-stand}
 use Rattle.handshake.proofs.KnownLemmas.{add-taken, set-named}
 use Rattle.handshake.proofs.LinkLemmas.{IsNewLink, far-lacks}
 use Rattle.handshake.proofs.PlanLemmas.{add-new, set-new}
-use Rattle.handshake.proofs.YieldLemmas.{Origin, yields-origin}
-use Rattle.handshake.proofs.ReplayLemmas.{replayed_all-told}
-use Rattle.handshake.proofs.LinkEndNameLemmas.{IsNameOf, IsYielded, name-stands, names-apart, turned-apart, yielded, yielded-agree, yielded-far, yielded-near}
-use Rattle.handshake.specs.Displaced.{cut_by_new, cut_by_set, cut_link_ends, has_already, is_plain_add, is_plain_set, other_side, same_link, link_end_in, link_ends_at, link_ends_backwards, taken_index, turned, yields}
+use Rattle.handshake.proofs.YieldLemmas.{Origin, displaced_link_ends-origin}
+use Rattle.handshake.proofs.ReplayLemmas.{ends_after_notices-change_notices}
+use Rattle.handshake.proofs.LinkEndNameLemmas.{IsNameOf, IsYielded, name-stands, names-apart, opposite_link_end-apart, yielded, yielded-agree, yielded-far, yielded-near}
+use Rattle.handshake.specs.Displaced.{cut_by_new, cut_by_set, cut_link_ends, has_already, is_plain_add, is_plain_set, other_side, same_link, link_end_in, link_ends_at, link_ends_backwards, taken_index, opposite_link_end, displaced_link_ends}
 use Rattle.removal.specs.TreeLinkEnds.{link_end}
 use Rattle.handshake.specs.Laws.{AreApart, AreDifferent, takes_many}
 use Rattle.handshake.specs.Refusals.{early_refusal, late_refusal}
-use Rattle.handshake.specs.FeatureChange.{changed, flagged, happened, happened_all, has_flag, notice_at, notice_of, feature_change, told}
-use Rattle.handshake.specs.FeatureChanges.{all_lost, before_gain, chain, destroyed_by, far_gain, far_loss, far_losses, gain_at, is_replaced, loaded_by, loss, losses, other_losses, resolves_all, taken_out, feature_changes, feature_changes_with}
+use Rattle.handshake.specs.FeatureChange.{values_after_change, flag_after_change, ends_after_change, ends_after_changes, has_flag, notice_at, notice_of, feature_change, change_notices}
+use Rattle.handshake.specs.FeatureChanges.{all_lost, before_gain, chain, destroyed_by, far_gain, far_loss, far_losses, gain_at, is_replaced, loaded_by, loss, losses, other_losses, resolves_all, changes_of_remove, feature_changes, feature_changes_with}
 use Rattle.handshake.specs.declared.change.Change.TheVariants.{At, Create, NewResource, Load}
 use Rattle.handshake.specs.declared.act.Act.TheVariants.{Set, Unset, Add, Move, Resolve}
 use Rattle.resource_docs.specs.declared.doc.Doc.{Doc}
@@ -106,20 +107,20 @@ with_held-other : (e : Ends) (x d : End) (h : Held) → x ≢ d → with_held e 
 with_held-other e x d h ne = ap (λ (b : Bool). if b then h else e d) (ne-same_end x d ne)
 
 -- a notification changes no other end
-replayed_in-other : (m : Metamodel) (e : Ends) (t : FeatureChange) (d : End) → t.at ≢ d → replayed_in (has_flag m) e (read_in m e t) d ≡ e d
-replayed_in-other m e t d ne = ap (λ (f : Ends). f d) (replayed_all-told m e (t ∷ [])) ∙ with_held-other e t.at d (record { values = changed (shape m t.at.feature) t.does (e t.at).values; flag = flagged (shape m t.at.feature) t.does (e t.at).flag }) ne
+ends_after_notice-other : (m : Metamodel) (e : Ends) (t : FeatureChange) (d : End) → t.at ≢ d → ends_after_notice (has_flag m) e (read_in m e t) d ≡ e d
+ends_after_notice-other m e t d ne = ap (λ (f : Ends). f d) (ends_after_notices-change_notices m e (t ∷ [])) ∙ with_held-other e t.at d (record { values = values_after_change (shape m t.at.feature) t.does (e t.at).values; flag = flag_after_change (shape m t.at.feature) t.does (e t.at).flag }) ne
 
-told-agreeing : (m : Metamodel) (e d : Ends) (ts : List FeatureChange) → AreApart ts → AllByRecursion (λ (t : FeatureChange). d t.at ≡ e t.at) ts → told m d ts ≡ map (read_in m e) ts
-told-agreeing m e d [] apart same = refl
-told-agreeing m e d (t ∷ ts) apart same =
-    let next : Ends = replayed_in (has_flag m) d (read_in m d t) in
-    let kept : (u : FeatureChange) → (t.at ≡ u.at → ⊥) × (d u.at ≡ e u.at) → next u.at ≡ e u.at = λ u h. replayed_in-other m d t u.at h.0 ∙ h.1 in
-    ap (λ h. notice_of (shape m t.at.feature) t.at t.does h ∷ told m next ts) same.0
-    ∙ ap (λ ns. read_in m e t ∷ ns) (told-agreeing m e next ts apart.1 (all-weaker _ _ ts kept (all_both _ _ ts apart.0 same.1)))
+change_notices-agreeing : (m : Metamodel) (e d : Ends) (ts : List FeatureChange) → AreApart ts → AllByRecursion (λ (t : FeatureChange). d t.at ≡ e t.at) ts → change_notices m d ts ≡ map (read_in m e) ts
+change_notices-agreeing m e d [] apart same = refl
+change_notices-agreeing m e d (t ∷ ts) apart same =
+    let next : Ends = ends_after_notice (has_flag m) d (read_in m d t) in
+    let kept : (u : FeatureChange) → (t.at ≡ u.at → ⊥) × (d u.at ≡ e u.at) → next u.at ≡ e u.at = λ u h. ends_after_notice-other m d t u.at h.0 ∙ h.1 in
+    ap (λ h. notice_of (shape m t.at.feature) t.at t.does h ∷ change_notices m next ts) same.0
+    ∙ ap (λ ns. read_in m e t ∷ ns) (change_notices-agreeing m e next ts apart.1 (all-weaker _ _ ts kept (all_both _ _ ts apart.0 same.1)))
 
 -- if no end has two notifications, each can be computed in the ends as they are
-pub told-apart : (m : Metamodel) (e : Ends) (ts : List FeatureChange) → AreApart ts → told m e ts ≡ map (λ t. notice_of (shape m t.at.feature) t.at t.does (e t.at)) ts
-told-apart m e ts apart = told-agreeing m e e ts apart (all_of (λ (t : FeatureChange). e t.at ≡ e t.at) ts (λ t. refl))
+pub change_notices-apart : (m : Metamodel) (e : Ends) (ts : List FeatureChange) → AreApart ts → change_notices m e ts ≡ map (λ t. notice_of (shape m t.at.feature) t.at t.does (e t.at)) ts
+change_notices-apart m e ts apart = change_notices-agreeing m e e ts apart (all_of (λ (t : FeatureChange). e t.at ≡ e t.at) ts (λ t. refl))
 
 ---------------------------------------------------------------- losses
 
@@ -132,13 +133,13 @@ record IsOf (r : Reading) (t : LinkEnd) (x : FeatureChange) : Type 0 where
 of_near : (r : Reading) (t : LinkEnd) → IsOf r t (loss t)
 of_near r t = record { name = t; is_name = inl refl; at = refl }
 
-of_far : (r : Reading) (t u : LinkEnd) → turned r t ≡ Some u → IsOf r t (loss u)
+of_far : (r : Reading) (t u : LinkEnd) → opposite_link_end r t ≡ Some u → IsOf r t (loss u)
 of_far r t u is = record { name = u; is_name = inr is; at = refl }
 
 losses-of : (r : Reading) (t : LinkEnd) → AllByRecursion (IsOf r t) (losses r t)
-losses-of r t = by (turned r t) refl
+losses-of r t = by (opposite_link_end r t) refl
   where
-    by : (q : Option LinkEnd) → turned r t ≡ q → AllByRecursion (IsOf r t) (option_map_or (λ u. if is_containment r.metamodel u.end.feature then loss u ∷ loss t ∷ [] else loss t ∷ loss u ∷ []) q (loss t ∷ []))
+    by : (q : Option LinkEnd) → opposite_link_end r t ≡ q → AllByRecursion (IsOf r t) (option_map_or (λ u. if is_containment r.metamodel u.end.feature then loss u ∷ loss t ∷ [] else loss t ∷ loss u ∷ []) q (loss t ∷ []))
     by None _ = (of_near r t, tt)
     by (Some u) is =
         elim (is_containment r.metamodel u.end.feature) as (λ b. AllByRecursion (IsOf r t) (if b then loss u ∷ loss t ∷ [] else loss t ∷ loss u ∷ [])) [
@@ -147,32 +148,32 @@ losses-of r t = by (turned r t) refl
         ]
 
 far_loss-of : (r : Reading) (t : LinkEnd) → AllByRecursion (IsOf r t) (far_loss r t)
-far_loss-of r t = by (turned r t) refl
+far_loss-of r t = by (opposite_link_end r t) refl
   where
-    by : (q : Option LinkEnd) → turned r t ≡ q → AllByRecursion (IsOf r t) (option_map_or (λ u. loss u ∷ []) q [])
+    by : (q : Option LinkEnd) → opposite_link_end r t ≡ q → AllByRecursion (IsOf r t) (option_map_or (λ u. loss u ∷ []) q [])
     by None _ = tt
     by (Some u) is = (of_far r t u is, tt)
 
 far_loss-apart : (r : Reading) (t : LinkEnd) → AreApart (far_loss r t)
-far_loss-apart r t = elim (turned r t) as (λ q. AreApart (option_map_or (λ u. loss u ∷ []) q [])) [ None ↦ tt | Some u ↦ (tt, tt) ]
+far_loss-apart r t = elim (opposite_link_end r t) as (λ q. AreApart (option_map_or (λ u. loss u ∷ []) q [])) [ None ↦ tt | Some u ↦ (tt, tt) ]
 
 module _ (s : Model) (legal : IsLegal s) where
   losses-apart : (t : LinkEnd) → AreApart (losses (reading s) t)
-  losses-apart t = by (turned (reading s) t) refl
+  losses-apart t = by (opposite_link_end (reading s) t) refl
     where
-      by : (q : Option LinkEnd) → turned (reading s) t ≡ q → AreApart (option_map_or (λ u. if is_containment s.metamodel u.end.feature then loss u ∷ loss t ∷ [] else loss t ∷ loss u ∷ []) q (loss t ∷ []))
+      by : (q : Option LinkEnd) → opposite_link_end (reading s) t ≡ q → AreApart (option_map_or (λ u. if is_containment s.metamodel u.end.feature then loss u ∷ loss t ∷ [] else loss t ∷ loss u ∷ []) q (loss t ∷ []))
       by None _ = (tt, tt)
       by (Some u) is =
           elim (is_containment s.metamodel u.end.feature) as (λ b. AreApart (if b then loss u ∷ loss t ∷ [] else loss t ∷ loss u ∷ [])) [
-            | true ↦ ((λ same. turned-apart s legal t u is (sym same), tt), (tt, tt))
-            | false ↦ ((turned-apart s legal t u is, tt), (tt, tt))
+            | true ↦ ((λ same. opposite_link_end-apart s legal t u is (sym same), tt), (tt, tt))
+            | false ↦ ((opposite_link_end-apart s legal t u is, tt), (tt, tt))
           ]
 
   -- the feature changes of several links, each at its own ends: names of these links in one end have the same value
   module _ (f : LinkEnd → List FeatureChange) (of : (t : LinkEnd) → AllByRecursion (IsOf (reading s) t) (f t)) (Ok Key : LinkEnd → Type 0)
-      (key : (t y : LinkEnd) → Ok t → IsNameOf (reading s) t y → Key y) (agree : (y z : LinkEnd) → Stands s.links y → Stands s.links z → Key y → Key z → y.end ≡ z.end → y.value ≡ z.value) where
+      (key : (t y : LinkEnd) → Ok t → IsNameOf (reading s) t y → Key y) (agree : (y z : LinkEnd) → HasLinkEnd s.links y → HasLinkEnd s.links z → Key y → Key z → y.end ≡ z.end → y.value ≡ z.value) where
     abbrev Known : LinkEnd → Type 0
-    Known t = Stands s.links t × Ok t
+    Known t = HasLinkEnd s.links t × Ok t
 
     others_away : (t : LinkEnd) (ts : List LinkEnd) (x : FeatureChange) → Known t → AllByRecursion (λ (u : LinkEnd). same_link (reading s) u t ≡ false) ts → AllByRecursion Known ts → IsOf (reading s) t x → IsNotAt x.at (flat_map f ts)
     others_away t ts x at_t others known of_x =
@@ -194,15 +195,15 @@ module _ (s : Model) (legal : IsLegal s) where
   pub far_losses-away : (e : End) (ts : List LinkEnd) → AllByRecursion (λ (t : LinkEnd). t.end ≡ e) ts → AllByRecursion (λ (x : FeatureChange). x.at ≡ e → ⊥) (far_losses (reading s) ts)
   far_losses-away e ts all = all_flat (λ (t : LinkEnd). t.end ≡ e) (λ (x : FeatureChange). x.at ≡ e → ⊥) (far_loss (reading s)) ts each all
     where
-      by : (t : LinkEnd) (q : Option LinkEnd) → t.end ≡ e → turned (reading s) t ≡ q → AllByRecursion (λ (x : FeatureChange). x.at ≡ e → ⊥) (option_map_or (λ u. loss u ∷ []) q [])
+      by : (t : LinkEnd) (q : Option LinkEnd) → t.end ≡ e → opposite_link_end (reading s) t ≡ q → AllByRecursion (λ (x : FeatureChange). x.at ≡ e → ⊥) (option_map_or (λ u. loss u ∷ []) q [])
       by t None is _ = tt
-      by t (Some u) is turns = (λ same. turned-apart s legal t u turns (is ∙ sym same), tt)
+      by t (Some u) is turns = (λ same. opposite_link_end-apart s legal t u turns (is ∙ sym same), tt)
 
       each : (t : LinkEnd) → t.end ≡ e → AllByRecursion (λ (x : FeatureChange). x.at ≡ e → ⊥) (far_loss (reading s) t)
-      each t is = by t (turned (reading s) t) is refl
+      each t is = by t (opposite_link_end (reading s) t) is refl
 
   -- links that are in one end, with notifications at their far ends
-  far-name : (e : End) (t y : LinkEnd) → t.end ≡ e → turned (reading s) t ≡ Some y → y.value ≡ node_value e.node
+  far-name : (e : End) (t y : LinkEnd) → t.end ≡ e → opposite_link_end (reading s) t ≡ Some y → y.value ≡ node_value e.node
   far-name e t y is turns = by t.value (shape s.metamodel t.end.feature).opposite turns ∙ ap (λ (d : End). node_value d.node) is
     where
       by : (v : Value) (q : Option FeatureNo) → other_side t.end.node v q ≡ Some y → y.value ≡ node_value t.end.node
@@ -212,31 +213,31 @@ module _ (s : Model) (legal : IsLegal s) where
   abbrev FarKey : End → LinkEnd → Type 0
   FarKey e y = (y.end ≡ e → ⊥) × (y.value ≡ node_value e.node)
 
-  far_loss-far : (e : End) (t : LinkEnd) → t.end ≡ e → AllByRecursion (λ (x : FeatureChange). (y : LinkEnd) × (turned (reading s) t ≡ Some y) × (x.at ≡ y.end)) (far_loss (reading s) t)
-  far_loss-far e t is = by (turned (reading s) t) refl
+  far_loss-far : (e : End) (t : LinkEnd) → t.end ≡ e → AllByRecursion (λ (x : FeatureChange). (y : LinkEnd) × (opposite_link_end (reading s) t ≡ Some y) × (x.at ≡ y.end)) (far_loss (reading s) t)
+  far_loss-far e t is = by (opposite_link_end (reading s) t) refl
     where
-      by : (q : Option LinkEnd) → turned (reading s) t ≡ q → AllByRecursion (λ (x : FeatureChange). (y : LinkEnd) × (turned (reading s) t ≡ Some y) × (x.at ≡ y.end)) (option_map_or (λ u. loss u ∷ []) q [])
+      by : (q : Option LinkEnd) → opposite_link_end (reading s) t ≡ q → AllByRecursion (λ (x : FeatureChange). (y : LinkEnd) × (opposite_link_end (reading s) t ≡ Some y) × (x.at ≡ y.end)) (option_map_or (λ u. loss u ∷ []) q [])
       by None _ = tt
       by (Some u) turns = ((u, turns, refl), tt)
 
   -- two links of one end have different far ends
-  far-others : (e : End) (t u y z : LinkEnd) → t.end ≡ e → u.end ≡ e → Stands s.links t → Stands s.links u → same_link (reading s) u t ≡ false → turned (reading s) t ≡ Some y → turned (reading s) u ≡ Some z → y.end ≡ z.end → ⊥
+  far-others : (e : End) (t u y z : LinkEnd) → t.end ≡ e → u.end ≡ e → HasLinkEnd s.links t → HasLinkEnd s.links u → same_link (reading s) u t ≡ false → opposite_link_end (reading s) t ≡ Some y → opposite_link_end (reading s) u ≡ Some z → y.end ≡ z.end → ⊥
   far-others e t u y z is_t is_u at_t at_u other turns_t turns_u same =
       names-apart s legal t u y z at_t at_u other (inr turns_t) (inr turns_u) same (far-name e t y is_t turns_t ∙ sym (far-name e u z is_u turns_u))
 
-  far-apart : (e : End) (ts : List LinkEnd) → AllByRecursion (λ (t : LinkEnd). t.end ≡ e) ts → AreDifferent (reading s) ts → AllByRecursion (Stands s.links) ts → AreApart (far_losses (reading s) ts)
+  far-apart : (e : End) (ts : List LinkEnd) → AllByRecursion (λ (t : LinkEnd). t.end ≡ e) ts → AreDifferent (reading s) ts → AllByRecursion (HasLinkEnd s.links) ts → AreApart (far_losses (reading s) ts)
   far-apart e [] here different stand = tt
   far-apart e (t ∷ ts) here different stand =
       let r = reading s in
-      let Here : LinkEnd → Type 0 = λ u. (same_link r u t ≡ false) × ((u.end ≡ e) × Stands s.links u) in
-      let away : (x : FeatureChange) → ((y : LinkEnd) × (turned r t ≡ Some y) × (x.at ≡ y.end)) → IsNotAt x.at (far_losses r ts) = λ x of_x. all_flat Here (λ (w : FeatureChange). x.at ≡ w.at → ⊥) (far_loss r) ts
+      let Here : LinkEnd → Type 0 = λ u. (same_link r u t ≡ false) × ((u.end ≡ e) × HasLinkEnd s.links u) in
+      let away : (x : FeatureChange) → ((y : LinkEnd) × (opposite_link_end r t ≡ Some y) × (x.at ≡ y.end)) → IsNotAt x.at (far_losses r ts) = λ x of_x. all_flat Here (λ (w : FeatureChange). x.at ≡ w.at → ⊥) (far_loss r) ts
       (λ u h. all-weaker _ _ (far_loss r u) (λ w of_w same. far-others e t u of_x.0 of_w.0 here.0 h.1.0 stand.0 h.1.1 h.0 of_x.1 of_w.1 (sym of_x.2 ∙ same ∙ of_w.2)) (far_loss-far e u h.1.0))
       (all_both _ _ ts different.0 (all_both _ _ ts here.1 stand.1)) in
       apart_append (far_loss r t) (far_losses r ts) (far_loss-apart r t) (far-apart e ts here.1 different.1 stand.1)
       (all-weaker _ _ (far_loss r t) away (far_loss-far e t here.0))
 
   -- the notifications of cuts of an end, and then of the end itself
-  pub emptied-apart : (e : End) (ts : List LinkEnd) (h : ChangeKind) → AllByRecursion (λ (t : LinkEnd). t.end ≡ e) ts → AreDifferent (reading s) ts → AllByRecursion (Stands s.links) ts → AreApart (far_losses (reading s) ts ++ feature_change e h ∷ [])
+  pub emptied-apart : (e : End) (ts : List LinkEnd) (h : ChangeKind) → AllByRecursion (λ (t : LinkEnd). t.end ≡ e) ts → AreDifferent (reading s) ts → AllByRecursion (HasLinkEnd s.links) ts → AreApart (far_losses (reading s) ts ++ feature_change e h ∷ [])
   emptied-apart e ts h here different stand = apart_push (far_losses (reading s) ts) (feature_change e h) (far-apart e ts here different stand) (far_losses-away e ts here)
 
   ---------------------------------------------------------------- the notifications of a new link
@@ -244,7 +245,7 @@ module _ (s : Model) (legal : IsLegal s) where
   module _ (e : End) (o : ObjectNo) (new : IsNewLink s e o) where
     -- the notifications of the displaced links
     abbrev kept : List FeatureChange
-    kept = flat_map (other_losses (reading s) e o) (yields (reading s) e o)
+    kept = flat_map (other_losses (reading s) e o) (displaced_link_ends (reading s) e o)
 
     abbrev gain_by : Option FeatureNo → List FeatureChange
     gain_by q = option_map_or (λ d. feature_change d (Gains (node_value e.node)) ∷ []) (option_map (far_end o) q) []
@@ -255,15 +256,15 @@ module _ (s : Model) (legal : IsLegal s) where
     other_losses-apart : (t : LinkEnd) → AreApart (other_losses (reading s) e o t)
     other_losses-apart t = apart_filter (λ x. not (is_replaced (reading s) e o x.at)) (losses (reading s) t) (losses-apart t)
 
-    known : AllByRecursion (λ (t : LinkEnd). Stands s.links t × Origin s e o t) (yields (reading s) e o)
-    known = all_both _ _ (yields (reading s) e o) (yields-stand s e o legal new.reference) (yields-origin s e o)
+    known : AllByRecursion (λ (t : LinkEnd). HasLinkEnd s.links t × Origin s e o t) (displaced_link_ends (reading s) e o)
+    known = all_both _ _ (displaced_link_ends (reading s) e o) (displaced_link_ends-stand s e o legal new.reference) (displaced_link_ends-origin s e o)
 
     kept-apart : AreApart kept
-    kept-apart = flat-apart (other_losses (reading s) e o) other_losses-of (Origin s e o) (IsYielded s e o) (yielded s legal e o) (yielded-agree s legal e o) other_losses-apart (yields (reading s) e o) (yields-different (reading s) e o) known
+    kept-apart = flat-apart (other_losses (reading s) e o) other_losses-of (Origin s e o) (IsYielded s e o) (yielded s legal e o) (yielded-agree s legal e o) other_losses-apart (displaced_link_ends (reading s) e o) (displaced_link_ends-different (reading s) e o) known
 
     kept-other : AllByRecursion (λ (x : FeatureChange). not (is_replaced (reading s) e o x.at) ≡ true) kept
-    kept-other = all_flat (λ (t : LinkEnd). Unit {0}) (λ (x : FeatureChange). not (is_replaced (reading s) e o x.at) ≡ true) (other_losses (reading s) e o) (yields (reading s) e o)
-        (λ t _. all_pass (λ x. not (is_replaced (reading s) e o x.at)) (losses (reading s) t)) (all_of (λ (t : LinkEnd). Unit {0}) (yields (reading s) e o) (λ t. tt))
+    kept-other = all_flat (λ (t : LinkEnd). Unit {0}) (λ (x : FeatureChange). not (is_replaced (reading s) e o x.at) ≡ true) (other_losses (reading s) e o) (displaced_link_ends (reading s) e o)
+        (λ t _. all_pass (λ x. not (is_replaced (reading s) e o x.at)) (losses (reading s) t)) (all_of (λ (t : LinkEnd). Unit {0}) (displaced_link_ends (reading s) e o) (λ t. tt))
 
     -- the new link replaces the values of both its single ends
     replaced_away : (d : End) → is_replaced (reading s) e o d ≡ true → AllByRecursion (λ (x : FeatureChange). x.at ≡ d → ⊥) kept
@@ -274,7 +275,7 @@ module _ (s : Model) (legal : IsLegal s) where
     -- a list of the new link lacks the values that the displaced links would lose there
     lacking_away : (d : End) (w : Value) → Lacks s.links d w → ((y : LinkEnd) → IsYielded s e o y → y.end ≡ d → y.value ≡ w) → AllByRecursion (λ (x : FeatureChange). x.at ≡ d → ⊥) kept
     lacking_away d w lacks only =
-        all_flat (λ (t : LinkEnd). Stands s.links t × Origin s e o t) (λ (x : FeatureChange). x.at ≡ d → ⊥) (other_losses (reading s) e o) (yields (reading s) e o)
+        all_flat (λ (t : LinkEnd). HasLinkEnd s.links t × Origin s e o t) (λ (x : FeatureChange). x.at ≡ d → ⊥) (other_losses (reading s) e o) (displaced_link_ends (reading s) e o)
         (λ t at_t. all-weaker (IsOf (reading s) t) (λ (x : FeatureChange). x.at ≡ d → ⊥) (other_losses (reading s) e o t) (λ x of_x same.
         let y = of_x.name in
         let here : y.end ≡ d = sym of_x.at ∙ same in
@@ -347,10 +348,10 @@ attribute-add : (s : Model) (n : Node) (f : FeatureNo) (v : Value) (h : ChangeKi
 attribute-add s n f (value.Object o) h attribute takes = absurd (false≢true (sym attribute ∙ object-reference s.metamodel (reading s).class f o takes))
 attribute-add s n f v h attribute takes = one-apart (feature_change (at_end n f) h)
 
-taken-apart : (s : Model) (n : Node) (f : FeatureNo) (i : ℕ) → IsLegal s → AreApart (taken_out (reading s) (at_end n f) (if (shape s.metamodel f).is_reference then link_end_in (reading s) (at_end n f) i else []) i)
+taken-apart : (s : Model) (n : Node) (f : FeatureNo) (i : ℕ) → IsLegal s → AreApart (changes_of_remove (reading s) (at_end n f) (if (shape s.metamodel f).is_reference then link_end_in (reading s) (at_end n f) i else []) i)
 taken-apart s n f i legal =
     let e = at_end n f in
-    reference-tells (λ ts. AreApart (taken_out (reading s) e ts i)) (shape s.metamodel f).is_reference (link_end_in (reading s) e i)
+    reference-tells (λ ts. AreApart (changes_of_remove (reading s) e ts i)) (shape s.metamodel f).is_reference (link_end_in (reading s) e i)
     (λ reference. emptied-apart s legal e (link_end_in (reading s) e i) (LosesAt i) (link_end_in-here (reading s) e i) (link_end_in-different (reading s) e i) (link_end_in-stand s e i reference)) (one-apart (feature_change e (LosesAt i)))
 
 -- if an end is unset, no far end has two notifications, and none of them is the end itself
@@ -400,7 +401,7 @@ feature_changes-apart s (At e (Resolve i)) legal early late few =
     ((apart, tt), one-apart (feature_change e (Resolves i (value.Object x.object)))))
 feature_changes-apart s (At e a) legal early late few =
     let r = reading s in
-    elim (taken_index r e a) as (λ q. AreApart (option_map_or (taken_out r e (if (shape s.metamodel e.feature).is_reference then option_map_or (link_end_in r e) q [] else [])) q [])) [
+    elim (taken_index r e a) as (λ q. AreApart (option_map_or (changes_of_remove r e (if (shape s.metamodel e.feature).is_reference then option_map_or (link_end_in r e) q [] else [])) q [])) [
       | None ↦ tt
       | Some i ↦ taken-apart s e.node e.feature i legal
     ]
@@ -424,8 +425,8 @@ take-remove (v ∷ vs) zero low = refl
 take-remove (v ∷ vs) (suc n) low = ap (λ (ws : List Value). v ∷ ws) (take-remove vs n (omega (arith, low)))
 
 -- the last value of a list is taken out
-take-removed : (vs : List Value) (n : ℕ) → n < length vs → removed (take (suc n) vs) (pos n) ≡ take n vs
-take-removed vs n low =
+take-list_after_remove : (vs : List Value) (n : ℕ) → n < length vs → list_after_remove (take (suc n) vs) (pos n) ≡ take n vs
+take-list_after_remove vs n low =
     let long = take-length vs (suc n) (omega (arith, low)) in
     let below : nat_lt n (length (take (suc n) vs)) ≡ true = rw long (grind (arith, nat_tests)) in
     rw below (take-remove vs n low)
@@ -435,40 +436,40 @@ not-nil [] n low = absurd (omega (arith, low))
 not-nil (v ∷ vs) n low = refl
 
 -- the losses of the end itself, from the rest of its list
-lost-read : (m : Metamodel) (e : Ends) (x : End) (n : ℕ) (d : Ends) → (shape m x.feature).is_single ≡ false → (d x).values ≡ take n (e x).values → n ≤ length (e x).values → told m d (all_lost x n) ≡ map (read_in m e) (all_lost x n)
+lost-read : (m : Metamodel) (e : Ends) (x : End) (n : ℕ) (d : Ends) → (shape m x.feature).is_single ≡ false → (d x).values ≡ take n (e x).values → n ≤ length (e x).values → change_notices m d (all_lost x n) ≡ map (read_in m e) (all_lost x n)
 lost-read m e x zero d many is low = refl
 lost-read m e x (suc n) d many is low =
     let a = shape m x.feature in
     let vs = (e x).values in
     let t = feature_change x (LosesAt n) in
-    let next : Ends = replayed_in (has_flag m) d (read_in m d t) in
+    let next : Ends = ends_after_notice (has_flag m) d (read_in m d t) in
     let below : n < length vs = omega (arith, low) in
     let left : (next x).values ≡ take n vs =
-    ap (λ (f : Ends). (f x).values) (replayed_all-told m d (t ∷ []))
-    ∙ ap (λ (b : Bool). (if b then record { values = removed (d x).values (pos n); flag = (d x).flag } else d x).values) (same_end-self x)
-    ∙ ap (λ (ws : List Value). removed ws (pos n)) is ∙ take-removed vs n below in
+    ap (λ (f : Ends). (f x).values) (ends_after_notices-change_notices m d (t ∷ []))
+    ∙ ap (λ (b : Bool). (if b then record { values = list_after_remove (d x).values (pos n); flag = (d x).flag } else d x).values) (same_end-self x)
+    ∙ ap (λ (ws : List Value). list_after_remove ws (pos n)) is ∙ take-list_after_remove vs n below in
     let old : value_in (d x).values n ≡ value_in vs n = ap (λ (ws : List Value). value_in ws n) is ∙ take-value vs n below in
     let long : n < length (take (suc n) vs) = subst (λ (k : ℕ). n < k) (sym (take-length vs (suc n) low)) (omega arith) in
     let set : is_set a (d x) ≡ is_set a (e x) =
     list-set a (d x) many (ap (λ (ws : List Value). not (is_nil ws)) is ∙ not-nil (take (suc n) vs) n long) ∙ sym (list-set a (e x) many (not-nil vs n below)) in
     let same : read_in m d t ≡ read_in m e t = λ i. record { notifier = x.node; feature = Some x.feature; kind = kind.Remove; old_value = old i; new_value = value.Null; position = pos n; was_set = set i } in
-    ap (λ (y : Notice). y ∷ told m next (all_lost x n)) same ∙ ap (λ (ns : List Notice). read_in m e t ∷ ns) (lost-read m e x n next many left (omega (arith, low)))
+    ap (λ (y : Notice). y ∷ change_notices m next (all_lost x n)) same ∙ ap (λ (ns : List Notice). read_in m e t ∷ ns) (lost-read m e x n next many left (omega (arith, low)))
   where
     list-set : (a : Shape) (h : Held) → a.is_single ≡ false → not (is_nil h.values) ≡ true → is_set a h ≡ true
     list-set a h many set = rw many set
 
-happened-away : (m : Metamodel) (e : Ends) (ts : List FeatureChange) (x : End) → AllByRecursion (λ (t : FeatureChange). t.at ≡ x → ⊥) ts → happened_all m e ts x ≡ e x
+happened-away : (m : Metamodel) (e : Ends) (ts : List FeatureChange) (x : End) → AllByRecursion (λ (t : FeatureChange). t.at ≡ x → ⊥) ts → ends_after_changes m e ts x ≡ e x
 happened-away m e [] x away = refl
 happened-away m e (t ∷ ts) x away =
-    happened-away m (happened m e t) ts x away.1
-    ∙ with_held-other e t.at x (record { values = changed (shape m t.at.feature) t.does (e t.at).values; flag = flagged (shape m t.at.feature) t.does (e t.at).flag }) away.0
+    happened-away m (ends_after_change m e t) ts x away.1
+    ∙ with_held-other e t.at x (record { values = values_after_change (shape m t.at.feature) t.does (e t.at).values; flag = flag_after_change (shape m t.at.feature) t.does (e t.at).flag }) away.0
 
-pub told-append : (m : Metamodel) (e : Ends) (ts us : List FeatureChange) → told m e (ts ++ us) ≡ told m e ts ++ told m (happened_all m e ts) us
-told-append m e [] us = refl
-told-append m e (t ∷ ts) us =
+pub change_notices-append : (m : Metamodel) (e : Ends) (ts us : List FeatureChange) → change_notices m e (ts ++ us) ≡ change_notices m e ts ++ change_notices m (ends_after_changes m e ts) us
+change_notices-append m e [] us = refl
+change_notices-append m e (t ∷ ts) us =
     let n = read_in m e t in
-    let next : Ends = replayed_in (has_flag m) e n in
-    ap (λ (ns : List Notice). n ∷ ns) (told-append m next ts us ∙ ap (λ (d : Ends). told m next ts ++ told m (happened_all m d ts) us) (replayed_all-told m e (t ∷ [])))
+    let next : Ends = ends_after_notice (has_flag m) e n in
+    ap (λ (ns : List Notice). n ∷ ns) (change_notices-append m next ts us ∙ ap (λ (d : Ends). change_notices m next ts ++ change_notices m (ends_after_changes m d ts) us) (ends_after_notices-change_notices m e (t ∷ [])))
 
 map-append : (f : FeatureChange → Notice) (ts us : List FeatureChange) → map f (ts ++ us) ≡ map f ts ++ map f us
 map-append f [] us = refl
@@ -496,14 +497,14 @@ unset-read s n f legal many =
     let own = all_lost e (length (r.values e)) in
     let apart = unset-apart s n f Unsets legal in
     let away = push-away far (feature_change e Unsets) apart in
-    let listed : (h e).values ≡ r.values e = ap (λ (b : Bool). shown b (r.values e)) many in
-    let is : (happened_all m h far e).values ≡ take (length (r.values e)) (h e).values =
+    let listed : (h e).values ≡ r.values e = ap (λ (b : Bool). shown_values b (r.values e)) many in
+    let is : (ends_after_changes m h far e).values ≡ take (length (r.values e)) (h e).values =
     ap (λ (k : Held). k.values) (happened-away m h far e away) ∙ listed ∙ sym (ap (take (length (r.values e))) listed ∙ take-whole (r.values e)) in
-    let whole : told m h (far ++ own) ≡ map (read_in m h) (far ++ own) =
-    told-append m h far own
-    ∙ (λ i. told-apart m h far (apart-front far (feature_change e Unsets ∷ []) apart) i ++ lost-read m h e (length (r.values e)) (happened_all m h far) many is (within r e listed) i)
+    let whole : change_notices m h (far ++ own) ≡ map (read_in m h) (far ++ own) =
+    change_notices-append m h far own
+    ∙ (λ i. change_notices-apart m h far (apart-front far (feature_change e Unsets ∷ []) apart) i ++ lost-read m h e (length (r.values e)) (ends_after_changes m h far) many is (within r e listed) i)
     ∙ sym (map-append (read_in m h) far own) in
-    subst (λ (b : Bool). told m h (far ++ (if b then feature_change e Unsets ∷ [] else own)) ≡ map (read_in m h) (far ++ (if b then feature_change e Unsets ∷ [] else own))) (sym many) whole
+    subst (λ (b : Bool). change_notices m h (far ++ (if b then feature_change e Unsets ∷ [] else own)) ≡ map (read_in m h) (far ++ (if b then feature_change e Unsets ∷ [] else own))) (sym many) whole
   where
     within : (r : Reading) (e : End) → (held_at r e).values ≡ r.values e → length (r.values e) ≤ length (held_at r e).values
     within r e is = subst (λ (vs : List Value). length (r.values e) ≤ length vs) (sym is) (omega arith)
@@ -518,7 +519,7 @@ pub chain-read : (s : Model) (c : Change) → resolves_all c ≡ false → IsLeg
 chain-read s c one legal none unloaded early late =
     elim (takes_many (reading s) c) as (λ b. takes_many (reading s) c ≡ b → chain (reading s) c ≡ map (notice_at (reading s)) (feature_changes (reading s) c)) [
       | true ↦ λ many. by c one none unloaded many
-      | false ↦ λ few. told-apart s.metamodel (held_at (reading s)) (feature_changes (reading s) c) (feature_changes-apart s c legal early late few)
+      | false ↦ λ few. change_notices-apart s.metamodel (held_at (reading s)) (feature_changes (reading s) c) (feature_changes-apart s c legal early late few)
     ] refl
   where
     few : (x : Option ObjectNo) (all : Bool) (y : Option Doc) → x ≡ None → all ≡ false → y ≡ None → (is_some x || all || is_some y) ≡ true → ⊥

@@ -5,7 +5,7 @@ use Rattle.std.specs.Ordering.{nat_cmp}
 use Rattle.std.specs.FinMap as map
 use Rattle.std.proofs.lemmas.Bool.Decides.{nat_tests}
 use Rattle.mm_types.proofs.SameLemmas.{same_end-true}
-use Rattle.mm_types.specs.Ends.{Held, shown}
+use Rattle.mm_types.specs.Ends.{Held, shown_values}
 use Rattle.mm_types.specs.Same.{same_end, same_feature, same_object}
 use Rattle.mm_types.specs.Shapes.{Shape, shape}
 use Rattle.mm_types.specs.declared.end.End.{End}
@@ -21,7 +21,7 @@ use Rattle.mm_values.specs.Values.{ObjectState, Objects, object_at, put_stored, 
 use Rattle.links.specs.Links.{end}
 use Rattle.models.specs.Model.{Model, attribute_values, reading}
 use Rattle.models.specs.Reading.{at_end, held_at}
-use Rattle.handshake.specs.Effects.{after}
+use Rattle.handshake.specs.Effects.{model_after}
 use Rattle.handshake.specs.declared.change.Change.TheVariants.{Create}
 use Rattle.handshake.specs.declared.change_kind.FeatureChange.{FeatureChange}
 use Rattle.handshake.proofs.HappenedLemmas.{at-own, happened_at}
@@ -38,10 +38,10 @@ stored_for f (Some o) = stored_under o f
 
 -- the values of an end, by its links and its stored list
 abbrev pub held_of : Shape → List Value → Stored → Held
-held_of a vs h = record { values = shown a.is_single (if a.is_reference then vs else attribute_values a h.list); flag = h.flag }
+held_of a vs h = record { values = shown_values a.is_single (if a.is_reference then vs else attribute_values a h.list); flag = h.flag }
 
 held-stored_for : (a : Shape) (vs : List Value) (f : FeatureNo) (o : Option ObjectState)
-    → record { values = shown a.is_single (if a.is_reference then vs else attribute_values a (unwrap_or (option_map (λ s. (stored_under s f).list) o) [])); flag = unwrap_or (option_map (λ s. (stored_under s f).flag) o) false } ≡ held_of a vs (stored_for f o)
+    → record { values = shown_values a.is_single (if a.is_reference then vs else attribute_values a (unwrap_or (option_map (λ s. (stored_under s f).list) o) [])); flag = unwrap_or (option_map (λ s. (stored_under s f).flag) o) false } ≡ held_of a vs (stored_for f o)
 held-stored_for a vs f None = refl
 held-stored_for a vs f (Some o) = refl
 
@@ -59,14 +59,14 @@ stored_for-with_object f c (o ∷ os) zero = refl
 stored_for-with_object f c (o ∷ os) (suc i) = stored_for-with_object f c os i
 
 -- after a new object is made, each end has the same values as before
-held_at-create : (s : Model) (c : ClassNo) (n : Node) (f : FeatureNo) → held_at (reading (after s (Create c))) (at_end n f) ≡ held_at (reading s) (at_end n f)
+held_at-create : (s : Model) (c : ClassNo) (n : Node) (f : FeatureNo) → held_at (reading (model_after s (Create c))) (at_end n f) ≡ held_at (reading s) (at_end n f)
 held_at-create s c (node.Object o) f =
-    held_at-object (after s (Create c)) o f
+    held_at-object (model_after s (Create c)) o f
     ∙ ap (held_of (shape s.metamodel f) (end s.links (at_end (node.Object o) f))) (stored_for-with_object f c s.values.objects o.0)
     ∙ sym (held_at-object s o f)
 held_at-create s c (node.Resource k) f = refl
 
-pub create-replays : (s : Model) (c : ClassNo) → Replays s [] (after s (Create c))
+pub create-replays : (s : Model) (c : ClassNo) → Replays s [] (model_after s (Create c))
 create-replays s c d = sym (held_at-create s c d.node d.feature)
 
 ---------------------------------------------------------------- a feature of a live object is put

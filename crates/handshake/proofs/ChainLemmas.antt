@@ -22,9 +22,9 @@ use Rattle.mm_types.specs.declared.numbers.Node.TheVariants as node
 use Rattle.mm_types.specs.declared.numbers.ObjectNo.{ObjectNo}
 use Rattle.mm_types.specs.declared.value.Value.{Value}
 use Rattle.mm_types.specs.declared.value.Value.TheVariants as value
-use Rattle.mm_values.specs.Values.{ValuesState, applied}
-use Rattle.mm_values.specs.declared.edit.ValueEdit.{ValueEdit}
-use Rattle.mm_values.specs.declared.edit.ValueEdit.TheVariants.{InsertValue, MoveValue}
+use Rattle.mm_values.specs.Values.{ValuesState, values_after_edits}
+use Rattle.mm_values.specs.declared.value_edit.ValueEdit.{ValueEdit}
+use Rattle.mm_values.specs.declared.value_edit.ValueEdit.TheVariants.{InsertValue, MoveValue}
 use Rattle.links.proofs.CutLemmas.{end-shift_near, end-shift_other}
 use Rattle.links.proofs.CutNamedLemmas.{end-without_all}
 use Rattle.links.proofs.FilterLemmas.{remove-filter}
@@ -35,16 +35,16 @@ use Rattle.models.specs.Legal.{IsLegal, kinds_of}
 use Rattle.models.specs.Model.{Model, kept_flag, reading}
 use Rattle.models.specs.Reading.{Reading, at_end, first_at, has_feature, held_at, is_repeat, object_of, position_for}
 use Rattle.notice_chain.specs.Replay as replay
-use Rattle.notice_chain.specs.Replay.{moved, resolved as list-resolved}
+use Rattle.notice_chain.specs.Replay.{list_after_position_move, list_after_resolve as list-resolved}
 use Rattle.containment.proofs.PartLemmas.{kinds-are, object-reference}
-use Rattle.handshake.specs.Displaced.{cut_by_new, cut_by_set, has_already, is_plain_add, is_plain_set, same_link, link_end_in, link_ends_at, link_ends_backwards, yields, cut_link_ends}
+use Rattle.handshake.specs.Displaced.{cut_by_new, cut_by_set, has_already, is_plain_add, is_plain_set, same_link, link_end_in, link_ends_at, link_ends_backwards, displaced_link_ends, cut_link_ends}
 use Rattle.removal.specs.TreeLinkEnds.{link_end}
-use Rattle.handshake.specs.Effects.{add_value, after, of_object, put_values, take_value, value_edits, with_value, without_link_ends, put_by}
+use Rattle.handshake.specs.Effects.{add_value, model_after, of_object, put_values, take_value, value_edits, with_value, without_link_ends, put_by}
 use Rattle.handshake.specs.Laws.{AreDifferent, ChainReplays, comes_with, goes_with}
 use Rattle.handshake.specs.Changes.{HasReadDocument}
 use Rattle.handshake.specs.Refusals.{early_refusal, late_refusal}
 use Rattle.handshake.specs.FeatureChange.{feature_change}
-use Rattle.handshake.specs.FeatureChanges.{all_lost, before_gain, far_losses, gain_at, resolves_all, taken_out, feature_changes}
+use Rattle.handshake.specs.FeatureChanges.{all_lost, before_gain, far_losses, gain_at, resolves_all, changes_of_remove, feature_changes}
 use Rattle.handshake.specs.declared.change.Change.{Change}
 use Rattle.handshake.specs.declared.change.Change.TheVariants.{At, Create, Delete, NewResource, Load}
 use Rattle.handshake.specs.declared.act.Act.TheVariants.{Set, Unset, Add, Remove, RemoveValue, Move, Resolve}
@@ -57,12 +57,12 @@ use Rattle.handshake.proofs.AttributeLemmas.{Replays, create-replays}
 use Rattle.handshake.proofs.CutEndLemmas.{held-none, held-one, reference-flag, reference-plain, same-held}
 use Rattle.handshake.proofs.CutHeldLemmas.{all-left, held_in, near-gives}
 use Rattle.mm_types.specs.Same.{same_end, node_value}
-use Rattle.mm_types.specs.Lists.{put_back, shifted}
-use Rattle.handshake.proofs.CutLinkEndLemmas.{Stands, any_push, backwards-different, filter_none, is_named-same_link, plain-not, same_link-self, link_end_in-different, link_end_in-stand, link_ends_at-different, link_ends_at-stand, link_ends_backwards-stand, values-linked, without_link_ends-names_of}
+use Rattle.mm_types.specs.Lists.{put_back, values_after_move}
+use Rattle.handshake.proofs.CutLinkEndLemmas.{HasLinkEnd, any_push, backwards-different, filter_none, is_named-same_link, plain-not, same_link-self, link_end_in-different, link_end_in-stand, link_ends_at-different, link_ends_at-stand, link_ends_backwards-stand, values-linked, without_link_ends-names_of}
 use Rattle.removal.specs.Laws.{names_of}
 use Rattle.removal.proofs.ListLemmas.{all-at, any-left}
-use Rattle.handshake.proofs.DestroyLemmas.{destroyed-replays}
-use Rattle.handshake.proofs.HappenedLemmas.{at-own, done, happened_all-at, happened_at, done-here, done-other, done_at}
+use Rattle.handshake.proofs.DestroyLemmas.{changes_of_delete-replays}
+use Rattle.handshake.proofs.HappenedLemmas.{at-own, done, ends_after_changes-at, happened_at, done-here, done-other, done_at}
 use Rattle.handshake.proofs.KnownLemmas.{IsResolvable, add-named, add-taken, delete-named, move-named, move-placed, remove-named, remove-placed, resource-keeps-none, set-named, set-taken, take-named, unset-there, far-reference}
 use Rattle.handshake.proofs.LoadChainLemmas.{load-replays}
 use Rattle.handshake.proofs.LinkLemmas.{IsNewLink, near-empty, without_displaced}
@@ -70,11 +70,11 @@ use Rattle.handshake.proofs.ListReplayLemmas.{all_lost-own, list-added, list-mov
 use Rattle.handshake.proofs.LossLemmas.{gained, gained-single, lost}
 use Rattle.handshake.proofs.PlanLemmas.{add-new, add-site, set-new}
 use Rattle.handshake.proofs.RelinkLemmas.{add-replays, at-each, cut-replays, kept-replays, list-held, set-replays}
-use Rattle.handshake.proofs.ReplayLemmas.{replayed_all-told}
+use Rattle.handshake.proofs.ReplayLemmas.{ends_after_notices-change_notices}
 use Rattle.handshake.proofs.ResolveLemmas.{alone-there, end-alone, end-joint, far-now, far-there, joint, near-apart, now, placed, set-there, swapped, swapped-here, there}
 use Rattle.handshake.proofs.ResolvedLemmas.{resolved-as}
 use Rattle.proxies.proofs.TargetLemmas.{match-apart}
-use Rattle.proxies.specs.declared.target.Target.{Target}
+use Rattle.proxies.specs.declared.resolved_proxy.ResolvedProxy.{ResolvedProxy}
 
 ---------------------------------------------------------------- ends that are emptied
 
@@ -136,7 +136,7 @@ module _ (s : Model) (legal : IsLegal s) (e : End) (reference : (shape s.metamod
   a = shape s.metamodel e.feature
 
   -- the losses of the far ends of cut links, and then of the end itself
-  cut-tells : (ts : List LinkEnd) → AllByRecursion (λ (t : LinkEnd). t.end ≡ e) ts → AreDifferent r ts → AllByRecursion (Stands s.links) ts → (own : List FeatureChange) → AllByRecursion (λ (t : FeatureChange). t.at ≡ e) own
+  cut-tells : (ts : List LinkEnd) → AllByRecursion (λ (t : LinkEnd). t.end ≡ e) ts → AreDifferent r ts → AllByRecursion (HasLinkEnd s.links) ts → (own : List FeatureChange) → AllByRecursion (λ (t : FeatureChange). t.at ≡ e) own
       → happened_at s.metamodel own e (held_at r e) ≡ held_in s (without_all s.links (names_of ts)) e → Replays s (far_losses r ts ++ own) (relinked s (without_link_ends s.links ts))
   cut-tells ts here different stand own own_here makes =
       relinked-by s (far_losses r ts ++ own) (without_all s.links (names_of ts)) (without_link_ends s.links ts) (sym (without_link_ends-names_of s.links ts)) (cut-replays s legal e ts here different stand own own_here makes)
@@ -176,7 +176,7 @@ module _ (s : Model) (legal : IsLegal s) (e : End) (reference : (shape s.metamod
       ∙ sym (list-held s (without_all s.links (names_of ts)) e reference many ∙ ap (λ (vs : List Value). record { values = vs; flag = b }) all-gone))
 
   -- one value is taken out of a list
-  take-link : (i : ℕ) → a.is_single ≡ false → nat_lt i (length (r.values e)) ≡ true → Replays s (taken_out r e (link_end_in r e i) i) (relinked s (without_link_ends s.links (link_end_in r e i)))
+  take-link : (i : ℕ) → a.is_single ≡ false → nat_lt i (length (r.values e)) ≡ true → Replays s (changes_of_remove r e (link_end_in r e i) i) (relinked s (without_link_ends s.links (link_end_in r e i)))
   take-link i many low =
       let vs = end s.links e in
       let b = kept_flag s.values e.node e.feature in
@@ -210,10 +210,10 @@ module _ (s : Model) (legal : IsLegal s) (e : End) (reference : (shape s.metamod
       at-own s.metamodel e d (feature_change e (Moves to from) ∷ []) (held_at r d) (own-one e (Moves to from)) other
       ∙ same-held s s.links (shift s.links e to from) d (sym (end-shift_other s.links placed e to from (ltb-true from _ from_links) (ltb-true to _ to_links) d (λ same. true≢false (sym (same_end-self e) ∙ ap (same_end e) same ∙ other)))))
     where
-      moved-linked : (vs : List Value) (to from : ℕ) → nat_lt to (length vs) ≡ true → nat_lt from (length vs) ≡ true → moved vs (pos from) (pos to) ≡ shifted vs to from
+      moved-linked : (vs : List Value) (to from : ℕ) → nat_lt to (length vs) ≡ true → nat_lt from (length vs) ≡ true → list_after_position_move vs (pos from) (pos to) ≡ values_after_move vs to from
       moved-linked vs to from low_to low_from =
-          ap (λ (b : Bool). if b then (if nat_lt to (length vs) then replay.shifted vs to from else vs) else vs) low_from
-          ∙ ap (λ (b : Bool). if b then replay.shifted vs to from else vs) low_to
+          ap (λ (b : Bool). if b then (if nat_lt to (length vs) then replay.list_after_index_move vs to from else vs) else vs) low_from
+          ∙ ap (λ (b : Bool). if b then replay.list_after_index_move vs to from else vs) low_to
           ∙ elim (slice_get vs from) as (λ q. option_map_or (λ x. insert (remove vs from) to x) q vs ≡ put_back q vs to from) [ None ↦ refl | Some v ↦ refl ]
 
 ---------------------------------------------------------------- a proxy that is resolved
@@ -248,7 +248,7 @@ module _ (s : Model) (legal : IsLegal s) (e : End) (reference : (shape s.metamod
   resolve-done = elim (shape s.metamodel e.feature).is_single as (λ b. (shape s.metamodel e.feature).is_single ≡ b → done (shape s.metamodel e.feature) (Resolves i v) (held_at (reading s) e) ≡ held_in s u e) [ true ↦ resolve-single | false ↦ resolve-many ] refl
 
 -- the case of a reference without an opposite
-alone-replays : (s : Model) (legal : IsLegal s) (e : End) (i : ℕ) (x : Target) (is : IsResolvable (reading s) e i x) (alone : (shape s.metamodel e.feature).opposite ≡ None)
+alone-replays : (s : Model) (legal : IsLegal s) (e : End) (i : ℕ) (x : ResolvedProxy) (is : IsResolvable (reading s) e i x) (alone : (shape s.metamodel e.feature).opposite ≡ None)
     → Replays s (feature_change e (Resolves i (value.Object x.object)) ∷ []) (relinked s (placed s legal e i x is []))
 alone-replays s legal e i x is alone d =
     let v = value.Object x.object in
@@ -262,7 +262,7 @@ alone-replays s legal e i x is alone d =
     ∙ same-held s s.links u d (sym (ends d ∙ ap (λ (b : Bool). if b then now s legal e i x is else end s.links d) other)))
 
 -- the case of a proxy at both ends
-joint-replays : (s : Model) (legal : IsLegal s) (e : End) (i : ℕ) (x : Target) (is : IsResolvable (reading s) e i x) (g : FeatureNo) (opposite : (shape s.metamodel e.feature).opposite ≡ Some g) (j : ℕ) (text : List ℕ)
+joint-replays : (s : Model) (legal : IsLegal s) (e : End) (i : ℕ) (x : ResolvedProxy) (is : IsResolvable (reading s) e i x) (g : FeatureNo) (opposite : (shape s.metamodel e.feature).opposite ≡ Some g) (j : ℕ) (text : List ℕ)
     (stands : slice_get ((reading s).values (far_end x.object g)) j ≡ Some (value.Proxy text))
     → Replays s (feature_change (far_end x.object g) (Resolves j (node_value e.node)) ∷ feature_change e (Resolves i (value.Object x.object)) ∷ []) (relinked s (joint s legal e i x is g opposite j text stands))
 joint-replays s legal e i x is g opposite j text stands d =
@@ -293,7 +293,7 @@ joint-replays s legal e i x is g opposite j text stands d =
     ∙ same-held s s.links u d (sym (ends d ∙ ap (λ (b : Bool). if b then mine else swapped y theirs (end s.links) d) apart ∙ ap (λ (b : Bool). if b then theirs else end s.links d) third)))
     other)
 
-pub resolve-changes : (s : Model) (legal : IsLegal s) (e : End) (i : ℕ) → late_refusal (reading s) (At e (Resolve i)) ≡ None → Replays s (feature_changes (reading s) (At e (Resolve i))) (after s (At e (Resolve i)))
+pub resolve-changes : (s : Model) (legal : IsLegal s) (e : End) (i : ℕ) → late_refusal (reading s) (At e (Resolve i)) ≡ None → Replays s (feature_changes (reading s) (At e (Resolve i))) (model_after s (At e (Resolve i)))
 resolve-changes s legal e i late =
     relinked-by s (feature_changes (reading s) (At e (Resolve i))) _ _ (ap (λ (t : Links). put_by t (reading s) (At e (Resolve i))) (sym (without_link_ends-names_of s.links (cut_link_ends (reading s) (At e (Resolve i))))))
     (resolved-as s legal e i late (λ ts xs us u. Replays s us (relinked s u)) (λ x is alone. alone-replays s legal e i x is alone)
@@ -313,23 +313,23 @@ by-object s f P attribute each (node.Resource k) has = absurd (resource-keeps-no
 
 -- a set that cuts no link: of an attribute, or to the present value
 plain-set : (s : Model) (n : Node) (f : FeatureNo) (v : Value) → IsLegal s → has_feature (reading s) n f ≡ true → (shape s.metamodel f).is_single ≡ true → is_plain_set (reading s) (at_end n f) v ≡ true
-    → Replays s (feature_change (at_end n f) (Gains v) ∷ []) (record s { values = applied s.values (value_edits (reading s) (At (at_end n f) (Set v))) })
+    → Replays s (feature_change (at_end n f) (Gains v) ∷ []) (record s { values = values_after_edits s.values (value_edits (reading s) (At (at_end n f) (Set v))) })
 plain-set s n f v legal has single plain =
     let e = at_end n f in
     let a = shape s.metamodel f in
-    elim a.is_reference as (λ b. a.is_reference ≡ b → Replays s (feature_change e (Gains v) ∷ []) (record s { values = applied s.values (if b then [] else put_values e (v ∷ []) a.is_unsettable) })) [
+    elim a.is_reference as (λ b. a.is_reference ≡ b → Replays s (feature_change e (Gains v) ∷ []) (record s { values = values_after_edits s.values (if b then [] else put_values e (v ∷ []) a.is_unsettable) })) [
       | true ↦ λ reference. kept-replays s e legal reference single v (right-of a.is_reference (has_already (reading s) e v) reference plain)
-      | false ↦ λ attribute. by-object s f (λ n. Replays s (feature_change (at_end n f) (Gains v) ∷ []) (record s { values = applied s.values (put_values (at_end n f) (v ∷ []) a.is_unsettable) })) attribute (λ o has. single-set s legal o f has attribute v single) n has
+      | false ↦ λ attribute. by-object s f (λ n. Replays s (feature_change (at_end n f) (Gains v) ∷ []) (record s { values = values_after_edits s.values (put_values (at_end n f) (v ∷ []) a.is_unsettable) })) attribute (λ o has. single-set s legal o f has attribute v single) n has
     ] refl
 
 -- a single end is empty when its new link is put
 new-put_set : (s : Model) (legal : IsLegal s) (e : End) (o : ObjectNo) (new : IsNewLink s e o) → (shape s.metamodel e.feature).is_single ≡ true
-    → put (without_displaced s e o) e 0 o (shape s.metamodel e.feature).opposite (shape s.metamodel e.feature).containing ≡ with_value (without_link_ends s.links (yields (reading s) e o)) (reading s) e None (value.Object o)
+    → put (without_displaced s e o) e 0 o (shape s.metamodel e.feature).opposite (shape s.metamodel e.feature).containing ≡ with_value (without_link_ends s.links (displaced_link_ends (reading s) e o)) (reading s) e None (value.Object o)
 new-put_set s legal e o new single =
     let t = without_displaced s e o in
     let a = shape s.metamodel e.feature in
     ap (λ (vs : List Value). put t e (length vs) o a.opposite a.containing) (sym (near-empty s legal e o new single))
-    ∙ ap (λ (t : Links). with_value t (reading s) e None (value.Object o)) (sym (without_link_ends-names_of s.links (yields (reading s) e o)))
+    ∙ ap (λ (t : Links). with_value t (reading s) e None (value.Object o)) (sym (without_link_ends-names_of s.links (displaced_link_ends (reading s) e o)))
 
 -- a set that may cut links
 new-set : (s : Model) (n : Node) (f : FeatureNo) (v : Value) → IsLegal s → early_refusal (reading s) (At (at_end n f) (Set v)) ≡ None → late_refusal (reading s) (At (at_end n f) (Set v)) ≡ None → is_plain_set (reading s) (at_end n f) v ≡ false
@@ -340,8 +340,8 @@ new-set s n f (value.Object o) legal early late h =
     let a = shape s.metamodel f in
     let new = set-new s n f o legal early late h in
     let single = (set-named r n f (value.Object o) early).single in
-    relinked-by s (before_gain r e (value.Object o) (yields r e o) ++ feature_change e (Gains (value.Object o)) ∷ []) (put (without_displaced s e o) e 0 o a.opposite a.containing)
-    (with_value (without_link_ends s.links (yields r e o)) r e None (value.Object o)) (new-put_set s legal e o new single) (set-replays s legal e o new single)
+    relinked-by s (before_gain r e (value.Object o) (displaced_link_ends r e o) ++ feature_change e (Gains (value.Object o)) ∷ []) (put (without_displaced s e o) e 0 o a.opposite a.containing)
+    (with_value (without_link_ends s.links (displaced_link_ends r e o)) r e None (value.Object o)) (new-put_set s legal e o new single) (set-replays s legal e o new single)
 new-set s n f v legal early late h =
     let e = at_end n f in
     let a = shape s.metamodel f in
@@ -351,14 +351,14 @@ new-set s n f v legal early late h =
     null-replays s legal e reference single (Gains v) (λ k. ap (λ (w : Value). done a (Gains w) k) is ∙ gained-single a value.Null k single)
 
 -- a change of a reference puts no value
-no-values : (s : Model) (f : FeatureNo) (es : List ValueEdit) → (shape s.metamodel f).is_reference ≡ true → s.values ≡ applied s.values (if (shape s.metamodel f).is_reference then [] else es)
-no-values s f es reference = ap (λ b. applied s.values (if b then [] else es)) (sym reference)
+no-values : (s : Model) (f : FeatureNo) (es : List ValueEdit) → (shape s.metamodel f).is_reference ≡ true → s.values ≡ values_after_edits s.values (if (shape s.metamodel f).is_reference then [] else es)
+no-values s f es reference = ap (λ b. values_after_edits s.values (if b then [] else es)) (sym reference)
 
-set-changes : (s : Model) (n : Node) (f : FeatureNo) (v : Value) → IsLegal s → early_refusal (reading s) (At (at_end n f) (Set v)) ≡ None → late_refusal (reading s) (At (at_end n f) (Set v)) ≡ None → Replays s (feature_changes (reading s) (At (at_end n f) (Set v))) (after s (At (at_end n f) (Set v)))
+set-changes : (s : Model) (n : Node) (f : FeatureNo) (v : Value) → IsLegal s → early_refusal (reading s) (At (at_end n f) (Set v)) ≡ None → late_refusal (reading s) (At (at_end n f) (Set v)) ≡ None → Replays s (feature_changes (reading s) (At (at_end n f) (Set v))) (model_after s (At (at_end n f) (Set v)))
 set-changes s n f v legal early late =
     let r = reading s in
     let e = at_end n f in
-    let vs = applied s.values (value_edits r (At (at_end n f) (Set v))) in
+    let vs = values_after_edits s.values (value_edits r (At (at_end n f) (Set v))) in
     let cut : Bool → List LinkEnd = λ b. if b then [] else cut_by_set r e v in
     elim (is_plain_set r e v) as (λ b. is_plain_set r e v ≡ b → Replays s ((if b then [] else before_gain r e v (cut b)) ++ feature_change e (Gains v) ∷ [])
     (record s { values = vs; links = if b then without_link_ends s.links (cut b) else with_value (without_link_ends s.links (cut b)) r e None v })) [
@@ -370,7 +370,7 @@ set-changes s n f v legal early late =
           (new-set s n f v legal early late new)
     ] refl
 
-unset-changes : (s : Model) (n : Node) (f : FeatureNo) → IsLegal s → has_feature (reading s) n f ≡ true → Replays s (feature_changes (reading s) (At (at_end n f) Unset)) (after s (At (at_end n f) Unset))
+unset-changes : (s : Model) (n : Node) (f : FeatureNo) → IsLegal s → has_feature (reading s) n f ≡ true → Replays s (feature_changes (reading s) (At (at_end n f) Unset)) (model_after s (At (at_end n f) Unset))
 unset-changes s n f legal has =
     let r = reading s in
     let e = at_end n f in
@@ -378,14 +378,14 @@ unset-changes s n f legal has =
     let cut : Bool → List LinkEnd = λ b. if b then link_ends_backwards e (r.values e) else [] in
     let own : Bool → List FeatureChange = λ b. if b then feature_change e Unsets ∷ [] else all_lost e (length (r.values e)) in
     elim a.is_reference as (λ b. a.is_reference ≡ b → Replays s (far_losses r (cut b) ++ own a.is_single)
-    (record s { values = applied s.values (if b then [] else put_values e [] false); links = without_link_ends s.links (cut b) })) [
+    (record s { values = values_after_edits s.values (if b then [] else put_values e [] false); links = without_link_ends s.links (cut b) })) [
       | true ↦ λ reference. elim a.is_single as (λ c. a.is_single ≡ c → Replays s (far_losses r (cut true) ++ own c) (record s { links = without_link_ends s.links (cut true) })) [
         | true ↦ λ single. single-unset_link s legal e reference single
         | false ↦ λ many. many-unset_link s legal e reference many
       ] refl
-      | false ↦ λ attribute. elim a.is_single as (λ c. a.is_single ≡ c → Replays s (own c) (record s { values = applied s.values (put_values e [] false) })) [
-        | true ↦ λ single. by-object s f (λ n. Replays s (feature_change (at_end n f) Unsets ∷ []) (record s { values = applied s.values (put_values (at_end n f) [] false) })) attribute (λ o has. single-unset s legal o f has attribute single) n has
-        | false ↦ λ many. by-object s f (λ n. Replays s (all_lost (at_end n f) (length (r.values (at_end n f)))) (record s { values = applied s.values (put_values (at_end n f) [] false) })) attribute (λ o has. list-unset s legal o f has attribute many) n has
+      | false ↦ λ attribute. elim a.is_single as (λ c. a.is_single ≡ c → Replays s (own c) (record s { values = values_after_edits s.values (put_values e [] false) })) [
+        | true ↦ λ single. by-object s f (λ n. Replays s (feature_change (at_end n f) Unsets ∷ []) (record s { values = values_after_edits s.values (put_values (at_end n f) [] false) })) attribute (λ o has. single-unset s legal o f has attribute single) n has
+        | false ↦ λ many. by-object s f (λ n. Replays s (all_lost (at_end n f) (length (r.values (at_end n f)))) (record s { values = values_after_edits s.values (put_values (at_end n f) [] false) })) attribute (λ o has. list-unset s legal o f has attribute many) n has
       ] refl
     ] refl
 
@@ -400,9 +400,9 @@ new-add s n f (value.Object o) i legal early late h =
     let many = (add-named r n f (value.Object o) i early).single in
     let at = add-site s n f o i legal early late h in
     let k = position_for r e i in
-    relinked-by s (before_gain r e (value.Object o) (yields r e o) ++ feature_change e (gain_at i (value.Object o)) ∷ []) (put (without_displaced s e o) e k o a.opposite a.containing)
-    (with_value (without_link_ends s.links (yields r e o)) r e i (value.Object o))
-    (ap (λ (x : ℕ). put (without_displaced s e o) e x o a.opposite a.containing) at.1 ∙ ap (λ (t : Links). with_value t r e i (value.Object o)) (sym (without_link_ends-names_of s.links (yields r e o))))
+    relinked-by s (before_gain r e (value.Object o) (displaced_link_ends r e o) ++ feature_change e (gain_at i (value.Object o)) ∷ []) (put (without_displaced s e o) e k o a.opposite a.containing)
+    (with_value (without_link_ends s.links (displaced_link_ends r e o)) r e i (value.Object o))
+    (ap (λ (x : ℕ). put (without_displaced s e o) e x o a.opposite a.containing) at.1 ∙ ap (λ (t : Links). with_value t r e i (value.Object o)) (sym (without_link_ends-names_of s.links (displaced_link_ends r e o))))
     (add-replays s legal e o new i k many at.0 at.1)
 new-add s n f v i legal early late h =
     let both = plain-not (shape s.metamodel f).is_reference (is_repeat (reading s) (at_end n f) v) h in
@@ -427,7 +427,7 @@ new-add s n f v i legal early late h =
 
 -- a value that is added to an attribute
 attribute-add : (s : Model) (n : Node) (f : FeatureNo) (v : Value) (i : Option ℕ) → IsLegal s → early_refusal (reading s) (At (at_end n f) (Add v i)) ≡ None → late_refusal (reading s) (At (at_end n f) (Add v i)) ≡ None → (shape s.metamodel f).is_reference ≡ false → is_repeat (reading s) (at_end n f) v ≡ false
-    → Replays s (before_gain (reading s) (at_end n f) v [] ++ feature_change (at_end n f) (gain_at i v) ∷ []) (record s { values = applied s.values (add_value (reading s) (at_end n f) v i) })
+    → Replays s (before_gain (reading s) (at_end n f) v [] ++ feature_change (at_end n f) (gain_at i v) ∷ []) (record s { values = values_after_edits s.values (add_value (reading s) (at_end n f) v i) })
 attribute-add s (node.Resource k) f v i legal early late attribute new = absurd (resource-keeps-none (reading s) k f (add-named (reading s) (node.Resource k) f v i early).there attribute)
 attribute-add s (node.Object o) f (value.Object p) i legal early late attribute new =
     absurd (false≢true (sym attribute ∙ object-reference s.metamodel (reading s).class f p (add-taken (reading s) (node.Object o) f (value.Object p) i late).takes))
@@ -437,13 +437,13 @@ attribute-add s (node.Object o) f v i legal early late attribute new =
     let named = add-named r (node.Object o) f v i early in
     let low = (add-taken r (node.Object o) f v i late).placed in
     let a = shape s.metamodel f in
-    subst (λ (b : Bool). Replays s (feature_change e (gain_at i v) ∷ []) (record s { values = applied s.values (if b then [] else InsertValue o f (position_for r e i) v a.is_unique ∷ []) })) (sym new)
+    subst (λ (b : Bool). Replays s (feature_change e (gain_at i v) ∷ []) (record s { values = values_after_edits s.values (if b then [] else InsertValue o f (position_for r e i) v a.is_unique ∷ []) })) (sym new)
     (list-added s legal o f named.there attribute named.single v i (position_for r e i) refl (below_or _ _ low))
   where
     below_or : (k n : ℕ) → nat_le k n ≡ true → k ≤ n
     below_or k n h = grind (arith, nat_tests)
 
-add-changes : (s : Model) (n : Node) (f : FeatureNo) (v : Value) (i : Option ℕ) → IsLegal s → early_refusal (reading s) (At (at_end n f) (Add v i)) ≡ None → late_refusal (reading s) (At (at_end n f) (Add v i)) ≡ None → Replays s (feature_changes (reading s) (At (at_end n f) (Add v i))) (after s (At (at_end n f) (Add v i)))
+add-changes : (s : Model) (n : Node) (f : FeatureNo) (v : Value) (i : Option ℕ) → IsLegal s → early_refusal (reading s) (At (at_end n f) (Add v i)) ≡ None → late_refusal (reading s) (At (at_end n f) (Add v i)) ≡ None → Replays s (feature_changes (reading s) (At (at_end n f) (Add v i))) (model_after s (At (at_end n f) (Add v i)))
 add-changes s n f v i legal early late =
     let r = reading s in
     let e = at_end n f in
@@ -451,24 +451,24 @@ add-changes s n f v i legal early late =
     let edits : Bool → List ValueEdit = λ c. if c then [] else of_object n (λ o. InsertValue o f (position_for r e i) v a.is_unique) in
     let cut : Bool → Bool → List LinkEnd = λ b c. if not b || c then [] else cut_by_new r e v in
     let made : Bool → Bool → Links = λ b c. let t = without_link_ends s.links (cut b c) in if not b || c then t else with_value t r e i v in
-    elim (is_repeat r e v) as (λ c. is_repeat r e v ≡ c → Replays s (if c then [] else before_gain r e v (cut a.is_reference c) ++ feature_change e (gain_at i v) ∷ []) (record s { values = applied s.values (if a.is_reference then [] else edits c); links = made a.is_reference c })) [
-      | true ↦ λ _. elim a.is_reference as (λ b. Replays s [] (record s { values = applied s.values (if b then [] else []); links = made b true })) [ true ↦ λ d. refl | false ↦ λ d. refl ]
-      | false ↦ λ new. elim a.is_reference as (λ b. a.is_reference ≡ b → Replays s (before_gain r e v (cut b false) ++ feature_change e (gain_at i v) ∷ []) (record s { values = applied s.values (if b then [] else edits false); links = made b false })) [
+    elim (is_repeat r e v) as (λ c. is_repeat r e v ≡ c → Replays s (if c then [] else before_gain r e v (cut a.is_reference c) ++ feature_change e (gain_at i v) ∷ []) (record s { values = values_after_edits s.values (if a.is_reference then [] else edits c); links = made a.is_reference c })) [
+      | true ↦ λ _. elim a.is_reference as (λ b. Replays s [] (record s { values = values_after_edits s.values (if b then [] else []); links = made b true })) [ true ↦ λ d. refl | false ↦ λ d. refl ]
+      | false ↦ λ new. elim a.is_reference as (λ b. a.is_reference ≡ b → Replays s (before_gain r e v (cut b false) ++ feature_change e (gain_at i v) ∷ []) (record s { values = values_after_edits s.values (if b then [] else edits false); links = made b false })) [
         | true ↦ λ reference. new-add s n f v i legal early late (λ j. not (reference j) || new j)
-        | false ↦ λ attribute. subst (λ (c : Bool). Replays s (before_gain r e v [] ++ feature_change e (gain_at i v) ∷ []) (record s { values = applied s.values (edits c) })) new (attribute-add s n f v i legal early late attribute new)
+        | false ↦ λ attribute. subst (λ (c : Bool). Replays s (before_gain r e v [] ++ feature_change e (gain_at i v) ∷ []) (record s { values = values_after_edits s.values (edits c) })) new (attribute-add s n f v i legal early late attribute new)
       ] refl
     ] refl
 
 -- the value at a position is taken out
 take-changes : (s : Model) (n : Node) (f : FeatureNo) (i : ℕ) → IsLegal s → has_feature (reading s) n f ≡ true → (shape s.metamodel f).is_single ≡ false → nat_lt i (length ((reading s).values (at_end n f))) ≡ true
     → (let r = reading s in let e = at_end n f in let cut = if (shape s.metamodel f).is_reference then link_end_in r e i else [] in
-    Replays s (taken_out r e cut i) (record s { values = applied s.values (if (shape s.metamodel f).is_reference then [] else take_value e i); links = without_link_ends s.links cut }))
+    Replays s (changes_of_remove r e cut i) (record s { values = values_after_edits s.values (if (shape s.metamodel f).is_reference then [] else take_value e i); links = without_link_ends s.links cut }))
 take-changes s n f i legal has many low =
     let r = reading s in
     let e = at_end n f in
-    elim (shape s.metamodel f).is_reference as (λ b. (shape s.metamodel f).is_reference ≡ b → Replays s (taken_out r e (if b then link_end_in r e i else []) i) (record s { values = applied s.values (if b then [] else take_value e i); links = without_link_ends s.links (if b then link_end_in r e i else []) })) [
+    elim (shape s.metamodel f).is_reference as (λ b. (shape s.metamodel f).is_reference ≡ b → Replays s (changes_of_remove r e (if b then link_end_in r e i else []) i) (record s { values = values_after_edits s.values (if b then [] else take_value e i); links = without_link_ends s.links (if b then link_end_in r e i else []) })) [
       | true ↦ λ reference. take-link s legal e reference i many low
-      | false ↦ λ attribute. by-object s f (λ n. nat_lt i (length (r.values (at_end n f))) ≡ true → Replays s (feature_change (at_end n f) (LosesAt i) ∷ []) (record s { values = applied s.values (take_value (at_end n f) i) })) attribute (λ o has low. list-taken s legal o f has attribute many i low) n has low
+      | false ↦ λ attribute. by-object s f (λ n. nat_lt i (length (r.values (at_end n f))) ≡ true → Replays s (feature_change (at_end n f) (LosesAt i) ∷ []) (record s { values = values_after_edits s.values (take_value (at_end n f) i) })) attribute (λ o has low. list-taken s legal o f has attribute many i low) n has low
     ] refl
 
 -- the first position of a value is in the list
@@ -477,38 +477,38 @@ first-low vs v i h =
     let low = first-below vs v i (sym h) in
     grind (arith, nat_tests)
 
-take-value_changes : (s : Model) (n : Node) (f : FeatureNo) (v : Value) → IsLegal s → has_feature (reading s) n f ≡ true → (shape s.metamodel f).is_single ≡ false → Replays s (feature_changes (reading s) (At (at_end n f) (RemoveValue v))) (after s (At (at_end n f) (RemoveValue v)))
+take-value_changes : (s : Model) (n : Node) (f : FeatureNo) (v : Value) → IsLegal s → has_feature (reading s) n f ≡ true → (shape s.metamodel f).is_single ≡ false → Replays s (feature_changes (reading s) (At (at_end n f) (RemoveValue v))) (model_after s (At (at_end n f) (RemoveValue v)))
 take-value_changes s n f v legal has many =
     let r = reading s in
     let e = at_end n f in
     let b = (shape s.metamodel f).is_reference in
     elim (first_at r e v) as (λ q. first_at r e v ≡ q → (let cut = if b then option_map_or (link_end_in r e) q [] else [] in
-    Replays s (option_map_or (taken_out r e cut) q []) (record s { values = applied s.values (if b then [] else option_map_or (take_value e) q []); links = without_link_ends s.links cut }))) [
-      | None ↦ λ _. elim b as (λ c. Replays s [] (record s { values = applied s.values (if c then [] else []); links = without_link_ends s.links (if c then [] else []) })) [ true ↦ λ d. refl | false ↦ λ d. refl ]
+    Replays s (option_map_or (changes_of_remove r e cut) q []) (record s { values = values_after_edits s.values (if b then [] else option_map_or (take_value e) q []); links = without_link_ends s.links cut }))) [
+      | None ↦ λ _. elim b as (λ c. Replays s [] (record s { values = values_after_edits s.values (if c then [] else []); links = without_link_ends s.links (if c then [] else []) })) [ true ↦ λ d. refl | false ↦ λ d. refl ]
       | Some i ↦ λ at. take-changes s n f i legal has many (first-low (r.values e) v i at)
     ] refl
 
-move-changes : (s : Model) (n : Node) (f : FeatureNo) (to from : ℕ) → IsLegal s → has_feature (reading s) n f ≡ true → (shape s.metamodel f).is_single ≡ false → late_refusal (reading s) (At (at_end n f) (Move to from)) ≡ None → Replays s (feature_changes (reading s) (At (at_end n f) (Move to from))) (after s (At (at_end n f) (Move to from)))
+move-changes : (s : Model) (n : Node) (f : FeatureNo) (to from : ℕ) → IsLegal s → has_feature (reading s) n f ≡ true → (shape s.metamodel f).is_single ≡ false → late_refusal (reading s) (At (at_end n f) (Move to from)) ≡ None → Replays s (feature_changes (reading s) (At (at_end n f) (Move to from))) (model_after s (At (at_end n f) (Move to from)))
 move-changes s n f to from legal has many late =
     let r = reading s in
     let e = at_end n f in
     let placed = move-placed r n f to from late in
     elim (shape s.metamodel f).is_reference as (λ b. (shape s.metamodel f).is_reference ≡ b → Replays s (feature_change e (Moves to from) ∷ []) (let t = without_link_ends s.links (if b then [] else []) in
-    record s { values = applied s.values (if b then [] else of_object n (λ o. MoveValue o f to from)); links = if b then shift t e to from else t })) [
+    record s { values = values_after_edits s.values (if b then [] else of_object n (λ o. MoveValue o f to from)); links = if b then shift t e to from else t })) [
       | true ↦ λ reference. move-link s legal e reference to from many placed.0 placed.1
-      | false ↦ λ attribute. by-object s f (λ n. nat_lt to (length (r.values (at_end n f))) ≡ true → nat_lt from (length (r.values (at_end n f))) ≡ true → Replays s (feature_change (at_end n f) (Moves to from) ∷ []) (record s { values = applied s.values (of_object n (λ o. MoveValue o f to from)) }))
+      | false ↦ λ attribute. by-object s f (λ n. nat_lt to (length (r.values (at_end n f))) ≡ true → nat_lt from (length (r.values (at_end n f))) ≡ true → Replays s (feature_change (at_end n f) (Moves to from) ∷ []) (record s { values = values_after_edits s.values (of_object n (λ o. MoveValue o f to from)) }))
           attribute (λ o has low_to low_from. list-moved s legal o f has attribute many to from low_to low_from) n has placed.0 placed.1
     ] refl
 
 -- a change that destroys nothing replays at every end
-everywhere : (s : Model) (c : Change) → Replays s (feature_changes (reading s) c) (after s c) → (d : End) → goes_with (reading s) c d.node ≡ false → comes_with (reading s) c d.node ≡ false → happened_at s.metamodel (feature_changes (reading s) c) d (held_at (reading s) d) ≡ held_at (reading (after s c)) d
+everywhere : (s : Model) (c : Change) → Replays s (feature_changes (reading s) c) (model_after s c) → (d : End) → goes_with (reading s) c d.node ≡ false → comes_with (reading s) c d.node ≡ false → happened_at s.metamodel (feature_changes (reading s) c) d (held_at (reading s) d) ≡ held_at (reading (model_after s c)) d
 everywhere s c replays d stays old = replays d
 
 changes-replay : (s : Model) (c : Change) → resolves_all c ≡ false → IsLegal s → early_refusal (reading s) c ≡ None → late_refusal (reading s) c ≡ None → HasReadDocument s.metamodel c
-    → (d : End) → goes_with (reading s) c d.node ≡ false → comes_with (reading s) c d.node ≡ false → happened_at s.metamodel (feature_changes (reading s) c) d (held_at (reading s) d) ≡ held_at (reading (after s c)) d
+    → (d : End) → goes_with (reading s) c d.node ≡ false → comes_with (reading s) c d.node ≡ false → happened_at s.metamodel (feature_changes (reading s) c) d (held_at (reading s) d) ≡ held_at (reading (model_after s c)) d
 changes-replay s (Create k) one legal early late read = everywhere s (Create k) (create-replays s k)
 changes-replay s (NewResource u) one legal early late read = everywhere s (NewResource u) (λ d. refl)
-changes-replay s (Delete o) one legal early late read = (λ d stays old. destroyed-replays s legal o (delete-named (reading s) o early) d stays)
+changes-replay s (Delete o) one legal early late read = (λ d stays old. changes_of_delete-replays s legal o (delete-named (reading s) o early) d stays)
 changes-replay s (At e (Set v)) one legal early late read = everywhere s (At e (Set v)) (set-changes s e.node e.feature v legal early late)
 changes-replay s (At e Unset) one legal early late read = everywhere s (At e Unset) (unset-changes s e.node e.feature legal (unset-there (reading s) e.node e.feature early))
 changes-replay s (At e (Add v i)) one legal early late read = everywhere s (At e (Add v i)) (add-changes s e.node e.feature v i legal early late)
@@ -529,4 +529,4 @@ pub one-replays : (s : Model) (c : Change) → resolves_all c ≡ false → Chai
 one-replays s c one legal early late read d stays old =
     let m = s.metamodel in
     let r = reading s in
-    ap (λ (y : Ends). y d) (replayed_all-told m (held_at r) (feature_changes r c)) ∙ happened_all-at m (held_at r) (feature_changes r c) d ∙ changes-replay s c one legal early late read d stays old
+    ap (λ (y : Ends). y d) (ends_after_notices-change_notices m (held_at r) (feature_changes r c)) ∙ ends_after_changes-at m (held_at r) (feature_changes r c) d ∙ changes-replay s c one legal early late read d stays old

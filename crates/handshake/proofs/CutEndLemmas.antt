@@ -2,7 +2,7 @@
 use Rattle.std.proofs.Common.{◌≡◌, true, false, ◌&&◌, not, List, [], ◌∷◌, Option, Some, None, option_map, unwrap_or, if◌then◌else◌, refl, ap, ◌∙◌}
 use Rattle.std.specs.Option.{option_map_or}
 use Rattle.std.proofs.lemmas.Bool.{false≢true}
-use Rattle.mm_types.specs.Ends.{shown}
+use Rattle.mm_types.specs.Ends.{shown_values}
 use Rattle.mm_types.specs.Lookups as lookups
 use Rattle.mm_types.specs.Resolved.{Metamodel}
 use Rattle.mm_types.specs.Same.{is_nil}
@@ -55,7 +55,7 @@ reference-flag s n f legal reference = node-flag s n f legal (reference-plain s.
 pub same-held : (s : Model) (t u : Links) (d : End) → end t d ≡ end u d → held_at (reading (record s { links = t })) d ≡ held_at (reading (record s { links = u })) d
 same-held s t u d same =
     let a = shape s.metamodel d.feature in
-    ap (λ (vs : List Value). record { values = shown a.is_single (if a.is_reference then vs else attribute_values a (kept_values s.values d.node d.feature)); flag = kept_flag s.values d.node d.feature }) same
+    ap (λ (vs : List Value). record { values = shown_values a.is_single (if a.is_reference then vs else attribute_values a (kept_values s.values d.node d.feature)); flag = kept_flag s.values d.node d.feature }) same
 
 -- the value of an end of a single reference, if it has at most one
 module _ (s : Model) (t : Links) (d : End) (legal : IsLegal s) (reference : (shape s.metamodel d.feature).is_reference ≡ true) (single : (shape s.metamodel d.feature).is_single ≡ true) where

@@ -35,7 +35,7 @@ use Rattle.handshake.proofs.LinkEndNameLemmas.{open-of}
 use Rattle.handshake.specs.Displaced.{other_side}
 use Rattle.removal.specs.TreeLinkEnds.{link_end}
 use Rattle.handshake.specs.Laws.{AreDifferent}
-use Rattle.handshake.specs.FeatureChange.{without}
+use Rattle.handshake.specs.FeatureChange.{list_without_value}
 use Rattle.handshake.specs.FeatureChanges.{loss, losses}
 use Rattle.handshake.specs.declared.change_kind.ChangeKind.TheVariants.{Loses}
 use Rattle.handshake.specs.declared.change_kind.FeatureChange.{FeatureChange}
@@ -45,16 +45,16 @@ use Rattle.handshake.proofs.CutEndLemmas.{reference-flag, reference-plain, same-
 ---------------------------------------------------------------- lists
 
 -- a list without repetitions, from which the first occurrence of a value is taken out, does not have the value
-without-filter : (vs : List Value) (v : Value) → IsDistinct vs → without vs v ≡ filter (λ w. not (same_value v w)) vs
-without-filter [] v distinct = refl
-without-filter (w ∷ ws) v distinct =
-    elim (same_value v w) as (λ b. same_value v w ≡ b → (if b then ws else w ∷ without ws v) ≡ (if not b then w ∷ filter (λ x. not (same_value v x)) ws else filter (λ x. not (same_value v x)) ws)) [
+list_without_value-filter : (vs : List Value) (v : Value) → IsDistinct vs → list_without_value vs v ≡ filter (λ w. not (same_value v w)) vs
+list_without_value-filter [] v distinct = refl
+list_without_value-filter (w ∷ ws) v distinct =
+    elim (same_value v w) as (λ b. same_value v w ≡ b → (if b then ws else w ∷ list_without_value ws v) ≡ (if not b then w ∷ filter (λ x. not (same_value v x)) ws else filter (λ x. not (same_value v x)) ws)) [
       | true ↦ λ same. sym (filter_all (same_value v) ws (λ k x at.
           elim (same_value v x) as (λ b. same_value v x ≡ b → b ≡ false) [
             | true ↦ λ again. absurd (zero-not_suc k (distinct 0 (suc k) x (ap Some (sym (same_value-true v w same) ∙ same_value-true v x again)) at))
             | false ↦ λ _. refl
           ] refl))
-      | false ↦ λ _. ap (λ (xs : List Value). w ∷ xs) (without-filter ws v (λ j k x a b. suc-same j k (distinct (suc j) (suc k) x a b)))
+      | false ↦ λ _. ap (λ (xs : List Value). w ∷ xs) (list_without_value-filter ws v (λ j k x a b. suc-same j k (distinct (suc j) (suc k) x a b)))
     ] refl
   where
     zero-not_suc : (k : ℕ) → 0 ≡ suc k → ⊥
@@ -146,7 +146,7 @@ module _ (s : Model) (legal : IsLegal s) where
           let only = one-in (end l d) has.0 w (left.one d single) has.1 in
           let none : end k d ≡ [] = cut ∙ ap (filter (λ x. not (same_value w x))) only ∙ ap (λ (b : Bool). if not b then w ∷ [] else []) (same_value-self w) in
           rw (single, reference, none, plain, off) refl
-      by false many = rw (many, reference, cut, ← without-filter (end l d) w (left.set.placed.distinct d)) refl
+      by false many = rw (many, reference, cut, ← list_without_value-filter (end l d) w (left.set.placed.distinct d)) refl
 
   ---------------------------------------------------------------- one cut
 

@@ -18,7 +18,7 @@ use Rattle.mm_types.specs.declared.value.Value.TheVariants as value
 use Rattle.links.proofs.CutNamedLemmas.{end-without_all, holder-without_all}
 use Rattle.links.proofs.HolderLemmas.{holder-some, indexed_held}
 use Rattle.mm_types.specs.SameValues.{same_value-self, same_value-true}
-use Rattle.links.specs.Holders.{contained, holder}
+use Rattle.links.specs.Holders.{holder, node_contained}
 use Rattle.links.specs.Laws.{AreOnce, AreThere, is_named, kept_holder, names, names_far, without_all}
 use Rattle.links.specs.LegalSets.{IsDistinct, IsLegalSet}
 use Rattle.links.specs.Links.{Links, cut_value, end, far_end}
@@ -29,18 +29,19 @@ use Rattle.models.proofs.EndLemmas.{values-single}
 use Rattle.models.specs.Legal.{IsLegal, kinds_of}
 use Rattle.models.specs.Model.{Model, reading}
 use Rattle.models.specs.Reading.{Reading, is_repeat, shape_at}
-use Rattle.containment.proofs.PartLemmas.{all-append, kinds-are}
+use Rattle.mm_meta.proofs.FeatureListLemmas.{all-append}
+use Rattle.containment.proofs.PartLemmas.{kinds-are}
 use Rattle.handshake.proofs.KnownLemmas.{delete-named, far-reference, set-named}
 use Rattle.handshake.specs.declared.act.Act.{Act}
 use Rattle.handshake.specs.declared.change.Change.{Change}
 use Rattle.handshake.specs.declared.change.Change.TheVariants.{At, Delete}
 use Rattle.handshake.specs.declared.act.Act.TheVariants.{Set, Unset, Add, Resolve}
 use Rattle.removal.specs.declared.link_end.LinkEnd.{LinkEnd}
-use Rattle.handshake.specs.Displaced.{cut_by_new, cut_by_set, cut_link_ends, link_end_in, link_ends_backwards, has_already, in_the_way, once, holding_link_end, other_side, same_link, same_link_end, link_ends_at, link_ends_if_single, with_link_end, yields, link_ends_resolved, taken_index}
+use Rattle.handshake.specs.Displaced.{cut_by_new, cut_by_set, cut_link_ends, link_end_in, link_ends_backwards, has_already, in_the_way, each_link_once, holding_link_end, other_side, same_link, same_link_end, link_ends_at, link_ends_if_single, with_link_end, displaced_link_ends, link_ends_resolved, taken_index}
 use Rattle.proxies.specs.Resolving.{opposite_end}
 use Rattle.removal.specs.TreeLinkEnds.{link_end, tree_link_ends}
 use Rattle.removal.specs.Laws.{names_of}
-use Rattle.removal.specs.Outer.{gone}
+use Rattle.removal.specs.Outer.{is_in_subtree}
 use Rattle.removal.proofs.TreeLemmas.{tree-named}
 use Rattle.removal.proofs.ListLemmas.{all-at, all-map, all-weaker, any-left}
 use Rattle.handshake.specs.Effects.{links_left, without_link_ends}
@@ -48,7 +49,7 @@ use Rattle.handshake.specs.Laws.{AreDifferent}
 use Rattle.handshake.specs.Refusals.{early_refusal, late_refusal}
 use Rattle.proxies.proofs.TargetLemmas.{IsMatch, match-apart}
 use Rattle.handshake.proofs.ResolvedCutLemmas.{resolved-cuts}
-use Rattle.proxies.specs.declared.target.Counterpart.{Counterpart}
+use Rattle.proxies.specs.declared.resolved_proxy.Counterpart.{Counterpart}
 use Rattle.doc_loader.proofs.FillLemmas.{distinct-tail}
 
 pub without_link_ends-names_of : (s : Links) (ts : List LinkEnd) → without_link_ends s ts ≡ without_all s (names_of ts)
@@ -138,17 +139,17 @@ module _ (r : Reading) where
   different_fold done [] different = different
   different_fold done (t ∷ ts) different = different_fold (with_link_end r done t) ts (with_link_end-cases (AreDifferent r) done t (λ _. different) (different_push done t different))
 
-  pub once-different : (ts : List LinkEnd) → AreDifferent r (once r ts)
-  once-different ts = different_fold [] ts tt
+  pub each_link_once-different : (ts : List LinkEnd) → AreDifferent r (each_link_once r ts)
+  each_link_once-different ts = different_fold [] ts tt
 
-  pub yields-different : (e : End) (o : ObjectNo) → AreDifferent r (yields r e o)
-  yields-different e o = once-different (in_the_way r e o)
+  pub displaced_link_ends-different : (e : End) (o : ObjectNo) → AreDifferent r (displaced_link_ends r e o)
+  displaced_link_ends-different e o = each_link_once-different (in_the_way r e o)
 
   all_fold : (P : LinkEnd → Type 0) (done ts : List LinkEnd) → AllByRecursion P done → AllByRecursion P ts → AllByRecursion P (fold (with_link_end r) done ts)
   all_fold P done [] all more = all
   all_fold P done (t ∷ ts) all more = all_fold P (with_link_end r done t) ts (with_link_end-cases (AllByRecursion P) done t (λ _. all) (λ _. all_push P done t all more.0)) more.1
 
-  pub all_once : (P : LinkEnd → Type 0) (ts : List LinkEnd) → AllByRecursion P ts → AllByRecursion P (once r ts)
+  pub all_once : (P : LinkEnd → Type 0) (ts : List LinkEnd) → AllByRecursion P ts → AllByRecursion P (each_link_once r ts)
   all_once P ts all = all_fold P [] ts tt all
 
   pub same_link-self : (t : LinkEnd) → same_link r t t ≡ true
@@ -167,8 +168,8 @@ module _ (r : Reading) where
   named_all done (t ∷ ts) = (named_fold t (with_link_end r done t) ts (named_here done t), named_all (with_link_end r done t) ts)
 
   -- each of the links is among the links that are taken once
-  pub once-names : (ts : List LinkEnd) → AllByRecursion (λ (x : LinkEnd). list_any (same_link r x) (once r ts) ≡ true) ts
-  once-names ts = named_all [] ts
+  pub each_link_once-names : (ts : List LinkEnd) → AllByRecursion (λ (x : LinkEnd). list_any (same_link r x) (each_link_once r ts) ≡ true) ts
+  each_link_once-names ts = named_all [] ts
 
 ---------------------------------------------------------------- what is there
 
@@ -181,8 +182,8 @@ opposite_end-reference s e o d legal is = by (shape s.metamodel e.feature).oppos
     by (Some g) opposite h = subst (λ (x : End). (shape s.metamodel x.feature).is_reference ≡ true) (same_Some (far_end o g) d h) (far-reference s.metamodel legal.metamodel e.feature g opposite)
 
 -- the value of the name is in its end
-abbrev pub Stands : Links → LinkEnd → Type 0
-Stands s t = Has s t.end t.value
+abbrev pub HasLinkEnd : Links → LinkEnd → Type 0
+HasLinkEnd s t = Has s t.end t.value
 
 -- a node with a holder is in the end that is its holder
 pub held_stands : (s : Links) → IsLegalSet s → (n : Node) (d : End) → holder s n ≡ Some d → Has s d (node_value n)
@@ -194,38 +195,38 @@ held_stands s legal n d h =
 pub values-linked : (s : Model) (e : End) → (shape s.metamodel e.feature).is_reference ≡ true → (reading s).values e ≡ end s.links e
 values-linked s e reference = rw reference refl
 
-pub link_ends_at-stand : (s : Model) (e : End) → (shape s.metamodel e.feature).is_reference ≡ true → AllByRecursion (Stands s.links) (link_ends_at (reading s) e)
+pub link_ends_at-stand : (s : Model) (e : End) → (shape s.metamodel e.feature).is_reference ≡ true → AllByRecursion (HasLinkEnd s.links) (link_ends_at (reading s) e)
 link_ends_at-stand s e reference =
-    subst (λ (vs : List Value). AllByRecursion (Stands s.links) (map (link_end e) vs)) (sym (values-linked s e reference))
-    (all-map (Stands s.links) (link_end e) (end s.links e) (all-at (Has s.links e) (end s.links e) (λ k v at. (k, at))))
+    subst (λ (vs : List Value). AllByRecursion (HasLinkEnd s.links) (map (link_end e) vs)) (sym (values-linked s e reference))
+    (all-map (HasLinkEnd s.links) (link_end e) (end s.links e) (all-at (Has s.links e) (end s.links e) (λ k v at. (k, at))))
 
-link_ends_if_single-stand : (s : Model) (e : End) → (shape s.metamodel e.feature).is_reference ≡ true → AllByRecursion (Stands s.links) (link_ends_if_single (reading s) e)
+link_ends_if_single-stand : (s : Model) (e : End) → (shape s.metamodel e.feature).is_reference ≡ true → AllByRecursion (HasLinkEnd s.links) (link_ends_if_single (reading s) e)
 link_ends_if_single-stand s e reference =
-    elim (shape s.metamodel e.feature).is_single as (λ b. AllByRecursion (Stands s.links) (if b then link_ends_at (reading s) e else [])) [ true ↦ link_ends_at-stand s e reference | false ↦ tt ]
+    elim (shape s.metamodel e.feature).is_single as (λ b. AllByRecursion (HasLinkEnd s.links) (if b then link_ends_at (reading s) e else [])) [ true ↦ link_ends_at-stand s e reference | false ↦ tt ]
 
-far-stand : (s : Model) (e : End) (o : ObjectNo) → IsLegal s → AllByRecursion (Stands s.links) (option_map_or (link_ends_if_single (reading s)) (opposite_end (reading s) e o) [])
+far-stand : (s : Model) (e : End) (o : ObjectNo) → IsLegal s → AllByRecursion (HasLinkEnd s.links) (option_map_or (link_ends_if_single (reading s)) (opposite_end (reading s) e o) [])
 far-stand s e o legal =
-    elim (shape s.metamodel e.feature).opposite as (λ q. (shape s.metamodel e.feature).opposite ≡ q → AllByRecursion (Stands s.links) (option_map_or (link_ends_if_single (reading s)) (option_map (far_end o) q) [])) [
+    elim (shape s.metamodel e.feature).opposite as (λ q. (shape s.metamodel e.feature).opposite ≡ q → AllByRecursion (HasLinkEnd s.links) (option_map_or (link_ends_if_single (reading s)) (option_map (far_end o) q) [])) [
       | None ↦ λ _. tt
       | Some g ↦ λ h. link_ends_if_single-stand s (far_end o g) (far-reference s.metamodel legal.metamodel e.feature g h)
     ] refl
 
-holding-stand : (s : Model) (n : Node) → IsLegal s → AllByRecursion (Stands s.links) (option_to_list (holding_link_end (reading s) n))
+holding-stand : (s : Model) (n : Node) → IsLegal s → AllByRecursion (HasLinkEnd s.links) (option_to_list (holding_link_end (reading s) n))
 holding-stand s n legal =
-    elim (holder s.links n) as (λ q. holder s.links n ≡ q → AllByRecursion (Stands s.links) (option_to_list (option_map (λ (d : End). link_end d (node_value n)) q))) [
+    elim (holder s.links n) as (λ q. holder s.links n ≡ q → AllByRecursion (HasLinkEnd s.links) (option_to_list (option_map (λ (d : End). link_end d (node_value n)) q))) [
       | None ↦ λ _. tt
       | Some d ↦ λ h. (held_stands s.links legal.links.set n d h, tt)
     ] refl
 
-part-stand : (s : Model) (q : Option Node) → IsLegal s → AllByRecursion (Stands s.links) (option_map_or (λ n. option_to_list (holding_link_end (reading s) n)) q [])
+part-stand : (s : Model) (q : Option Node) → IsLegal s → AllByRecursion (HasLinkEnd s.links) (option_map_or (λ n. option_to_list (holding_link_end (reading s) n)) q [])
 part-stand s None legal = tt
 part-stand s (Some n) legal = holding-stand s n legal
 
-pub yields-stand : (s : Model) (e : End) (o : ObjectNo) → IsLegal s → (shape s.metamodel e.feature).is_reference ≡ true → AllByRecursion (Stands s.links) (yields (reading s) e o)
-yields-stand s e o legal reference =
-    let P : LinkEnd → Type 0 = Stands s.links in
+pub displaced_link_ends-stand : (s : Model) (e : End) (o : ObjectNo) → IsLegal s → (shape s.metamodel e.feature).is_reference ≡ true → AllByRecursion (HasLinkEnd s.links) (displaced_link_ends (reading s) e o)
+displaced_link_ends-stand s e o legal reference =
+    let P : LinkEnd → Type 0 = HasLinkEnd s.links in
     all_once (reading s) P (in_the_way (reading s) e o)
-    (all-append P _ _ (link_ends_if_single-stand s e reference) (all-append P _ _ (far-stand s e o legal) (part-stand s (contained e o (shape s.metamodel e.feature).containing) legal)))
+    (all-append P _ _ (link_ends_if_single-stand s e reference) (all-append P _ _ (far-stand s e o legal) (part-stand s (node_contained e o (shape s.metamodel e.feature).containing) legal)))
 
 ---------------------------------------------------------------- the cuts of a change
 
@@ -262,27 +263,27 @@ module _ (P : List LinkEnd → Type 0) (r : Reading) (e : End) (none : P []) whe
         | Some i ↦ reference-cuts (link_end_in r e i) (at i)
       ]
 
-cut_by_set-stand : (s : Model) (e : End) (v : Value) → IsLegal s → (shape s.metamodel e.feature).is_reference ≡ true → AllByRecursion (Stands s.links) (cut_by_set (reading s) e v)
-cut_by_set-stand s e (value.Object o) legal reference = yields-stand s e o legal reference
+cut_by_set-stand : (s : Model) (e : End) (v : Value) → IsLegal s → (shape s.metamodel e.feature).is_reference ≡ true → AllByRecursion (HasLinkEnd s.links) (cut_by_set (reading s) e v)
+cut_by_set-stand s e (value.Object o) legal reference = displaced_link_ends-stand s e o legal reference
 cut_by_set-stand s e _ legal reference = link_ends_at-stand s e reference
 
-cut_by_new-stand : (s : Model) (e : End) (v : Value) → IsLegal s → (shape s.metamodel e.feature).is_reference ≡ true → AllByRecursion (Stands s.links) (cut_by_new (reading s) e v)
-cut_by_new-stand s e (value.Object o) legal reference = yields-stand s e o legal reference
+cut_by_new-stand : (s : Model) (e : End) (v : Value) → IsLegal s → (shape s.metamodel e.feature).is_reference ≡ true → AllByRecursion (HasLinkEnd s.links) (cut_by_new (reading s) e v)
+cut_by_new-stand s e (value.Object o) legal reference = displaced_link_ends-stand s e o legal reference
 cut_by_new-stand s e _ legal reference = tt
 
 backwards-all : (P : LinkEnd → Type 0) (e : End) (vs : List Value) → AllByRecursion (λ (v : Value). P (link_end e v)) vs → AllByRecursion P (link_ends_backwards e vs)
 backwards-all P e [] all = tt
 backwards-all P e (v ∷ vs) all = all_push P (link_ends_backwards e vs) (link_end e v) (backwards-all P e vs all.1) all.0
 
-pub link_ends_backwards-stand : (s : Model) (e : End) → (shape s.metamodel e.feature).is_reference ≡ true → AllByRecursion (Stands s.links) (link_ends_backwards e ((reading s).values e))
+pub link_ends_backwards-stand : (s : Model) (e : End) → (shape s.metamodel e.feature).is_reference ≡ true → AllByRecursion (HasLinkEnd s.links) (link_ends_backwards e ((reading s).values e))
 link_ends_backwards-stand s e reference =
-    subst (λ (vs : List Value). AllByRecursion (Stands s.links) (link_ends_backwards e vs)) (sym (values-linked s e reference))
-    (backwards-all (Stands s.links) e (end s.links e) (all-at (Has s.links e) (end s.links e) (λ k v at. (k, at))))
+    subst (λ (vs : List Value). AllByRecursion (HasLinkEnd s.links) (link_ends_backwards e vs)) (sym (values-linked s e reference))
+    (backwards-all (HasLinkEnd s.links) e (end s.links e) (all-at (Has s.links e) (end s.links e) (λ k v at. (k, at))))
 
-pub link_end_in-stand : (s : Model) (e : End) (i : ℕ) → (shape s.metamodel e.feature).is_reference ≡ true → AllByRecursion (Stands s.links) (link_end_in (reading s) e i)
+pub link_end_in-stand : (s : Model) (e : End) (i : ℕ) → (shape s.metamodel e.feature).is_reference ≡ true → AllByRecursion (HasLinkEnd s.links) (link_end_in (reading s) e i)
 link_end_in-stand s e i reference =
-    subst (λ (vs : List Value). AllByRecursion (Stands s.links) (option_to_list (option_map (link_end e) (slice_get vs i)))) (sym (values-linked s e reference))
-    (elim (slice_get (end s.links e) i) as (λ q. slice_get (end s.links e) i ≡ q → AllByRecursion (Stands s.links) (option_to_list (option_map (link_end e) q))) [ None ↦ λ _. tt | Some v ↦ λ at. ((i, at), tt) ] refl)
+    subst (λ (vs : List Value). AllByRecursion (HasLinkEnd s.links) (option_to_list (option_map (link_end e) (slice_get vs i)))) (sym (values-linked s e reference))
+    (elim (slice_get (end s.links e) i) as (λ q. slice_get (end s.links e) i ≡ q → AllByRecursion (HasLinkEnd s.links) (option_to_list (option_map (link_end e) q))) [ None ↦ λ _. tt | Some v ↦ λ at. ((i, at), tt) ] refl)
 
 ---------------------------------------------------------------- the links of what is destroyed
 
@@ -300,18 +301,18 @@ pub left-cuts : (s : Model) (c : Change) → IsLegal s → early_refusal (readin
 left-cuts s (Delete o) legal early =
     let r = reading s in
     let m = kinds_of s.metamodel in
-    sym (without_all-nodes m (kinds-are s.metamodel legal.metamodel) s.links (gone r o) (names_of (tree_link_ends r o)) legal.links.set legal.links.kinds (tree-named s legal o (delete-named r o early)).all)
+    sym (without_all-nodes m (kinds-are s.metamodel legal.metamodel) s.links (is_in_subtree r o) (names_of (tree_link_ends r o)) legal.links.set legal.links.kinds (tree-named s legal o (delete-named r o early)).all)
 left-cuts s c legal early = without_link_ends-names_of s.links (cut_link_ends (reading s) c)
 
 -- each link that a change cuts is where its name says
-pub cuts-stand : (s : Model) (c : Change) → IsLegal s → early_refusal (reading s) c ≡ None → AllByRecursion (Stands s.links) (cut_link_ends (reading s) c)
+pub cuts-stand : (s : Model) (c : Change) → IsLegal s → early_refusal (reading s) c ≡ None → AllByRecursion (HasLinkEnd s.links) (cut_link_ends (reading s) c)
 cuts-stand s (Delete o) legal early = all_from_map (λ (t : End × Value). Has s.links t.0 t.1) (λ (t : LinkEnd). (t.end, t.value)) (tree_link_ends (reading s) o) (tree-named s legal o (delete-named (reading s) o early)).there
 cuts-stand s (At e a) legal early =
     let r = reading s in
-    act-cuts (AllByRecursion (Stands s.links)) r e tt a (λ v _ reference. cut_by_set-stand s e v legal reference) (λ v reference. cut_by_new-stand s e v legal reference)
+    act-cuts (AllByRecursion (HasLinkEnd s.links)) r e tt a (λ v _ reference. cut_by_set-stand s e v legal reference) (λ v reference. cut_by_new-stand s e v legal reference)
     (λ reference. link_ends_backwards-stand s e reference) (λ i reference. link_end_in-stand s e i reference)
-    (λ i reference. resolved-cuts (AllByRecursion (Stands s.links)) r e i (link_end_in-stand s e i reference) (λ b c t is at.
-    all-append (Stands s.links) (link_end_in r e i) (link_end_in r c.end c.index) (link_end_in-stand s e i reference)
+    (λ i reference. resolved-cuts (AllByRecursion (HasLinkEnd s.links)) r e i (link_end_in-stand s e i reference) (λ b c t is at.
+    all-append (HasLinkEnd s.links) (link_end_in r e i) (link_end_in r c.end c.index) (link_end_in-stand s e i reference)
     (link_end_in-stand s c.end c.index (subst (λ (d : End). (shape s.metamodel d.feature).is_reference ≡ true) (sym is.stands) (far-reference s.metamodel legal.metamodel e.feature is.feature is.opposite)))))
 cuts-stand s _ legal early = tt
 
@@ -336,7 +337,7 @@ link_ends_at-different s e legal reference single =
     (elim (slice_get ((reading s).values e) 0) as (λ q. AreDifferent (reading s) (map (link_end e) (option_to_list q))) [ None ↦ tt | Some v ↦ (tt, tt) ])
 
 cut_by_set-different : (s : Model) (e : End) (v : Value) → IsLegal s → (shape s.metamodel e.feature).is_reference ≡ true → (shape s.metamodel e.feature).is_single ≡ true → AreDifferent (reading s) (cut_by_set (reading s) e v)
-cut_by_set-different s e (value.Object o) legal reference single = yields-different (reading s) e o
+cut_by_set-different s e (value.Object o) legal reference single = displaced_link_ends-different (reading s) e o
 cut_by_set-different s e _ legal reference single = link_ends_at-different s e legal reference single
 
 -- two values of an end are two links
@@ -390,7 +391,7 @@ pub link_end_in-different : (r : Reading) (e : End) (i : ℕ) → AreDifferent r
 link_end_in-different r e i = elim (slice_get (r.values e) i) as (λ q. AreDifferent r (option_to_list (option_map (link_end e) q))) [ None ↦ tt | Some v ↦ (tt, tt) ]
 
 cut_by_new-different : (r : Reading) (e : End) (v : Value) → AreDifferent r (cut_by_new r e v)
-cut_by_new-different r e (value.Object o) = yields-different r e o
+cut_by_new-different r e (value.Object o) = displaced_link_ends-different r e o
 cut_by_new-different r e _ = tt
 
 -- the proxies at both ends of a link are two links
@@ -423,13 +424,13 @@ cuts-once s c legal early late = once-of_different (reading s) (cut_link_ends (r
 
 -- a link of which each name is among those that a new link displaces
 abbrev IsDisplaced : Model → End → ObjectNo → LinkEnd → Type 0
-IsDisplaced s e o t = list_any (same_link (reading s) t) (yields (reading s) e o) ≡ true
+IsDisplaced s e o t = list_any (same_link (reading s) t) (displaced_link_ends (reading s) e o) ≡ true
 
 -- an end whose links are all displaced is empty after they are cut
 emptied : (s : Model) (e : End) (o : ObjectNo) (d : End) → IsLegal s → (shape s.metamodel d.feature).is_reference ≡ true → (shape s.metamodel d.feature).is_single ≡ true
-    → AllByRecursion (IsDisplaced s e o) (link_ends_if_single (reading s) d) → end (without_all s.links (names_of (yields (reading s) e o))) d ≡ []
+    → AllByRecursion (IsDisplaced s e o) (link_ends_if_single (reading s) d) → end (without_all s.links (names_of (displaced_link_ends (reading s) e o))) d ≡ []
 emptied s e o d legal reference single all =
-    let ts : List LinkEnd = yields (reading s) e o in
+    let ts : List LinkEnd = displaced_link_ends (reading s) e o in
     let m = kinds_of s.metamodel in
     let at_d = subst (λ (b : Bool). AllByRecursion (IsDisplaced s e o) (if b then link_ends_at (reading s) d else [])) single all in
     let linked = subst (λ (vs : List Value). AllByRecursion (IsDisplaced s e o) (map (link_end d) vs)) (values-linked s d reference) at_d in
@@ -439,28 +440,28 @@ emptied s e o d legal reference single all =
 
 -- a single near end is empty after the links that a new link displaces are cut
 pub near-emptied : (s : Model) (e : End) (o : ObjectNo) → IsLegal s → (shape s.metamodel e.feature).is_reference ≡ true → (shape s.metamodel e.feature).is_single ≡ true
-    → end (without_all s.links (names_of (yields (reading s) e o))) e ≡ []
+    → end (without_all s.links (names_of (displaced_link_ends (reading s) e o))) e ≡ []
 near-emptied s e o legal reference single =
-    emptied s e o e legal reference single (all_front (IsDisplaced s e o) (link_ends_if_single (reading s) e) _ (once-names (reading s) (in_the_way (reading s) e o)))
+    emptied s e o e legal reference single (all_front (IsDisplaced s e o) (link_ends_if_single (reading s) e) _ (each_link_once-names (reading s) (in_the_way (reading s) e o)))
 
 -- a single far end is empty then too
 pub far-emptied : (s : Model) (e : End) (o : ObjectNo) (g : FeatureNo) → IsLegal s → (shape s.metamodel e.feature).opposite ≡ Some g → (shape s.metamodel g).is_single ≡ true
-    → end (without_all s.links (names_of (yields (reading s) e o))) (far_end o g) ≡ []
+    → end (without_all s.links (names_of (displaced_link_ends (reading s) e o))) (far_end o g) ≡ []
 far-emptied s e o g legal opposite single =
     let P : LinkEnd → Type 0 = IsDisplaced s e o in
-    let rest = all_back P (link_ends_if_single (reading s) e) _ (once-names (reading s) (in_the_way (reading s) e o)) in
+    let rest = all_back P (link_ends_if_single (reading s) e) _ (each_link_once-names (reading s) (in_the_way (reading s) e o)) in
     let far = all_front P (option_map_or (link_ends_if_single (reading s)) (opposite_end (reading s) e o) []) _ rest in
     emptied s e o (far_end o g) legal (far-reference s.metamodel legal.metamodel e.feature g opposite) single
     (subst (λ (q : Option FeatureNo). AllByRecursion P (option_map_or (link_ends_if_single (reading s)) (option_map (far_end o) q) [])) opposite far)
 
 -- the node that becomes contained has no container then
-pub freed : (s : Model) (e : End) (o : ObjectNo) (x : Node) → IsLegal s → contained e o (shape s.metamodel e.feature).containing ≡ Some x
-    → holder (without_all s.links (names_of (yields (reading s) e o))) x ≡ None
+pub freed : (s : Model) (e : End) (o : ObjectNo) (x : Node) → IsLegal s → node_contained e o (shape s.metamodel e.feature).containing ≡ Some x
+    → holder (without_all s.links (names_of (displaced_link_ends (reading s) e o))) x ≡ None
 freed s e o x legal part =
     let P : LinkEnd → Type 0 = IsDisplaced s e o in
-    let ts : List LinkEnd = yields (reading s) e o in
+    let ts : List LinkEnd = displaced_link_ends (reading s) e o in
     let m = kinds_of s.metamodel in
-    let rest = all_back P (link_ends_if_single (reading s) e) _ (once-names (reading s) (in_the_way (reading s) e o)) in
+    let rest = all_back P (link_ends_if_single (reading s) e) _ (each_link_once-names (reading s) (in_the_way (reading s) e o)) in
     let parts = all_back P (option_map_or (link_ends_if_single (reading s)) (opposite_end (reading s) e o) []) _ rest in
     let held = subst (λ (q : Option Node). AllByRecursion P (option_map_or (λ n. option_to_list (holding_link_end (reading s) n)) q [])) part parts in
     holder-without_all m (kinds-are s.metamodel legal.metamodel) s.links (names_of ts) legal.links.set legal.links.kinds x

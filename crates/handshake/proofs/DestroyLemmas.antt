@@ -7,7 +7,7 @@ use Rattle.std.proofs.lemmas.List.{map-append}
 use Rattle.std.proofs.lemmas.Option.{none-some, same_Some}
 use Rattle.std.proofs.Math.Bool.{or-false, and-true}
 use Rattle.mm_types.proofs.SameLemmas.{same_end-self, same_end-true, same_node-self}
-use Rattle.mm_types.specs.Ends.{Ends, Held, has_value, index_in, is_set, shown}
+use Rattle.mm_types.specs.Ends.{Ends, Held, has_value, index_in, is_set, shown_values}
 use Rattle.mm_types.specs.SameValues.{same_value-self, same_value-true}
 use Rattle.mm_types.specs.Same.{is_nil, same_end, same_node, same_value}
 use Rattle.mm_types.specs.Shapes.{Shape, shape}
@@ -38,22 +38,22 @@ use Rattle.models.specs.Reading.{Reading, held_at, is_live, takes}
 use Rattle.notice_chain.specs.Kinds.{no_index}
 use Rattle.notice_chain.specs.declared.kind.NoticeKind.TheVariants as kind
 use Rattle.notice_chain.specs.declared.notice.Notice.{Notice}
-use Rattle.removal.specs.Losses.{is_held_by, is_lost, kept_at, last_loss, loss, losses, lost_at}
-use Rattle.removal.specs.Outer.{gone, holds_some, outer_ends, touched_ends}
+use Rattle.removal.specs.Losses.{is_held_by, is_lost, last_loss, loss, losses, losses_at, values_kept}
+use Rattle.removal.specs.Outer.{holds_some, is_in_subtree, outer_ends, touched_ends}
 use Rattle.removal.specs.declared.gone.Removal.{Removal}
-use Rattle.handshake.specs.Effects.{after}
+use Rattle.handshake.specs.Effects.{model_after}
 use Rattle.handshake.specs.Refusals.{early_refusal}
 use Rattle.handshake.specs.Reports.{lost_notice}
-use Rattle.handshake.specs.FeatureChange.{happened_all, notice, notice_of, told, without}
-use Rattle.handshake.specs.FeatureChanges.{chain, destroyed, destroyed_by, lost_with}
+use Rattle.handshake.specs.FeatureChange.{change_notices, ends_after_changes, list_without_value, notice, notice_of}
+use Rattle.handshake.specs.FeatureChanges.{chain, changes_of_delete, destroyed_by, lost_with}
 use Rattle.handshake.specs.declared.change.Change.{Change}
 use Rattle.handshake.specs.declared.change.Change.TheVariants.{Delete}
 use Rattle.handshake.specs.declared.change_kind.ChangeKind.TheVariants.{Loses}
 use Rattle.handshake.specs.declared.change_kind.FeatureChange.{FeatureChange}
-use Rattle.handshake.proofs.ApartLemmas.{told-append}
+use Rattle.handshake.proofs.ApartLemmas.{change_notices-append}
 use Rattle.handshake.proofs.CutEndLemmas.{reference-flag, reference-plain}
 use Rattle.handshake.proofs.CutLinkEndLemmas.{held_stands, same_end-symmetric, same_value-symmetric, values-linked}
-use Rattle.handshake.proofs.HappenedLemmas.{done, happened_all-at, happened_at, happened_at-append}
+use Rattle.handshake.proofs.HappenedLemmas.{done, ends_after_changes-at, happened_at, happened_at-append}
 use Rattle.handshake.proofs.KnownLemmas.{delete-named}
 use Rattle.handshake.proofs.LegalLemmas.{left-object}
 use Rattle.handshake.proofs.LostLemmas.{end-held, ends-away, ends-here, ends-notices, loses}
@@ -103,13 +103,13 @@ none-kept p q fewer (v ∷ vs) h =
     ] refl h
 
 -- a list that has a value once loses it in the end, where all else that goes is gone
-without-filter : (p : Value → Bool) (v : Value) (vs : List Value) → p v ≡ true → IsDistinct vs → has_value vs v ≡ true
-    → without (filter (λ w. not (p w && not (same_value w v))) vs) v ≡ filter (λ w. not (p w)) vs
-without-filter p v [] goes_v distinct has = absurd (false≢true has)
-without-filter p v (w ∷ ws) goes_v distinct has =
+list_without_value-filter : (p : Value → Bool) (v : Value) (vs : List Value) → p v ≡ true → IsDistinct vs → has_value vs v ≡ true
+    → list_without_value (filter (λ w. not (p w && not (same_value w v))) vs) v ≡ filter (λ w. not (p w)) vs
+list_without_value-filter p v [] goes_v distinct has = absurd (false≢true has)
+list_without_value-filter p v (w ∷ ws) goes_v distinct has =
     let k : List Value = filter (λ w. not (p w && not (same_value w v))) ws in
     let r : List Value = filter (λ w. not (p w)) ws in
-    elim (same_value v w) as (λ b. same_value v w ≡ b → (b || has_value ws v) ≡ true → without (if not (p w && not (same_value w v)) then w ∷ k else k) v ≡ (if not (p w) then w ∷ r else r)) [
+    elim (same_value v w) as (λ b. same_value v w ≡ b → (b || has_value ws v) ≡ true → list_without_value (if not (p w && not (same_value w v)) then w ∷ k else k) v ≡ (if not (p w) then w ∷ r else r)) [
       | true ↦ λ same _.
           let is = same_value-true v w same in
           let goes_w : p w ≡ true = ap p (sym is) ∙ goes_v in
@@ -117,16 +117,16 @@ without-filter p v (w ∷ ws) goes_v distinct has =
             | true ↦ λ x_v. let never = distinct 0 (suc i) w refl (at ∙ ap (λ (y : Value). Some y) (same_value-true x v x_v ∙ is)) in absurd (omega (arith, never))
             | false ↦ λ _. refl
           ] refl in
-          ap (λ (b : Bool). without (if not (b && not (same_value w v)) then w ∷ k else k) v) goes_w
-          ∙ ap (λ (b : Bool). without (if not (not b) then w ∷ k else k) v) (same_value-symmetric w v ∙ same)
-          ∙ ap (λ (b : Bool). if b then k else w ∷ without k v) same
+          ap (λ (b : Bool). list_without_value (if not (b && not (same_value w v)) then w ∷ k else k) v) goes_w
+          ∙ ap (λ (b : Bool). list_without_value (if not (not b) then w ∷ k else k) v) (same_value-symmetric w v ∙ same)
+          ∙ ap (λ (b : Bool). if b then k else w ∷ list_without_value k v) same
           ∙ filter_alike (λ w. not (p w && not (same_value w v))) (λ w. not (p w)) ws (λ i x at. ap (λ (b : Bool). not (p x && not b)) (other i x at) ∙ ap not (and-true (p x)))
           ∙ sym (ap (λ (b : Bool). if not b then w ∷ r else r) goes_w)
       | false ↦ λ other rest.
-          let on = without-filter p v ws goes_v (λ i j x a b. let same = distinct (suc i) (suc j) x a b in omega (arith, same)) rest in
-          elim (p w) as (λ b. without (if not (b && not (same_value w v)) then w ∷ k else k) v ≡ (if not b then w ∷ r else r)) [
-            | true ↦ ap (λ (b : Bool). without (if not (not b) then w ∷ k else k) v) (same_value-symmetric w v ∙ other) ∙ on
-            | false ↦ ap (λ (b : Bool). if b then k else w ∷ without k v) other ∙ ap (λ (ys : List Value). w ∷ ys) on
+          let on = list_without_value-filter p v ws goes_v (λ i j x a b. let same = distinct (suc i) (suc j) x a b in omega (arith, same)) rest in
+          elim (p w) as (λ b. list_without_value (if not (b && not (same_value w v)) then w ∷ k else k) v ≡ (if not b then w ∷ r else r)) [
+            | true ↦ ap (λ (b : Bool). list_without_value (if not (not b) then w ∷ k else k) v) (same_value-symmetric w v ∙ other) ∙ on
+            | false ↦ ap (λ (b : Bool). if b then k else w ∷ list_without_value k v) other ∙ ap (λ (ys : List Value). w ∷ ys) on
           ]
     ] refl has
 
@@ -141,7 +141,7 @@ module _ (s : Model) (legal : IsLegal s) (o : ObjectNo) (live : is_live (reading
   r = reading s
 
   abbrev g : Node → Bool
-  g = gone r o
+  g = is_in_subtree r o
 
   -- the object itself is destroyed
   goes-itself : g (node.Object o) ≡ true
@@ -174,14 +174,14 @@ module _ (s : Model) (legal : IsLegal s) (o : ObjectNo) (live : is_live (reading
 
   -- the values of an end after all other losses are made: the values that it keeps
   kept-held : (d : End) → (shape s.metamodel d.feature).is_reference ≡ true → g d.node ≡ false
-      → happened_at s.metamodel (flat_map (lost_with r o) ds) d (held_at r d) ≡ record { values = shown (shape s.metamodel d.feature).is_single (kept_at r o d); flag = r.flag d }
+      → happened_at s.metamodel (flat_map (lost_with r o) ds) d (held_at r d) ≡ record { values = shown_values (shape s.metamodel d.feature).is_single (values_kept r o d); flag = r.flag d }
   kept-held d reference stays =
       let is = touched-all s legal o live d ∙ (λ i. not (stays i) && (reference i && list_any (goes g) (r.values d))) in
-      elim (list_any (goes g) (r.values d)) as (λ b. list_any (goes g) (r.values d) ≡ b → has_end ds d ≡ b → happened_at s.metamodel (flat_map (lost_with r o) ds) d (held_at r d) ≡ record { values = shown (shape s.metamodel d.feature).is_single (kept_at r o d); flag = r.flag d }) [
+      elim (list_any (goes g) (r.values d)) as (λ b. list_any (goes g) (r.values d) ≡ b → has_end ds d ≡ b → happened_at s.metamodel (flat_map (lost_with r o) ds) d (held_at r d) ≡ record { values = shown_values (shape s.metamodel d.feature).is_single (values_kept r o d); flag = r.flag d }) [
         | true ↦ λ _ has. ends-here s legal o ds d (held_at r d) (touched-in_order s o) has ∙ end-held s legal o d reference
         | false ↦ λ none has.
             ends-away s legal o ds d (held_at r d) (none-among ds d has)
-            ∙ ap (λ (vs : List Value). record { values = shown (shape s.metamodel d.feature).is_single vs; flag = r.flag d }) (sym (filter-none (is_lost r o d) (r.values d) (none-kept (is_lost r o d) (goes g) (λ v not_g. ap (λ (b : Bool). b && not (is_held_by r o d && same_value v (value.Object o))) not_g) (r.values d) none)))
+            ∙ ap (λ (vs : List Value). record { values = shown_values (shape s.metamodel d.feature).is_single vs; flag = r.flag d }) (sym (filter-none (is_lost r o d) (r.values d) (none-kept (is_lost r o d) (goes g) (λ v not_g. ap (λ (b : Bool). b && not (is_held_by r o d && same_value v (value.Object o))) not_g) (r.values d) none)))
       ] refl is
 
   abbrev root : Value
@@ -191,7 +191,7 @@ module _ (s : Model) (legal : IsLegal s) (o : ObjectNo) (live : is_live (reading
   root-goes = goes-itself
 
   -- an end that is not the holder of the object keeps exactly the values that are not destroyed
-  kept-elsewhere : (d : End) → is_held_by r o d ≡ false → kept_at r o d ≡ filter (λ w. not (goes g w)) (r.values d)
+  kept-elsewhere : (d : End) → is_held_by r o d ≡ false → values_kept r o d ≡ filter (λ w. not (goes g w)) (r.values d)
   kept-elsewhere d other =
       filter-same (λ w. not (is_lost r o d w)) (λ w. not (goes g w)) (λ w. ap (λ (b : Bool). not (goes g w && not (b && same_value w root))) other ∙ ap not (and-true (goes g w))) (r.values d)
 
@@ -214,11 +214,11 @@ module _ (s : Model) (legal : IsLegal s) (o : ObjectNo) (live : is_live (reading
     values-have : has_value (r.values d) root ≡ true
     values-have = let at = holder-has d held in has-at (r.values d) root at.0 (subst (λ (vs : List Value). slice_get vs at.0 ≡ Some root) (sym (values-linked s d holder-reference)) at.1)
 
-    kept-has : has_value (kept_at r o d) root ≡ true
+    kept-has : has_value (values_kept r o d) root ≡ true
     kept-has =
         let at = index-at (r.values d) root values-have in
         let kept = filter_keeps (λ w. not (is_lost r o d w)) (r.values d) (index_in (r.values d) root) root at (ap not root-kept) in
-        has-at (kept_at r o d) root kept.0 kept.1
+        has-at (values_kept r o d) root kept.0 kept.1
 
     -- a single end has nothing else
     only-root : a.is_single ≡ true → r.values d ≡ root ∷ []
@@ -230,34 +230,34 @@ module _ (s : Model) (legal : IsLegal s) (o : ObjectNo) (live : is_live (reading
             let same : same_value root x ≡ true = sym (or-false (same_value root x)) ∙ ap (λ (vs : List Value). has_value vs root) (sym is) ∙ has in
             is ∙ ap (λ (v : Value). v ∷ []) (sym (same_value-true root x same))
 
-    kept-single : a.is_single ≡ true → kept_at r o d ≡ r.values d
+    kept-single : a.is_single ≡ true → values_kept r o d ≡ r.values d
     kept-single single =
         ap (λ (vs : List Value). filter (λ w. not (is_lost r o d w)) vs) (only-root single)
         ∙ ap (λ (b : Bool). if not b then root ∷ [] else []) root-kept ∙ sym (only-root single)
 
-    last-notice : (h : Held) → h ≡ record { values = shown a.is_single (kept_at r o d); flag = r.flag d } → notice_of a d (Loses root) h ≡ lost_notice r (loss d root (index_in (kept_at r o d) root))
+    last-notice : (h : Held) → h ≡ record { values = shown_values a.is_single (values_kept r o d); flag = r.flag d } → notice_of a d (Loses root) h ≡ lost_notice r (loss d root (index_in (values_kept r o d) root))
     last-notice h is =
-        let k = index_in (kept_at r o d) root in
+        let k = index_in (values_kept r o d) root in
         ap (notice_of a d (Loses root)) is
-        ∙ elim a.is_single as (λ b. a.is_single ≡ b → (if b then notice a d (record { values = shown b (kept_at r o d); flag = r.flag d }) kind.Set root value.Null no_index else notice a d (record { values = shown b (kept_at r o d); flag = r.flag d }) kind.Remove root value.Null (pos (index_in (shown b (kept_at r o d)) root)))
-        ≡ (if b then notice a d (record { values = shown b (r.values d); flag = r.flag d }) kind.Set root value.Null no_index else notice a d (record { values = shown b (r.values d); flag = r.flag d }) kind.Remove root value.Null (pos k))) [
-          | true ↦ λ single. ap (λ (vs : List Value). notice a d (record { values = shown true vs; flag = r.flag d }) kind.Set root value.Null no_index) (kept-single single)
+        ∙ elim a.is_single as (λ b. a.is_single ≡ b → (if b then notice a d (record { values = shown_values b (values_kept r o d); flag = r.flag d }) kind.Set root value.Null no_index else notice a d (record { values = shown_values b (values_kept r o d); flag = r.flag d }) kind.Remove root value.Null (pos (index_in (shown_values b (values_kept r o d)) root)))
+        ≡ (if b then notice a d (record { values = shown_values b (r.values d); flag = r.flag d }) kind.Set root value.Null no_index else notice a d (record { values = shown_values b (r.values d); flag = r.flag d }) kind.Remove root value.Null (pos k))) [
+          | true ↦ λ single. ap (λ (vs : List Value). notice a d (record { values = shown_values true vs; flag = r.flag d }) kind.Set root value.Null no_index) (kept-single single)
           | false ↦ λ many. (λ i. record { notifier = d.node; feature = Some d.feature; kind = kind.Remove; old_value = root; new_value = value.Null; position = pos k; was_set = set many i })
         ] refl
       where
         is_some_set : (vs : List Value) → a.is_single ≡ false → not (is_nil vs) ≡ true → is_set a (record { values = vs; flag = r.flag d }) ≡ true
         is_some_set vs many some = rw many some
 
-        set : a.is_single ≡ false → is_set a (record { values = kept_at r o d; flag = r.flag d }) ≡ is_set a (record { values = r.values d; flag = r.flag d })
-        set many = is_some_set (kept_at r o d) many (has-not-nil (kept_at r o d) root kept-has) ∙ sym (is_some_set (r.values d) many (has-not-nil (r.values d) root values-have))
+        set : a.is_single ≡ false → is_set a (record { values = values_kept r o d; flag = r.flag d }) ≡ is_set a (record { values = r.values d; flag = r.flag d })
+        set many = is_some_set (values_kept r o d) many (has-not-nil (values_kept r o d) root kept-has) ∙ sym (is_some_set (r.values d) many (has-not-nil (r.values d) root values-have))
 
     -- the values that are left after the object itself is taken out
-    last-held : done a (Loses root) (record { values = shown a.is_single (kept_at r o d); flag = r.flag d }) ≡ record { values = shown a.is_single (filter (λ w. not (goes g w)) (r.values d)); flag = r.flag d }
+    last-held : done a (Loses root) (record { values = shown_values a.is_single (values_kept r o d); flag = r.flag d }) ≡ record { values = shown_values a.is_single (filter (λ w. not (goes g w)) (r.values d)); flag = r.flag d }
     last-held =
-        let before : Bool → Held = λ b. record { values = if b then value.Null ∷ [] else without (shown b (kept_at r o d)) root; flag = if b then a.is_unsettable else r.flag d } in
-        let left : Bool → Held = λ b. record { values = shown b (filter (λ w. not (goes g w)) (r.values d)); flag = r.flag d } in
+        let before : Bool → Held = λ b. record { values = if b then value.Null ∷ [] else list_without_value (shown_values b (values_kept r o d)) root; flag = if b then a.is_unsettable else r.flag d } in
+        let left : Bool → Held = λ b. record { values = shown_values b (filter (λ w. not (goes g w)) (r.values d)); flag = r.flag d } in
         elim a.is_single as (λ b. a.is_single ≡ b → before b ≡ left b) [
-          | true ↦ λ single. (λ i. record { values = shown true (sym (none-left single) i); flag = off i })
+          | true ↦ λ single. (λ i. record { values = shown_values true (sym (none-left single) i); flag = off i })
           | false ↦ λ many. (λ i. record { values = all-left i; flag = r.flag d })
         ] refl
       where
@@ -267,10 +267,10 @@ module _ (s : Model) (legal : IsLegal s) (o : ObjectNo) (live : is_live (reading
         none-left : a.is_single ≡ true → filter (λ w. not (goes g w)) (r.values d) ≡ []
         none-left single = ap (λ (vs : List Value). filter (λ w. not (goes g w)) vs) (only-root single) ∙ ap (λ (b : Bool). if not b then root ∷ [] else []) root-goes
 
-        all-left : without (kept_at r o d) root ≡ filter (λ w. not (goes g w)) (r.values d)
+        all-left : list_without_value (values_kept r o d) root ≡ filter (λ w. not (goes g w)) (r.values d)
         all-left =
-            ap (λ (vs : List Value). without vs root) (filter-same (λ w. not (is_lost r o d w)) (λ w. not (goes g w && not (same_value w root))) (λ w. ap (λ (b : Bool). not (goes g w && not (b && same_value w root))) here) (r.values d))
-            ∙ without-filter (goes g) root (r.values d) root-goes (subst IsDistinct (sym (values-linked s d holder-reference)) (legal.links.set.placed.distinct d)) values-have
+            ap (λ (vs : List Value). list_without_value vs root) (filter-same (λ w. not (is_lost r o d w)) (λ w. not (goes g w && not (same_value w root))) (λ w. ap (λ (b : Bool). not (goes g w && not (b && same_value w root))) here) (r.values d))
+            ∙ list_without_value-filter (goes g) root (r.values d) root-goes (subst IsDistinct (sym (values-linked s d holder-reference)) (legal.links.set.placed.distinct d)) values-have
 
   ---------------------------------------------------------------- the chain
 
@@ -282,48 +282,48 @@ module _ (s : Model) (legal : IsLegal s) (o : ObjectNo) (live : is_live (reading
       let m = s.metamodel in
       let h = held_at r in
       let others = flat_map (lost_with r o) ds in
-      let next : Ends = happened_all m h others in
-      let end_loss : Option End → List Notice = λ q. map (lost_notice r) (option_map_or (λ e. loss e root (index_in (kept_at r o e) root) ∷ []) q []) in
-      told-append m h others (last (r.holder (node.Object o)))
+      let next : Ends = ends_after_changes m h others in
+      let end_loss : Option End → List Notice = λ q. map (lost_notice r) (option_map_or (λ e. loss e root (index_in (values_kept r o e) root) ∷ []) q []) in
+      change_notices-append m h others (last (r.holder (node.Object o)))
       ∙ (λ i. ends-notices s legal o ds h (touched-in_order s o) references (all_same h ds) i
-      ++ (elim (r.holder (node.Object o)) as (λ q. r.holder (node.Object o) ≡ q → told m next (last q) ≡ end_loss q) [
+      ++ (elim (r.holder (node.Object o)) as (λ q. r.holder (node.Object o) ≡ q → change_notices m next (last q) ≡ end_loss q) [
         | None ↦ λ _. refl
-        | Some d ↦ λ held. ap (λ (n : Notice). n ∷ []) (last-notice d held (next d) (happened_all-at m h others d ∙ kept-held d (holder-reference d held) (holder-stays d held)))
+        | Some d ↦ λ held. ap (λ (n : Notice). n ∷ []) (last-notice d held (next d) (ends_after_changes-at m h others d ∙ kept-held d (holder-reference d held) (holder-stays d held)))
       ] refl) i)
-      ∙ sym (map-append (lost_notice r) (flat_map (lost_at r o) ds) (last_loss r o))
+      ∙ sym (map-append (lost_notice r) (flat_map (losses_at r o) ds) (last_loss r o))
 
   ---------------------------------------------------------------- each end after it
 
   -- the values that are stored for the features of a remaining node
-  values-stay : (n : Node) (f : FeatureNo) → g n ≡ false → kept_values (after s (Delete o)).values n f ≡ kept_values s.values n f
+  values-stay : (n : Node) (f : FeatureNo) → g n ≡ false → kept_values (model_after s (Delete o)).values n f ≡ kept_values s.values n f
   values-stay (node.Object p) f stays = ap (λ (q : Option ObjectState). unwrap_or (option_map (λ (t : ObjectState). (stored_under t f).list) q) []) (left-object s.values (subtree r o) p stays)
   values-stay (node.Resource k) f stays = refl
 
-  flag-stays : (n : Node) (f : FeatureNo) → g n ≡ false → kept_flag (after s (Delete o)).values n f ≡ kept_flag s.values n f
+  flag-stays : (n : Node) (f : FeatureNo) → g n ≡ false → kept_flag (model_after s (Delete o)).values n f ≡ kept_flag s.values n f
   flag-stays (node.Object p) f stays = ap (λ (q : Option ObjectState). unwrap_or (option_map (λ (t : ObjectState). (stored_under t f).flag) q) false) (left-object s.values (subtree r o) p stays)
   flag-stays (node.Resource k) f stays = refl
 
   links-left : (d : End) → g d.node ≡ false → end (without_nodes s.links g) d ≡ filter (λ w. not (goes g w)) (end s.links d)
   links-left d stays = end-without_nodes s.links g legal.links.set d ∙ ap (λ (b : Bool). if b then [] else filter (λ w. not (goes g w)) (end s.links d)) stays
 
-  reference-after : (d : End) → g d.node ≡ false → (shape s.metamodel d.feature).is_reference ≡ true
-      → record { values = shown (shape s.metamodel d.feature).is_single (filter (λ w. not (goes g w)) (r.values d)); flag = r.flag d } ≡ held_at (reading (after s (Delete o))) d
-  reference-after d stays reference =
+  reference-model_after : (d : End) → g d.node ≡ false → (shape s.metamodel d.feature).is_reference ≡ true
+      → record { values = shown_values (shape s.metamodel d.feature).is_single (filter (λ w. not (goes g w)) (r.values d)); flag = r.flag d } ≡ held_at (reading (model_after s (Delete o))) d
+  reference-model_after d stays reference =
       let a = shape s.metamodel d.feature in
-      let is : filter (λ w. not (goes g w)) (r.values d) ≡ (if a.is_reference then end (without_nodes s.links g) d else attribute_values a (kept_values (after s (Delete o)).values d.node d.feature)) =
+      let is : filter (λ w. not (goes g w)) (r.values d) ≡ (if a.is_reference then end (without_nodes s.links g) d else attribute_values a (kept_values (model_after s (Delete o)).values d.node d.feature)) =
       ap (λ (vs : List Value). filter (λ w. not (goes g w)) vs) (values-linked s d reference) ∙ sym (links-left d stays)
-      ∙ ap (λ (b : Bool). if b then end (without_nodes s.links g) d else attribute_values a (kept_values (after s (Delete o)).values d.node d.feature)) (sym reference) in
-      λ i. record { values = shown a.is_single (is i); flag = sym (flag-stays d.node d.feature stays) i }
+      ∙ ap (λ (b : Bool). if b then end (without_nodes s.links g) d else attribute_values a (kept_values (model_after s (Delete o)).values d.node d.feature)) (sym reference) in
+      λ i. record { values = shown_values a.is_single (is i); flag = sym (flag-stays d.node d.feature stays) i }
 
   reference-replays : (d : End) → g d.node ≡ false → (shape s.metamodel d.feature).is_reference ≡ true
-      → happened_at s.metamodel (destroyed r o) d (held_at r d) ≡ held_at (reading (after s (Delete o))) d
+      → happened_at s.metamodel (changes_of_delete r o) d (held_at r d) ≡ held_at (reading (model_after s (Delete o))) d
   reference-replays d stays reference =
       let m = s.metamodel in
       let a = shape m d.feature in
       let others = flat_map (lost_with r o) ds in
-      let k : Held = record { values = shown a.is_single (kept_at r o d); flag = r.flag d } in
-      let left : Held = record { values = shown a.is_single (filter (λ w. not (goes g w)) (r.values d)); flag = r.flag d } in
-      let elsewhere : is_held_by r o d ≡ false → k ≡ left = λ other i. record { values = shown a.is_single (kept-elsewhere d other i); flag = r.flag d } in
+      let k : Held = record { values = shown_values a.is_single (values_kept r o d); flag = r.flag d } in
+      let left : Held = record { values = shown_values a.is_single (filter (λ w. not (goes g w)) (r.values d)); flag = r.flag d } in
+      let elsewhere : is_held_by r o d ≡ false → k ≡ left = λ other i. record { values = shown_values a.is_single (kept-elsewhere d other i); flag = r.flag d } in
       happened_at-append m others (last (r.holder (node.Object o))) d (held_at r d)
       ∙ ap (happened_at m (last (r.holder (node.Object o))) d) (kept-held d reference stays)
       ∙ elim (r.holder (node.Object o)) as (λ q. r.holder (node.Object o) ≡ q → happened_at m (last q) d k ≡ left) [
@@ -334,19 +334,19 @@ module _ (s : Model) (legal : IsLegal s) (o : ObjectNo) (live : is_live (reading
           | false ↦ λ other. elsewhere (ap (λ (q : Option End). option_map_or (same_end d) q false) held ∙ same_end-symmetric d e ∙ other)
         ] refl
       ] refl
-      ∙ reference-after d stays reference
+      ∙ reference-model_after d stays reference
 
   attribute-replays : (d : End) → g d.node ≡ false → (shape s.metamodel d.feature).is_reference ≡ false
-      → happened_at s.metamodel (destroyed r o) d (held_at r d) ≡ held_at (reading (after s (Delete o))) d
+      → happened_at s.metamodel (changes_of_delete r o) d (held_at r d) ≡ held_at (reading (model_after s (Delete o))) d
   attribute-replays d stays attribute =
       let m = s.metamodel in
       let a = shape m d.feature in
       let others = flat_map (lost_with r o) ds in
       let none : has_end ds d ≡ false = touched-all s legal o live d ∙ (λ i. not (stays i) && (attribute i && list_any (goes g) (r.values d))) in
-      let is : (if a.is_reference then end s.links d else attribute_values a (kept_values s.values d.node d.feature)) ≡ (if a.is_reference then end (without_nodes s.links g) d else attribute_values a (kept_values (after s (Delete o)).values d.node d.feature)) =
+      let is : (if a.is_reference then end s.links d else attribute_values a (kept_values s.values d.node d.feature)) ≡ (if a.is_reference then end (without_nodes s.links g) d else attribute_values a (kept_values (model_after s (Delete o)).values d.node d.feature)) =
       ap (λ (x : Bool). if x then end s.links d else attribute_values a (kept_values s.values d.node d.feature)) attribute
       ∙ ap (attribute_values a) (sym (values-stay d.node d.feature stays))
-      ∙ ap (λ (x : Bool). if x then end (without_nodes s.links g) d else attribute_values a (kept_values (after s (Delete o)).values d.node d.feature)) (sym attribute) in
+      ∙ ap (λ (x : Bool). if x then end (without_nodes s.links g) d else attribute_values a (kept_values (model_after s (Delete o)).values d.node d.feature)) (sym attribute) in
       happened_at-append m others (last (r.holder (node.Object o))) d (held_at r d)
       ∙ ap (happened_at m (last (r.holder (node.Object o))) d) (ends-away s legal o ds d (held_at r d) (none-among ds d none))
       ∙ elim (r.holder (node.Object o)) as (λ q. r.holder (node.Object o) ≡ q → happened_at m (last q) d (held_at r d) ≡ held_at r d) [
@@ -356,11 +356,11 @@ module _ (s : Model) (legal : IsLegal s) (o : ObjectNo) (live : is_live (reading
           | false ↦ λ _. refl
         ] refl
       ] refl
-      ∙ (λ i. record { values = shown a.is_single (is i); flag = sym (flag-stays d.node d.feature stays) i })
+      ∙ (λ i. record { values = shown_values a.is_single (is i); flag = sym (flag-stays d.node d.feature stays) i })
 
-  pub destroyed-replays : (d : End) → g d.node ≡ false → happened_at s.metamodel (destroyed r o) d (held_at r d) ≡ held_at (reading (after s (Delete o))) d
-  destroyed-replays d stays =
-      elim (shape s.metamodel d.feature).is_reference as (λ b. (shape s.metamodel d.feature).is_reference ≡ b → happened_at s.metamodel (destroyed r o) d (held_at r d) ≡ held_at (reading (after s (Delete o))) d) [
+  pub changes_of_delete-replays : (d : End) → g d.node ≡ false → happened_at s.metamodel (changes_of_delete r o) d (held_at r d) ≡ held_at (reading (model_after s (Delete o))) d
+  changes_of_delete-replays d stays =
+      elim (shape s.metamodel d.feature).is_reference as (λ b. (shape s.metamodel d.feature).is_reference ≡ b → happened_at s.metamodel (changes_of_delete r o) d (held_at r d) ≡ held_at (reading (model_after s (Delete o))) d) [
         | true ↦ λ reference. reference-replays d stays reference
         | false ↦ λ attribute. attribute-replays d stays attribute
       ] refl

@@ -9,13 +9,13 @@ use Rattle.mm_types.specs.Same.{same_end}
 use Rattle.mm_types.specs.Shapes.{Shape, shape}
 use Rattle.mm_types.specs.declared.end.End.{End}
 use Rattle.links.proofs.PlaceLemmas.{ne-same_end}
-use Rattle.handshake.specs.FeatureChange.{changed, flagged, happened, happened_all}
+use Rattle.handshake.specs.FeatureChange.{ends_after_change, ends_after_changes, flag_after_change, values_after_change}
 use Rattle.handshake.specs.declared.change_kind.ChangeKind.{ChangeKind}
 use Rattle.handshake.specs.declared.change_kind.FeatureChange.{FeatureChange}
 
 -- the values and the flag of an end after a feature change
 abbrev pub done : Shape → ChangeKind → Held → Held
-done a x h = record { values = changed a x h.values; flag = flagged a x h.flag }
+done a x h = record { values = values_after_change a x h.values; flag = flag_after_change a x h.flag }
 
 -- the same for d, if the feature change is at d
 abbrev pub done_at : Metamodel → End → FeatureChange → Held → Held
@@ -26,17 +26,17 @@ abbrev pub happened_at : Metamodel → List FeatureChange → End → Held → H
 happened_at m [] d h = h
 happened_at m (t ∷ ts) d h = happened_at m ts d (done_at m d t h)
 
-happened-done : (m : Metamodel) (e : Ends) (t : FeatureChange) (d : End) → happened m e t d ≡ done_at m d t (e d)
-happened-done m e t d =
+ends_after_change-done : (m : Metamodel) (e : Ends) (t : FeatureChange) (d : End) → ends_after_change m e t d ≡ done_at m d t (e d)
+ends_after_change-done m e t d =
     elim (same_end t.at d) as (λ b. same_end t.at d ≡ b → (if b then done (shape m t.at.feature) t.does (e t.at) else e d) ≡ (if b then done (shape m d.feature) t.does (e d) else e d)) [
       | true ↦ λ same. ap (λ (x : End). done (shape m x.feature) t.does (e x)) (same_end-true t.at d same)
       | false ↦ λ _. refl
     ] refl
 
 -- at an end, feature changes do what those of them at the end do
-pub happened_all-at : (m : Metamodel) (e : Ends) (ts : List FeatureChange) (d : End) → happened_all m e ts d ≡ happened_at m ts d (e d)
-happened_all-at m e [] d = refl
-happened_all-at m e (t ∷ ts) d = happened_all-at m (happened m e t) ts d ∙ ap (happened_at m ts d) (happened-done m e t d)
+pub ends_after_changes-at : (m : Metamodel) (e : Ends) (ts : List FeatureChange) (d : End) → ends_after_changes m e ts d ≡ happened_at m ts d (e d)
+ends_after_changes-at m e [] d = refl
+ends_after_changes-at m e (t ∷ ts) d = ends_after_changes-at m (ends_after_change m e t) ts d ∙ ap (happened_at m ts d) (ends_after_change-done m e t d)
 
 pub happened_at-append : (m : Metamodel) (xs ys : List FeatureChange) (d : End) (h : Held) → happened_at m (xs ++ ys) d h ≡ happened_at m ys d (happened_at m xs d h)
 happened_at-append m [] ys d h = refl

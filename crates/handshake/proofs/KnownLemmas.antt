@@ -33,7 +33,7 @@ use Rattle.handshake.specs.Displaced.{taken_index}
 use Rattle.handshake.specs.Refusals.{add_refusal, early_refusal, gain_refusal, is_at_limit, is_full_at, is_recursive, kind_refusal, late_refusal, link_refusal, many_refusal, named_refusal, of_either, set_refusal, single_refusal, type_refusal, uri_refusal, value_of}
 use Rattle.proxies.specs.Refusals.{is_mistyped, is_there_already, resolve_refusal, target_refusal}
 use Rattle.proxies.specs.Resolving.{is_unmatched, proxy_at, target_at}
-use Rattle.proxies.specs.declared.target.Target.{Target}
+use Rattle.proxies.specs.declared.resolved_proxy.ResolvedProxy.{ResolvedProxy}
 use Rattle.proxies.proofs.TargetLemmas.{IsFound, found-is}
 use Rattle.handshake.specs.declared.act.Act.{Act}
 use Rattle.handshake.specs.declared.change.Change.TheVariants.{At, Delete}
@@ -176,7 +176,7 @@ taken-many r e a i at h = by a at (none-else_by (named_refusal r e a) (kind_refu
 ---------------------------------------------------------------- late refusals
 
 -- a proxy is at the index, and an object of the reference's type, which is not in the list, may take its position
-pub record IsResolvable (r : Reading) (e : End) (i : ℕ) (x : Target) : Type 0 where
+pub record IsResolvable (r : Reading) (e : End) (i : ℕ) (x : ResolvedProxy) : Type 0 where
   pub reference : (shape r.metamodel e.feature).is_reference ≡ true
   pub low : nat_lt i (length (r.values e)) ≡ true
   pub takes : takes r e.feature (value.Object x.object) ≡ true
@@ -189,14 +189,14 @@ not-true true h = refl
 not-true false h = absurd (false≢true (sym h))
 
 -- none of the reasons holds for which a proxy can't be resolved to what it finds
-record IsUnrefused (r : Reading) (e : End) (i : ℕ) (q : Option Target) : Type 0 where
+record IsUnrefused (r : Reading) (e : End) (i : ℕ) (q : Option ResolvedProxy) : Type 0 where
   pub typed : is_mistyped r e q ≡ false
   pub low : nat_lt i (length (r.values e)) ≡ true
   pub absent : is_there_already r e q ≡ false
   pub led : is_some q ≡ true
   pub matched : option_map_or (is_unmatched r e) q false ≡ false
 
-unrefused : (r : Reading) (e : End) (i : ℕ) (q : Option Target) → target_refusal r e i q ≡ None → IsUnrefused r e i q
+unrefused : (r : Reading) (e : End) (i : ℕ) (q : Option ResolvedProxy) → target_refusal r e i q ≡ None → IsUnrefused r e i q
 unrefused r e i q h =
     let seven = Unmatched where_so option_map_or (is_unmatched r e) q false in
     let six = Unresolved unless is_some q else_by seven in
@@ -218,21 +218,21 @@ unrefused r e i q h =
       matched = none-where_so Unmatched (option_map_or (is_unmatched r e) q false) led.1;
     }
 
-resolvable-to : (r : Reading) (e : End) (i : ℕ) (x : Target) → IsFound r e i x → IsUnrefused r e i (Some x) → IsResolvable r e i x
+resolvable-to : (r : Reading) (e : End) (i : ℕ) (x : ResolvedProxy) → IsFound r e i x → IsUnrefused r e i (Some x) → IsResolvable r e i x
 resolvable-to r e i x found h =
     let typed = or_parts (not (shape r.metamodel e.feature).is_reference) (not (takes r e.feature (value.Object x.object))) h.typed in
     record { reference = not-true _ typed.0; low = h.low; takes = not-true _ typed.1; absent = h.absent; found = found; matched = h.matched }
 
 -- the target of a proxy that can be resolved
 pub record IsResolved (r : Reading) (e : End) (i : ℕ) : Type 0 where
-  pub target : Target
+  pub target : ResolvedProxy
   pub is : target_at r e i ≡ Some target
   pub resolvable : IsResolvable r e i target
 
 pub resolvable : (r : Reading) (e : End) (i : ℕ) → resolve_refusal r e i ≡ None → IsResolved r e i
 resolvable r e i h = by (target_at r e i) refl h
   where
-    by : (q : Option Target) → target_at r e i ≡ q → target_refusal r e i q ≡ None → IsResolved r e i
+    by : (q : Option ResolvedProxy) → target_at r e i ≡ q → target_refusal r e i q ≡ None → IsResolved r e i
     by None is allowed = absurd (false≢true (unrefused r e i None allowed).led)
     by (Some x) is allowed = record { target = x; is = is; resolvable = resolvable-to r e i x (found-is r e i x is) (unrefused r e i (Some x) allowed) }
 

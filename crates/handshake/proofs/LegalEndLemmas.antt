@@ -28,7 +28,7 @@ use Rattle.mm_meta.proofs.ShapeLemmas.{far_types_fit}
 use Rattle.mm_values.specs.Values.{ValuesState, class_of}
 use Rattle.links.specs.Laws.{goes, is_far, is_named, put_end, without_all}
 use Rattle.links.specs.Links.{Links, end, far_end, put, shift}
-use Rattle.mm_types.specs.Lists.{put_back, shifted}
+use Rattle.mm_types.specs.Lists.{put_back, values_after_move}
 use Rattle.links.proofs.CutLemmas.{end-shift_near, end-shift_other}
 use Rattle.links.proofs.CutNamedLemmas.{end-without_all, without_all_legal}
 use Rattle.links.proofs.FilterLemmas.{length-filter_le}
@@ -38,7 +38,7 @@ use Rattle.models.specs.Legal.{IsLegal, is_legal_end, is_legal_target, kinds_of}
 use Rattle.models.specs.Model.{Model, model_of, reading}
 use Rattle.models.specs.Reading.{Reading, has_feature, shape_at, takes}
 use Rattle.containment.proofs.PartLemmas.{kinds-are}
-use Rattle.handshake.specs.Displaced.{yields}
+use Rattle.handshake.specs.Displaced.{displaced_link_ends}
 use Rattle.handshake.specs.Refusals.{is_at_limit, is_full_at}
 use Rattle.handshake.proofs.CutLinkEndLemmas.{far-emptied, values-linked}
 use Rattle.removal.specs.Laws.{names_of}
@@ -147,7 +147,7 @@ module _ (s : Model) (legal : IsLegal s) (e : End) (o : ObjectNo) (new : IsNewLi
   left = without_displaced s e o
 
   left-all : (d : End) → list_all (is_legal_target (reading s) d.feature) (end left d) ≡ true
-  left-all d = end-all (reading s) d (end left d) (cut-end s (names_of (yields (reading s) e o)) legal d)
+  left-all d = end-all (reading s) d (end left d) (cut-end s (names_of (displaced_link_ends (reading s) e o)) legal d)
 
   linked-length : (d : End) → (shape s.metamodel d.feature).is_reference ≡ true → length ((reading s).values d) ≡ length (end s.links d)
   linked-length d reference = ap (λ (vs : List Value). length vs) (values-linked s d reference)
@@ -186,7 +186,7 @@ module _ (s : Model) (legal : IsLegal s) (e : End) (o : ObjectNo) (new : IsNewLi
   put-legal : (i : ℕ) (d : End) → is_legal_end (reading s) d (put_end left e i o (shape s.metamodel e.feature).opposite d) ≡ true
   put-legal i d =
       let q = (shape s.metamodel e.feature).opposite in
-      let other = cut-end s (names_of (yields (reading s) e o)) legal d in
+      let other = cut-end s (names_of (displaced_link_ends (reading s) e o)) legal d in
       let by_far : (b : Bool) → is_far o q d ≡ b → is_legal_end (reading s) d (if b then end left d ++ node_value e.node ∷ [] else end left d) ≡ true = λ b. elim b as (λ b. is_far o q d ≡ b → is_legal_end (reading s) d (if b then end left d ++ node_value e.node ∷ [] else end left d) ≡ true) [
         | true ↦ λ h. far-put d q refl h
         | false ↦ λ _. other
@@ -198,7 +198,7 @@ module _ (s : Model) (legal : IsLegal s) (e : End) (o : ObjectNo) (new : IsNewLi
 
   pub put-end : (i : ℕ) → i ≤ length (end left e) → (d : End) → is_legal_end (reading s) d (end (put left e i o (shape s.metamodel e.feature).opposite (shape s.metamodel e.feature).containing) d) ≡ true
   put-end i placed d =
-      let gives = end-put left e i o (shape s.metamodel e.feature).opposite (shape s.metamodel e.feature).containing (without_all_legal s.links (names_of (yields (reading s) e o)) legal.links.set) (new-fits s legal e o new i placed) d in
+      let gives = end-put left e i o (shape s.metamodel e.feature).opposite (shape s.metamodel e.feature).containing (without_all_legal s.links (names_of (displaced_link_ends (reading s) e o)) legal.links.set) (new-fits s legal e o new i placed) d in
       rw gives (put-legal i d)
 
 ---------------------------------------------------------------- a move
@@ -220,7 +220,7 @@ shifted-end s e to from legal low_from low_to d =
       | false ↦ λ other. rw (end-shift_other s.links legal.links.set.placed e to from low_from low_to d (λ is. true≢false (sym (same_end-self e) ∙ ap (same_end e) is ∙ other))) (legal.links.ends d)
     ] refl
   where
-    in_order : (vs : List Value) → from < length vs → is_legal_end (reading s) e vs ≡ true → is_legal_end (reading s) e (shifted vs to from) ≡ true
+    in_order : (vs : List Value) → from < length vs → is_legal_end (reading s) e vs ≡ true → is_legal_end (reading s) e (values_after_move vs to from) ≡ true
     in_order [] low legal_end = absurd (omega (arith, low))
     in_order (w ∷ ws) low legal_end =
         let r = reading s in

@@ -22,13 +22,13 @@ use Rattle.mm_types.specs.declared.refused.Refused.TheVariants.{Abstract, Bound,
 use Rattle.mm_types.specs.declared.value.Value.{Value}
 use Rattle.mm_types.specs.declared.value.Value.TheVariants as value
 use Rattle.mm_values.specs.Stored.{Stored, list_changed, nothing_stored}
-use Rattle.mm_values.specs.Values.{ObjectState, Objects, ValuesState, applied, change_list, class_of, object_at, stored_under, with_changed, with_uri, without_object}
-use Rattle.mm_types.specs.Lists.{shifted}
+use Rattle.mm_values.specs.Values.{ObjectState, Objects, ValuesState, change_list, class_of, object_at, stored_under, values_after_edits, with_changed, with_uri, without_object}
+use Rattle.mm_types.specs.Lists.{values_after_move}
 use Rattle.mm_types.specs.Same.{same_object}
 use Rattle.containment.specs.Forest.{is_node_among, subtree}
-use Rattle.removal.specs.Outer.{gone}
-use Rattle.mm_values.specs.declared.edit.ValueEdit.{ValueEdit}
-use Rattle.mm_values.specs.declared.edit.ValueEdit.TheVariants.{DropObject}
+use Rattle.removal.specs.Outer.{is_in_subtree}
+use Rattle.mm_values.specs.declared.value_edit.ValueEdit.{ValueEdit}
+use Rattle.mm_values.specs.declared.value_edit.ValueEdit.TheVariants.{DropObject}
 use Rattle.links.specs.Holders.{HasNoCycle}
 use Rattle.links.specs.Laws.{goes, without_all}
 use Rattle.links.specs.LegalSets.{AreOfKind, IsLegalSet}
@@ -50,7 +50,7 @@ use Rattle.handshake.specs.declared.change.Change.TheVariants.{At, Create, Delet
 use Rattle.handshake.specs.declared.act.Act.TheVariants.{Set, Add, Move, Resolve}
 use Rattle.handshake.specs.Displaced.{cut_by_new, cut_by_set, cut_link_ends, is_plain_add, is_plain_set}
 use Rattle.handshake.specs.Edits.{link_edits}
-use Rattle.handshake.specs.Effects.{act_edits, after, links_after, put_by, put_under, value_edits, with_value}
+use Rattle.handshake.specs.Effects.{act_edits, links_after, model_after, put_by, put_under, value_edits, with_value}
 use Rattle.handshake.specs.Laws.{KeepsLegal, IsBrought, goes_with}
 use Rattle.handshake.specs.Changes.{HasReadDocument, IsDocument}
 use Rattle.handshake.specs.FeatureChanges.{loaded_by, resolves_all}
@@ -94,7 +94,7 @@ same-values s legal = record { count = legal.count; objects = legal.objects; cla
 
 -- a list that is put under a feature of an object
 put-values : (s : Model) (o : ObjectNo) (f : FeatureNo) (h : Stored) → IsLegal s → ((x : ObjectState) → object_at s.values.objects o ≡ Some x → IsLegalStored s.metamodel x.class f h)
-    → AreLegalValues s none_goes (applied s.values (put_under f h.list h.flag (node.Object o)))
+    → AreLegalValues s none_goes (values_after_edits s.values (put_under f h.list h.flag (node.Object o)))
 put-values s o f h legal held =
     let P = IsLegalObject s.metamodel in
     record {
@@ -137,9 +137,9 @@ changed-values s o f g legal held =
     }
 
 -- only a change of an attribute edits values
-of-attribute : (s : Model) (f : FeatureNo) (es : List ValueEdit) → IsLegal s → ((shape s.metamodel f).is_reference ≡ false → AreLegalValues s none_goes (applied s.values es)) → AreLegalValues s none_goes (applied s.values (if (shape s.metamodel f).is_reference then [] else es))
+of-attribute : (s : Model) (f : FeatureNo) (es : List ValueEdit) → IsLegal s → ((shape s.metamodel f).is_reference ≡ false → AreLegalValues s none_goes (values_after_edits s.values es)) → AreLegalValues s none_goes (values_after_edits s.values (if (shape s.metamodel f).is_reference then [] else es))
 of-attribute s f es legal of =
-    elim (shape s.metamodel f).is_reference as (λ b. (shape s.metamodel f).is_reference ≡ b → AreLegalValues s none_goes (applied s.values (if b then [] else es))) [ true ↦ λ _. same-values s legal | false ↦ of ] refl
+    elim (shape s.metamodel f).is_reference as (λ b. (shape s.metamodel f).is_reference ≡ b → AreLegalValues s none_goes (values_after_edits s.values (if b then [] else es))) [ true ↦ λ _. same-values s legal | false ↦ of ] refl
 
 -- the list of an attribute is the list that its object stores
 module _ (s : Model) (legal : IsLegal s) (o : ObjectNo) (f : FeatureNo) (many : (shape s.metamodel f).is_single ≡ false) (has : has_feature (reading s) (node.Object o) f ≡ true) (attribute : (shape s.metamodel f).is_reference ≡ false) where
@@ -182,8 +182,8 @@ module _ (s : Model) (legal : IsLegal s) (o : ObjectNo) (f : FeatureNo) (many : 
   taken-values : (i : ℕ) → AreLegalValues s none_goes (record { objects = with_changed s.values.objects o f (λ vs. remove vs i); uris = s.values.uris })
   taken-values i = changed-values s o f (λ vs. remove vs i) legal (λ x is. remove-legal s.metamodel x.class f (stored_under x f) many (stored-has x is) (stored-legal x is) i)
 
-  moved-values : (to from : ℕ) → AreLegalValues s none_goes (record { objects = with_changed s.values.objects o f (λ vs. shifted vs to from); uris = s.values.uris })
-  moved-values to from = changed-values s o f (λ vs. shifted vs to from) legal (λ x is. move-legal s.metamodel x.class f (stored_under x f) many (stored-has x is) (stored-legal x is) to from)
+  moved-values : (to from : ℕ) → AreLegalValues s none_goes (record { objects = with_changed s.values.objects o f (λ vs. values_after_move vs to from); uris = s.values.uris })
+  moved-values to from = changed-values s o f (λ vs. values_after_move vs to from) legal (λ x is. move-legal s.metamodel x.class f (stored_under x f) many (stored-has x is) (stored-legal x is) to from)
 
 -- one more URI, which no resource has
 with-new : (us : List (List ℕ)) (u : List ℕ) → AreLegalUris us → IsJoined u → is_short_text u ≡ true → length us < RESOURCES → list_any (bytes_eq u) us ≡ false
@@ -206,7 +206,7 @@ class-dropped (o ∷ os) (suc k) zero other = refl
 class-dropped (o ∷ os) (suc k) (suc i) other = class-dropped os k i (grind (arith, nat_tests))
 
 -- objects that are not dropped are as they were
-pub left-object : (v : ValuesState) (os : List ObjectNo) (p : ObjectNo) → list_any (same_object p) os ≡ false → object_at (applied v (map DropObject os)).objects p ≡ object_at v.objects p
+pub left-object : (v : ValuesState) (os : List ObjectNo) (p : ObjectNo) → list_any (same_object p) os ≡ false → object_at (values_after_edits v (map DropObject os)).objects p ≡ object_at v.objects p
 left-object v [] p stays = refl
 left-object v (o ∷ os) p stays =
     let both = or_false (same_object p o) (list_any (same_object p) os) stays in
@@ -216,19 +216,19 @@ left-object v (o ∷ os) p stays =
     or_false true b h = absurd (false≢true (sym h))
     or_false false b h = (refl, h)
 
-left-legal : (P : Option ObjectState → Type 0) (v : ValuesState) (os : List ObjectNo) → P None → All P v.objects → All P (applied v (map DropObject os)).objects
+left-legal : (P : Option ObjectState → Type 0) (v : ValuesState) (os : List ObjectNo) → P None → All P v.objects → All P (values_after_edits v (map DropObject os)).objects
 left-legal P v [] none all = all
 left-legal P v (o ∷ os) none all = left-legal P (record v { objects = without_object v.objects o }) os none (All-set P v.objects o.0 None none all)
 
-left-length : (v : ValuesState) (os : List ObjectNo) → length (applied v (map DropObject os)).objects ≡ length v.objects
+left-length : (v : ValuesState) (os : List ObjectNo) → length (values_after_edits v (map DropObject os)).objects ≡ length v.objects
 left-length v [] = refl
 left-length v (o ∷ os) = left-length (record v { objects = without_object v.objects o }) os ∙ length-set v.objects o.0 None
 
-pub left-uris : (v : ValuesState) (os : List ObjectNo) → (applied v (map DropObject os)).uris ≡ v.uris
+pub left-uris : (v : ValuesState) (os : List ObjectNo) → (values_after_edits v (map DropObject os)).uris ≡ v.uris
 left-uris v [] = refl
 left-uris v (o ∷ os) = left-uris (record v { objects = without_object v.objects o }) os
 
-left-values : (s : Model) → IsLegal s → (os : List ObjectNo) → AreLegalValues s (is_node_among os) (applied s.values (map DropObject os))
+left-values : (s : Model) → IsLegal s → (os : List ObjectNo) → AreLegalValues s (is_node_among os) (values_after_edits s.values (map DropObject os))
 left-values s legal os =
     let uris = left-uris s.values os in
     record {
@@ -240,7 +240,7 @@ left-values s legal os =
     }
 
 -- the objects of a document
-load-legal : (s : Model) (k : ResourceNo) (doc : Doc) → IsLegal s → late_refusal (reading s) (Load k doc) ≡ None → IsDocument s.metamodel doc → AreLegalValues s none_goes (after s (Load k doc)).values
+load-legal : (s : Model) (k : ResourceNo) (doc : Doc) → IsLegal s → late_refusal (reading s) (Load k doc) ≡ None → IsDocument s.metamodel doc → AreLegalValues s none_goes (model_after s (Load k doc)).values
 load-legal s k doc legal late read =
     let made = load-values s.metamodel s.values doc (read-typed s.metamodel read.uri doc legal.metamodel read.read) legal.objects in
     let room = few s k doc legal late in
@@ -248,14 +248,14 @@ load-legal s k doc legal late read =
     record {
       count = omega (arith, count, room);
       objects = made.objects;
-      classes = same-classes s k doc legal late read (after s (Load k doc)).values made;
+      classes = same-classes s k doc legal late read (model_after s (Load k doc)).values made;
       uris = subst AreLegalUris (sym made.uris) legal.uris;
-      more = no-fewer s k doc legal late read (after s (Load k doc)).values made;
+      more = no-fewer s k doc legal late read (model_after s (Load k doc)).values made;
     }
 
 -- an attribute, whose node is an object, after an act
 act-values : (s : Model) (n : Node) (f : FeatureNo) (a : Act) → IsLegal s → early_refusal (reading s) (At (at_end n f) a) ≡ None → late_refusal (reading s) (At (at_end n f) a) ≡ None → (shape s.metamodel f).is_reference ≡ false
-    → AreLegalValues s none_goes (applied s.values (act_edits (reading s) (at_end n f) a))
+    → AreLegalValues s none_goes (values_after_edits s.values (act_edits (reading s) (at_end n f) a))
 act-values s (node.Object o) f a legal early late attribute =
     let m = s.metamodel in
     let r = reading s in
@@ -263,7 +263,7 @@ act-values s (node.Object o) f a legal early late attribute =
     let e = at_end n f in
     let asked : (b : Act) → a ≡ b → early_refusal r (At e b) ≡ None = λ b is. subst (λ (x : Act). early_refusal r (At e x) ≡ None) is early in
     let allowed : (b : Act) → a ≡ b → late_refusal r (At e b) ≡ None = λ b is. subst (λ (x : Act). late_refusal r (At e x) ≡ None) is late in
-    act-made (λ xs. AreLegalValues s none_goes (applied s.values xs)) r e (same-values s legal) a
+    act-made (λ xs. AreLegalValues s none_goes (values_after_edits s.values xs)) r e (same-values s legal) a
     (λ v is.
     let ask = set-taken r n f v (allowed (Set v) is) in
     let h : Stored = record { list = v ∷ []; flag = (shape m f).is_unsettable } in
@@ -275,7 +275,7 @@ act-values s (node.Object o) f a legal early late attribute =
     (λ to from is. let named = move-named r n f to from (asked (Move to from) is) in moved-values s legal o f named.1 named.0 attribute to from)
 act-values s (node.Resource k) f a legal early late attribute = absurd (resource-keeps-none (reading s) k f (act-there (reading s) (at_end (node.Resource k) f) a early) attribute)
 
-values-after : (s : Model) (c : Change) → IsLegal s → early_refusal (reading s) c ≡ None → late_refusal (reading s) c ≡ None → HasReadDocument s.metamodel c → IsBrought c → AreLegalValues s (goes_with (reading s) c) (applied s.values (value_edits (reading s) c))
+values-after : (s : Model) (c : Change) → IsLegal s → early_refusal (reading s) c ≡ None → late_refusal (reading s) c ≡ None → HasReadDocument s.metamodel c → IsBrought c → AreLegalValues s (goes_with (reading s) c) (values_after_edits s.values (value_edits (reading s) c))
 values-after s (Create c) legal early late read brought =
     let P = IsLegalObject s.metamodel in
     record {
@@ -368,7 +368,7 @@ untouched-left g e (v ∷ vs) stays all = (stays, all)
 -- no remaining end has a destroyed object
 untouched-after : (s : Model) (c : Change) → IsLegal s → (e : End) → IsUntouched (goes_with (reading s) c) e (end (links_after s.links (reading s) c) e)
 untouched-after s (Delete o) legal e =
-    let g = gone (reading s) o in
+    let g = is_in_subtree (reading s) o in
     let vs = filter (λ w. not (goes g w)) (end s.links e) in
     subst (IsUntouched g e) (sym (end-without_nodes s.links g legal.links.set e))
     (elim (g e.node) as (λ b. g e.node ≡ b → IsUntouched g e (if b then [] else vs)) [
@@ -379,24 +379,24 @@ untouched-after s _ legal e = untouched-end e _
 
 -- a load leaves legal ends, and each other change does too
 load-ends : (s : Model) (c : Change) (doc : Doc) → loaded_by c ≡ Some doc → IsLegal s → early_refusal (reading s) c ≡ None → late_refusal (reading s) c ≡ None → HasReadDocument s.metamodel c → (d : End)
-    → is_legal_end (reading (after s c)) d (end (after s c).links d) ≡ true
+    → is_legal_end (reading (model_after s c)) d (end (model_after s c).links d) ≡ true
 load-ends s (Load k doc) x is legal early late read d =
     let typed = read-typed s.metamodel read.uri doc legal.metamodel read.read in
     let there = none-unless NoResource (has_resource (reading s) k) (none-else_by (NoObject unless true) (NoResource unless has_resource (reading s) k) early).1 in
-    linked-legal s k doc legal late read typed there (after s (Load k doc)).values (load-values s.metamodel s.values doc typed legal.objects) d
+    linked-legal s k doc legal late read typed there (model_after s (Load k doc)).values (load-values s.metamodel s.values doc typed legal.objects) d
 load-ends s _ x is legal early late read d = absurd (none-some x is)
 
-ends-legal : (s : Model) (c : Change) → resolves_all c ≡ false → IsLegal s → early_refusal (reading s) c ≡ None → late_refusal (reading s) c ≡ None → HasReadDocument s.metamodel c → IsBrought c → (d : End) → is_legal_end (reading (after s c)) d (end (after s c).links d) ≡ true
+ends-legal : (s : Model) (c : Change) → resolves_all c ≡ false → IsLegal s → early_refusal (reading s) c ≡ None → late_refusal (reading s) c ≡ None → HasReadDocument s.metamodel c → IsBrought c → (d : End) → is_legal_end (reading (model_after s c)) d (end (model_after s c).links d) ≡ true
 ends-legal s c one legal early late read brought d =
-    elim (loaded_by c) as (λ q. loaded_by c ≡ q → is_legal_end (reading (after s c)) d (end (after s c).links d) ≡ true) [
+    elim (loaded_by c) as (λ q. loaded_by c ≡ q → is_legal_end (reading (model_after s c)) d (end (model_after s c).links d) ≡ true) [
       | None ↦ λ none. (
           let v = values-after s c legal early late read brought in
-          legal-end-kept (goes_with (reading s) c) s (after s c).values (after s c).links v.classes v.more d _ (untouched-after s c legal d) (ends-after s c none one legal early late d))
+          legal-end-kept (goes_with (reading s) c) s (model_after s c).values (model_after s c).links v.classes v.more d _ (untouched-after s c legal d) (ends-after s c none one legal early late d))
       | Some doc ↦ λ is. load-ends s c doc is legal early late read d
     ] refl
 
-links-after : (s : Model) (c : Change) → resolves_all c ≡ false → IsLegal s → early_refusal (reading s) c ≡ None → late_refusal (reading s) c ≡ None → HasReadDocument s.metamodel c → IsBrought c → AreLegalLinks (reading (after s c)) (links_after s.links (reading s) c)
-links-after s c one legal early late read brought =
+links-model_after : (s : Model) (c : Change) → resolves_all c ≡ false → IsLegal s → early_refusal (reading s) c ≡ None → late_refusal (reading s) c ≡ None → HasReadDocument s.metamodel c → IsBrought c → AreLegalLinks (reading (model_after s c)) (links_after s.links (reading s) c)
+links-model_after s c one legal early late read brought =
     let m = kinds_of s.metamodel in
     let plan = link_edits (reading s) c in
     let p = plan-for s c one legal early late read in
@@ -413,4 +413,4 @@ links-after s c one legal early late read brought =
 pub one-keeps-legal : (s : Model) (c : Change) → resolves_all c ≡ false → KeepsLegal s c
 one-keeps-legal s c one legal early late read brought =
     let v = values-after s c legal early late read brought in
-    record { metamodel = legal.metamodel; count = v.count; objects = v.objects; links = links-after s c one legal early late read brought; uris = v.uris }
+    record { metamodel = legal.metamodel; count = v.count; objects = v.objects; links = links-model_after s c one legal early late read brought; uris = v.uris }

@@ -17,7 +17,7 @@ use Rattle.mm_types.specs.declared.numbers.ObjectNo.{ObjectNo}
 use Rattle.mm_types.specs.declared.value.Value.TheVariants as value
 use Rattle.mm_types.specs.declared.value.Value.{Value}
 use Rattle.links.proofs.SideLemmas.{both_ends_agree}
-use Rattle.links.specs.Holders.{contained}
+use Rattle.links.specs.Holders.{node_contained}
 use Rattle.links.specs.Links.{end, far_end}
 use Rattle.links.specs.Plans.{Has}
 use Rattle.models.proofs.EndLemmas.{values-single}
@@ -25,10 +25,10 @@ use Rattle.models.specs.Legal.{IsLegal, is_legal_end, is_legal_target, kinds_of}
 use Rattle.models.specs.Model.{Model, reading}
 use Rattle.models.specs.Reading.{Reading, at_end, has_feature}
 use Rattle.containment.proofs.PartLemmas.{object-reference}
-use Rattle.handshake.proofs.CutLinkEndLemmas.{Stands, same_link_end-self, values-linked}
+use Rattle.handshake.proofs.CutLinkEndLemmas.{HasLinkEnd, same_link_end-self, values-linked}
 use Rattle.handshake.proofs.KnownLemmas.{resource-alone}
 use Rattle.handshake.proofs.YieldLemmas.{Origin, holder-contains}
-use Rattle.handshake.specs.Displaced.{other_side, same_link, same_link_end, turned}
+use Rattle.handshake.specs.Displaced.{opposite_link_end, other_side, same_link, same_link_end}
 use Rattle.removal.specs.TreeLinkEnds.{link_end}
 use Rattle.removal.specs.declared.link_end.LinkEnd.{LinkEnd}
 
@@ -51,7 +51,7 @@ open_by s e (w ∷ ws) k v legal at =
     let typed = and_parts (list_all (is_legal_target (reading s) e.feature) (w ∷ ws)) _ all.1 in
     record { has = all.0; reference = object_takes s e.feature w (and_parts (is_legal_target (reading s) e.feature w) _ typed.0).0 }
 
-pub open-of : (s : Model) → IsLegal s → (t : LinkEnd) → Stands s.links t → IsOpen s t.end
+pub open-of : (s : Model) → IsLegal s → (t : LinkEnd) → HasLinkEnd s.links t → IsOpen s t.end
 open-of s legal t at = open_by s t.end (end s.links t.end) at.0 t.value (legal.links.ends t.end) at.1
 
 one_of : (o : Option Value) (j k : ℕ) (v w : Value) → slice_get (option_to_list o) j ≡ Some v → slice_get (option_to_list o) k ≡ Some w → v ≡ w
@@ -61,7 +61,7 @@ one_of (Some x) zero (suc k) v w a b = absurd (none-some w b)
 one_of (Some x) (suc j) k v w a b = absurd (none-some v a)
 
 -- a single end has one value
-one_value : (s : Model) → IsLegal s → (t u : LinkEnd) → (shape s.metamodel t.end.feature).is_single ≡ true → t.end ≡ u.end → Stands s.links t → Stands s.links u → t.value ≡ u.value
+one_value : (s : Model) → IsLegal s → (t u : LinkEnd) → (shape s.metamodel t.end.feature).is_single ≡ true → t.end ≡ u.end → HasLinkEnd s.links t → HasLinkEnd s.links u → t.value ≡ u.value
 one_value s legal t u single same at_t at_u =
     let o = open-of s legal t at_t in
     let first = slice_get ((reading s).values t.end) 0 in
@@ -74,7 +74,7 @@ one_value s legal t u single same at_t at_u =
 ---------------------------------------------------------------- the two names of a link
 
 abbrev pub IsNameOf : Reading → LinkEnd → LinkEnd → Type 0
-IsNameOf r t y = (y ≡ t) ⊎ (turned r t ≡ Some y)
+IsNameOf r t y = (y ≡ t) ⊎ (opposite_link_end r t ≡ Some y)
 
 module _ (s : Model) (legal : IsLegal s) where
   turned_by-stands : (e : End) (v : Value) (q : Option FeatureNo) (y : LinkEnd) → (shape s.metamodel e.feature).opposite ≡ q → Has s.links e v → other_side e.node v q ≡ Some y → Has s.links y.end y.value
@@ -83,8 +83,8 @@ module _ (s : Model) (legal : IsLegal s) where
       subst (λ (x : LinkEnd). Has s.links x.end x.value) (same_Some (link_end (far_end o g) (node_value e.node)) y is) there
   turned_by-stands e v q y opposite at is = absurd (none-some y is)
 
-  pub name-stands : (t y : LinkEnd) → Stands s.links t → IsNameOf (reading s) t y → Stands s.links y
-  name-stands t y at (inl same) = subst (λ (x : LinkEnd). Stands s.links x) (sym same) at
+  pub name-stands : (t y : LinkEnd) → HasLinkEnd s.links t → IsNameOf (reading s) t y → HasLinkEnd s.links y
+  name-stands t y at (inl same) = subst (λ (x : LinkEnd). HasLinkEnd s.links x) (sym same) at
   name-stands t y at (inr is) = turned_by-stands t.end t.value (shape s.metamodel t.end.feature).opposite y refl at is
 
   turned_by-apart : (e : End) (v : Value) (q : Option FeatureNo) (y : LinkEnd) → (shape s.metamodel e.feature).opposite ≡ q → other_side e.node v q ≡ Some y → e ≡ y.end → ⊥
@@ -94,39 +94,39 @@ module _ (s : Model) (legal : IsLegal s) where
   turned_by-apart e v q y opposite is same = absurd (none-some y is)
 
   -- the two ends of a link are different
-  pub turned-apart : (t y : LinkEnd) → turned (reading s) t ≡ Some y → t.end ≡ y.end → ⊥
-  turned-apart t y is = turned_by-apart t.end t.value (shape s.metamodel t.end.feature).opposite y refl is
+  pub opposite_link_end-apart : (t y : LinkEnd) → opposite_link_end (reading s) t ≡ Some y → t.end ≡ y.end → ⊥
+  opposite_link_end-apart t y is = turned_by-apart t.end t.value (shape s.metamodel t.end.feature).opposite y refl is
 
   turned_by-back : (n : Node) (f : FeatureNo) (v : Value) (q : Option FeatureNo) (y : LinkEnd) → (shape s.metamodel f).opposite ≡ q → has_feature (reading s) n f ≡ true → other_side n v q ≡ Some y
-      → turned (reading s) y ≡ Some (link_end (at_end n f) v)
+      → opposite_link_end (reading s) y ≡ Some (link_end (at_end n f) v)
   turned_by-back (node.Object p) f (value.Object o) (Some g) y opposite has is =
-      let back : turned (reading s) (link_end (far_end o g) (value.Object p)) ≡ Some (link_end (far_end p f) (value.Object o)) =
+      let back : opposite_link_end (reading s) (link_end (far_end o g) (value.Object p)) ≡ Some (link_end (far_end p f) (value.Object o)) =
       ap (other_side (node.Object o) (value.Object p)) (opposites_are_pairs s.metamodel legal.metamodel f g opposite).back in
-      subst (λ (x : LinkEnd). turned (reading s) x ≡ Some (link_end (far_end p f) (value.Object o))) (same_Some (link_end (far_end o g) (value.Object p)) y is) back
+      subst (λ (x : LinkEnd). opposite_link_end (reading s) x ≡ Some (link_end (far_end p f) (value.Object o))) (same_Some (link_end (far_end o g) (value.Object p)) y is) back
   turned_by-back (node.Resource k) f (value.Object o) (Some g) y opposite has is = absurd (resource-alone (reading s) k f g has opposite)
   turned_by-back n f v q y opposite has is = absurd (none-some y is)
 
   -- a name that is turned twice is as it was
-  turned-back : (t y : LinkEnd) → Stands s.links t → turned (reading s) t ≡ Some y → turned (reading s) y ≡ Some t
-  turned-back t y at is = turned_by-back t.end.node t.end.feature t.value (shape s.metamodel t.end.feature).opposite y refl (open-of s legal t at).has is
+  opposite_link_end-back : (t y : LinkEnd) → HasLinkEnd s.links t → opposite_link_end (reading s) t ≡ Some y → opposite_link_end (reading s) y ≡ Some t
+  opposite_link_end-back t y at is = turned_by-back t.end.node t.end.feature t.value (shape s.metamodel t.end.feature).opposite y refl (open-of s legal t at).has is
 
   ---------------------------------------------------------------- links that are different
 
-  linked_by : (t u y : LinkEnd) → turned (reading s) t ≡ Some y → same_link_end u y ≡ true → same_link (reading s) u t ≡ true
+  linked_by : (t u y : LinkEnd) → opposite_link_end (reading s) t ≡ Some y → same_link_end u y ≡ true → same_link (reading s) u t ≡ true
   linked_by t u y is same = or_right (same_link_end u t) _ (ap (λ (o : Option LinkEnd). option_map_or (same_link_end u) o false) is ∙ same)
 
   -- two links with a name in common are the same link
-  one_link : (t u y : LinkEnd) → Stands s.links t → Stands s.links u → IsNameOf (reading s) t y → IsNameOf (reading s) u y → same_link (reading s) u t ≡ true
+  one_link : (t u y : LinkEnd) → HasLinkEnd s.links t → HasLinkEnd s.links u → IsNameOf (reading s) t y → IsNameOf (reading s) u y → same_link (reading s) u t ≡ true
   one_link t u y at_t at_u (inl is_t) (inl is_u) = or_left (same_link_end u t) _ (subst (λ (x : LinkEnd). same_link_end u x ≡ true) (sym is_u ∙ is_t) (same_link_end-self u))
   one_link t u y at_t at_u (inr is_t) (inl is_u) = linked_by t u y is_t (subst (λ (x : LinkEnd). same_link_end u x ≡ true) (sym is_u) (same_link_end-self u))
   one_link t u y at_t at_u (inl is_t) (inr is_u) =
-      linked_by t u u (ap (turned (reading s)) (sym is_t) ∙ turned-back u y at_u is_u) (same_link_end-self u)
+      linked_by t u u (ap (opposite_link_end (reading s)) (sym is_t) ∙ opposite_link_end-back u y at_u is_u) (same_link_end-self u)
   one_link t u y at_t at_u (inr is_t) (inr is_u) =
-      let same : t ≡ u = same_Some t u (sym (turned-back t y at_t is_t) ∙ turned-back u y at_u is_u) in
+      let same : t ≡ u = same_Some t u (sym (opposite_link_end-back t y at_t is_t) ∙ opposite_link_end-back u y at_u is_u) in
       or_left (same_link_end u t) _ (subst (λ (x : LinkEnd). same_link_end u x ≡ true) (sym same) (same_link_end-self u))
 
   -- names of two links are not the same
-  pub names-apart : (t u y z : LinkEnd) → Stands s.links t → Stands s.links u → same_link (reading s) u t ≡ false → IsNameOf (reading s) t y → IsNameOf (reading s) u z → y.end ≡ z.end → y.value ≡ z.value → ⊥
+  pub names-apart : (t u y z : LinkEnd) → HasLinkEnd s.links t → HasLinkEnd s.links u → same_link (reading s) u t ≡ false → IsNameOf (reading s) t y → IsNameOf (reading s) u z → y.end ≡ z.end → y.value ≡ z.value → ⊥
   names-apart t u y z at_t at_u other name_y name_z same values =
       let is : y ≡ z = λ i. link_end (same i) (values i) in
       true≢false (sym (one_link t u y at_t at_u name_y (subst (IsNameOf (reading s) u) (sym is) name_z)) ∙ other)
@@ -138,7 +138,7 @@ pub data IsYielded (s : Model) (e : End) (o : ObjectNo) (y : LinkEnd) : Type 0 w
   InSingle : (shape s.metamodel y.end.feature).is_single ≡ true → IsYielded s e o y
   OfObject : y.end.feature ≡ e.feature → y.value ≡ value.Object o → IsYielded s e o y
   OfNode : (shape s.metamodel e.feature).opposite ≡ Some y.end.feature → y.value ≡ node_value e.node → IsYielded s e o y
-  OfPart : (p : Node) → contained e o (shape s.metamodel e.feature).containing ≡ Some p → (shape s.metamodel y.end.feature).containing ≡ Some y.end.feature → y.value ≡ node_value p → IsYielded s e o y
+  OfPart : (p : Node) → node_contained e o (shape s.metamodel e.feature).containing ≡ Some p → (shape s.metamodel y.end.feature).containing ≡ Some y.end.feature → y.value ≡ node_value p → IsYielded s e o y
 
 module _ (s : Model) (legal : IsLegal s) (e : End) (o : ObjectNo) where
   r : Reading
@@ -191,22 +191,22 @@ module _ (s : Model) (legal : IsLegal s) (e : End) (o : ObjectNo) where
   yielded t y (inr (inr held)) (inr is) = turned-held t.end t.value (shape s.metamodel t.end.feature).opposite y (holder-contains s held.part t.end legal held.held) refl is
 
   -- the part, if the near feature is a containment, and if the far one is
-  near-part : (p : Node) (f : FeatureNo) → f ≡ e.feature → (shape s.metamodel f).containing ≡ Some f → contained e o (shape s.metamodel e.feature).containing ≡ Some p → node_value p ≡ value.Object o
+  near-part : (p : Node) (f : FeatureNo) → f ≡ e.feature → (shape s.metamodel f).containing ≡ Some f → node_contained e o (shape s.metamodel e.feature).containing ≡ Some p → node_value p ≡ value.Object o
   near-part p f same contains becomes =
       let own : (shape s.metamodel e.feature).containing ≡ Some e.feature = subst (λ (x : FeatureNo). (shape s.metamodel x).containing ≡ Some x) same contains in
-      let becomes_own = subst (λ (q : Option FeatureNo). contained e o q ≡ Some p) own becomes in
+      let becomes_own = subst (λ (q : Option FeatureNo). node_contained e o q ≡ Some p) own becomes in
       let self : same_feature e.feature e.feature ≡ true = eq-eqb e.feature.0 e.feature.0 refl in
       ap node_value (sym (same_Some _ p (sym (ap (λ (b : Bool). Some (if b then node.Object o else e.node)) self) ∙ becomes_own)))
 
-  far-part : (p : Node) (g : FeatureNo) → (shape s.metamodel e.feature).opposite ≡ Some g → (shape s.metamodel g).containing ≡ Some g → contained e o (shape s.metamodel e.feature).containing ≡ Some p → node_value p ≡ node_value e.node
+  far-part : (p : Node) (g : FeatureNo) → (shape s.metamodel e.feature).opposite ≡ Some g → (shape s.metamodel g).containing ≡ Some g → node_contained e o (shape s.metamodel e.feature).containing ≡ Some p → node_value p ≡ node_value e.node
   far-part p g opposite contains becomes =
       let two = pair e.feature g opposite in
-      let becomes_far = subst (λ (q : Option FeatureNo). contained e o q ≡ Some p) (two.one_containing ∙ contains) becomes in
+      let becomes_far = subst (λ (q : Option FeatureNo). node_contained e o q ≡ Some p) (two.one_containing ∙ contains) becomes in
       let other : same_feature g e.feature ≡ false = elim (same_feature g e.feature) as (λ b. same_feature g e.feature ≡ b → b ≡ false) [ true ↦ λ h. absurd (two.apart (eqb-true g.0 e.feature.0 h)) | false ↦ λ _. refl ] refl in
       ap node_value (sym (same_Some _ p (sym (ap (λ (b : Bool). Some (if b then node.Object o else e.node)) other) ∙ becomes_far)))
 
   -- names in one end have the same value
-  pub yielded-agree : (y z : LinkEnd) → Stands s.links y → Stands s.links z → IsYielded s e o y → IsYielded s e o z → y.end ≡ z.end → y.value ≡ z.value
+  pub yielded-agree : (y z : LinkEnd) → HasLinkEnd s.links y → HasLinkEnd s.links z → IsYielded s e o y → IsYielded s e o z → y.end ≡ z.end → y.value ≡ z.value
   yielded-agree y z at_y at_z (InSingle single) other same = one_value s legal y z single same at_y at_z
   yielded-agree y z at_y at_z name (InSingle single) same = sym (one_value s legal z y single (sym same) at_z at_y)
   yielded-agree y z at_y at_z (OfObject f v) (OfObject h w) same = v ∙ sym w

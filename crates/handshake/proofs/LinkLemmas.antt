@@ -22,7 +22,7 @@ use Rattle.mm_types.specs.declared.value.Value.{Value}
 use Rattle.mm_types.specs.declared.value.Value.TheVariants as value
 use Rattle.mm_meta.proofs.ShapeLemmas.{opposites_are_pairs}
 use Rattle.links.specs.declared.plan.Edit.{Edit}
-use Rattle.links.specs.Holders.{above, contained, containing, holder}
+use Rattle.links.specs.Holders.{above, end_containing, holder, node_contained}
 use Rattle.links.specs.Laws.{without_all}
 use Rattle.links.specs.LegalSets.{IsObject, most}
 use Rattle.links.specs.Links.{Links, end, far_end}
@@ -38,7 +38,7 @@ use Rattle.models.specs.Legal.{IsLegal, kinds_of}
 use Rattle.models.specs.Model.{Model, reading}
 use Rattle.models.specs.Reading.{Reading, has_feature, is_repeat, is_within, shape_at}
 use Rattle.containment.proofs.PartLemmas.{kinds-are}
-use Rattle.handshake.specs.Displaced.{has_already, yields}
+use Rattle.handshake.specs.Displaced.{displaced_link_ends, has_already}
 use Rattle.proxies.specs.Resolving.{opposite_end}
 use Rattle.handshake.specs.Refusals.{is_at_limit, is_recursive_for, of_either}
 use Rattle.handshake.proofs.CutLinkEndLemmas.{freed, near-emptied, values-linked}
@@ -104,7 +104,7 @@ pub record IsNewLink (s : Model) (e : End) (o : ObjectNo) : Type 0 where
 
 -- the links without those that a new link of o at e displaces
 abbrev pub without_displaced : Model → End → ObjectNo → Links
-without_displaced s e o = without_all s.links (names_of (yields (reading s) e o))
+without_displaced s e o = without_all s.links (names_of (displaced_link_ends (reading s) e o))
 
 abbrev pub new_edit : Model → End → ℕ → ObjectNo → Edit
 new_edit s e i o = edit.Put e i o (shape s.metamodel e.feature).opposite (shape s.metamodel e.feature).containing
@@ -140,7 +140,7 @@ clear-by s e o h true is = clear-from s (node.Object o) e.node is
 clear-by s e o h false is = clear-from s e.node (node.Object o) is
 
 clear-of : (s : Model) (e : End) (o : ObjectNo) (q : Option FeatureNo) → option_map_or (is_recursive_for (reading s) e o) q false ≡ false
-    → (x : Node) (d : End) → contained e o q ≡ Some x → containing e o q ≡ Some d → IsClear s.links x d.node
+    → (x : Node) (d : End) → node_contained e o q ≡ Some x → end_containing e o q ≡ Some d → IsClear s.links x d.node
 clear-of s e o None is x d at_x at_d = absurd (none-some x at_x)
 clear-of s e o (Some h) is x d at_x at_d =
     let b = same_feature h e.feature in
@@ -158,10 +158,10 @@ module _ (s : Model) (legal : IsLegal s) (e : End) (o : ObjectNo) (new : IsNewLi
   left = without_displaced s e o
 
   lacks-left : (d : End) (w : Value) → Lacks s.links d w → Lacks left d w
-  lacks-left d w lacks = let m = kinds_of s.metamodel in lacks-without_all m (kinds-are s.metamodel legal.metamodel) s.links (names_of (yields (reading s) e o)) legal.links.set legal.links.kinds d w lacks
+  lacks-left d w lacks = let m = kinds_of s.metamodel in lacks-without_all m (kinds-are s.metamodel legal.metamodel) s.links (names_of (displaced_link_ends (reading s) e o)) legal.links.set legal.links.kinds d w lacks
 
   pub fewer-left : (d : End) → length (end left d) ≤ length (end s.links d)
-  fewer-left d = let m = kinds_of s.metamodel in length-without_all m (kinds-are s.metamodel legal.metamodel) s.links (names_of (yields (reading s) e o)) legal.links.set legal.links.kinds d
+  fewer-left d = let m = kinds_of s.metamodel in length-without_all m (kinds-are s.metamodel legal.metamodel) s.links (names_of (displaced_link_ends (reading s) e o)) legal.links.set legal.links.kinds d
 
   room-left : (d : End) → (shape s.metamodel d.feature).is_reference ≡ true → is_at_limit (reading s) d ≡ false → length (end left d) < most
   room-left d reference few =
@@ -186,12 +186,12 @@ module _ (s : Model) (legal : IsLegal s) (e : End) (o : ObjectNo) (new : IsNewLi
   new-fits i placed = (
     record { in_range = placed; absent = lacks-left e (value.Object o) new.lacks; room = room-left e new.reference (near-of (is_at_limit (reading s)) (reading s) e o new.linkable.few) },
     far-fits (shape s.metamodel e.feature).opposite refl,
-    is-free left (contained e o (shape s.metamodel e.feature).containing) (λ x part. freed s e o x legal part),
+    is-free left (node_contained e o (shape s.metamodel e.feature).containing) (λ x part. freed s e o x legal part),
   )
 
   pub new-outside : (i : ℕ) → i ≤ length (end left e) → MakesNoCycle left (new_edit s e i o)
   new-outside i placed =
-      let ts = names_of (yields (reading s) e o) in
+      let ts = names_of (displaced_link_ends (reading s) e o) in
       let q = (shape s.metamodel e.feature).containing in
       put_outside left e i o (shape s.metamodel e.feature).opposite q (without_all_legal s.links ts legal.links.set) (new-fits i placed) (without_all_no_cycle s.links ts legal.links.set legal.links.forest)
       (λ x d at_x at_d. clear-cut s ts legal x d.node (clear-of s e o q new.linkable.clear x d at_x at_d))

@@ -15,7 +15,7 @@ use Rattle.mm_types.specs.declared.numbers.ClassNo.{ClassNo}
 use Rattle.mm_types.specs.declared.numbers.FeatureNo.{FeatureNo}
 use Rattle.mm_types.specs.declared.value.Value.{Value}
 use Rattle.mm_values.specs.Stored.{Stored, list_changed}
-use Rattle.mm_types.specs.Lists.{put_back, shifted}
+use Rattle.mm_types.specs.Lists.{put_back, values_after_move}
 use Rattle.links.specs.LegalSets.{most}
 use Rattle.models.specs.Legal.{IsLegalStored, IsUniqueList, is_legal_list, is_legal_value, is_short}
 use Rattle.handshake.proofs.CutLinkEndLemmas.{same_value-symmetric}
@@ -68,7 +68,7 @@ differs-from : (vs : List Value) (v : Value) → has_value vs v ≡ false → Di
 differs-from [] v h = tt
 differs-from (w ∷ ws) v h = let both = or_parts (same_value v w) (has_value ws v) h in (both.0, differs-from ws v both.1)
 
-put_back-cases : (P : List Value → Type 0) (vs : List Value) (to from : ℕ) → P vs → ((v : Value) → slice_get vs from ≡ Some v → P (insert (remove vs from) to v)) → P (shifted vs to from)
+put_back-cases : (P : List Value → Type 0) (vs : List Value) (to from : ℕ) → P vs → ((v : Value) → slice_get vs from ≡ Some v → P (insert (remove vs from) to v)) → P (values_after_move vs to from)
 put_back-cases P vs to from none some =
     elim (slice_get vs from) as (λ q. slice_get vs from ≡ q → P (put_back q vs to from)) [ None ↦ λ _. none | Some v ↦ λ h. some v h ] refl
 
@@ -152,8 +152,8 @@ module _ (m : Metamodel) (c : ClassNo) (f : FeatureNo) (h : Stored) (many : (sha
       fewer (w ∷ ws) zero = omega arith
       fewer (w ∷ ws) (suc i) = let less = fewer ws i in omega (arith, less)
 
-  pub move-legal : (to from : ℕ) → IsLegalStored m c f (list_changed (λ vs. shifted vs to from) h)
-  move-legal to from = changed-legal m c f h (λ vs. shifted vs to from) many has legal (put_back-cases (IsLegalList m c f) h.list to from held moved)
+  pub move-legal : (to from : ℕ) → IsLegalStored m c f (list_changed (λ vs. values_after_move vs to from) h)
+  move-legal to from = changed-legal m c f h (λ vs. values_after_move vs to from) many has legal (put_back-cases (IsLegalList m c f) h.list to from held moved)
     where
       moved : (v : Value) → slice_get h.list from ≡ Some v → IsLegalList m c f (insert (remove h.list from) to v)
       moved v at =

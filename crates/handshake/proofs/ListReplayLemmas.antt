@@ -6,7 +6,7 @@ use Rattle.std.proofs.lemmas.Bool.{false≢true}
 use Rattle.std.proofs.lemmas.Bool.Decides.{nat_tests}
 use Rattle.std.proofs.Math.Bool.{and-false}
 use Rattle.mm_types.proofs.SameLemmas.{same_end-self}
-use Rattle.mm_types.specs.Ends.{Held, shown}
+use Rattle.mm_types.specs.Ends.{Held, shown_values}
 use Rattle.mm_types.specs.Lookups as lookups
 use Rattle.mm_types.specs.Resolved.{Metamodel}
 use Rattle.mm_types.specs.Same.{is_nil}
@@ -18,14 +18,14 @@ use Rattle.mm_types.specs.declared.numbers.Node.{Node}
 use Rattle.mm_types.specs.declared.numbers.Node.TheVariants as node
 use Rattle.mm_types.specs.declared.numbers.ObjectNo.{ObjectNo}
 use Rattle.mm_types.specs.declared.value.Value.{Value}
-use Rattle.mm_types.specs.Lists.{put_back, shifted}
+use Rattle.mm_types.specs.Lists.{put_back, values_after_move}
 use Rattle.mm_values.specs.Stored.{Stored, list_changed, nothing_stored}
-use Rattle.mm_values.specs.Values.{ObjectState, Objects, applied, change_list, object_at, put_stored, stored_under, with_changed, with_list}
+use Rattle.mm_values.specs.Values.{ObjectState, Objects, change_list, object_at, put_stored, stored_under, values_after_edits, with_changed, with_list}
 use Rattle.models.specs.Legal.{IsLegal}
 use Rattle.models.specs.Model.{Model, reading}
 use Rattle.models.specs.Reading.{at_end, has_feature, held_at}
 use Rattle.notice_chain.specs.Replay as replay
-use Rattle.notice_chain.specs.Replay.{moved}
+use Rattle.notice_chain.specs.Replay.{list_after_position_move}
 use Rattle.handshake.specs.Effects.{put_values}
 use Rattle.handshake.specs.FeatureChange.{feature_change}
 use Rattle.handshake.specs.FeatureChanges.{all_lost, gain_at}
@@ -63,10 +63,10 @@ all_lost-own e zero = tt
 all_lost-own e (suc n) = (refl, all_lost-own e n)
 
 -- a move that fits is a shift
-pub moved-shifted : (vs : List Value) (to from : ℕ) → nat_lt to (length vs) ≡ true → nat_lt from (length vs) ≡ true → moved vs (pos from) (pos to) ≡ shifted vs to from
-moved-shifted vs to from low_to low_from =
-    ap (λ (b : Bool). if b then (if nat_lt to (length vs) then replay.shifted vs to from else vs) else vs) low_from
-    ∙ ap (λ (b : Bool). if b then replay.shifted vs to from else vs) low_to
+pub list_after_position_move-values_after_move : (vs : List Value) (to from : ℕ) → nat_lt to (length vs) ≡ true → nat_lt from (length vs) ≡ true → list_after_position_move vs (pos from) (pos to) ≡ values_after_move vs to from
+list_after_position_move-values_after_move vs to from low_to low_from =
+    ap (λ (b : Bool). if b then (if nat_lt to (length vs) then replay.list_after_index_move vs to from else vs) else vs) low_from
+    ∙ ap (λ (b : Bool). if b then replay.list_after_index_move vs to from else vs) low_to
     ∙ elim (slice_get vs from) as (λ q. option_map_or (λ x. insert (remove vs from) to x) q vs ≡ put_back q vs to from) [ None ↦ refl | Some v ↦ refl ]
 
 ---------------------------------------------------------------- attributes
@@ -87,7 +87,7 @@ unset-stored a vs k single attribute = rw (single, attribute) refl
 
 -- the model after values are put under a feature
 abbrev with_values : Model → Node → FeatureNo → List Value → Bool → Model
-with_values s n f vs flag = record s { values = applied s.values (put_values (at_end n f) vs flag) }
+with_values s n f vs flag = record s { values = values_after_edits s.values (put_values (at_end n f) vs flag) }
 
 pub own-one : (e : End) (h : ChangeKind) → AllByRecursion (λ (t : FeatureChange). t.at ≡ e) (feature_change e h ∷ [])
 own-one e h = (refl, tt)
@@ -130,7 +130,7 @@ module _ (s : Model) (legal : IsLegal s) (o : ObjectNo) (f : FeatureNo) (has : h
     flag-stored = ap (λ (q : Option ObjectState). unwrap_or (option_map (λ t. (stored_under t f).flag) q) false) at-object.1
 
     held-stored : held_at (reading s) e ≡ record { values = stored.list; flag = stored.flag }
-    held-stored = λ i. record { values = (ap (λ (b : Bool). shown b ((reading s).values e)) many ∙ values-stored) i; flag = flag-stored i }
+    held-stored = λ i. record { values = (ap (λ (b : Bool). shown_values b ((reading s).values e)) many ∙ values-stored) i; flag = flag-stored i }
 
     of-list : (vs ws : List Value) (b : Bool) → record { values = ws; flag = b } ≡ held_of a vs (record { list = ws; flag = b })
     of-list vs ws b = rw (many, attribute, kept-values s legal o f many has attribute ws) refl
@@ -164,12 +164,12 @@ module _ (s : Model) (legal : IsLegal s) (o : ObjectNo) (f : FeatureNo) (has : h
         (one-done s.metamodel e (LosesAt i) before ∙ ap (λ (b : Bool). record { values = if b then remove stored.list i else stored.list; flag = stored.flag }) below)
 
     pub list-moved : (to from : ℕ) → nat_lt to (length ((reading s).values e)) ≡ true → nat_lt from (length ((reading s).values e)) ≡ true
-        → Replays s (feature_change e (Moves to from) ∷ []) (record s { values = record s.values { objects = with_changed s.values.objects o f (λ vs. shifted vs to from) } })
+        → Replays s (feature_change e (Moves to from) ∷ []) (record s { values = record s.values { objects = with_changed s.values.objects o f (λ vs. values_after_move vs to from) } })
     list-moved to from low_to low_from =
         let below_to = subst (λ (vs : List Value). nat_lt to (length vs) ≡ true) values-stored low_to in
         let below_from = subst (λ (vs : List Value). nat_lt from (length vs) ≡ true) values-stored low_from in
-        list-replays (feature_change e (Moves to from) ∷ []) (λ vs. shifted vs to from) (own-one e (Moves to from))
-        (one-done s.metamodel e (Moves to from) before ∙ ap (λ (vs : List Value). record { values = vs; flag = stored.flag }) (moved-shifted stored.list to from below_to below_from))
+        list-replays (feature_change e (Moves to from) ∷ []) (λ vs. values_after_move vs to from) (own-one e (Moves to from))
+        (one-done s.metamodel e (Moves to from) before ∙ ap (λ (vs : List Value). record { values = vs; flag = stored.flag }) (list_after_position_move-values_after_move stored.list to from below_to below_from))
 
     pub list-unset : Replays s (all_lost e (length ((reading s).values e))) (with_values s (node.Object o) f [] false)
     list-unset =

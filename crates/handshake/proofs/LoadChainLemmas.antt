@@ -4,7 +4,7 @@ use Rattle.std.specs.List.{AllByRecursion, enumerate_from}
 use Rattle.std.proofs.lemmas.Bool.{true≢false}
 use Rattle.std.proofs.lemmas.Bool.Decides.{nat_tests}
 use Rattle.std.proofs.lemmas.List.{length-append}
-use Rattle.mm_types.specs.Ends.{Ends, Held, is_set, shown, value_in}
+use Rattle.mm_types.specs.Ends.{Ends, Held, is_set, shown_values, value_in}
 use Rattle.mm_types.specs.Resolved.{Metamodel}
 use Rattle.mm_types.specs.Same.{is_nil, same_end, same_value}
 use Rattle.mm_types.specs.Shapes.{Shape, shape}
@@ -21,19 +21,19 @@ use Rattle.models.specs.Legal.{IsLegal}
 use Rattle.models.specs.Model.{Model, attribute_values, reading}
 use Rattle.models.specs.Reading.{at_end, contents_end, held_at}
 use Rattle.notice_chain.specs.Kinds.{no_index}
-use Rattle.notice_chain.specs.Replay.{replayed_in}
+use Rattle.notice_chain.specs.Replay.{ends_after_notice}
 use Rattle.notice_chain.specs.declared.kind.NoticeKind.TheVariants as kind
 use Rattle.resource_docs.specs.declared.doc.Doc.{Doc}
-use Rattle.doc_loader.specs.Loading.{loaded, roots_loaded}
+use Rattle.doc_loader.specs.Loading.{loaded_number, roots_loaded}
 use Rattle.doc_loader.proofs.SideLemmas.{contents-shape}
 use Rattle.doc_loader.proofs.TypedLemmas.{read-typed}
-use Rattle.handshake.specs.Effects.{after}
+use Rattle.handshake.specs.Effects.{model_after}
 use Rattle.handshake.specs.Laws.{comes_with}
 use Rattle.handshake.specs.Changes.{IsDocument}
 use Rattle.handshake.specs.Refusals.{late_refusal}
 use Rattle.handshake.specs.Reports.{root_notice}
-use Rattle.handshake.specs.FeatureChange.{happened, has_flag, notice, notice_of, feature_change, told}
-use Rattle.handshake.specs.FeatureChanges.{chain, loaded as tells_loaded}
+use Rattle.handshake.specs.FeatureChange.{ends_after_change, has_flag, notice, notice_of, feature_change, change_notices}
+use Rattle.handshake.specs.FeatureChanges.{chain, changes_of_load as tells_loaded}
 use Rattle.handshake.specs.declared.change.Change.TheVariants.{Load}
 use Rattle.handshake.specs.declared.change_kind.ChangeKind.TheVariants.{Gains}
 use Rattle.handshake.specs.declared.change_kind.FeatureChange.{FeatureChange}
@@ -43,7 +43,7 @@ use Rattle.handshake.proofs.LoadEndLemmas.{linked-before, linked-roots}
 use Rattle.handshake.proofs.LoadLemmas.{no-roots}
 use Rattle.handshake.proofs.LoadValueLemmas.{AreLoaded, load-values}
 use Rattle.handshake.proofs.RelinkLemmas.{list-held}
-use Rattle.handshake.proofs.ReplayLemmas.{replayed_in-gain}
+use Rattle.handshake.proofs.ReplayLemmas.{ends_after_notice-gain}
 
 -- a list gains several values
 abbrev gains : End → List Value → List FeatureChange
@@ -70,28 +70,28 @@ some-length (v ∷ vs) = grind (arith, nat_tests)
 
 -- the notification of a gain after a number of values
 gain-notice : (m : Metamodel) (e : End) (many : (shape m e.feature).is_single ≡ false) (n : ℕ) (h : Held) (j : ℕ) (o : ObjectNo) → length h.values ≡ j
-    → notice_of (shape m e.feature) e (Gains (value.Object (loaded n o))) h ≡ root_notice n e (j, o)
+    → notice_of (shape m e.feature) e (Gains (value.Object (loaded_number n o))) h ≡ root_notice n e (j, o)
 gain-notice m e many n h j o len =
     let a = shape m e.feature in
-    let v = value.Object (loaded n o) in
+    let v = value.Object (loaded_number n o) in
     let set : is_set a h ≡ nat_lt 0 j = ap (λ (b : Bool). if b then (if a.is_unsettable then h.flag else not (same_value (value_in h.values 0) a.default)) else not (is_nil h.values)) many ∙ some-length h.values ∙ ap (nat_lt 0) len in
     ap (λ (b : Bool). if b then notice a e h kind.Set (value_in h.values 0) v no_index else notice a e h kind.Add value.Null v (pos (length h.values))) many
     ∙ (λ i. record { notifier = e.node; feature = Some e.feature; kind = kind.Add; old_value = value.Null; new_value = v; position = pos (len i); was_set = set i })
 
-told-gains : (m : Metamodel) (e : End) (many : (shape m e.feature).is_single ≡ false) (n : ℕ) (ends : Ends) (j : ℕ) (os : List ObjectNo) → length (ends e).values ≡ j
-    → told m ends (gains e (map (λ o. value.Object (loaded n o)) os)) ≡ map (root_notice n e) (enumerate_from j os)
-told-gains m e many n ends j [] len = refl
-told-gains m e many n ends j (o ∷ os) len =
+change_notices-gains : (m : Metamodel) (e : End) (many : (shape m e.feature).is_single ≡ false) (n : ℕ) (ends : Ends) (j : ℕ) (os : List ObjectNo) → length (ends e).values ≡ j
+    → change_notices m ends (gains e (map (λ o. value.Object (loaded_number n o)) os)) ≡ map (root_notice n e) (enumerate_from j os)
+change_notices-gains m e many n ends j [] len = refl
+change_notices-gains m e many n ends j (o ∷ os) len =
     let a = shape m e.feature in
-    let v = value.Object (loaded n o) in
+    let v = value.Object (loaded_number n o) in
     let h = ends e in
-    let longer : length (happened m ends (feature_change e (Gains v)) e).values ≡ j + 1 =
+    let longer : length (ends_after_change m ends (feature_change e (Gains v)) e).values ≡ j + 1 =
     ap (λ (b : Bool). length (if b then done a (Gains v) h else h).values) (same_end-self e)
     ∙ ap (λ (b : Bool). length (if b then v ∷ [] else h.values ++ v ∷ [])) many
     ∙ length-append h.values (v ∷ []) ∙ ap (λ (x : ℕ). x + 1) len in
-    let rest : told m (replayed_in (has_flag m) ends (notice_of a e (Gains v) h)) (gains e (map (λ o. value.Object (loaded n o)) os)) ≡ map (root_notice n e) (enumerate_from (j + 1) os) =
-    ap (λ (x : Ends). told m x (gains e (map (λ o. value.Object (loaded n o)) os))) (replayed_in-gain m ends e v)
-    ∙ told-gains m e many n (happened m ends (feature_change e (Gains v))) (j + 1) os longer in
+    let rest : change_notices m (ends_after_notice (has_flag m) ends (notice_of a e (Gains v) h)) (gains e (map (λ o. value.Object (loaded_number n o)) os)) ≡ map (root_notice n e) (enumerate_from (j + 1) os) =
+    ap (λ (x : Ends). change_notices m x (gains e (map (λ o. value.Object (loaded_number n o)) os))) (ends_after_notice-gain m ends e v)
+    ∙ change_notices-gains m e many n (ends_after_change m ends (feature_change e (Gains v))) (j + 1) os longer in
     λ i. gain-notice m e many n h j o len i ∷ rest i
 
 ---------------------------------------------------------------- the list of roots
@@ -110,7 +110,7 @@ module _ (s : Model) (k : ResourceNo) (doc : Doc) (legal : IsLegal s) (late : la
   roots-before = list-held s s.links roots reference roots-many ∙ ap (λ (vs : List Value). record { values = vs; flag = false }) (no-roots s k doc legal late)
 
   load-chain : chain (reading s) (Load k doc) ≡ map (root_notice (length s.values.objects) roots) (enumerate_from 0 doc.roots)
-  load-chain = told-gains s.metamodel roots roots-many (length s.values.objects) (held_at (reading s)) 0 doc.roots (ap (λ (h : Held). length h.values) roots-before)
+  load-chain = change_notices-gains s.metamodel roots roots-many (length s.values.objects) (held_at (reading s)) 0 doc.roots (ap (λ (h : Held). length h.values) roots-before)
 
   -- the notifications that are made are the chain
   pub loaded-heard : (heard : Bool) → heard ≡ true → map (root_notice (length s.values.objects) roots) (enumerate_from 0 doc.roots) ≡ (if heard then chain (reading s) (Load k doc) else [])
@@ -129,9 +129,9 @@ module _ (s : Model) (k : ResourceNo) (doc : Doc) (legal : IsLegal s) (late : la
   e = contents_end m k
 
   abbrev t : Model
-  t = after s (Load k doc)
+  t = model_after s (Load k doc)
 
-  made : AreLoaded s.metamodel (length s.values.objects) doc s.values (after s (Load k doc)).values
+  made : AreLoaded s.metamodel (length s.values.objects) doc s.values (model_after s (Load k doc)).values
   made = load-values m s.values doc (read-typed m read.uri doc legal.metamodel read.read) legal.objects
 
   roots-after : held_at (reading t) e ≡ record { values = roots_loaded n doc; flag = false }
@@ -152,7 +152,7 @@ module _ (s : Model) (k : ResourceNo) (doc : Doc) (legal : IsLegal s) (late : la
   others-stay (node.Resource j) f old other =
       let a = shape m f in
       let same = linked-before s k doc legal late read (at_end (node.Resource j) f) old (λ q. true≢false (sym (same_end-self e) ∙ ap (same_end e) q ∙ other)) in
-      λ i. record { values = shown a.is_single (if a.is_reference then sym same i else attribute_values a []); flag = false }
+      λ i. record { values = shown_values a.is_single (if a.is_reference then sym same i else attribute_values a []); flag = false }
 
   pub load-replays : (d : End) → comes_with (reading s) (Load k doc) d.node ≡ false → happened_at m (tells_loaded (reading s) k doc) d (held_at (reading s) d) ≡ held_at (reading t) d
   load-replays d old =

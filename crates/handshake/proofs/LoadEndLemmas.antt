@@ -32,7 +32,7 @@ use Rattle.resource_docs.specs.Read.{values_in, values_under}
 use Rattle.resource_docs.specs.declared.doc.Content.{Content}
 use Rattle.resource_docs.specs.declared.doc.Doc.{Doc}
 use Rattle.resource_docs.specs.declared.doc.DocObject.{DocObject}
-use Rattle.doc_loader.specs.Loading.{loaded, loaded_links, loaded_value, object_end, roots_loaded, with_links}
+use Rattle.doc_loader.specs.Loading.{loaded_links, loaded_number, loaded_value, object_end, roots_loaded, with_links}
 use Rattle.doc_loader.specs.Typed.{IsTyped, IsTypedContent, IsTypedObject, IsTypedValue, class_in}
 use Rattle.doc_loader.proofs.EndLemmas.{end-elsewhere, end-held, end-near, end-roots, end-values, loaded-set_is, loaded_set, one-source}
 use Rattle.doc_loader.proofs.NearLemmas.{IsPlaceOf, at_far, at_near, at_roots, elsewhere, place_of}
@@ -138,14 +138,14 @@ module _ (s : Model) (k : ResourceNo) (doc : Doc) (legal : IsLegal s) (late : la
     abbrev r : Reading
     r = reading (model_of m w linked)
 
-    class-made : (o : ObjectNo) (x : DocObject) → slice_get doc.objects o.0 ≡ Some x → class_of w (loaded n o) ≡ Some x.class
+    class-made : (o : ObjectNo) (x : DocObject) → slice_get doc.objects o.0 ≡ Some x → class_of w (loaded_number n o) ≡ Some x.class
     class-made o x at = made.classes o ∙ ap (option_map (λ (d : DocObject). d.class)) at
 
-    object-has : (o : ObjectNo) (x : DocObject) (f : FeatureNo) → slice_get doc.objects o.0 ≡ Some x → lookups.has_feature m x.class f ≡ true → has_feature r (node.Object (loaded n o)) f ≡ true
+    object-has : (o : ObjectNo) (x : DocObject) (f : FeatureNo) → slice_get doc.objects o.0 ≡ Some x → lookups.has_feature m x.class f ≡ true → has_feature r (node.Object (loaded_number n o)) f ≡ true
     object-has o x f at has = ap (λ (c : Option ClassNo). option_map_or (λ c. lookups.has_feature m c f) c false) (class-made o x at) ∙ has
 
-    object-takes : (f : FeatureNo) (b : ObjectNo) → lookups.takes m (class_in doc) f (value.Object b) ≡ true → lookups.takes m (class_of w) f (value.Object (loaded n b)) ≡ true
-    object-takes f b h = takes-same m (class_of w) (class_in doc) f (loaded n b) b (made.classes b) ∙ h
+    object-takes : (f : FeatureNo) (b : ObjectNo) → lookups.takes m (class_in doc) f (value.Object b) ≡ true → lookups.takes m (class_of w) f (value.Object (loaded_number n b)) ≡ true
+    object-takes f b h = takes-same m (class_of w) (class_in doc) f (loaded_number n b) b (made.classes b) ∙ h
 
     target-legal : (f : FeatureNo) (v : Value) → (shape m f).is_reference ≡ true → IsTypedValue m doc f v → is_legal_target r f (loaded_value n v) ≡ true
     target-legal f v reference h = by v reference h
@@ -191,7 +191,7 @@ module _ (s : Model) (k : ResourceNo) (doc : Doc) (legal : IsLegal s) (late : la
     module _ (b : ObjectNo) (g f c : FeatureNo) (side : IsFarSide m g f) (contains : (shape m g).containing ≡ Some c) where
       -- a value of a container reference is one that the object may have there, and the object's class has the feature
       record IsFitting (u : Value) : Type 0 where
-        has : has_feature r (node.Object (loaded n b)) g ≡ true
+        has : has_feature r (node.Object (loaded_number n b)) g ≡ true
         takes : is_legal_target r g u ≡ true
 
       source-fits : (i : ℕ) (u : Value) → slice_get (sources_from n (λ (x : DocObject). values_under x f) b 0 doc.objects) i ≡ Some u → IsFitting u
@@ -202,7 +202,7 @@ module _ (s : Model) (k : ResourceNo) (doc : Doc) (legal : IsLegal s) (late : la
           let has = object-has x.0 q.there.object f q.there.at (subst (λ (h : FeatureNo). lookups.has_feature m q.there.object.class h ≡ true) q.of t.has) in
           let all = subst (λ (h : FeatureNo). AllByRecursion (IsTypedValue m doc h) q.content.values) q.of (recursion_from_All (IsTypedValue m doc q.content.feature) q.content.values t.takes) in
           let here = all-at (IsTypedValue m doc f) q.content.values x.4.0 (value.Object b) all (ap (λ (us : List Value). slice_get us x.4.0) (sym q.values) ∙ there-object doc x.0 f x.1 x.4.0 (value.Object b) x.2 x.4.1) in
-          let fit = far_types_fit m legal.metamodel (class_of w) (loaded n x.0) (loaded n b) f g side.back has (object-takes f b here) in
+          let fit = far_types_fit m legal.metamodel (class_of w) (loaded_number n x.0) (loaded_number n b) f g side.back has (object-takes f b here) in
           record { has = fit.0; takes = subst (λ (v : Value). is_legal_target r g v ≡ true) (sym x.3) fit.1 }
 
       alone : (us : List Value) → sources_from n (λ (x : DocObject). values_under x f) b 0 doc.objects ≡ us → is_legal_end r (object_end n b g) us ≡ true
@@ -229,12 +229,12 @@ module _ (s : Model) (k : ResourceNo) (doc : Doc) (legal : IsLegal s) (late : la
     mapped-some h None some = some
     mapped-some h (Some x) some = refl
 
-    root-taken : (b : ObjectNo) → b.0 < length doc.objects → is_legal_target r (lookups.contents m) (value.Object (loaded n b)) ≡ true
+    root-taken : (b : ObjectNo) → b.0 < length doc.objects → is_legal_target r (lookups.contents m) (value.Object (loaded_number n b)) ≡ true
     root-taken b low =
-        ap (λ (o : Option Feature). option_map_or (λ g. lookups.is_of_kind m (class_of w) (lookups.is_single g) g.kind (value.Object (loaded n b))) o (lookups.is_live_object (class_of w) (value.Object (loaded n b)))) no-feature
+        ap (λ (o : Option Feature). option_map_or (λ g. lookups.is_of_kind m (class_of w) (lookups.is_single g) g.kind (value.Object (loaded_number n b))) o (lookups.is_live_object (class_of w) (value.Object (loaded_number n b)))) no-feature
         ∙ ap (λ (c : Option ClassNo). is_some c) (made.classes b) ∙ mapped-some (λ (x : DocObject). x.class) (slice_get doc.objects b.0) (some-there doc.objects b.0 low)
 
-    roots-taken : (os : List ObjectNo) → AllByRecursion (λ (o : ObjectNo). o.0 < length doc.objects) os → list_all (is_legal_target r (lookups.contents m)) (map (λ o. value.Object (loaded n o)) os) ≡ true
+    roots-taken : (os : List ObjectNo) → AllByRecursion (λ (o : ObjectNo). o.0 < length doc.objects) os → list_all (is_legal_target r (lookups.contents m)) (map (λ o. value.Object (loaded_number n o)) os) ≡ true
     roots-taken [] all = refl
     roots-taken (o ∷ os) all = and_from _ _ (root-taken o all.0) (roots-taken os all.1)
 
@@ -245,7 +245,7 @@ module _ (s : Model) (k : ResourceNo) (doc : Doc) (legal : IsLegal s) (late : la
     roots-legal =
         let has : has_feature r (node.Resource k) (lookups.contents m) ≡ true = and_from _ _ (ap (λ (us : List (List ℕ)). nat_lt k.0 (length us)) made.uris ∙ there) (same-self (lookups.contents m)) in
         let bounded : is_bounded (shape m (lookups.contents m)) (length (roots_loaded n doc)) ≡ true =
-        (λ i. is_bounded (contents-shape m i) (length-map doc.roots (λ o. value.Object (loaded n o)) i)) ∙ typed.few_roots in
+        (λ i. is_bounded (contents-shape m i) (length-map doc.roots (λ o. value.Object (loaded_number n o)) i)) ∙ typed.few_roots in
         subst (λ (us : List Value). is_legal_end r (contents_end m k) us ≡ true) (sym linked-roots)
         (end-from r (contents_end m k) (roots_loaded n doc) has (roots-taken doc.roots (recursion_from_All (λ (o : ObjectNo). o.0 < length doc.objects) doc.roots typed.roots)) bounded)
 

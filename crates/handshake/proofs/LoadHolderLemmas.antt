@@ -22,11 +22,11 @@ use Rattle.models.specs.Model.{Model, reading}
 use Rattle.containment.proofs.PartLemmas.{IsMade, contains-reference, end-made, holder-at, values-linked}
 use Rattle.resource_docs.specs.Read.{values_in}
 use Rattle.resource_docs.specs.declared.doc.Doc.{Doc}
-use Rattle.doc_loader.specs.Loading.{loaded, loaded_value, object_end, roots_loaded}
+use Rattle.doc_loader.specs.Loading.{loaded_number, loaded_value, object_end, roots_loaded}
 use Rattle.doc_loader.proofs.NearLemmas.{IsPlaceOf, at_far, at_near, at_roots, elsewhere, place_of}
 use Rattle.doc_loader.proofs.SoundLemmas.{map-at}
-use Rattle.doc_loader.proofs.SourceLemmas.{at-loaded, loaded-value-object}
-use Rattle.handshake.specs.Effects.{after}
+use Rattle.doc_loader.proofs.SourceLemmas.{at-loaded, loaded_number-value-object}
+use Rattle.handshake.specs.Effects.{model_after}
 use Rattle.handshake.specs.Laws.{comes_with}
 use Rattle.handshake.specs.Changes.{IsDocument}
 use Rattle.handshake.specs.Refusals.{early_refusal, late_refusal}
@@ -51,9 +51,9 @@ module _ (s : Model) (k : ResourceNo) (doc : Doc) (legal : IsLegal s) (early : e
   n = length s.values.objects
 
   abbrev t : Model
-  t = after s (Load k doc)
+  t = model_after s (Load k doc)
 
-  pub loaded-legal : IsLegal (after s (Load k doc))
+  pub loaded-legal : IsLegal (model_after s (Load k doc))
   loaded-legal = one-keeps-legal s (Load k doc) refl legal early late read tt
 
   made-old : (x : Node) → IsMade s x → comes_with (reading s) (Load k doc) x ≡ false
@@ -81,7 +81,7 @@ module _ (s : Model) (k : ResourceNo) (doc : Doc) (legal : IsLegal s) (early : e
       stands-held t loaded-legal e at.0 o (holder-contains s (node.Object o) e legal h) (ap (λ (vs : List Value). slice_get vs at.0) (linked-before s k doc legal late read e old other) ∙ at.1)
 
   -- an object that existed before is not one of the new objects
-  no-new : (o a : ObjectNo) → o.0 < n → loaded n a ≡ o → ⊥
+  no-new : (o a : ObjectNo) → o.0 < n → loaded_number n a ≡ o → ⊥
   no-new o a low same = let number = ap (λ (x : ObjectNo). x.0) same in omega (arith, number, low)
 
   held-before : (o : ObjectNo) (e : End) → o.0 < n → holder t.links (node.Object o) ≡ Some e → holder s.links (node.Object o) ≡ Some e
@@ -94,13 +94,13 @@ module _ (s : Model) (k : ResourceNo) (doc : Doc) (legal : IsLegal s) (early : e
 
       no-root : (i : ℕ) → slice_get (end t.links (contents_end s.metamodel k)) i ≡ Some (value.Object o) → ⊥
       no-root i at =
-          let x = map-at (λ (a : ObjectNo). value.Object (loaded n a)) doc.roots i (value.Object o) (at-now (contents_end s.metamodel k) (roots_loaded n doc) i (linked-roots s k doc legal late read) at) in
-          no-new o x.0 low (object_value (loaded n x.0) o x.2)
+          let x = map-at (λ (a : ObjectNo). value.Object (loaded_number n a)) doc.roots i (value.Object o) (at-now (contents_end s.metamodel k) (roots_loaded n doc) i (linked-roots s k doc legal late read) at) in
+          no-new o x.0 low (object_value (loaded_number n x.0) o x.2)
 
       no-target : (vs : List Value) (i : ℕ) → slice_get (map (loaded_value n) vs) i ≡ Some (value.Object o) → ⊥
       no-target vs i at =
           let x = at-loaded n vs i (value.Object o) at in
-          let y = loaded-value-object n x.0 o x.2 in
+          let y = loaded_number-value-object n x.0 o x.2 in
           no-new o y.0 low (sym y.2)
 
       by : (d : End) → (shape s.metamodel d.feature).containing ≡ Some d.feature → Has t.links d (value.Object o)

@@ -32,7 +32,7 @@ use Rattle.models.specs.Model.{Model, reading}
 use Rattle.models.specs.Reading.{at_end, contents_end, has_feature}
 use Rattle.resource_docs.specs.declared.doc.Doc.{Doc}
 use Rattle.doc_loader.specs.Laws.{IsRoomFor, MakesLinks}
-use Rattle.doc_loader.specs.Loading.{is_empty_resource, loaded}
+use Rattle.doc_loader.specs.Loading.{is_empty_resource, loaded_number}
 use Rattle.doc_loader.proofs.DocSoundLemmas.{read-sound}
 use Rattle.doc_loader.proofs.FitLemmas.{read-fits}
 use Rattle.doc_loader.proofs.SameLemmas.{links-made}
@@ -123,8 +123,8 @@ module _ (s : Model) (k : ResourceNo) (doc : Doc) (legal : IsLegal s) (late : la
   pub room : IsRoomFor s.metamodel (length s.values.objects) k s.links
   room = record {
     roots = no-roots;
-    ends = λ o f. unborn-end s legal (loaded (length s.values.objects) o) f (omega arith);
-    values = λ e o. unborn-lacks s legal e (loaded (length s.values.objects) o) (omega arith);
+    ends = λ o f. unborn-end s legal (loaded_number (length s.values.objects) o) f (omega arith);
+    values = λ e o. unborn-lacks s legal e (loaded_number (length s.values.objects) o) (omega arith);
   }
 
   module _ (read : IsDocument s.metamodel doc) where

@@ -15,15 +15,15 @@ use Rattle.mm_types.specs.declared.numbers.FeatureNo.{FeatureNo}
 use Rattle.mm_types.specs.declared.numbers.ObjectNo.{ObjectNo}
 use Rattle.mm_types.specs.declared.value.Value.{Value}
 use Rattle.mm_values.specs.Stored.{Stored, nothing_stored}
-use Rattle.mm_values.specs.Values.{ObjectState, ValuesState, applied, class_of, object_at, with_list}
-use Rattle.mm_values.specs.declared.edit.ValueEdit.{ValueEdit}
-use Rattle.mm_values.specs.declared.edit.ValueEdit.TheVariants.{PutList}
+use Rattle.mm_values.specs.Values.{ObjectState, ValuesState, class_of, object_at, values_after_edits, with_list}
+use Rattle.mm_values.specs.declared.value_edit.ValueEdit.{ValueEdit}
+use Rattle.mm_values.specs.declared.value_edit.ValueEdit.TheVariants.{PutList}
 use Rattle.models.specs.Legal.{IsLegalObject}
 use Rattle.resource_docs.specs.Read.{values_in, values_under}
 use Rattle.resource_docs.specs.declared.doc.Content.{Content}
 use Rattle.resource_docs.specs.declared.doc.Doc.{Doc}
 use Rattle.resource_docs.specs.declared.doc.DocObject.{DocObject}
-use Rattle.doc_loader.specs.Loading.{attribute_edits, loaded, loaded_values, of_contents, of_object}
+use Rattle.doc_loader.specs.Loading.{attribute_edits, loaded_number, loaded_values, of_contents, of_object}
 use Rattle.doc_loader.specs.Typed.{IsTyped}
 use Rattle.doc_loader.proofs.PairLemmas.{Apart, all-every, all-flat_map, all-more, numbered-all}
 use Rattle.doc_loader.proofs.SoundLemmas.{HaveOtherFeatures}
@@ -54,7 +54,7 @@ IsLivePut class (PutList o f vs flag) = is_some (class o) ≡ true
 IsLivePut class _ = ⊥
 
 stored-last : (class : ObjectNo → Option ClassNo) (es : List ValueEdit) (v : ValuesState) → ((o : ObjectNo) → class_of v o ≡ class o) → AllByRecursion (IsLivePut class) es
-    → (p : ObjectNo) (g : FeatureNo) → stored_for g (object_at (applied v es).objects p) ≡ last p g es (stored_for g (object_at v.objects p))
+    → (p : ObjectNo) (g : FeatureNo) → stored_for g (object_at (values_after_edits v es).objects p) ≡ last p g es (stored_for g (object_at v.objects p))
 unfolding IsLivePut
 stored-last class [] v same all p g = refl
 stored-last class (PutList o f vs flag ∷ es) v same all p g =
@@ -81,14 +81,14 @@ module _ (m : Metamodel) (n : ℕ) where
   put_of c = record { list = c.values; flag = (shape m c.feature).is_unsettable && (shape m c.feature).is_single }
 
   -- a put for another object, or under another feature, changes nothing
-  other-put : (p : ObjectNo) (g : FeatureNo) (o : ObjectNo) (c : Content) (h : Stored) → (same_object (loaded n o) p && same_feature c.feature g) ≡ false → last p g (attribute_edits m n o c) h ≡ h
+  other-put : (p : ObjectNo) (g : FeatureNo) (o : ObjectNo) (c : Content) (h : Stored) → (same_object (loaded_number n o) p && same_feature c.feature g) ≡ false → last p g (attribute_edits m n o c) h ≡ h
   other-put p g o c h other =
-      elim (shape m c.feature).is_reference as (λ b. last p g (if b then [] else PutList (loaded n o) c.feature c.values ((shape m c.feature).is_unsettable && (shape m c.feature).is_single) ∷ []) h ≡ h) [
+      elim (shape m c.feature).is_reference as (λ b. last p g (if b then [] else PutList (loaded_number n o) c.feature c.values ((shape m c.feature).is_unsettable && (shape m c.feature).is_single) ∷ []) h ≡ h) [
         | true ↦ refl
         | false ↦ ap (λ (b : Bool). if b then put_of c else h) other
       ]
 
-  others-put : (p : ObjectNo) (g : FeatureNo) (o : ObjectNo) (cs : List Content) (h : Stored) → AllByRecursion (λ (c : Content). (same_object (loaded n o) p && same_feature c.feature g) ≡ false) cs
+  others-put : (p : ObjectNo) (g : FeatureNo) (o : ObjectNo) (cs : List Content) (h : Stored) → AllByRecursion (λ (c : Content). (same_object (loaded_number n o) p && same_feature c.feature g) ≡ false) cs
       → last p g (flat_map (attribute_edits m n o) cs) h ≡ h
   others-put p g o [] h all = refl
   others-put p g o (c ∷ cs) h all =
@@ -98,10 +98,10 @@ module _ (m : Metamodel) (n : ℕ) where
 
   -- the contents of one object, each of a different feature, leave the list that is written under the feature
   written : (o : ObjectNo) (g : FeatureNo) (cs : List Content) → (shape m g).is_reference ≡ false → Apart HaveOtherFeatures cs
-      → (last (loaded n o) g (flat_map (attribute_edits m n o) cs) nothing_stored).list ≡ flat_map (λ (c : Content). cond (same_feature g c.feature) c.values []) cs
+      → (last (loaded_number n o) g (flat_map (attribute_edits m n o) cs) nothing_stored).list ≡ flat_map (λ (c : Content). cond (same_feature g c.feature) c.values []) cs
   written o g [] attribute apart = refl
   written o g (c ∷ cs) attribute apart =
-      let p = loaded n o in
+      let p = loaded_number n o in
       let rest = flat_map (attribute_edits m n o) cs in
       ap (λ (h : Stored). h.list) (last-append p g (attribute_edits m n o c) rest nothing_stored)
       ∙ elim (same_feature g c.feature) as (λ b. same_feature g c.feature ≡ b → (last p g rest (last p g (attribute_edits m n o c) nothing_stored)).list ≡ cond b c.values [] ++ flat_map (λ (c : Content). cond (same_feature g c.feature) c.values []) cs) [
@@ -128,9 +128,9 @@ module _ (m : Metamodel) (n : ℕ) where
   abbrev edits_of : ℕ × DocObject → List ValueEdit
   edits_of = of_object (attribute_edits m n)
 
-  other-object : (p : ObjectNo) (g : FeatureNo) (o : ObjectNo) (cs : List Content) (h : Stored) → same_object (loaded n o) p ≡ false → last p g (flat_map (attribute_edits m n o) cs) h ≡ h
+  other-object : (p : ObjectNo) (g : FeatureNo) (o : ObjectNo) (cs : List Content) (h : Stored) → same_object (loaded_number n o) p ≡ false → last p g (flat_map (attribute_edits m n o) cs) h ≡ h
   other-object p g o cs h other =
-      others-put p g o cs h (all-every (λ (c : Content). (same_object (loaded n o) p && same_feature c.feature g) ≡ false) cs (λ c. ap (λ (b : Bool). b && same_feature c.feature g) other))
+      others-put p g o cs h (all-every (λ (c : Content). (same_object (loaded_number n o) p && same_feature c.feature g) ≡ false) cs (λ c. ap (λ (b : Bool). b && same_feature c.feature g) other))
 
   past : (p : ObjectNo) (g : FeatureNo) (xs : List DocObject) (k : ℕ) (h : Stored) → p.0 < n + k → last p g (flat_map (of_object (attribute_edits m n)) (enumerate_from k xs)) h ≡ h
   past p g [] k h low = refl
@@ -184,17 +184,17 @@ module _ (m : Metamodel) (v : ValuesState) (doc : Doc) (typed : IsTyped m doc) (
       all-flat_map (λ (y : ℕ × DocObject). slice_get doc.objects y.0 ≡ Some y.1) (IsLivePut (class_of news)) (of_object (attribute_edits m n)) (enumerate_from 0 doc.objects)
       (λ y at. all-flat_map (λ (c : Content). Unit {0}) (IsLivePut (class_of news)) (attribute_edits m n (record { 0 = y.0 })) y.1.contents
       (λ c t.
-      let live : is_some (class_of news (loaded n (record { 0 = y.0 }))) ≡ true = ap (λ (x : Option ClassNo). is_some x) (made-class m v doc typed legal (record { 0 = y.0 })) ∙ ap (λ (x : Option DocObject). is_some (option_map (λ (d : DocObject). d.class) x)) at in
-      elim (shape m c.feature).is_reference as (λ b. AllByRecursion (IsLivePut (class_of news)) (if b then [] else PutList (loaded n (record { 0 = y.0 })) c.feature c.values ((shape m c.feature).is_unsettable && (shape m c.feature).is_single) ∷ [])) [ true ↦ tt | false ↦ (live, tt) ])
+      let live : is_some (class_of news (loaded_number n (record { 0 = y.0 }))) ≡ true = ap (λ (x : Option ClassNo). is_some x) (made-class m v doc typed legal (record { 0 = y.0 })) ∙ ap (λ (x : Option DocObject). is_some (option_map (λ (d : DocObject). d.class) x)) at in
+      elim (shape m c.feature).is_reference as (λ b. AllByRecursion (IsLivePut (class_of news)) (if b then [] else PutList (loaded_number n (record { 0 = y.0 })) c.feature c.values ((shape m c.feature).is_unsettable && (shape m c.feature).is_single) ∷ [])) [ true ↦ tt | false ↦ (live, tt) ])
       (all-every (λ (c : Content). Unit {0}) y.1.contents (λ c. tt)))
       (numbered-all doc.objects)
 
   abbrev w : ValuesState
-  w = applied v (loaded_values m (length v.objects) doc)
+  w = values_after_edits v (loaded_values m (length v.objects) doc)
 
-  there : (o : ObjectNo) (x : DocObject) (g : FeatureNo) → (shape m g).is_reference ≡ false → slice_get doc.objects o.0 ≡ Some x → (stored_for g (object_at w.objects (loaded n o))).list ≡ values_under x g
+  there : (o : ObjectNo) (x : DocObject) (g : FeatureNo) → (shape m g).is_reference ≡ false → slice_get doc.objects o.0 ≡ Some x → (stored_for g (object_at w.objects (loaded_number n o))).list ≡ values_under x g
   there o x g attribute at =
-      let p = loaded n o in
+      let p = loaded_number n o in
       let zero_on : 0 + o.0 ≡ o.0 = omega arith in
       let number : n + o.0 ≡ n + (0 + o.0) = omega arith in
       ap (λ (u : ValuesState). (stored_for g (object_at u.objects p)).list) (two-steps m v doc typed legal)
@@ -206,9 +206,9 @@ module _ (m : Metamodel) (v : ValuesState) (doc : Doc) (typed : IsTyped m doc) (
       ∙ written m n o g x.contents attribute (others o.0 x at)
 
   -- an attribute of a new object stores the values that are written under it
-  pub stored-loaded : (o : ObjectNo) (g : FeatureNo) → (shape m g).is_reference ≡ false → (stored_for g (object_at w.objects (loaded n o))).list ≡ values_in doc o g
-  stored-loaded o g attribute =
-      elim (slice_get doc.objects o.0) as (λ q. slice_get doc.objects o.0 ≡ q → (stored_for g (object_at w.objects (loaded n o))).list ≡ option_map_or (λ x. values_under x g) q []) [
-        | None ↦ λ none. dead-stored g (object_at w.objects (loaded n o)) ((load-values m v doc typed legal).classes o ∙ ap (option_map (λ (x : DocObject). x.class)) none)
+  pub stored-loaded_number : (o : ObjectNo) (g : FeatureNo) → (shape m g).is_reference ≡ false → (stored_for g (object_at w.objects (loaded_number n o))).list ≡ values_in doc o g
+  stored-loaded_number o g attribute =
+      elim (slice_get doc.objects o.0) as (λ q. slice_get doc.objects o.0 ≡ q → (stored_for g (object_at w.objects (loaded_number n o))).list ≡ option_map_or (λ x. values_under x g) q []) [
+        | None ↦ λ none. dead-stored g (object_at w.objects (loaded_number n o)) ((load-values m v doc typed legal).classes o ∙ ap (option_map (λ (x : DocObject). x.class)) none)
         | Some x ↦ λ at. there o x g attribute at
       ] refl

@@ -17,15 +17,15 @@ use Rattle.mm_types.specs.declared.numbers.ObjectNo.{ObjectNo}
 use Rattle.mm_types.specs.declared.value.Value.{Value}
 use Rattle.mm_types.specs.declared.value.Value.TheVariants as value
 use Rattle.mm_values.specs.Stored.{Stored}
-use Rattle.mm_values.specs.Values.{ObjectState, Objects, ValuesState, applied, class_of, edited, object_at, with_list, with_object}
-use Rattle.mm_values.specs.declared.edit.ValueEdit.{ValueEdit}
-use Rattle.mm_values.specs.declared.edit.ValueEdit.TheVariants.{NewObject, PutList}
+use Rattle.mm_values.specs.Values.{ObjectState, Objects, ValuesState, class_of, object_at, values_after_edit, values_after_edits, with_list, with_object}
+use Rattle.mm_values.specs.declared.value_edit.ValueEdit.{ValueEdit}
+use Rattle.mm_values.specs.declared.value_edit.ValueEdit.TheVariants.{NewObject, PutList}
 use Rattle.models.specs.Legal.{IsLegalObject, IsLegalStored, is_legal_list, is_legal_value}
 use Rattle.models.proofs.PlaceLemmas.{legal-at}
 use Rattle.resource_docs.specs.declared.doc.Content.{Content}
 use Rattle.resource_docs.specs.declared.doc.Doc.{Doc}
 use Rattle.resource_docs.specs.declared.doc.DocObject.{DocObject}
-use Rattle.doc_loader.specs.Loading.{attribute_edits, loaded, loaded_values, of_contents, of_object}
+use Rattle.doc_loader.specs.Loading.{attribute_edits, loaded_number, loaded_values, of_contents, of_object}
 use Rattle.doc_loader.specs.Typed.{IsTyped, IsTypedContent, IsTypedObject, IsTypedValue, class_in}
 use Rattle.doc_loader.proofs.PairLemmas.{all-at, all-flat_map, numbered-all}
 use Rattle.containment.proofs.PartLemmas.{object-reference}
@@ -49,16 +49,16 @@ set-behind (o ∷ os) zero i x low = absurd (omega (arith, low))
 set-behind (o ∷ os) (suc k) zero x low = refl
 set-behind (o ∷ os) (suc k) (suc i) x low = set-behind os k i x (omega (arith, low))
 
-values-append : (v : ValuesState) (xs ys : List ValueEdit) → applied v (xs ++ ys) ≡ applied (applied v xs) ys
+values-append : (v : ValuesState) (xs ys : List ValueEdit) → values_after_edits v (xs ++ ys) ≡ values_after_edits (values_after_edits v xs) ys
 values-append v [] ys = refl
-values-append v (x ∷ xs) ys = values-append (edited v x) xs ys
+values-append v (x ∷ xs) ys = values-append (values_after_edit v x) xs ys
 
 ---------------------------------------------------------------- objects that are made
 
 abbrev pub fresh : DocObject → Option ObjectState
 fresh d = Some (record { class = d.class; stored = finmap.empty })
 
-made : (v : ValuesState) (ds : List DocObject) → applied v (map (λ d. NewObject d.class) ds) ≡ record v { objects = v.objects ++ map fresh ds }
+made : (v : ValuesState) (ds : List DocObject) → values_after_edits v (map (λ d. NewObject d.class) ds) ≡ record v { objects = v.objects ++ map fresh ds }
 made v [] = ap (λ (os : Objects). record v { objects = os }) (sym (append-nil v.objects))
 made v (d ∷ ds) = made (record v { objects = with_object v.objects d.class }) ds ∙ ap (λ (os : Objects). record v { objects = os }) (append_assoc v.objects (fresh d ∷ []) (map fresh ds))
 
@@ -87,7 +87,7 @@ record ArePut (m : Metamodel) (n : ℕ) (v w : ValuesState) : Type 0 where
   uris : w.uris ≡ v.uris
 
 puts : (m : Metamodel) (n : ℕ) (class : ObjectNo → Option ClassNo) (v : ValuesState) (es : List ValueEdit) → ((o : ObjectNo) → class_of v o ≡ class o) → All (IsLegalObject m) v.objects → AllByRecursion (IsLegalPut m n class) es
-    → ArePut m n v (applied v es)
+    → ArePut m n v (values_after_edits v es)
 unfolding IsLegalPut
 puts m n class v [] same legal all = record { count = refl; objects = legal; classes = λ o. refl; below = λ o low. refl; uris = refl }
 puts m n class v (PutList o f vs flag ∷ es) same legal all =
@@ -138,11 +138,11 @@ content-legal m doc class c attribute typed =
       flag = flag-some a.is_unsettable a.is_single (is_nil c.values) typed.some;
     }
 
-content-puts : (m : Metamodel) (n : ℕ) (doc : Doc) (class : ObjectNo → Option ClassNo) (o : ObjectNo) (k : ClassNo) (c : Content) → class (loaded n o) ≡ Some k → IsTypedContent m doc k c → AllByRecursion (IsLegalPut m n class) (attribute_edits m n o c)
+content-puts : (m : Metamodel) (n : ℕ) (doc : Doc) (class : ObjectNo → Option ClassNo) (o : ObjectNo) (k : ClassNo) (c : Content) → class (loaded_number n o) ≡ Some k → IsTypedContent m doc k c → AllByRecursion (IsLegalPut m n class) (attribute_edits m n o c)
 unfolding IsLegalPut
 content-puts m n doc class o k c here typed =
     let a = shape m c.feature in
-    elim a.is_reference as (λ b. a.is_reference ≡ b → AllByRecursion (IsLegalPut m n class) (if b then [] else PutList (loaded n o) c.feature c.values (a.is_unsettable && a.is_single) ∷ [])) [
+    elim a.is_reference as (λ b. a.is_reference ≡ b → AllByRecursion (IsLegalPut m n class) (if b then [] else PutList (loaded_number n o) c.feature c.values (a.is_unsettable && a.is_single) ∷ [])) [
       | true ↦ λ _. tt
       | false ↦ λ attribute. ((omega arith, λ x is. subst (λ (y : ClassNo). IsLegalStored m y c.feature (record { list = c.values; flag = a.is_unsettable && a.is_single })) (same_Some k x (sym here ∙ is)) (content-legal m doc k c attribute typed)), tt)
     ] refl
@@ -154,7 +154,7 @@ pub record AreLoaded (m : Metamodel) (n : ℕ) (doc : Doc) (v w : ValuesState) :
   pub count : length w.objects ≡ n + length doc.objects
   pub objects : All (IsLegalObject m) w.objects
   pub below : (o : ObjectNo) → o.0 < n → object_at w.objects o ≡ object_at v.objects o
-  pub classes : (o : ObjectNo) → class_of w (loaded n o) ≡ class_in doc o
+  pub classes : (o : ObjectNo) → class_of w (loaded_number n o) ≡ class_in doc o
   pub uris : w.uris ≡ v.uris
 
 module _ (m : Metamodel) (v : ValuesState) (doc : Doc) (typed : IsTyped m doc) (legal : All (IsLegalObject m) v.objects) where
@@ -171,7 +171,7 @@ module _ (m : Metamodel) (v : ValuesState) (doc : Doc) (typed : IsTyped m doc) (
   abbrev each : AllByRecursion (IsTypedObject m doc) ds
   each = recursion_from_All (IsTypedObject m doc) doc.objects typed.objects
 
-  pub made-class : (o : ObjectNo) → class_of after_made (loaded n o) ≡ class_in doc o
+  pub made-class : (o : ObjectNo) → class_of after_made (loaded_number n o) ≡ class_in doc o
   made-class o = ap (option_map (λ (x : ObjectState). x.class)) (behind v.objects (map fresh ds) o.0) ∙ fresh-class ds o.0
 
   all-puts : AllByRecursion (IsLegalPut m n (class_of after_made)) (of_contents (attribute_edits m n) doc)
@@ -187,18 +187,18 @@ module _ (m : Metamodel) (v : ValuesState) (doc : Doc) (typed : IsTyped m doc) (
       (numbered-all ds)
 
   -- first the objects are made, and then their lists are put
-  pub two-steps : applied v (loaded_values m (length v.objects) doc) ≡ applied (record v { objects = v.objects ++ map fresh doc.objects }) (of_contents (attribute_edits m (length v.objects)) doc)
-  two-steps = values-append v (map (λ d. NewObject d.class) ds) (of_contents (attribute_edits m n) doc) ∙ ap (λ (w : ValuesState). applied w (of_contents (attribute_edits m n) doc)) (made v ds)
+  pub two-steps : values_after_edits v (loaded_values m (length v.objects) doc) ≡ values_after_edits (record v { objects = v.objects ++ map fresh doc.objects }) (of_contents (attribute_edits m (length v.objects)) doc)
+  two-steps = values-append v (map (λ d. NewObject d.class) ds) (of_contents (attribute_edits m n) doc) ∙ ap (λ (w : ValuesState). values_after_edits w (of_contents (attribute_edits m n) doc)) (made v ds)
 
-  pub load-values : AreLoaded m n doc v (applied v (loaded_values m n doc))
+  pub load-values : AreLoaded m n doc v (values_after_edits v (loaded_values m n doc))
   load-values =
       let es = of_contents (attribute_edits m n) doc in
       let put = puts m n (class_of after_made) after_made es (λ o. refl) (All-append (IsLegalObject m) v.objects (map fresh ds) legal (fresh-legal m doc ds each)) all-puts in
-      let is : AreLoaded m n doc v (applied after_made es) = record {
+      let is : AreLoaded m n doc v (values_after_edits after_made es) = record {
         count = put.count ∙ length-append v.objects (map fresh ds) ∙ ap (λ (k : ℕ). n + k) (length-map ds fresh);
         objects = put.objects;
         below = λ o low. put.below o low ∙ before v.objects (map fresh ds) o.0 low;
-        classes = λ o. put.classes (loaded n o) ∙ made-class o;
+        classes = λ o. put.classes (loaded_number n o) ∙ made-class o;
         uris = put.uris;
       } in
       subst (AreLoaded m n doc v) (sym two-steps) is

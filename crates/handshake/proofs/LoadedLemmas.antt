@@ -29,12 +29,12 @@ use Rattle.containment.proofs.PartLemmas.{contains-itself, contains-reference, v
 use Rattle.resource_docs.specs.Read.{values_in, values_under}
 use Rattle.resource_docs.specs.declared.doc.Doc.{Doc}
 use Rattle.resource_docs.specs.declared.doc.DocObject.{DocObject}
-use Rattle.doc_loader.specs.Loading.{loaded, loaded_value, object_end}
+use Rattle.doc_loader.specs.Loading.{loaded_number, loaded_value, object_end}
 use Rattle.doc_loader.proofs.SideLemmas.{IsFarSide, IsPlainFeature, contents-shape, near-contained, opposite-reference, sides}
 use Rattle.doc_loader.proofs.SoundLemmas.{IsSound, at-map, object-there, there-object}
 use Rattle.doc_loader.proofs.SourceLemmas.{at-source, loaded-at, source-at, sources_from}
 use Rattle.doc_loader.proofs.TypedLemmas.{read-typed}
-use Rattle.handshake.specs.Effects.{after}
+use Rattle.handshake.specs.Effects.{model_after}
 use Rattle.handshake.specs.Laws.{comes_with}
 use Rattle.handshake.specs.Loaded.{HasObjectsOf, HasRootsOf, IsContainer, IsElseAsBefore, IsWrittenWith, LoadsEnds}
 use Rattle.handshake.specs.Changes.{IsDocument}
@@ -45,7 +45,7 @@ use Rattle.handshake.proofs.CutEndLemmas.{reference-plain}
 use Rattle.handshake.proofs.LoadEndLemmas.{linked-before, linked-held, linked-near, linked-roots, linked-values, no-second}
 use Rattle.handshake.proofs.LoadHolderLemmas.{above-stays, holder-stays, loaded-legal, old-made, stands-held}
 use Rattle.handshake.proofs.LoadLemmas.{sound}
-use Rattle.handshake.proofs.LoadStoredLemmas.{stored-loaded}
+use Rattle.handshake.proofs.LoadStoredLemmas.{stored-loaded_number}
 use Rattle.handshake.proofs.LoadValueLemmas.{AreLoaded, load-values}
 use Rattle.handshake.proofs.ObjectLegalLemmas.{flag-off}
 use Rattle.models.specs.Reading.{contents_end}
@@ -101,30 +101,30 @@ module _ (s : Model) (k : ResourceNo) (doc : Doc) (legal : IsLegal s) (early : e
   n = length s.values.objects
 
   abbrev t : Model
-  t = after s (Load k doc)
+  t = model_after s (Load k doc)
 
   whole : IsSound m doc
   whole = sound s k doc legal late read
 
-  made : AreLoaded s.metamodel (length s.values.objects) doc s.values (after s (Load k doc)).values
+  made : AreLoaded s.metamodel (length s.values.objects) doc s.values (model_after s (Load k doc)).values
   made = load-values m s.values doc (read-typed m read.uri doc legal.metamodel read.read) legal.objects
 
   ---------------------------------------------------------------- attributes
 
-  kept : (o : ObjectNo) (f : FeatureNo) → (shape m f).is_reference ≡ false → (stored_for f (object_at t.values.objects (loaded n o))).list ≡ values_in doc o f
-  kept o f attribute = stored-loaded m s.values doc (read-typed m read.uri doc legal.metamodel read.read) legal.objects whole.others o f attribute
+  kept : (o : ObjectNo) (f : FeatureNo) → (shape m f).is_reference ≡ false → (stored_for f (object_at t.values.objects (loaded_number n o))).list ≡ values_in doc o f
+  kept o f attribute = stored-loaded_number m s.values doc (read-typed m read.uri doc legal.metamodel read.read) legal.objects whole.others o f attribute
 
   attributes : (o : ObjectNo) (f : FeatureNo) → (shape m f).is_reference ≡ false → values_at t (object_end n o f) ≡ attribute_values (shape m f) (values_in doc o f)
   attributes o f attribute =
       let e = object_end n o f in
       ap (λ (b : Bool). if b then end t.links e else attribute_values (shape m f) (kept_values t.values e.node f)) attribute
-      ∙ ap (attribute_values (shape m f)) (list-kept f (object_at t.values.objects (loaded n o)) ∙ kept o f attribute)
+      ∙ ap (attribute_values (shape m f)) (list-kept f (object_at t.values.objects (loaded_number n o)) ∙ kept o f attribute)
 
-  flags : (o : ObjectNo) (f : FeatureNo) → kept_flag t.values (node.Object (loaded n o)) f ≡ ((shape m f).is_unsettable && ((shape m f).is_single && not (is_nil (values_in doc o f))))
+  flags : (o : ObjectNo) (f : FeatureNo) → kept_flag t.values (node.Object (loaded_number n o)) f ≡ ((shape m f).is_unsettable && ((shape m f).is_single && not (is_nil (values_in doc o f))))
   flags o f =
       let a = shape m f in
-      let x = object_at t.values.objects (loaded n o) in
-      flag-kept m f x (legal-at (IsLegalObject m) t.values.objects (loaded n o).0 tt made.objects)
+      let x = object_at t.values.objects (loaded_number n o) in
+      flag-kept m f x (legal-at (IsLegalObject m) t.values.objects (loaded_number n o).0 tt made.objects)
       ∙ elim a.is_reference as (λ b. a.is_reference ≡ b → (a.is_unsettable && (a.is_single && not (is_nil (stored_for f x).list))) ≡ (a.is_unsettable && (a.is_single && not (is_nil (values_in doc o f))))) [
         | true ↦ λ reference.
             let never = (reference-plain m f reference).0 in
@@ -168,11 +168,11 @@ module _ (s : Model) (k : ResourceNo) (doc : Doc) (legal : IsLegal s) (early : e
     only (u ∷ []) (suc j) w is at = absurd (none-some w at)
     only (u ∷ v ∷ vs) j w is at = absurd (no-second s k doc legal late read o f f contains u v vs is)
 
-    containers : (b : ObjectNo) → IsWrittenWith doc b f o → values_at t (object_end n o g) ≡ value.Object (loaded n b) ∷ []
+    containers : (b : ObjectNo) → IsWrittenWith doc b f o → values_at t (object_end n o g) ≡ value.Object (loaded_number n b) ∷ []
     containers b has =
         let x = object-there doc b f has.0 (value.Object o) has.1 in
         let from = at-source n (λ (y : DocObject). values_under y f) o doc.objects b x.0 has.0 x.1 x.2 in
-        shown ∙ only sources from.0 (value.Object (loaded n b)) refl from.1
+        shown ∙ only sources from.0 (value.Object (loaded_number n b)) refl from.1
 
     no_containers : ((b : ObjectNo) → IsWrittenWith doc b f o → ⊥) → values_at t (object_end n o g) ≡ []
     no_containers none = shown ∙ by sources refl
@@ -185,18 +185,18 @@ module _ (s : Model) (k : ResourceNo) (doc : Doc) (legal : IsLegal s) (early : e
 
   ---------------------------------------------------------------- holders
 
-  holders : (o b : ObjectNo) (f : FeatureNo) → is_containment m f ≡ true → IsWrittenWith doc o f b → (reading t).holder (node.Object (loaded n b)) ≡ Some (object_end n o f)
+  holders : (o b : ObjectNo) (f : FeatureNo) → is_containment m f ≡ true → IsWrittenWith doc o f b → (reading t).holder (node.Object (loaded_number n b)) ≡ Some (object_end n o f)
   holders o b f contains has =
       let own = contains-itself f (shape m f).containing contains in
       let plain : IsPlainFeature m f = λ h other. same_Some h f (sym other ∙ own) in
       let reference = contains-reference m f f own in
-      stands-held t (loaded-legal s k doc legal early late read) (object_end n o f) has.0 (loaded n b) own
+      stands-held t (loaded-legal s k doc legal early late read) (object_end n o f) has.0 (loaded_number n b) own
       (ap (λ (vs : List Value). slice_get vs has.0) (linked-values s k doc legal late read o f reference plain) ∙ loaded-at n (values_in doc o f) has.0 (value.Object b) has.1)
 
-  roots-held : (i : ℕ) (o : ObjectNo) → slice_get doc.roots i ≡ Some o → (reading t).holder (node.Object (loaded n o)) ≡ Some (contents_end m k)
+  roots-held : (i : ℕ) (o : ObjectNo) → slice_get doc.roots i ≡ Some o → (reading t).holder (node.Object (loaded_number n o)) ≡ Some (contents_end m k)
   roots-held i o at =
-      stands-held t (loaded-legal s k doc legal early late read) (contents_end m k) i (loaded n o) (ap (λ (a : Shape). a.containing) (contents-shape m))
-      (ap (λ (vs : List Value). slice_get vs i) (linked-roots s k doc legal late read) ∙ at-map (λ (x : ObjectNo). value.Object (loaded n x)) doc.roots i o at)
+      stands-held t (loaded-legal s k doc legal early late read) (contents_end m k) i (loaded_number n o) (ap (λ (a : Shape). a.containing) (contents-shape m))
+      (ap (λ (vs : List Value). slice_get vs i) (linked-roots s k doc legal late read) ∙ at-map (λ (x : ObjectNo). value.Object (loaded_number n x)) doc.roots i o at)
 
   ---------------------------------------------------------------- all else
 
@@ -222,7 +222,7 @@ module _ (s : Model) (k : ResourceNo) (doc : Doc) (legal : IsLegal s) (early : e
 
   ---------------------------------------------------------------- all together
 
-  objects-read : HasObjectsOf (reading s) doc (reading (after s (Load k doc)))
+  objects-read : HasObjectsOf (reading s) doc (reading (model_after s (Load k doc)))
   objects-read = record {
     next = made.count;
     classes = made.classes;
@@ -234,13 +234,13 @@ module _ (s : Model) (k : ResourceNo) (doc : Doc) (legal : IsLegal s) (early : e
     holders = holders;
   }
 
-  roots-read : HasRootsOf (reading s) k doc (reading (after s (Load k doc)))
+  roots-read : HasRootsOf (reading s) k doc (reading (model_after s (Load k doc)))
   roots-read = record {
     contents = values-linked t (contents_end m k) (ap (λ (a : Shape). a.is_reference) (contents-shape m)) ∙ linked-roots s k doc legal late read;
     holders = roots-held;
   }
 
-  others-read : IsElseAsBefore (reading s) k doc (reading (after s (Load k doc)))
+  others-read : IsElseAsBefore (reading s) k doc (reading (model_after s (Load k doc)))
   others-read = record {
     metamodel = refl;
     uris = made.uris;

@@ -9,7 +9,7 @@ use Rattle.mm_types.specs.declared.numbers.ObjectNo.{ObjectNo}
 use Rattle.mm_types.specs.declared.value.Value.{Value}
 use Rattle.mm_types.specs.declared.value.Value.TheVariants as value
 use Rattle.models.specs.Reading.{Reading}
-use Rattle.handshake.specs.Displaced.{turned}
+use Rattle.handshake.specs.Displaced.{opposite_link_end}
 use Rattle.handshake.specs.FeatureChanges.{far_loss, is_replaced, loss, losses, other_losses}
 use Rattle.handshake.specs.declared.change_kind.ChangeKind.TheVariants.{Gains, Loses}
 use Rattle.removal.specs.declared.link_end.LinkEnd.{LinkEnd}
@@ -41,7 +41,7 @@ happened_at-other_losses r e o (t ∷ ts) d h kept =
 
 -- at an end other than the near one, the losses of the far end are all losses
 pub happened_at-far_loss : (r : Reading) (t : LinkEnd) (d : End) (h : Held) → same_end t.end d ≡ false → happened_at r.metamodel (far_loss r t) d h ≡ happened_at r.metamodel (losses r t) d h
-happened_at-far_loss r t d h other = by (turned r t)
+happened_at-far_loss r t d h other = by (opposite_link_end r t)
   where
     far : (a : Shape) (v : Value) (u : LinkEnd) (b : Bool) → b ≡ false → (if same_end u.end d then done a (Loses u.value) h else h) ≡ (let k = if b then done a (Loses v) h else h in if same_end u.end d then done a (Loses u.value) k else k)
     far a v u b other = rw other refl

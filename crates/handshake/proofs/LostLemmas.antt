@@ -5,7 +5,7 @@ use Rattle.std.proofs.lemmas.Bool.{false≢true}
 use Rattle.std.proofs.lemmas.Bool.Decides.{nat_tests}
 use Rattle.std.proofs.lemmas.List.{append_assoc, length-append, map-append}
 use Rattle.mm_types.proofs.SameLemmas.{same_end-self, same_end-true}
-use Rattle.mm_types.specs.Ends.{Ends, Held, index_in, is_set, shown}
+use Rattle.mm_types.specs.Ends.{Ends, Held, index_in, is_set, shown_values}
 use Rattle.mm_types.specs.Resolved.{Metamodel}
 use Rattle.mm_types.specs.Same.{is_nil, same_end}
 use Rattle.mm_types.specs.Shapes.{Shape, shape}
@@ -22,22 +22,22 @@ use Rattle.models.specs.Legal.{IsLegal}
 use Rattle.models.specs.Model.{Model, reading}
 use Rattle.models.specs.Reading.{Reading, held_at}
 use Rattle.notice_chain.specs.Kinds.{no_index}
-use Rattle.notice_chain.specs.Replay.{removed, replayed_in}
+use Rattle.notice_chain.specs.Replay.{ends_after_notice, list_after_remove}
 use Rattle.notice_chain.specs.declared.kind.NoticeKind.TheVariants as kind
 use Rattle.notice_chain.specs.declared.notice.Notice.{Notice}
 use Rattle.links.proofs.OrderLemmas.{order-apart}
-use Rattle.removal.specs.Losses.{is_lost, kept_at, loss, lost_at, lost_from}
+use Rattle.removal.specs.Losses.{is_lost, loss, losses_at, losses_from, values_kept}
 use Rattle.removal.specs.declared.loss.Loss.{Loss}
 use Rattle.handshake.specs.Reports.{lost_notice}
-use Rattle.handshake.specs.FeatureChange.{has_flag, happened_all, notice, notice_of, feature_change, told, without}
+use Rattle.handshake.specs.FeatureChange.{has_flag, ends_after_changes, notice, notice_of, feature_change, change_notices, list_without_value}
 use Rattle.handshake.specs.FeatureChanges.{lost_with}
 use Rattle.handshake.specs.declared.change_kind.ChangeKind.TheVariants.{Loses}
 use Rattle.handshake.specs.declared.change_kind.FeatureChange.{FeatureChange}
-use Rattle.handshake.proofs.ApartLemmas.{told-append}
+use Rattle.handshake.proofs.ApartLemmas.{change_notices-append}
 use Rattle.handshake.proofs.CutEndLemmas.{reference-flag, reference-plain}
 use Rattle.handshake.proofs.CutLinkEndLemmas.{same_end-symmetric, values-linked}
-use Rattle.handshake.proofs.HappenedLemmas.{at-own, done, done-here, happened_all-at, happened_at, happened_at-append}
-use Rattle.handshake.proofs.ReplayLemmas.{removed-index, replayed_all-told}
+use Rattle.handshake.proofs.HappenedLemmas.{at-own, done, done-here, ends_after_changes-at, happened_at, happened_at-append}
+use Rattle.handshake.proofs.ReplayLemmas.{ends_after_notices-change_notices, list_after_remove-index}
 use Rattle.handshake.proofs.ResolveLemmas.{length-pushed}
 
 ---------------------------------------------------------------- a value between others
@@ -55,11 +55,11 @@ index-middle ks v vs distinct =
     let at = get-middle ks v vs in
     distinct (index_in (ks ++ v ∷ vs) v) (length ks) v (index-at (ks ++ v ∷ vs) v (has-at (ks ++ v ∷ vs) v (length ks) at)) at
 
-without-middle : (ks : List Value) (v : Value) (vs : List Value) → IsDistinct (ks ++ v ∷ vs) → without (ks ++ v ∷ vs) v ≡ ks ++ vs
-without-middle ks v vs distinct =
+list_without_value-middle : (ks : List Value) (v : Value) (vs : List Value) → IsDistinct (ks ++ v ∷ vs) → list_without_value (ks ++ v ∷ vs) v ≡ ks ++ vs
+list_without_value-middle ks v vs distinct =
     let long : length (ks ++ v ∷ vs) ≡ length ks + suc (length vs) = length-append ks (v ∷ vs) in
     let below : nat_lt (length ks) (length (ks ++ v ∷ vs)) ≡ true = rw long (grind (arith, nat_tests)) in
-    sym (removed-index (ks ++ v ∷ vs) v) ∙ ap (λ (k : ℕ). removed (ks ++ v ∷ vs) (pos k)) (index-middle ks v vs distinct)
+    sym (list_after_remove-index (ks ++ v ∷ vs) v) ∙ ap (λ (k : ℕ). list_after_remove (ks ++ v ∷ vs) (pos k)) (index-middle ks v vs distinct)
     ∙ ap (λ (b : Bool). if b then remove (ks ++ v ∷ vs) (length ks) else ks ++ v ∷ vs) below ∙ remove-middle ks v vs
 
 distinct-middle : (ks : List Value) (v : Value) (vs : List Value) → IsDistinct (ks ++ v ∷ vs) → IsDistinct (ks ++ vs)
@@ -74,9 +74,9 @@ abbrev pub loses : End → Value → FeatureChange
 loses d v = feature_change d (Loses v)
 
 -- the values of an end after a loss is replayed
-next-at : (m : Metamodel) (e : Ends) (d : End) (v : Value) (h : Held) → e d ≡ h → replayed_in (has_flag m) e (notice_of (shape m d.feature) d (Loses v) (e d)) d ≡ done (shape m d.feature) (Loses v) h
+next-at : (m : Metamodel) (e : Ends) (d : End) (v : Value) (h : Held) → e d ≡ h → ends_after_notice (has_flag m) e (notice_of (shape m d.feature) d (Loses v) (e d)) d ≡ done (shape m d.feature) (Loses v) h
 next-at m e d v h is =
-    ap (λ (f : Ends). f d) (replayed_all-told m e (loses d v ∷ [])) ∙ happened_all-at m e (loses d v ∷ []) d ∙ done-here m d (loses d v) (e d) (same_end-self d)
+    ap (λ (f : Ends). f d) (ends_after_notices-change_notices m e (loses d v ∷ [])) ∙ ends_after_changes-at m e (loses d v ∷ []) d ∙ done-here m d (loses d v) (e d) (same_end-self d)
     ∙ ap (done (shape m d.feature) (Loses v)) is
 
 ---------------------------------------------------------------- one end
@@ -91,7 +91,7 @@ module _ (m : Metamodel) (d : End) (many : (shape m d.feature).is_single ≡ fal
   sh = shape m d.feature
 
   many-loss : (ks : List Value) (v : Value) (vs : List Value) → IsDistinct (ks ++ v ∷ vs) → done sh (Loses v) (record { values = ks ++ v ∷ vs; flag = b }) ≡ record { values = ks ++ vs; flag = b }
-  many-loss ks v vs distinct = rw many (λ i. record { values = without-middle ks v vs distinct i; flag = b })
+  many-loss ks v vs distinct = rw many (λ i. record { values = list_without_value-middle ks v vs distinct i; flag = b })
 
   many-notice : (ks : List Value) (v : Value) (vs : List Value) (h : Held) → IsDistinct (ks ++ v ∷ vs) → h ≡ record { values = ks ++ v ∷ vs; flag = b } → notice_of sh d (Loses v) h ≡ removal (loss d v (length ks))
   many-notice ks v vs h distinct is =
@@ -106,17 +106,17 @@ module _ (m : Metamodel) (d : End) (many : (shape m d.feature).is_single ≡ fal
       has-some (k ∷ ks) = refl
 
   many-notices : (told_as : Loss → Notice) → ((v : Value) (k : ℕ) → removal (loss d v k) ≡ told_as (loss d v k)) → (e : Ends) (ks vs : List Value) → IsDistinct (ks ++ vs) → e d ≡ record { values = ks ++ vs; flag = b }
-      → told m e (map (loses d) (filter lost vs)) ≡ map told_as (lost_from lost d vs (length ks))
+      → change_notices m e (map (loses d) (filter lost vs)) ≡ map told_as (losses_from lost d vs (length ks))
   many-notices told_as each e ks [] distinct is = refl
   many-notices told_as each e ks (v ∷ vs) distinct is =
-      let next : Ends = replayed_in (has_flag m) e (notice_of sh d (Loses v) (e d)) in
-      elim (lost v) as (λ x. told m e (map (loses d) (if x then v ∷ filter lost vs else filter lost vs)) ≡ map told_as (if x then loss d v (length ks) ∷ lost_from lost d vs (length ks) else lost_from lost d vs (suc (length ks)))) [
+      let next : Ends = ends_after_notice (has_flag m) e (notice_of sh d (Loses v) (e d)) in
+      elim (lost v) as (λ x. change_notices m e (map (loses d) (if x then v ∷ filter lost vs else filter lost vs)) ≡ map told_as (if x then loss d v (length ks) ∷ losses_from lost d vs (length ks) else losses_from lost d vs (suc (length ks)))) [
         | true ↦
-            ap (λ (n : Notice). n ∷ told m next (map (loses d) (filter lost vs))) (many-notice ks v vs (e d) distinct is ∙ each v (length ks))
+            ap (λ (n : Notice). n ∷ change_notices m next (map (loses d) (filter lost vs))) (many-notice ks v vs (e d) distinct is ∙ each v (length ks))
             ∙ ap (λ (ns : List Notice). told_as (loss d v (length ks)) ∷ ns) (many-notices told_as each next ks vs (distinct-middle ks v vs distinct) (next-at m e d v _ is ∙ many-loss ks v vs distinct))
         | false ↦
             many-notices told_as each e (ks ++ v ∷ []) vs (subst IsDistinct (push-middle ks v vs) distinct) (is ∙ (λ i. record { values = push-middle ks v vs i; flag = b }))
-            ∙ ap (λ (k : ℕ). map told_as (lost_from lost d vs k)) (length-pushed ks v)
+            ∙ ap (λ (k : ℕ). map told_as (losses_from lost d vs k)) (length-pushed ks v)
       ]
 
   many-held : (ks vs : List Value) → IsDistinct (ks ++ vs) → happened_at m (map (loses d) (filter lost vs)) d (record { values = ks ++ vs; flag = b }) ≡ record { values = ks ++ filter (λ v. not (lost v)) vs; flag = b }
@@ -144,7 +144,7 @@ module _ (s : Model) (legal : IsLegal s) (o : ObjectNo) (d : End) (reference : (
   values-apart = subst IsDistinct (sym (values-linked s d reference)) (legal.links.set.placed.distinct d)
 
   listed : a.is_single ≡ false → held_at r d ≡ record { values = r.values d; flag = r.flag d }
-  listed many = ap (λ (b : Bool). record { values = shown b (r.values d); flag = r.flag d }) many
+  listed many = ap (λ (b : Bool). record { values = shown_values b (r.values d); flag = r.flag d }) many
 
   -- the notification of a loss from a list that is not empty is the same, computed before the earlier losses
   removal-read : a.is_single ≡ false → (v : Value) (vs : List Value) → r.values d ≡ v ∷ vs → (l : Loss) → l.end ≡ d → removal l ≡ lost_notice r l
@@ -152,14 +152,14 @@ module _ (s : Model) (legal : IsLegal s) (o : ObjectNo) (d : End) (reference : (
       subst (λ (x : End). removal (record l { end = x }) ≡ lost_notice r (record l { end = x })) (sym at) here
     where
       set : is_set a (held_at r d) ≡ true
-      set = ap (λ (ws : List Value). is_set a (record { values = shown a.is_single ws; flag = r.flag d })) has ∙ rw many refl
+      set = ap (λ (ws : List Value). is_set a (record { values = shown_values a.is_single ws; flag = r.flag d })) has ∙ rw many refl
 
       here : removal (record l { end = d }) ≡ lost_notice r (record l { end = d })
       here =
           sym (λ i. record { notifier = d.node; feature = Some d.feature; kind = kind.Remove; old_value = l.value; new_value = value.Null; position = pos l.position; was_set = set i })
           ∙ ap (λ (b : Bool). if b then notice a d (held_at r d) kind.Set l.value value.Null no_index else notice a d (held_at r d) kind.Remove l.value value.Null (pos l.position)) (sym many)
 
-  list-notices : a.is_single ≡ false → (vs : List Value) → r.values d ≡ vs → (e : Ends) → e d ≡ held_at r d → told s.metamodel e (map (loses d) (filter (is_lost r o d) vs)) ≡ map (lost_notice r) (lost_from (is_lost r o d) d vs 0)
+  list-notices : a.is_single ≡ false → (vs : List Value) → r.values d ≡ vs → (e : Ends) → e d ≡ held_at r d → change_notices s.metamodel e (map (loses d) (filter (is_lost r o d) vs)) ≡ map (lost_notice r) (losses_from (is_lost r o d) d vs 0)
   list-notices many [] has e is = refl
   list-notices many (v ∷ vs) has e is =
       many-notices s.metamodel d many (is_lost r o d) (r.flag d) (lost_notice r) (λ w k. removal-read many v vs has (loss d w k) refl) e [] (v ∷ vs) (subst IsDistinct has values-apart)
@@ -167,11 +167,11 @@ module _ (s : Model) (legal : IsLegal s) (o : ObjectNo) (d : End) (reference : (
 
   -- a single end has at most one value
   single-notices : a.is_single ≡ true → (q : Option Value) → (e : Ends) → e d ≡ held_at r d
-      → (let vs = option_to_list q in told s.metamodel e (map (loses d) (filter (is_lost r o d) vs)) ≡ map (lost_notice r) (lost_from (is_lost r o d) d vs 0))
+      → (let vs = option_to_list q in change_notices s.metamodel e (map (loses d) (filter (is_lost r o d) vs)) ≡ map (lost_notice r) (losses_from (is_lost r o d) d vs 0))
   single-notices single None e is = refl
   single-notices single (Some v) e is =
       let m = s.metamodel in
-      elim (is_lost r o d v) as (λ b. told m e (map (loses d) (if b then v ∷ [] else [])) ≡ map (lost_notice r) (if b then loss d v 0 ∷ [] else [])) [
+      elim (is_lost r o d v) as (λ b. change_notices m e (map (loses d) (if b then v ∷ [] else [])) ≡ map (lost_notice r) (if b then loss d v 0 ∷ [] else [])) [
         | true ↦ ap (λ (n : Notice). n ∷ []) (single-notice v)
         | false ↦ refl
       ]
@@ -183,34 +183,34 @@ module _ (s : Model) (legal : IsLegal s) (o : ObjectNo) (d : End) (reference : (
           ∙ ap (λ (b : Bool). if b then notice a d (held_at r d) kind.Set v value.Null no_index else notice a d (held_at r d) kind.Remove v value.Null (pos 0)) (sym single)
 
   -- the notifications of the losses of the end
-  pub end-notices : (e : Ends) → e d ≡ held_at r d → told s.metamodel e (lost_with r o d) ≡ map (lost_notice r) (lost_at r o d)
+  pub end-notices : (e : Ends) → e d ≡ held_at r d → change_notices s.metamodel e (lost_with r o d) ≡ map (lost_notice r) (losses_at r o d)
   end-notices e is =
       let lost = is_lost r o d in
-      elim a.is_single as (λ b. a.is_single ≡ b → told s.metamodel e (lost_with r o d) ≡ map (lost_notice r) (lost_at r o d)) [
+      elim a.is_single as (λ b. a.is_single ≡ b → change_notices s.metamodel e (lost_with r o d) ≡ map (lost_notice r) (losses_at r o d)) [
         | true ↦ λ single.
-            subst (λ (vs : List Value). told s.metamodel e (map (loses d) (filter lost vs)) ≡ map (lost_notice r) (lost_from lost d vs 0)) (sym (values-single s d legal reference single))
+            subst (λ (vs : List Value). change_notices s.metamodel e (map (loses d) (filter lost vs)) ≡ map (lost_notice r) (losses_from lost d vs 0)) (sym (values-single s d legal reference single))
             (single-notices single (slice_get (r.values d) 0) e is)
         | false ↦ λ many. list-notices many (r.values d) refl e is
       ] refl
 
   single-held : a.is_single ≡ true → (q : Option Value)
-      → (let vs = option_to_list q in happened_at s.metamodel (map (loses d) (filter (is_lost r o d) vs)) d (record { values = shown true vs; flag = r.flag d }) ≡ record { values = shown true (filter (λ v. not (is_lost r o d v)) vs); flag = r.flag d })
+      → (let vs = option_to_list q in happened_at s.metamodel (map (loses d) (filter (is_lost r o d) vs)) d (record { values = shown_values true vs; flag = r.flag d }) ≡ record { values = shown_values true (filter (λ v. not (is_lost r o d v)) vs); flag = r.flag d })
   single-held single None = refl
   single-held single (Some v) =
       let h : Held = record { values = v ∷ []; flag = r.flag d } in
       let off = (reference-plain s.metamodel d.feature reference).0 ∙ sym (reference-flag s d.node d.feature legal reference) in
-      elim (is_lost r o d v) as (λ b. happened_at s.metamodel (map (loses d) (if b then v ∷ [] else [])) d h ≡ record { values = shown true (if not b then v ∷ [] else []); flag = r.flag d }) [
+      elim (is_lost r o d v) as (λ b. happened_at s.metamodel (map (loses d) (if b then v ∷ [] else [])) d h ≡ record { values = shown_values true (if not b then v ∷ [] else []); flag = r.flag d }) [
         | true ↦ done-here s.metamodel d (loses d v) h (same_end-self d) ∙ rw single (λ i. record { values = value.Null ∷ []; flag = off i })
         | false ↦ refl
       ]
 
   -- the values of the end after its losses
-  pub end-held : happened_at s.metamodel (lost_with r o d) d (held_at r d) ≡ record { values = shown a.is_single (kept_at r o d); flag = r.flag d }
+  pub end-held : happened_at s.metamodel (lost_with r o d) d (held_at r d) ≡ record { values = shown_values a.is_single (values_kept r o d); flag = r.flag d }
   end-held =
       let lost = is_lost r o d in
-      elim a.is_single as (λ b. a.is_single ≡ b → happened_at s.metamodel (lost_with r o d) d (record { values = shown b (r.values d); flag = r.flag d }) ≡ record { values = shown b (kept_at r o d); flag = r.flag d }) [
+      elim a.is_single as (λ b. a.is_single ≡ b → happened_at s.metamodel (lost_with r o d) d (record { values = shown_values b (r.values d); flag = r.flag d }) ≡ record { values = shown_values b (values_kept r o d); flag = r.flag d }) [
         | true ↦ λ single.
-            subst (λ (vs : List Value). happened_at s.metamodel (map (loses d) (filter lost vs)) d (record { values = shown true vs; flag = r.flag d }) ≡ record { values = shown true (filter (λ v. not (lost v)) vs); flag = r.flag d }) (sym (values-single s d legal reference single))
+            subst (λ (vs : List Value). happened_at s.metamodel (map (loses d) (filter lost vs)) d (record { values = shown_values true vs; flag = r.flag d }) ≡ record { values = shown_values true (filter (λ v. not (lost v)) vs); flag = r.flag d }) (sym (values-single s d legal reference single))
             (single-held single (slice_get (r.values d) 0))
         | false ↦ λ many. many-held s.metamodel d many lost (r.flag d) [] (r.values d) values-apart
       ] refl
@@ -229,19 +229,19 @@ module _ (s : Model) (legal : IsLegal s) (o : ObjectNo) where
   lost_ends ds = flat_map (lost_with rd o) ds
 
   pub ends-notices : (ds : List End) (e : Ends) → AreInOrder ds → AllByRecursion (λ (d : End). (shape s.metamodel d.feature).is_reference ≡ true) ds → AllByRecursion (λ (d : End). e d ≡ held_at rd d) ds
-      → told s.metamodel e (lost_ends ds) ≡ map (lost_notice rd) (flat_map (lost_at rd o) ds)
+      → change_notices s.metamodel e (lost_ends ds) ≡ map (lost_notice rd) (flat_map (losses_at rd o) ds)
   ends-notices [] e order references are = refl
   ends-notices (d ∷ ds) e order references are =
       let m = s.metamodel in
-      let next : Ends = happened_all m e (lost_with rd o d) in
-      told-append m e (lost_with rd o d) (lost_ends ds)
+      let next : Ends = ends_after_changes m e (lost_with rd o d) in
+      change_notices-append m e (lost_with rd o d) (lost_ends ds)
       ∙ (λ i. end-notices s legal o d references.0 e are.0 i ++ ends-notices ds next order.1 references.1 (others ds (order-apart d ds order.0 order.1) are.1) i)
-      ∙ sym (map-append (lost_notice rd) (lost_at rd o d) (flat_map (lost_at rd o) ds))
+      ∙ sym (map-append (lost_notice rd) (losses_at rd o d) (flat_map (losses_at rd o) ds))
     where
-      others : (xs : List End) → AllByRecursion (λ (x : End). same_end d x ≡ false) xs → AllByRecursion (λ (x : End). e x ≡ held_at rd x) xs → AllByRecursion (λ (x : End). happened_all s.metamodel e (lost_with rd o d) x ≡ held_at rd x) xs
+      others : (xs : List End) → AllByRecursion (λ (x : End). same_end d x ≡ false) xs → AllByRecursion (λ (x : End). e x ≡ held_at rd x) xs → AllByRecursion (λ (x : End). ends_after_changes s.metamodel e (lost_with rd o d) x ≡ held_at rd x) xs
       others [] apart are = tt
       others (x ∷ xs) apart are =
-          (happened_all-at s.metamodel e (lost_with rd o d) x ∙ at-own s.metamodel d x (lost_with rd o d) (e x) (own-losses d (filter (is_lost rd o d) (rd.values d))) apart.0 ∙ are.0, others xs apart.1 are.1)
+          (ends_after_changes-at s.metamodel e (lost_with rd o d) x ∙ at-own s.metamodel d x (lost_with rd o d) (e x) (own-losses d (filter (is_lost rd o d) (rd.values d))) apart.0 ∙ are.0, others xs apart.1 are.1)
 
   -- all other ends are as they were
   pub ends-away : (ds : List End) (x : End) (h : Held) → AllByRecursion (λ (d : End). same_end d x ≡ false) ds → happened_at s.metamodel (lost_ends ds) x h ≡ h

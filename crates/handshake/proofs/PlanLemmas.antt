@@ -13,10 +13,10 @@ use Rattle.mm_types.specs.declared.value.Value.TheVariants as value
 use Rattle.links.specs.declared.plan.Edit.{Edit}
 use Rattle.links.specs.Laws.{cut_edits, without_all}
 use Rattle.links.specs.Links.{Links, end, put, shift, far_end}
-use Rattle.links.specs.Plans.{IsPlanOfKind, PlanFits, PlanMakesNoCycle, applied}
+use Rattle.links.specs.Plans.{IsPlanOfKind, PlanFits, PlanMakesNoCycle, links_after_edits}
 use Rattle.links.specs.declared.plan.Edit.TheVariants as edit
-use Rattle.links.proofs.CutNamedLemmas.{applied-cut_edits, cuts_fit, cuts_of_kind, cuts_without_cycle}
-use Rattle.links.proofs.LegalLemmas.{IsPlanOfKind-append, PlanFits-append, PlanMakesNoCycle-append, applied-append}
+use Rattle.links.proofs.CutNamedLemmas.{cuts_fit, cuts_of_kind, cuts_without_cycle, links_after_edits-cut_edits}
+use Rattle.links.proofs.LegalLemmas.{IsPlanOfKind-append, PlanFits-append, PlanMakesNoCycle-append, links_after_edits-append}
 use Rattle.mm_values.specs.Values as values
 use Rattle.models.specs.Legal.{IsLegal, kinds_of}
 use Rattle.models.specs.Model.{Model, reading}
@@ -45,7 +45,7 @@ use Rattle.handshake.proofs.CutLinkEndLemmas.{cuts-once, cuts-there, left-cuts, 
 use Rattle.removal.specs.Laws.{names_of}
 use Rattle.handshake.proofs.ResolveLemmas.{alone-fits, alone-outside, both, joint, joint-fits, joint-outside, last-index, left, shift-fits}
 use Rattle.handshake.proofs.ResolvedLemmas.{resolved-as}
-use Rattle.proxies.specs.declared.target.Target.{Target}
+use Rattle.proxies.specs.declared.resolved_proxy.ResolvedProxy.{ResolvedProxy}
 
 ---------------------------------------------------------------- new links
 
@@ -84,12 +84,12 @@ record ArePuts (s : Model) (t : Links) (xs : List Edit) (u : Links) : Type 0 whe
   pub fits : PlanFits t xs
   pub of_kind : IsPlanOfKind (kinds_of s.metamodel) xs
   pub no_cycle : PlanMakesNoCycle t xs
-  pub makes : applied t xs ≡ u
+  pub makes : links_after_edits t xs ≡ u
 
 no-puts : (s : Model) (t : Links) → ArePuts s t [] t
 no-puts s t = record { fits = tt; of_kind = tt; no_cycle = tt; makes = refl }
 
-one-put : (s : Model) (legal : IsLegal s) (e : End) (o : ObjectNo) (new : IsNewLink s e o) (i : ℕ) (u : Links) → i ≤ length (end (without_displaced s e o) e) → applied (without_displaced s e o) (new_edit s e i o ∷ []) ≡ u
+one-put : (s : Model) (legal : IsLegal s) (e : End) (o : ObjectNo) (new : IsNewLink s e o) (i : ℕ) (u : Links) → i ≤ length (end (without_displaced s e o) e) → links_after_edits (without_displaced s e o) (new_edit s e i o ∷ []) ≡ u
     → ArePuts s (without_displaced s e o) (new_edit s e i o ∷ []) u
 one-put s legal e o new i u placed makes = record { fits = (new-fits s legal e o new i placed, tt); of_kind = ((refl, refl), tt); no_cycle = (new-outside s legal e o new i placed, tt); makes = makes }
 
@@ -142,7 +142,7 @@ move-puts s n f to from late reference =
     record { fits = ((ltb-true from _ low_from, ltb-true to _ low_to), tt); of_kind = (tt, tt); no_cycle = (tt, tt); makes = refl }
 
 -- the edits of a proxy that is resolved
-joint-puts : (s : Model) (legal : IsLegal s) (e : End) (i : ℕ) (x : Target) (is : IsResolvable (reading s) e i x) (g : FeatureNo) (opposite : (shape s.metamodel e.feature).opposite ≡ Some g) (j : ℕ) (text : List ℕ)
+joint-puts : (s : Model) (legal : IsLegal s) (e : End) (i : ℕ) (x : ResolvedProxy) (is : IsResolvable (reading s) e i x) (g : FeatureNo) (opposite : (shape s.metamodel e.feature).opposite ≡ Some g) (j : ℕ) (text : List ℕ)
     (stands : slice_get ((reading s).values (far_end x.object g)) j ≡ Some (value.Proxy text))
     → (let d = far_end x.object g in let t = left s legal e i x is (both s legal e i x is g opposite j text stands) in
     ArePuts s t (new_edit s e i x.object ∷ edit.Shift d j (length ((reading s).values d) - 1) ∷ []) (joint s legal e i x is g opposite j text stands))
@@ -194,7 +194,7 @@ pub record IsPlanFor (s : Model) (c : Change) (xs : List Edit) : Type 0 where
   pub fits : PlanFits s.links xs
   pub of_kind : IsPlanOfKind (kinds_of s.metamodel) xs
   pub no_cycle : PlanMakesNoCycle s.links xs
-  pub makes : applied s.links xs ≡ links_after s.links (reading s) c
+  pub makes : links_after_edits s.links xs ≡ links_after s.links (reading s) c
 
 module _ (s : Model) (c : Change) (one : resolves_all c ≡ false) (legal : IsLegal s) (early : early_refusal (reading s) c ≡ None) (late : late_refusal (reading s) c ≡ None) (read : HasReadDocument s.metamodel c) where
   ts : List (End × Value)
@@ -208,14 +208,14 @@ module _ (s : Model) (c : Change) (one : resolves_all c ≡ false) (legal : IsLe
       let there = cuts-there s c legal early late in
       let once = cuts-once s c legal early late in
       let xs = made_edits (reading s) c in
-      let cut : applied s.links (cut_edits ts) ≡ without_all s.links ts = applied-cut_edits m ok s.links ts legal.links.set legal.links.kinds there once in
+      let cut : links_after_edits s.links (cut_edits ts) ≡ without_all s.links ts = links_after_edits-cut_edits m ok s.links ts legal.links.set legal.links.kinds there once in
       let last = are-puts s c one legal early late read in
       let whole : IsPlanFor s c (cut_edits ts ++ xs) = record {
         fits = PlanFits-append s.links (cut_edits ts) xs (cuts_fit m ok s.links ts legal.links.set legal.links.kinds there once) (subst (λ (t : Links). PlanFits t xs) (sym cut) last.fits);
         of_kind = IsPlanOfKind-append m (cut_edits ts) xs (cuts_of_kind m ts) last.of_kind;
         no_cycle = PlanMakesNoCycle-append s.links (cut_edits ts) xs (cuts_without_cycle s.links ts) (subst (λ (t : Links). PlanMakesNoCycle t xs) (sym cut) last.no_cycle);
         makes =
-            applied-append s.links (cut_edits ts) xs ∙ ap (λ (t : Links). applied t xs) cut ∙ last.makes
+            links_after_edits-append s.links (cut_edits ts) xs ∙ ap (λ (t : Links). links_after_edits t xs) cut ∙ last.makes
             ∙ ap (λ (t : Links). put_by t (reading s) c) (sym (left-cuts s c legal early));
       } in
       subst (λ (ys : List Edit). IsPlanFor s c (ys ++ xs)) (sym (cut_edits-pairs (cut_link_ends (reading s) c))) whole

@@ -8,7 +8,7 @@ use Rattle.std.proofs.lemmas.Bool.Decides.{nat_tests}
 use Rattle.std.proofs.lemmas.List.Edits.{insert_end}
 use Rattle.mm_meta.proofs.ShapeLemmas.{opposites_are_pairs}
 use Rattle.mm_types.proofs.SameLemmas.{same_end-self, same_end-true}
-use Rattle.mm_types.specs.Ends.{Held, shown, value_in}
+use Rattle.mm_types.specs.Ends.{Held, shown_values, value_in}
 use Rattle.mm_types.specs.Same.{node_value, same_end}
 use Rattle.mm_types.specs.Shapes.{Shape, shape}
 use Rattle.mm_types.specs.declared.end.End.{End}
@@ -26,7 +26,7 @@ use Rattle.models.proofs.EndLemmas.{values-single}
 use Rattle.models.specs.Legal.{IsLegal}
 use Rattle.models.specs.Model.{Model, kept_flag, reading}
 use Rattle.models.specs.Reading.{Reading, held_at, value_at}
-use Rattle.handshake.specs.Displaced.{has_already, yields}
+use Rattle.handshake.specs.Displaced.{displaced_link_ends, has_already}
 use Rattle.proxies.specs.Resolving.{opposite_end}
 use Rattle.handshake.specs.Laws.{AreDifferent}
 use Rattle.handshake.specs.FeatureChange.{feature_change}
@@ -39,7 +39,7 @@ use Rattle.handshake.proofs.AttributeLemmas.{Replays}
 use Rattle.handshake.proofs.ApartLemmas.{far_losses-away}
 use Rattle.handshake.proofs.CutEndLemmas.{held-one, reference-flag, reference-plain, same-held}
 use Rattle.handshake.proofs.CutHeldLemmas.{held_in, losses-cut}
-use Rattle.handshake.proofs.CutLinkEndLemmas.{Stands, far-emptied, same_end-symmetric, yields-different, yields-stand}
+use Rattle.handshake.proofs.CutLinkEndLemmas.{HasLinkEnd, displaced_link_ends-different, displaced_link_ends-stand, far-emptied, same_end-symmetric}
 use Rattle.removal.specs.Laws.{names_of}
 use Rattle.removal.proofs.ListLemmas.{all-map}
 use Rattle.handshake.proofs.HappenedLemmas.{at-others, at-own, done, done-here, done-other, done_at, happened_at, happened_at-append}
@@ -51,14 +51,14 @@ use Rattle.handshake.proofs.LinkLemmas.{IsNewLink, near-empty, new-fits, without
 pub at-each : (P : End → Type 0) (e d : End) → P e → (same_end e d ≡ false → P d) → P d
 at-each P e d here other = elim (same_end e d) as (λ b. same_end e d ≡ b → P d) [ true ↦ λ same. subst P (same_end-true e d same) here | false ↦ other ] refl
 
-stand-there : (s : Links) (ts : List LinkEnd) → AllByRecursion (Stands s) ts → AreThere s (names_of ts)
+stand-there : (s : Links) (ts : List LinkEnd) → AllByRecursion (HasLinkEnd s) ts → AreThere s (names_of ts)
 stand-there s ts stand = all-map (λ (x : End × Value). Has s x.0 x.1) (λ (t : LinkEnd). (t.end, t.value)) ts stand
 
 ---------------------------------------------------------------- the value that is there
 
-one-shown : (o : Option Value) → shown true (option_to_list o) ≡ value_in (shown true (option_to_list o)) 0 ∷ []
-one-shown None = refl
-one-shown (Some v) = refl
+one-shown_values : (o : Option Value) → shown_values true (option_to_list o) ≡ value_in (shown_values true (option_to_list o)) 0 ∷ []
+one-shown_values None = refl
+one-shown_values (Some v) = refl
 
 module _ (s : Model) (e : End) (legal : IsLegal s) (reference : (shape s.metamodel e.feature).is_reference ≡ true) (single : (shape s.metamodel e.feature).is_single ≡ true) where
   -- a single end holds its value
@@ -66,8 +66,8 @@ module _ (s : Model) (e : End) (legal : IsLegal s) (reference : (shape s.metamod
   held-value =
       let a = shape s.metamodel e.feature in
       let o = slice_get ((reading s).values e) 0 in
-      let one = subst (λ (b : Bool). shown b ((reading s).values e) ≡ value_in (shown b ((reading s).values e)) 0 ∷ []) (sym single)
-      (subst (λ (vs : List Value). shown true vs ≡ value_in (shown true vs) 0 ∷ []) (sym (values-single s e legal reference single)) (one-shown o)) in
+      let one = subst (λ (b : Bool). shown_values b ((reading s).values e) ≡ value_in (shown_values b ((reading s).values e)) 0 ∷ []) (sym single)
+      (subst (λ (vs : List Value). shown_values true vs ≡ value_in (shown_values true vs) 0 ∷ []) (sym (values-single s e legal reference single)) (one-shown_values o)) in
       let off = (reference-plain s.metamodel e.feature reference).0 ∙ sym (reference-flag s e.node e.feature legal reference) in
       λ i. record { values = sym one i; flag = off i }
 
@@ -95,7 +95,7 @@ far_losses-all r e (t ∷ ts) d h here other =
     ∙ ap (happened_at m (flat_map (losses r) ts) d) (happened_at-far_loss r t d h (ap (λ (x : End). same_end x d) here.0 ∙ other))
     ∙ sym (happened_at-append m (losses r t) (flat_map (losses r) ts) d h)
 
-module _ (s : Model) (legal : IsLegal s) (e : End) (ts : List LinkEnd) (here : AllByRecursion (λ (t : LinkEnd). t.end ≡ e) ts) (different : AreDifferent (reading s) ts) (stand : AllByRecursion (Stands s.links) ts) where
+module _ (s : Model) (legal : IsLegal s) (e : End) (ts : List LinkEnd) (here : AllByRecursion (λ (t : LinkEnd). t.end ≡ e) ts) (different : AreDifferent (reading s) ts) (stand : AllByRecursion (HasLinkEnd s.links) ts) where
   -- the losses of the far ends, and then the feature changes of the end itself, if these have the same effect on it as the cuts
   pub cut-replays : (own : List FeatureChange) → AllByRecursion (λ (t : FeatureChange). t.at ≡ e) own → happened_at s.metamodel own e (held_at (reading s) e) ≡ held_in s (without_all s.links (names_of ts)) e
       → Replays s (far_losses (reading s) ts ++ own) (record s { links = without_all s.links (names_of ts) })
@@ -144,7 +144,7 @@ module _ (s : Model) (legal : IsLegal s) (e : End) (o : ObjectNo) (new : IsNewLi
   end-joined : (d : End) → end joined d ≡ put_end left e i o (shape s.metamodel e.feature).opposite d
   end-joined d =
       end-put left e i o (shape s.metamodel e.feature).opposite (shape s.metamodel e.feature).containing
-      (without_all_legal s.links (names_of (yields (reading s) e o)) legal.links.set) (new-fits s legal e o new i placed) d
+      (without_all_legal s.links (names_of (displaced_link_ends (reading s) e o)) legal.links.set) (new-fits s legal e o new i placed) d
 
   -- the values of `put_end`, by the results of its tests
   abbrev end_if : Bool → Bool → End → List Value
@@ -159,12 +159,12 @@ module _ (s : Model) (legal : IsLegal s) (e : End) (o : ObjectNo) (new : IsNewLi
   far-joined : (g : FeatureNo) → (shape s.metamodel e.feature).opposite ≡ Some g → same_end e (far_end o g) ≡ false → end joined (far_end o g) ≡ end left (far_end o g) ++ node_value e.node ∷ []
   far-joined g is other = end-joined_if (far_end o g) false true other (ap (λ (q : Option FeatureNo). is_far o q (far_end o g)) is ∙ same_end-self (far_end o g))
 
-  there : AreThere s.links (names_of (yields (reading s) e o))
-  there = stand-there s.links (yields (reading s) e o) (yields-stand s e o legal new.reference)
+  there : AreThere s.links (names_of (displaced_link_ends (reading s) e o))
+  there = stand-there s.links (displaced_link_ends (reading s) e o) (displaced_link_ends-stand s e o legal new.reference)
 
   -- the feature changes of the displaced links, which come before the end itself gains
   abbrev kept : List FeatureChange
-  kept = flat_map (other_losses (reading s) e o) (yields (reading s) e o)
+  kept = flat_map (other_losses (reading s) e o) (displaced_link_ends (reading s) e o)
 
   abbrev before : List FeatureChange
   before = kept ++ far_gain (reading s) e o
@@ -172,8 +172,8 @@ module _ (s : Model) (legal : IsLegal s) (e : End) (o : ObjectNo) (new : IsNewLi
   -- at an end that the new link does not replace
   kept-left : (d : End) → is_replaced (reading s) e o d ≡ false → happened_at s.metamodel kept d (held_at (reading s) d) ≡ held_in s left d
   kept-left d stays =
-      happened_at-other_losses (reading s) e o (yields (reading s) e o) d (held_at (reading s) d) stays
-      ∙ losses-cut s legal (yields (reading s) e o) there (yields-different (reading s) e o) d
+      happened_at-other_losses (reading s) e o (displaced_link_ends (reading s) e o) d (held_at (reading s) d) stays
+      ∙ losses-cut s legal (displaced_link_ends (reading s) e o) there (displaced_link_ends-different (reading s) e o) d
 
   module _ (gain : ChangeKind) where
     abbrev At : End → Type 0
@@ -262,7 +262,7 @@ module _ (s : Model) (legal : IsLegal s) (e : End) (o : ObjectNo) (new : IsNewLi
 
 -- a single end has only the object
 pub set-replays : (s : Model) (legal : IsLegal s) (e : End) (o : ObjectNo) (new : IsNewLink s e o) → (shape s.metamodel e.feature).is_single ≡ true
-    → Replays s ((flat_map (other_losses (reading s) e o) (yields (reading s) e o) ++ far_gain (reading s) e o) ++ feature_change e (Gains (value.Object o)) ∷ [])
+    → Replays s ((flat_map (other_losses (reading s) e o) (displaced_link_ends (reading s) e o) ++ far_gain (reading s) e o) ++ feature_change e (Gains (value.Object o)) ∷ [])
     (record s { links = put (without_displaced s e o) e 0 o (shape s.metamodel e.feature).opposite (shape s.metamodel e.feature).containing })
 set-replays s legal e o new single =
     let a = shape s.metamodel e.feature in
@@ -284,7 +284,7 @@ pub list-held : (s : Model) (l : Links) (y : End) → (shape s.metamodel y.featu
 list-held s l y reference many = rw (many, reference) refl
 
 pub add-replays : (s : Model) (legal : IsLegal s) (e : End) (o : ObjectNo) (new : IsNewLink s e o) (j : Option ℕ) (i : ℕ) → (shape s.metamodel e.feature).is_single ≡ false → i ≤ length (end (without_displaced s e o) e) → i ≡ unwrap_or j (length (end (without_displaced s e o) e))
-    → Replays s ((flat_map (other_losses (reading s) e o) (yields (reading s) e o) ++ far_gain (reading s) e o) ++ feature_change e (gain_at j (value.Object o)) ∷ [])
+    → Replays s ((flat_map (other_losses (reading s) e o) (displaced_link_ends (reading s) e o) ++ far_gain (reading s) e o) ++ feature_change e (gain_at j (value.Object o)) ∷ [])
     (record s { links = put (without_displaced s e o) e i o (shape s.metamodel e.feature).opposite (shape s.metamodel e.feature).containing })
 add-replays s legal e o new j i many placed is =
     let a = shape s.metamodel e.feature in

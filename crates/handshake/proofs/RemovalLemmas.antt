@@ -4,7 +4,7 @@ use Rattle.std.specs.Prelude.{IfSome}
 use Rattle.std.specs.Option.{option_map_or}
 use Rattle.std.proofs.lemmas.Option.{none-some, same_Some}
 use Rattle.mm_types.specs.declared.numbers.ObjectNo.{ObjectNo}
-use Rattle.mm_values.specs.declared.edit.ValueEdit.TheVariants.{DropObject}
+use Rattle.mm_values.specs.declared.value_edit.ValueEdit.TheVariants.{DropObject}
 use Rattle.models.specs.Reading.{Reading}
 use Rattle.containment.specs.Forest.{subtree}
 use Rattle.removal.specs.Removals.{IsRemoval}

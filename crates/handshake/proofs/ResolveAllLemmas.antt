@@ -15,27 +15,27 @@ use Rattle.mm_types.specs.declared.value.Value.{Value}
 use Rattle.mm_types.specs.Conditions.{◌unless◌, ◌else_by◌}
 use Rattle.mm_types.specs.Lookups as lookups
 use Rattle.links.specs.Links.{Links}
-use Rattle.links.specs.Plans.{IsPlanOfKind, PlanFits, PlanMakesNoCycle, applied}
+use Rattle.links.specs.Plans.{IsPlanOfKind, PlanFits, PlanMakesNoCycle, links_after_edits}
 use Rattle.links.specs.declared.plan.Edit.{Edit}
-use Rattle.links.proofs.LegalLemmas.{IsPlanOfKind-append, PlanFits-append, PlanMakesNoCycle-append, applied-append}
+use Rattle.links.proofs.LegalLemmas.{IsPlanOfKind-append, PlanFits-append, PlanMakesNoCycle-append, links_after_edits-append}
 use Rattle.models.specs.Legal.{IsLegal, kinds_of}
 use Rattle.models.specs.Model.{Model, reading, values_at}
 use Rattle.models.specs.Reading.{Reading, at_end, has_feature, held_at}
 use Rattle.removal.specs.declared.link_end.LinkEnd.{LinkEnd}
 use Rattle.handshake.specs.Displaced.{counter_link_end, link_end_in}
-use Rattle.handshake.specs.Edits.{cut_of, edits_of, joining}
-use Rattle.handshake.specs.Effects.{joined, with_resolution, without_link_ends}
+use Rattle.handshake.specs.Edits.{cut_of, edits_of, joining_edits}
+use Rattle.handshake.specs.Effects.{links_after_join, with_resolution, without_link_ends}
 use Rattle.proxies.specs.Proxies.{end_of}
 use Rattle.handshake.specs.Refusals.{early_refusal}
 use Rattle.proxies.specs.Refusals.{resolve_refusal}
 use Rattle.proxies.specs.Resolving.{target_at}
 use Rattle.proxies.specs.ResolvingAll.{Resolution, resolutions, resolved_to, values_left, values_with, with_resolved}
-use Rattle.handshake.specs.FeatureChanges.{resolution_told, resolved}
+use Rattle.handshake.specs.FeatureChanges.{changes_of_resolve, resolution_told}
 use Rattle.handshake.specs.declared.change.Change.TheVariants.{At}
 use Rattle.handshake.specs.declared.act.Act.TheVariants.{Resolve}
 use Rattle.handshake.specs.declared.change_kind.FeatureChange.{FeatureChange}
 use Rattle.proxies.specs.declared.site.ProxySite.{ProxySite}
-use Rattle.proxies.specs.declared.target.Target.{Target}
+use Rattle.proxies.specs.declared.resolved_proxy.ResolvedProxy.{ResolvedProxy}
 use Rattle.handshake.proofs.AttributeLemmas.{Replays}
 use Rattle.handshake.proofs.ChainLemmas.{resolve-changes}
 use Rattle.handshake.proofs.HappenedLemmas.{happened_at, happened_at-append}
@@ -52,7 +52,7 @@ pub record Leads (s : Model) (es : List Edit) (ts : List FeatureChange) (u : Lin
   pub fits : PlanFits s.links es
   pub of_kind : IsPlanOfKind (kinds_of s.metamodel) es
   pub no_cycle : PlanMakesNoCycle s.links es
-  pub makes : applied s.links es ≡ u
+  pub makes : links_after_edits s.links es ≡ u
   pub replays : Replays s ts (with_links s u)
 
 leads-nowhere : (s : Model) → IsLegal s → Leads s [] [] s.links (values_at s)
@@ -66,7 +66,7 @@ leads-on s es xs ts us u w ends more one two =
       fits = PlanFits-append s.links es xs one.fits (subst (λ (t : Links). PlanFits t xs) (sym one.makes) two.fits);
       of_kind = IsPlanOfKind-append (kinds_of s.metamodel) es xs one.of_kind two.of_kind;
       no_cycle = PlanMakesNoCycle-append s.links es xs one.no_cycle (subst (λ (t : Links). PlanMakesNoCycle t xs) (sym one.makes) two.no_cycle);
-      makes = applied-append s.links es xs ∙ ap (λ (t : Links). applied t xs) one.makes ∙ two.makes;
+      makes = links_after_edits-append s.links es xs ∙ ap (λ (t : Links). links_after_edits t xs) one.makes ∙ two.makes;
       replays = λ d. happened_at-append s.metamodel ts us d (held_at (reading s) d) ∙ ap (happened_at s.metamodel us d) (one.replays d) ∙ two.replays d;
     }
 
@@ -84,20 +84,20 @@ named-there r o f has = by (r.class o) refl has
     by (Some c) is h = (λ k. ((NoObject unless is_some (is k) else_by NoResource unless true) else_by NoFeature unless has k) else_by None)
 
 -- the links that are cut when a proxy is resolved, if its feature is a reference
-abbrev pub cut : Reading → ProxySite → Bool → Option Target → List LinkEnd
+abbrev pub cut : Reading → ProxySite → Bool → Option ResolvedProxy → List LinkEnd
 cut r p b q = if b then link_end_in r (end_of p) p.index ++ option_map_or (counter_link_end r) q [] else []
 
-module _ (s : Model) (legal : IsLegal s) (p : ProxySite) (x : Target) (late : resolve_refusal (reading s) (end_of p) p.index ≡ None) (found : target_at (reading s) (end_of p) p.index ≡ Some x) where
+module _ (s : Model) (legal : IsLegal s) (p : ProxySite) (x : ResolvedProxy) (late : resolve_refusal (reading s) (end_of p) p.index ≡ None) (found : target_at (reading s) (end_of p) p.index ≡ Some x) where
   abbrev r : Reading
   r = reading s
 
   abbrev e : End
   e = end_of p
 
-  abbrev Led : Bool → Option Target → Type 0
+  abbrev Led : Bool → Option ResolvedProxy → Type 0
   Led b q =
-      Leads s (map cut_of (cut r p b q) ++ option_map_or (joining r e p.index) q []) (option_map_or (resolved e p.index) q [])
-      (let t = without_link_ends s.links (cut r p b q) in option_map_or (joined t r e p.index) q t) (values_with r e p.index x)
+      Leads s (map cut_of (cut r p b q) ++ option_map_or (joining_edits r e p.index) q []) (option_map_or (changes_of_resolve e p.index) q [])
+      (let t = without_link_ends s.links (cut r p b q) in option_map_or (links_after_join t r e p.index) q t) (values_with r e p.index x)
 
   pub early : early_refusal (reading s) (At (at_end (node.Object p.object) p.feature) (Resolve p.index)) ≡ None
   early = named-there r p.object p.feature (feature-there s legal e p.index (resolvable r e p.index late).target (resolvable r e p.index late).resolvable)
@@ -123,18 +123,18 @@ module _ (s : Model) (legal : IsLegal s) (p : ProxySite) (x : Target) (late : re
 ---------------------------------------------------------------- one after another
 
 -- a proxy that is resolved is not refused, and is resolved to its target
-pub record IsResolvedTo (r : Reading) (p : ProxySite) (x : Target) : Type 0 where
+pub record IsResolvedTo (r : Reading) (p : ProxySite) (x : ResolvedProxy) : Type 0 where
   pub late : resolve_refusal r (end_of p) p.index ≡ None
   pub found : target_at r (end_of p) p.index ≡ Some x
 
-pub resolved-to : (r : Reading) (p : ProxySite) (x : Target) → resolved_to r p ≡ Some x → IsResolvedTo r p x
+pub resolved-to : (r : Reading) (p : ProxySite) (x : ResolvedProxy) → resolved_to r p ≡ Some x → IsResolvedTo r p x
 resolved-to r p x = by (resolve_refusal r (end_of p) p.index) refl
   where
     by : (q : Option Refused) → resolve_refusal r (end_of p) p.index ≡ q → (if is_some q then None else target_at r (end_of p) p.index) ≡ Some x → IsResolvedTo r p x
     by None none is = record { late = none; found = is }
     by (Some y) refused is = absurd (none-some x is)
 
-abbrev resolution : Reading → ProxySite → Target → Resolution
+abbrev resolution : Reading → ProxySite → ResolvedProxy → Resolution
 resolution r p x = record { reads = r; site = p; target = x }
 
 -- resolving the proxies at some locations, with the resulting values of ends, leads to a legal model
@@ -143,8 +143,8 @@ pub all-lead : (ps : List ProxySite) (s : Model) → IsLegal s
 all-lead [] s legal = leads-nowhere s legal
 all-lead (p ∷ ps) s legal =
     let r = reading s in
-    let xs : Option Target → List Resolution = λ q. option_map_or (λ x. resolution r p x ∷ resolutions (with_resolved r p x) ps) q (resolutions r ps) in
-    let ends : Option Target → End → List Value = λ q. option_map_or (λ x. values_left (with_resolved r p x) ps) q (values_left r ps) in
+    let xs : Option ResolvedProxy → List Resolution = λ q. option_map_or (λ x. resolution r p x ∷ resolutions (with_resolved r p x) ps) q (resolutions r ps) in
+    let ends : Option ResolvedProxy → End → List Value = λ q. option_map_or (λ x. values_left (with_resolved r p x) ps) q (values_left r ps) in
     elim (resolved_to r p) as (λ q. resolved_to r p ≡ q → Leads s (flat_map edits_of (xs q)) (flat_map resolution_told (xs q)) (fold with_resolution s.links (xs q)) (ends q)) [
       | None ↦ λ _. all-lead ps s legal
       | Some x ↦ λ is.

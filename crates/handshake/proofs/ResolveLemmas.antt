@@ -8,7 +8,7 @@ use Rattle.std.proofs.lemmas.Option.{none-some, slice_get_within}
 use Rattle.mm_meta.proofs.ShapeLemmas.{opposites_are_pairs}
 use Rattle.mm_types.proofs.SameLemmas.{same_end-self, same_end-true}
 use Rattle.mm_types.specs.Ends.{has_value}
-use Rattle.mm_types.specs.Lists.{put_back, shifted}
+use Rattle.mm_types.specs.Lists.{put_back, values_after_move}
 use Rattle.mm_types.specs.Same.{node_value, same_end, same_value}
 use Rattle.mm_types.specs.Shapes.{Shape, is_bounded, shape}
 use Rattle.mm_types.specs.declared.end.End.{End}
@@ -20,7 +20,7 @@ use Rattle.links.proofs.CutNamedLemmas.{end-without_all, lacks-without_all, with
 use Rattle.links.proofs.FilterLemmas.{filter_all, filter_alike, remove-filter}
 use Rattle.links.proofs.LegalLemmas.{put_legal}
 use Rattle.links.proofs.PutEndLemmas.{end-put, put_outside}
-use Rattle.links.specs.Holders.{contained}
+use Rattle.links.specs.Holders.{node_contained}
 use Rattle.links.specs.Laws.{IsPutOutside, is_far, is_named, put_end, without_all}
 use Rattle.links.specs.LegalSets.{IsLegalSet}
 use Rattle.links.specs.Links.{Links, end, far_end, put, shift}
@@ -33,7 +33,7 @@ use Rattle.models.specs.Reading.{has_feature, shape_at}
 use Rattle.containment.proofs.PartLemmas.{kinds-are, legal-at}
 use Rattle.removal.specs.TreeLinkEnds.{link_end}
 use Rattle.handshake.specs.Displaced.{link_end_in}
-use Rattle.proxies.specs.declared.target.Target.{Target}
+use Rattle.proxies.specs.declared.resolved_proxy.ResolvedProxy.{ResolvedProxy}
 use Rattle.handshake.proofs.CutLinkEndLemmas.{values-linked}
 use Rattle.handshake.proofs.KnownLemmas.{IsResolvable, far-reference}
 use Rattle.handshake.proofs.LegalEndLemmas.{end-from, list_all-insert, taken_out, takes-back}
@@ -74,8 +74,8 @@ without-last : (vs : List Value) (w : Value) → remove (vs ++ w ∷ []) (length
 without-last [] w = refl
 without-last (v ∷ vs) w = ap (λ (ys : List Value). v ∷ ys) (without-last vs w)
 
-shifted-last : (vs : List Value) (w : Value) (j : ℕ) → shifted (vs ++ w ∷ []) j (length vs) ≡ insert vs j w
-shifted-last vs w j =
+values_after_move-last : (vs : List Value) (w : Value) (j : ℕ) → values_after_move (vs ++ w ∷ []) j (length vs) ≡ insert vs j w
+values_after_move-last vs w j =
     ap (λ (q : Option Value). put_back q (vs ++ w ∷ []) j (length vs)) (last-there vs w) ∙ ap (λ (ys : List Value). insert ys j w) (without-last vs w)
 
 pub length-pushed : (vs : List Value) (w : Value) → length (vs ++ w ∷ []) ≡ suc (length vs)
@@ -106,7 +106,7 @@ swapped e vs ends d = if same_end e d then vs else ends d
 pub swapped-here : (e : End) (vs : List Value) (ends : End → List Value) → swapped e vs ends e ≡ vs
 swapped-here e vs ends = ap (λ (b : Bool). if b then vs else ends e) (same_end-self e)
 
-module _ (s : Model) (legal : IsLegal s) (e : End) (i : ℕ) (x : Target) (is : IsResolvable (reading s) e i x) where
+module _ (s : Model) (legal : IsLegal s) (e : End) (i : ℕ) (x : ResolvedProxy) (is : IsResolvable (reading s) e i x) where
   abbrev a : Shape
   a = shape s.metamodel e.feature
 
@@ -200,8 +200,8 @@ module _ (s : Model) (legal : IsLegal s) (e : End) (i : ℕ) (x : Target) (is : 
         let long = ap (λ (vs : List Value). length vs) near-left in
         record { in_range = omega (arith, low, less, long); absent = still-lacks e v lacks; room = omega (arith, less, few, long) }
 
-    free : IsFree rest (contained e x.object a.containing)
-    free = subst (λ (q : Option FeatureNo). IsFree rest (contained e x.object q)) (sym contains-none) tt
+    free : IsFree rest (node_contained e x.object a.containing)
+    free = subst (λ (q : Option FeatureNo). IsFree rest (node_contained e x.object q)) (sym contains-none) tt
 
     module _ (fits : EditFits rest (edit.Put e i x.object a.opposite a.containing)) where
       outside : MakesNoCycle rest (edit.Put e i x.object a.opposite a.containing)
@@ -354,7 +354,7 @@ module _ (s : Model) (legal : IsLegal s) (e : End) (i : ℕ) (x : Target) (is : 
     far-joint =
         let n = length (end (left both) far) in
         end-shift_near (placed both) (placed-legal both both-apart joint-fits).placed far j n shift-fits.0 shift-fits.1
-        ∙ (λ k. shifted (far-placed k) j (length (far-left k))) ∙ shifted-last (remove met j) self j
+        ∙ (λ k. values_after_move (far-placed k) j (length (far-left k))) ∙ values_after_move-last (remove met j) self j
 
     other-joint : (d : End) → same_end far d ≡ false → end joint d ≡ end (placed both) d
     other-joint d other =

@@ -8,8 +8,8 @@ use Rattle.models.specs.Reading.{Reading}
 use Rattle.removal.specs.TreeLinkEnds.{link_end}
 use Rattle.removal.specs.declared.link_end.LinkEnd.{LinkEnd}
 use Rattle.proxies.specs.Resolving.{target_at}
-use Rattle.proxies.specs.declared.target.Counterpart.{Counterpart}
-use Rattle.proxies.specs.declared.target.Target.{Target}
+use Rattle.proxies.specs.declared.resolved_proxy.Counterpart.{Counterpart}
+use Rattle.proxies.specs.declared.resolved_proxy.ResolvedProxy.{ResolvedProxy}
 use Rattle.proxies.proofs.TargetLemmas.{IsFound, IsMatch, found-is, match-is}
 use Rattle.handshake.specs.Displaced.{counter_link_end, link_end_in, link_ends_resolved}
 
@@ -21,10 +21,10 @@ resolved-cuts P r e i one two = by (target_at r e i) refl
     none-more : P (link_end_in r e i ++ [])
     none-more = elim (slice_get (r.values e) i) as (λ q. P (option_to_list (option_map (link_end e) q)) → P (option_to_list (option_map (link_end e) q) ++ [])) [ None ↦ λ p. p | Some v ↦ λ p. p ] one
 
-    more : (x : Target) → IsFound r e i x → (q : Option Counterpart) → x.counterpart ≡ q → P (link_end_in r e i ++ option_map_or (λ c. link_end_in r c.end c.index) q [])
+    more : (x : ResolvedProxy) → IsFound r e i x → (q : Option Counterpart) → x.counterpart ≡ q → P (link_end_in r e i ++ option_map_or (λ c. link_end_in r c.end c.index) q [])
     more x is None none = none-more
     more x is (Some c) there = two x.object c is.text (match-is r e x.object c (sym is.matched ∙ there)) is.proxy
 
-    by : (q : Option Target) → target_at r e i ≡ q → P (link_end_in r e i ++ option_map_or (counter_link_end r) q [])
+    by : (q : Option ResolvedProxy) → target_at r e i ≡ q → P (link_end_in r e i ++ option_map_or (counter_link_end r) q [])
     by None is = none-more
     by (Some x) is = more x (found-is r e i x is) x.counterpart refl

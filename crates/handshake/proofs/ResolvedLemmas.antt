@@ -17,16 +17,16 @@ use Rattle.removal.specs.Laws.{names_of}
 use Rattle.removal.specs.TreeLinkEnds.{link_end}
 use Rattle.removal.specs.declared.link_end.LinkEnd.{LinkEnd}
 use Rattle.handshake.specs.Displaced.{counter_link_end, link_end_in, link_ends_resolved}
-use Rattle.handshake.specs.Edits.{joining}
-use Rattle.handshake.specs.Effects.{joined}
+use Rattle.handshake.specs.Edits.{joining_edits}
+use Rattle.handshake.specs.Effects.{links_after_join}
 use Rattle.proxies.specs.Refusals.{resolve_refusal}
 use Rattle.proxies.specs.Resolving.{target_at}
 use Rattle.handshake.specs.FeatureChange.{feature_change}
-use Rattle.handshake.specs.FeatureChanges.{resolved}
+use Rattle.handshake.specs.FeatureChanges.{changes_of_resolve}
 use Rattle.handshake.specs.declared.change_kind.ChangeKind.TheVariants.{Resolves}
 use Rattle.handshake.specs.declared.change_kind.FeatureChange.{FeatureChange}
-use Rattle.proxies.specs.declared.target.Counterpart.{Counterpart}
-use Rattle.proxies.specs.declared.target.Target.{Target}
+use Rattle.proxies.specs.declared.resolved_proxy.Counterpart.{Counterpart}
+use Rattle.proxies.specs.declared.resolved_proxy.ResolvedProxy.{ResolvedProxy}
 use Rattle.handshake.proofs.KnownLemmas.{IsResolvable, resolvable}
 use Rattle.handshake.proofs.LinkLemmas.{new_edit}
 use Rattle.handshake.proofs.ResolveLemmas.{joint, one-cut, placed}
@@ -40,13 +40,13 @@ module _ (s : Model) (legal : IsLegal s) (e : End) (i : ℕ) where
   -- the property for a reference without an opposite
   abbrev pub OfAlone : Resolving → Type 0
   OfAlone P =
-      (x : Target) (is : IsResolvable (reading s) e i x) → (shape s.metamodel e.feature).opposite ≡ None
+      (x : ResolvedProxy) (is : IsResolvable (reading s) e i x) → (shape s.metamodel e.feature).opposite ≡ None
       → P (link_end e (value.Proxy is.found.text) ∷ []) (new_edit s e i x.object ∷ []) (feature_change e (Resolves i (value.Object x.object)) ∷ []) (placed s legal e i x is [])
 
   -- the property for a link with a proxy at both ends
   abbrev pub OfJoint : Resolving → Type 0
   OfJoint P =
-      (x : Target) (is : IsResolvable (reading s) e i x) (g : FeatureNo) (opposite : (shape s.metamodel e.feature).opposite ≡ Some g) (j : ℕ) (text : List ℕ)
+      (x : ResolvedProxy) (is : IsResolvable (reading s) e i x) (g : FeatureNo) (opposite : (shape s.metamodel e.feature).opposite ≡ Some g) (j : ℕ) (text : List ℕ)
       (stands : slice_get ((reading s).values (far_end x.object g)) j ≡ Some (value.Proxy text))
       → (let d = far_end x.object g in P
       (link_end e (value.Proxy is.found.text) ∷ link_end d (value.Proxy text) ∷ [])
@@ -55,16 +55,16 @@ module _ (s : Model) (legal : IsLegal s) (e : End) (i : ℕ) where
       (joint s legal e i x is g opposite j text stands))
 
   -- the property for the target that is found, if these links are cut
-  abbrev Of : Resolving → List LinkEnd → Option Target → Type 0
+  abbrev Of : Resolving → List LinkEnd → Option ResolvedProxy → Type 0
   Of P ts q =
       let t = without_all s.links (names_of ts) in
-      P ts (option_map_or (joining (reading s) e i) q []) (option_map_or (resolved e i) q []) (option_map_or (joined t (reading s) e i) q t)
+      P ts (option_map_or (joining_edits (reading s) e i) q []) (option_map_or (changes_of_resolve e i) q []) (option_map_or (links_after_join t (reading s) e i) q t)
 
-  abbrev cuts : Bool → Option Target → List LinkEnd
+  abbrev cuts : Bool → Option ResolvedProxy → List LinkEnd
   cuts b q = if b then link_end_in (reading s) e i ++ option_map_or (counter_link_end (reading s)) q [] else []
 
-  module _ (P : Resolving) (alone : OfAlone P) (both : OfJoint P) (x : Target) (is : IsResolvable (reading s) e i x) where
-    abbrev with : Option Counterpart → Target
+  module _ (P : Resolving) (alone : OfAlone P) (both : OfJoint P) (x : ResolvedProxy) (is : IsResolvable (reading s) e i x) where
+    abbrev with : Option Counterpart → ResolvedProxy
     with q = record { object = x.object; counterpart = q }
 
     met : (c : Counterpart) → IsMatch (reading s) e x.object c → Of P (link_end e (value.Proxy is.found.text) ∷ link_end_in (reading s) c.end c.index) (Some (with (Some c)))
@@ -94,4 +94,4 @@ module _ (s : Model) (legal : IsLegal s) (e : End) (i : ℕ) where
       let r = reading s in
       let found = resolvable r e i late in
       subst (λ (b : Bool). Of P (cuts b (target_at r e i)) (target_at r e i)) (sym found.resolvable.reference)
-      (subst (λ (q : Option Target). Of P (cuts true q) q) (sym found.is) (known P alone both found.target found.resolvable))
+      (subst (λ (q : Option ResolvedProxy). Of P (cuts true q) q) (sym found.is) (known P alone both found.target found.resolvable))

@@ -30,18 +30,18 @@ use Rattle.fragment_paths.proofs.ObjectLemmas.{all-objects}
 use Rattle.fragment_paths.proofs.StayLemmas.{above-stays}
 use Rattle.fragment_paths.specs.Fragments.{position_in}
 use Rattle.handshake.specs.Displaced.{cut_link_ends}
-use Rattle.handshake.specs.Effects.{after, put_by}
+use Rattle.handshake.specs.Effects.{model_after, put_by}
 use Rattle.proxies.specs.Refusals.{resolve_refusal}
 use Rattle.proxies.specs.Resolving.{target_at}
-use Rattle.proxies.specs.ResolvingAll.{replaced, values_with}
-use Rattle.handshake.specs.FeatureChanges.{resolved, feature_changes}
+use Rattle.proxies.specs.ResolvingAll.{ends_after_replace, values_with}
+use Rattle.handshake.specs.FeatureChanges.{changes_of_resolve, feature_changes}
 use Rattle.handshake.specs.declared.change.Change.TheVariants.{At}
 use Rattle.handshake.specs.declared.act.Act.TheVariants.{Resolve}
 use Rattle.handshake.specs.declared.change_kind.ChangeKind.{ChangeKind}
 use Rattle.handshake.specs.declared.change_kind.ChangeKind.TheVariants.{Resolves}
 use Rattle.handshake.specs.declared.change_kind.FeatureChange.{FeatureChange}
-use Rattle.proxies.specs.declared.target.Counterpart.{Counterpart}
-use Rattle.proxies.specs.declared.target.Target.{Target}
+use Rattle.proxies.specs.declared.resolved_proxy.Counterpart.{Counterpart}
+use Rattle.proxies.specs.declared.resolved_proxy.ResolvedProxy.{ResolvedProxy}
 use Rattle.handshake.proofs.CutLinkEndLemmas.{without_link_ends-names_of}
 use Rattle.handshake.proofs.KnownLemmas.{IsResolvable, far-reference}
 use Rattle.handshake.proofs.ResolveLemmas.{end-alone, end-joint, far-now, far-there, joint, now, placed, set-there, there}
@@ -54,14 +54,14 @@ with_links s u = record s { links = u }
 
 -- the values of ends after the feature changes
 abbrev done_in : (End → List Value) → End → ChangeKind → End → List Value
-done_in ends d (Resolves i v) = replaced ends d i v
+done_in ends d (Resolves i v) = ends_after_replace ends d i v
 done_in ends d _ = ends
 
 abbrev told_in : (End → List Value) → List FeatureChange → End → List Value
 told_in ends [] = ends
 told_in ends (t ∷ ts) = told_in (done_in ends t.at t.does) ts
 
-module _ (s : Model) (legal : IsLegal s) (e : End) (i : ℕ) (x : Target) (is : IsResolvable (reading s) e i x) where
+module _ (s : Model) (legal : IsLegal s) (e : End) (i : ℕ) (x : ResolvedProxy) (is : IsResolvable (reading s) e i x) where
   abbrev v : Value
   v = value.Object x.object
 
@@ -79,7 +79,7 @@ module _ (s : Model) (legal : IsLegal s) (e : End) (i : ℕ) (x : Target) (is : 
     | false ↦ λ _. refl
   ] refl
 
-  values-alone : (alone : (shape s.metamodel e.feature).opposite ≡ None) (d : End) → values_at (with_links s (placed s legal e i x is [])) d ≡ replaced (values_at s) e i v d
+  values-alone : (alone : (shape s.metamodel e.feature).opposite ≡ None) (d : End) → values_at (with_links s (placed s legal e i x is [])) d ≡ ends_after_replace (values_at s) e i v d
   values-alone alone d =
       let u = placed s legal e i x is [] in
       let mine = now s legal e i x is in
@@ -100,7 +100,7 @@ module _ (s : Model) (legal : IsLegal s) (e : End) (i : ℕ) (x : Target) (is : 
     abbrev self : Value
     self = node_value e.node
 
-    values-joint : (d : End) → values_at (with_links s (joint s legal e i x is g opposite j text stands)) d ≡ replaced (replaced (values_at s) far j self) e i v d
+    values-joint : (d : End) → values_at (with_links s (joint s legal e i x is g opposite j text stands)) d ≡ ends_after_replace (ends_after_replace (values_at s) far j self) e i v d
     values-joint d =
         let u = joint s legal e i x is g opposite j text stands in
         let mine = now s legal e i x is in
@@ -126,19 +126,19 @@ module _ (s : Model) (legal : IsLegal s) (e : End) (i : ℕ) (x : Target) (is : 
 
 ---------------------------------------------------------------- what ends hold after it
 
-told-resolved : (r : Reading) (e : End) (i : ℕ) (x : Target) (d : End) → told_in r.values (resolved e i x) d ≡ values_with r e i x d
-told-resolved r e i x d = by x.counterpart
+told-changes_of_resolve : (r : Reading) (e : End) (i : ℕ) (x : ResolvedProxy) (d : End) → told_in r.values (changes_of_resolve e i x) d ≡ values_with r e i x d
+told-changes_of_resolve r e i x d = by x.counterpart
   where
-    by : (q : Option Counterpart) → told_in r.values (resolved e i (record x { counterpart = q })) d ≡ values_with r e i (record x { counterpart = q }) d
+    by : (q : Option Counterpart) → told_in r.values (changes_of_resolve e i (record x { counterpart = q })) d ≡ values_with r e i (record x { counterpart = q }) d
     by None = refl
     by (Some c) = refl
 
-module _ (s : Model) (legal : IsLegal s) (o : ObjectNo) (f : FeatureNo) (i : ℕ) (late : resolve_refusal (reading s) (at_end (node.Object o) f) i ≡ None) (x : Target) (found : target_at (reading s) (at_end (node.Object o) f) i ≡ Some x) where
+module _ (s : Model) (legal : IsLegal s) (o : ObjectNo) (f : FeatureNo) (i : ℕ) (late : resolve_refusal (reading s) (at_end (node.Object o) f) i ≡ None) (x : ResolvedProxy) (found : target_at (reading s) (at_end (node.Object o) f) i ≡ Some x) where
   abbrev e : End
   e = at_end (node.Object o) f
 
   abbrev t : Model
-  t = after s (At (at_end (node.Object o) f) (Resolve i))
+  t = model_after s (At (at_end (node.Object o) f) (Resolve i))
 
   values-told : (d : End) → values_at t d ≡ told_in (values_at s) (feature_changes (reading s) (At (at_end (node.Object o) f) (Resolve i))) d
   values-told d =
@@ -147,7 +147,7 @@ module _ (s : Model) (legal : IsLegal s) (o : ObjectNo) (f : FeatureNo) (i : ℕ
 
   values-after : (d : End) → values_at t d ≡ values_with (reading s) e i x d
   values-after d =
-      values-told d ∙ ap (λ (q : Option Target). told_in (values_at s) (option_map_or (resolved e i) q []) d) found ∙ told-resolved (reading s) e i x d
+      values-told d ∙ ap (λ (q : Option ResolvedProxy). told_in (values_at s) (option_map_or (changes_of_resolve e i) q []) d) found ∙ told-changes_of_resolve (reading s) e i x d
 
   ---------------------------------------------------------------- what contains is as it was
 
@@ -170,7 +170,7 @@ module _ (s : Model) (legal : IsLegal s) (o : ObjectNo) (f : FeatureNo) (i : ℕ
       let r = reading s in
       let d = at_end n h in
       let there = found-is r e i x found in
-      let inner : Option Counterpart → List Value = λ q. option_map_or (λ c. replaced r.values c.end c.index (node_value e.node)) q r.values d in
+      let inner : Option Counterpart → List Value = λ q. option_map_or (λ c. ends_after_replace r.values c.end c.index (node_value e.node)) q r.values d in
       ap (λ (b : Bool). if b then slice_set (inner x.counterpart) i (value.Object x.object) else inner x.counterpart) (proxy-apart d contains e i there.text there.proxy)
       ∙ elim x.counterpart as (λ q. x.counterpart ≡ q → inner q ≡ values_at s d) [
         | None ↦ λ _. refl
@@ -182,7 +182,7 @@ module _ (s : Model) (legal : IsLegal s) (o : ObjectNo) (f : FeatureNo) (i : ℕ
   contains-other : (n : Node) (h : FeatureNo) → is_containment s.metamodel h ≡ true → values_at t (at_end n h) ≡ values_at s (at_end n h)
   contains-other n h contains = values-after (at_end n h) ∙ contains-with n h contains
 
-  module _ (other : IsLegal (after s (At (at_end (node.Object o) f) (Resolve i)))) where
+  module _ (other : IsLegal (model_after s (At (at_end (node.Object o) f) (Resolve i)))) where
     held-still : (p : ObjectNo) (d : End) → holder s.links (node.Object p) ≡ Some d → holder t.links (node.Object p) ≡ Some d
     held-still p d h =
         let there = held s legal p d h in
@@ -207,7 +207,7 @@ module _ (s : Model) (legal : IsLegal s) (o : ObjectNo) (f : FeatureNo) (i : ℕ
     above-same : (n : Node) → above t.links n ≡ above s.links n
     above-same n = above-stays s.metamodel s.values s.values s.links t.links legal other contains-other n
 
-    pub reading-after : reading (after s (At (at_end (node.Object o) f) (Resolve i))) ≡ record (reading s) { values = values_with (reading s) (at_end (node.Object o) f) i x }
+    pub reading-after : reading (model_after s (At (at_end (node.Object o) f) (Resolve i))) ≡ record (reading s) { values = values_with (reading s) (at_end (node.Object o) f) i x }
     reading-after k =
         record {
           metamodel = s.metamodel;

@@ -25,8 +25,8 @@ use Rattle.removal.proofs.ListLemmas.{all-flat_map, all-map, all-weaker}
 use Rattle.removal.proofs.LossLemmas.{holder-reference, itself-stays}
 use Rattle.removal.proofs.OuterLemmas.{touched-in_order}
 use Rattle.removal.specs.Losses.{is_lost}
-use Rattle.removal.specs.Outer.{gone, holds_some, outer_ends, touched_ends}
-use Rattle.containment.proofs.PartLemmas.{all-append}
+use Rattle.removal.specs.Outer.{holds_some, is_in_subtree, outer_ends, touched_ends}
+use Rattle.mm_meta.proofs.FeatureListLemmas.{all-append}
 use Rattle.handshake.proofs.ApartLemmas.{all_filter, apart-front, apart_filter, feature_changes-apart, unset-apart}
 use Rattle.handshake.proofs.CutHeldLemmas.{all-left, one-in}
 use Rattle.handshake.proofs.CutLinkEndLemmas.{held_stands, values-linked}
@@ -35,12 +35,12 @@ use Rattle.handshake.proofs.LoadChainLemmas.{roots-many}
 use Rattle.handshake.proofs.ResolveAllLemmas.{resolved-to}
 use Rattle.proxies.proofs.TargetLemmas.{IsFound, IsMatch, match-apart, match-is}
 use Rattle.handshake.specs.FeatureChange.{feature_change}
-use Rattle.handshake.specs.FeatureChanges.{all_lost, destroyed, far_losses, feature_changes, lost_with, resolution_told, resolved}
+use Rattle.handshake.specs.FeatureChanges.{all_lost, changes_of_delete, changes_of_resolve, far_losses, feature_changes, lost_with, resolution_told}
 use Rattle.handshake.specs.Displaced.{cut_link_ends}
 use Rattle.handshake.specs.Laws.{AreApart, TellsNoSingleEndTwice, is_of_single, takes_many}
 use Rattle.proxies.specs.Proxies.{end_of, sites}
 use Rattle.handshake.specs.Refusals.{early_refusal, late_refusal}
-use Rattle.proxies.specs.ResolvingAll.{Resolution, replaced, resolutions, resolved_to, with_resolved}
+use Rattle.proxies.specs.ResolvingAll.{Resolution, ends_after_replace, resolutions, resolved_to, with_resolved}
 use Rattle.handshake.specs.declared.act.Act.TheVariants.{Unset}
 use Rattle.handshake.specs.declared.change.Change.{Change}
 use Rattle.handshake.specs.declared.change.Change.TheVariants.{At, Delete, Load, ResolveAll}
@@ -48,9 +48,9 @@ use Rattle.handshake.specs.declared.change_kind.ChangeKind.{ChangeKind}
 use Rattle.handshake.specs.declared.change_kind.ChangeKind.TheVariants.{Gains, Loses, LosesAt, Resolves, Unsets}
 use Rattle.handshake.specs.declared.change_kind.FeatureChange.{FeatureChange}
 use Rattle.proxies.specs.declared.site.ProxySite.{ProxySite}
-use Rattle.proxies.specs.declared.target.Counterpart.{Counterpart}
-use Rattle.proxies.specs.declared.target.Target.{Target}
-use Rattle.proxies.proofs.ReplacedLemmas.{replaced-length}
+use Rattle.proxies.specs.declared.resolved_proxy.Counterpart.{Counterpart}
+use Rattle.proxies.specs.declared.resolved_proxy.ResolvedProxy.{ResolvedProxy}
+use Rattle.proxies.proofs.ReplacedLemmas.{ends_after_replace-length}
 
 ---------------------------------------------------------------- lists of which some are kept
 
@@ -134,33 +134,33 @@ object-no-proxy o t is = cc
 ---------------------------------------------------------------- all proxies
 
 -- the values of ends after a proxy and its counterpart are replaced
-abbrev swapped : (End → List Value) → End → ℕ → Target → Option Counterpart → End → List Value
-swapped ends e i x q = replaced (option_map_or (λ c. replaced ends c.end c.index (node_value e.node)) q ends) e i (value.Object x.object)
+abbrev swapped : (End → List Value) → End → ℕ → ResolvedProxy → Option Counterpart → End → List Value
+swapped ends e i x q = ends_after_replace (option_map_or (λ c. ends_after_replace ends c.end c.index (node_value e.node)) q ends) e i (value.Object x.object)
 
-swapped-length : (ends : End → List Value) (e : End) (i : ℕ) (x : Target) (q : Option Counterpart) (d : End) → length (swapped ends e i x q d) ≡ length (ends d)
-swapped-length ends e i x None d = replaced-length ends e i (value.Object x.object) d
-swapped-length ends e i x (Some c) d = replaced-length (replaced ends c.end c.index (node_value e.node)) e i (value.Object x.object) d ∙ replaced-length ends c.end c.index (node_value e.node) d
+swapped-length : (ends : End → List Value) (e : End) (i : ℕ) (x : ResolvedProxy) (q : Option Counterpart) (d : End) → length (swapped ends e i x q d) ≡ length (ends d)
+swapped-length ends e i x None d = ends_after_replace-length ends e i (value.Object x.object) d
+swapped-length ends e i x (Some c) d = ends_after_replace-length (ends_after_replace ends c.end c.index (node_value e.node)) e i (value.Object x.object) d ∙ ends_after_replace-length ends c.end c.index (node_value e.node) d
 
-replaced-none : (ends : End → List Value) (e : End) (i : ℕ) (v : Value) (d : End) → IsNoProxy v → AreResolved (ends d) → AreResolved (replaced ends e i v d)
-replaced-none ends e i v d plain none = elim (same_end e d) as (λ b. AreResolved (if b then slice_set (ends d) i v else ends d)) [ true ↦ none-set (ends d) i v plain none | false ↦ none ]
+ends_after_replace-none : (ends : End → List Value) (e : End) (i : ℕ) (v : Value) (d : End) → IsNoProxy v → AreResolved (ends d) → AreResolved (ends_after_replace ends e i v d)
+ends_after_replace-none ends e i v d plain none = elim (same_end e d) as (λ b. AreResolved (if b then slice_set (ends d) i v else ends d)) [ true ↦ none-set (ends d) i v plain none | false ↦ none ]
 
-swapped-none : (ends : End → List Value) (e : End) (i : ℕ) (x : Target) (q : Option Counterpart) (d : End) → AreResolved (ends d) → AreResolved (swapped ends e i x q d)
-swapped-none ends e i x None d none = replaced-none ends e i (value.Object x.object) d (object-no-proxy x.object) none
+swapped-none : (ends : End → List Value) (e : End) (i : ℕ) (x : ResolvedProxy) (q : Option Counterpart) (d : End) → AreResolved (ends d) → AreResolved (swapped ends e i x q d)
+swapped-none ends e i x None d none = ends_after_replace-none ends e i (value.Object x.object) d (object-no-proxy x.object) none
 swapped-none ends e i x (Some c) d none =
-    replaced-none (replaced ends c.end c.index (node_value e.node)) e i (value.Object x.object) d (object-no-proxy x.object) (replaced-none ends c.end c.index (node_value e.node) d (node-no-proxy e.node) none)
+    ends_after_replace-none (ends_after_replace ends c.end c.index (node_value e.node)) e i (value.Object x.object) d (object-no-proxy x.object) (ends_after_replace-none ends c.end c.index (node_value e.node) d (node-no-proxy e.node) none)
 
 -- the proxy's own end, if it is single
-own-none : (ends : End → List Value) (e : End) (i : ℕ) (o : ObjectNo) (v : Value) → length (ends e) ≤ 1 → slice_get (ends e) i ≡ Some v → AreResolved (replaced ends e i (value.Object o) e)
+own-none : (ends : End → List Value) (e : End) (i : ℕ) (o : ObjectNo) (v : Value) → length (ends e) ≤ 1 → slice_get (ends e) i ≡ Some v → AreResolved (ends_after_replace ends e i (value.Object o) e)
 own-none ends e i o v few at =
     subst (λ (b : Bool). AreResolved (if b then slice_set (ends e) i (value.Object o) else ends e)) (sym (same_end-self e)) (only-set (ends e) i v (value.Object o) (object-no-proxy o) few at)
 
-far-none : (ends : End → List Value) (c : End) (j : ℕ) (n : Node) (v : Value) → length (ends c) ≤ 1 → slice_get (ends c) j ≡ Some v → AreResolved (replaced ends c j (node_value n) c)
+far-none : (ends : End → List Value) (c : End) (j : ℕ) (n : Node) (v : Value) → length (ends c) ≤ 1 → slice_get (ends c) j ≡ Some v → AreResolved (ends_after_replace ends c j (node_value n) c)
 far-none ends c j n v few at =
     subst (λ (b : Bool). AreResolved (if b then slice_set (ends c) j (node_value n) else ends c)) (sym (same_end-self c)) (only-set (ends c) j v (node_value n) (node-no-proxy n) few at)
 
 -- an end without proxies has no feature change of a proxy that is resolved
-resolved-away : (r : Reading) (e : End) (i : ℕ) (x : Target) (d : End) → IsFound r e i x → AreResolved (r.values d) → AllByRecursion (λ (u : FeatureChange). d ≡ u.at → ⊥) (resolved e i x)
-resolved-away r e i x d found none =
+changes_of_resolve-away : (r : Reading) (e : End) (i : ℕ) (x : ResolvedProxy) (d : End) → IsFound r e i x → AreResolved (r.values d) → AllByRecursion (λ (u : FeatureChange). d ≡ u.at → ⊥) (changes_of_resolve e i x)
+changes_of_resolve-away r e i x d found none =
     let own : d ≡ e → ⊥ = λ same. none i found.text (ap (λ (y : End). slice_get (r.values y) i) same ∙ found.proxy) in
     elim x.counterpart as (λ q. x.counterpart ≡ q → AllByRecursion (λ (u : FeatureChange). d ≡ u.at → ⊥) (option_map_or (λ c. feature_change c.end (Resolves c.index (node_value e.node)) ∷ []) q [] ++ feature_change e (Resolves i (value.Object x.object)) ∷ [])) [
       | None ↦ λ _. (own, tt)
@@ -172,7 +172,7 @@ resolved-away r e i x d found none =
 abbrev told_by : Reading → List ProxySite → List FeatureChange
 told_by r ps = flat_map resolution_told (resolutions r ps)
 
-abbrev resolution : Reading → ProxySite → Target → Resolution
+abbrev resolution : Reading → ProxySite → ResolvedProxy → Resolution
 resolution r p x = record { reads = r; site = p; target = x }
 
 proxies-away : (ps : List ProxySite) (r : Reading) (d : End) → AreResolved (r.values d) → AllByRecursion (λ (u : FeatureChange). d ≡ u.at → ⊥) (told_by r ps)
@@ -183,8 +183,8 @@ proxies-away (p ∷ ps) r d none =
       | Some x ↦ λ is.
           let found = (resolvable r (end_of p) p.index (resolved-to r p x is).late).resolvable.found in
           let same = same_Some _ x (sym (resolvable r (end_of p) p.index (resolved-to r p x is).late).is ∙ (resolved-to r p x is).found) in
-          all-append (λ (u : FeatureChange). d ≡ u.at → ⊥) (resolved (end_of p) p.index x) (told_by (with_resolved r p x) ps)
-          (resolved-away r (end_of p) p.index x d (subst (IsFound r (end_of p) p.index) same found) none)
+          all-append (λ (u : FeatureChange). d ≡ u.at → ⊥) (changes_of_resolve (end_of p) p.index x) (told_by (with_resolved r p x) ps)
+          (changes_of_resolve-away r (end_of p) p.index x d (subst (IsFound r (end_of p) p.index) same found) none)
           (proxies-away ps (with_resolved r p x) d (swapped-none r.values (end_of p) p.index x x.counterpart d none))
     ] refl
 
@@ -192,13 +192,13 @@ proxies-away (p ∷ ps) r d none =
 abbrev AreFew : Reading → Type 0
 AreFew r = (d : End) → (shape r.metamodel d.feature).is_reference ≡ true → (shape r.metamodel d.feature).is_single ≡ true → length (r.values d) ≤ 1
 
-few-with : (r : Reading) (p : ProxySite) (x : Target) → AreFew r → AreFew (with_resolved r p x)
+few-with : (r : Reading) (p : ProxySite) (x : ResolvedProxy) → AreFew r → AreFew (with_resolved r p x)
 few-with r p x few d reference single = subst (λ n. n ≤ 1) (sym (swapped-length r.values (end_of p) p.index x x.counterpart d)) (few d reference single)
 
 -- one proxy, and the proxies after it
-one-then : (r : Reading) (p : ProxySite) (x : Target) (us : List FeatureChange) → IsOfDocument r.metamodel → AreFew r → (shape r.metamodel p.feature).is_reference ≡ true → IsFound r (end_of p) p.index x
+one-then : (r : Reading) (p : ProxySite) (x : ResolvedProxy) (us : List FeatureChange) → IsOfDocument r.metamodel → AreFew r → (shape r.metamodel p.feature).is_reference ≡ true → IsFound r (end_of p) p.index x
     → ((d : End) → AreResolved ((with_resolved r p x).values d) → AllByRecursion (λ (u : FeatureChange). d ≡ u.at → ⊥) us)
-    → AreApart (filter (is_of_single r.metamodel) us) → AreApart (filter (is_of_single r.metamodel) (resolved (end_of p) p.index x ++ us))
+    → AreApart (filter (is_of_single r.metamodel) us) → AreApart (filter (is_of_single r.metamodel) (changes_of_resolve (end_of p) p.index x ++ us))
 one-then r p x us document few reference found away rest =
     let e = end_of p in
     let i = p.index in
@@ -212,14 +212,14 @@ one-then r p x us document few reference found away rest =
           let first = feature_change c.end (Resolves c.index (node_value e.node)) in
           let other : same_end c.end e ≡ false = ap (λ (y : End). same_end y e) match.stands ∙ match-apart r e x.object match.feature document match.opposite in
           let apart : c.end ≡ e → ⊥ = λ same. true≢false (sym (same_end-self c.end) ∙ ap (same_end c.end) same ∙ other) in
-          let near : replaced r.values c.end c.index (node_value e.node) e ≡ r.values e = ap (λ (b : Bool). if b then slice_set (r.values e) c.index (node_value e.node) else r.values e) other in
+          let near : ends_after_replace r.values c.end c.index (node_value e.node) e ≡ r.values e = ap (λ (b : Bool). if b then slice_set (r.values e) c.index (node_value e.node) else r.values e) other in
           let far : (shape r.metamodel c.end.feature).is_reference ≡ true = ap (λ (y : End). (shape r.metamodel y.feature).is_reference) match.stands ∙ far-reference r.metamodel document p.feature match.feature match.opposite in
           kept-apart (is_of_single r.metamodel) (first ∷ last ∷ []) us (apart_filter (is_of_single r.metamodel) (first ∷ last ∷ []) ((apart, tt), (tt, tt))) rest (
             (λ single. away c.end (subst (λ q. AreResolved (swapped r.values e i x q c.end)) (sym is)
-                (replaced-none (replaced r.values c.end c.index (node_value e.node)) e i (value.Object x.object) c.end (object-no-proxy x.object) (far-none r.values c.end c.index e.node _ (few c.end far single) match.proxy)))),
+                (ends_after_replace-none (ends_after_replace r.values c.end c.index (node_value e.node)) e i (value.Object x.object) c.end (object-no-proxy x.object) (far-none r.values c.end c.index e.node _ (few c.end far single) match.proxy)))),
             (
               (λ single. away e (subst (λ q. AreResolved (swapped r.values e i x q e)) (sym is)
-                  (own-none (replaced r.values c.end c.index (node_value e.node)) e i x.object _ (subst (λ (vs : List Value). length vs ≤ 1) (sym near) (few e reference single)) (ap (λ (vs : List Value). slice_get vs i) near ∙ found.proxy)))),
+                  (own-none (ends_after_replace r.values c.end c.index (node_value e.node)) e i x.object _ (subst (λ (vs : List Value). length vs ≤ 1) (sym near) (few e reference single)) (ap (λ (vs : List Value). slice_get vs i) near ∙ found.proxy)))),
               tt,
             ),
           )
@@ -315,10 +315,10 @@ module _ (s : Model) (legal : IsLegal s) (o : ObjectNo) where
         (away-last x (filter (is_lost r o x) (r.values x)) (λ same single. ap (λ (y : End). filter (is_lost r o y) (r.values y)) same ∙ none-before (subst (λ (y : End). (shape s.metamodel y.feature).is_single ≡ true) same single)))
         (all-away es)
 
-  destroyed-apart : AreApart (filter p (destroyed r o))
-  destroyed-apart =
+  changes_of_delete-apart : AreApart (filter p (changes_of_delete r o))
+  changes_of_delete-apart =
       let es = touched_ends r o in
-      let outer = outer-apart es (touched-in_order s o) (touched-refer r (gone r o) (outer_ends r (gone r o))) in
+      let outer = outer-apart es (touched-in_order s o) (touched-refer r (is_in_subtree r o) (outer_ends r (is_in_subtree r o))) in
       elim (r.holder (node.Object o)) as (λ q. r.holder (node.Object o) ≡ q → AreApart (filter p (flat_map (lost_with r o) es ++ map (λ d. feature_change d (Loses (value.Object o))) (option_to_list q)))) [
         | None ↦ λ _. nothing-away p [] (flat_map (lost_with r o) es) refl outer
         | Some d ↦ λ held.
@@ -346,7 +346,7 @@ singles-apart s c legal early late =
         let far = far_losses r (cut_link_ends r (At e Unset)) in
         subst (λ (b : Bool). AreApart (filter (is_of_single s.metamodel) (far ++ (if b then feature_change e Unsets ∷ [] else all_lost e (length (r.values e)))))) (sym list)
         (nothing-away (is_of_single s.metamodel) (all_lost e (length (r.values e))) far (none-lost s.metamodel e (length (r.values e)) list) (apart_filter (is_of_single s.metamodel) far (apart-front far (feature_change e Unsets ∷ []) (unset-apart s e.node e.feature Unsets legal))))
-    by (Delete o) early late many = destroyed-apart s legal o
+    by (Delete o) early late many = changes_of_delete-apart s legal o
     by ResolveAll early late many = proxies-apart (sites (reading s)) (reading s) legal.metamodel (single-few s legal)
     by (Load k doc) early late many = subst AreApart (sym (none-kept s.metamodel _ Gains _ (roots-many s k doc legal late))) tt
     by _ early late many = absurd (false≢true many)

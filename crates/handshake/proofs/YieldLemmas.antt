@@ -7,10 +7,11 @@ use Rattle.std.proofs.lemmas.Bool.{and_parts, eqb-true, false≢true}
 use Rattle.std.proofs.lemmas.Option.{none-some, same_Some}
 use Rattle.mm_meta.proofs.OwnerLemmas.{has_none}
 use Rattle.mm_meta.proofs.ShapeLemmas.{containing_is_known, opposites_are_pairs}
-use Rattle.mm_types.proofs.SameLemmas.{same_end-true}
+use Rattle.mm_types.proofs.SameLemmas.{same_end-self, same_end-true}
+use Rattle.mm_types.specs.Ends.{has_value, index_in}
 use Rattle.mm_types.specs.Lookups as lookups
 use Rattle.mm_types.specs.Same.{node_value, same_end, same_feature, same_value}
-use Rattle.mm_types.specs.Shapes.{shape}
+use Rattle.mm_types.specs.Shapes.{is_containment, shape}
 use Rattle.mm_types.specs.declared.end.End.{End}
 use Rattle.mm_types.specs.declared.numbers.ClassNo.{ClassNo}
 use Rattle.mm_types.specs.declared.numbers.FeatureNo.{FeatureNo}
@@ -23,18 +24,20 @@ use Rattle.links.proofs.CutNamedLemmas.{end-without_all}
 use Rattle.links.proofs.FilterLemmas.{filter_all}
 use Rattle.links.proofs.HolderLemmas.{holder-some, indexed_held}
 use Rattle.mm_types.specs.SameValues.{same_value-true}
-use Rattle.links.specs.Holders.{contained, holder}
+use Rattle.links.specs.Holders.{holder, node_contained}
 use Rattle.links.specs.Laws.{is_named, without_all}
 use Rattle.links.specs.Links.{end, far_end}
 use Rattle.links.specs.Plans.{Lacks}
 use Rattle.models.specs.Legal.{IsLegal, kinds_of}
-use Rattle.models.specs.Model.{Model, reading}
+use Rattle.models.proofs.PlaceLemmas.{has-at, index-at}
+use Rattle.models.specs.Model.{Model, reading, values_at}
 use Rattle.models.specs.Reading.{has_feature}
-use Rattle.containment.proofs.HolderLemmas.{container_at, holding-feature}
-use Rattle.containment.proofs.PartLemmas.{all-append, kinds-are}
+use Rattle.containment.proofs.HolderLemmas.{container_at, holding_end-feature}
+use Rattle.mm_meta.proofs.FeatureListLemmas.{all-append}
+use Rattle.containment.proofs.PartLemmas.{contains-reference, holder-at, kinds-are, values-linked}
 use Rattle.handshake.proofs.CutLinkEndLemmas.{all_once, is_named-same_link}
 use Rattle.removal.specs.Laws.{names_of}
-use Rattle.handshake.specs.Displaced.{holding_link_end, in_the_way, other_side, same_link, same_link_end, link_ends_at, link_ends_if_single, yields}
+use Rattle.handshake.specs.Displaced.{holding_link_end, in_the_way, other_side, same_link, same_link_end, link_ends_at, link_ends_if_single, displaced_link_ends}
 use Rattle.proxies.specs.Resolving.{opposite_end}
 use Rattle.removal.specs.TreeLinkEnds.{link_end}
 use Rattle.removal.specs.declared.link_end.LinkEnd.{LinkEnd}
@@ -54,7 +57,7 @@ pub record AtFar (s : Model) (e : End) (o : ObjectNo) (t : LinkEnd) : Type 0 whe
 
 pub record AtHolder (s : Model) (e : End) (o : ObjectNo) (t : LinkEnd) : Type 0 where
   pub part : Node
-  pub becomes : contained e o (shape s.metamodel e.feature).containing ≡ Some part
+  pub becomes : node_contained e o (shape s.metamodel e.feature).containing ≡ Some part
   pub held : holder s.links part ≡ Some t.end
   pub value : t.value ≡ node_value part
 
@@ -83,9 +86,9 @@ module _ (s : Model) (e : End) (o : ObjectNo) where
         | Some g ↦ λ opposite. if_single s (far_end o g) (Origin s e o) (λ t single here. inr (inl (record { feature = g; opposite = opposite; single = single; here = here })))
       ] refl
 
-  holder-origin : AllByRecursion (Origin s e o) (option_map_or (λ n. option_to_list (holding_link_end (reading s) n)) (contained e o (shape s.metamodel e.feature).containing) [])
+  holder-origin : AllByRecursion (Origin s e o) (option_map_or (λ n. option_to_list (holding_link_end (reading s) n)) (node_contained e o (shape s.metamodel e.feature).containing) [])
   holder-origin =
-      elim (contained e o (shape s.metamodel e.feature).containing) as (λ q. contained e o (shape s.metamodel e.feature).containing ≡ q → AllByRecursion (Origin s e o) (option_map_or (λ n. option_to_list (holding_link_end (reading s) n)) q [])) [
+      elim (node_contained e o (shape s.metamodel e.feature).containing) as (λ q. node_contained e o (shape s.metamodel e.feature).containing ≡ q → AllByRecursion (Origin s e o) (option_map_or (λ n. option_to_list (holding_link_end (reading s) n)) q [])) [
         | None ↦ λ _. tt
         | Some p ↦ λ becomes. elim (holder s.links p) as (λ h. holder s.links p ≡ h → AllByRecursion (Origin s e o) (option_to_list (option_map (λ (d : End). link_end d (node_value p)) h))) [
           | None ↦ λ _. tt
@@ -93,8 +96,8 @@ module _ (s : Model) (e : End) (o : ObjectNo) where
         ] refl
       ] refl
 
-  pub yields-origin : AllByRecursion (Origin s e o) (yields (reading s) e o)
-  yields-origin = all_once (reading s) (Origin s e o) (in_the_way (reading s) e o) (all-append _ _ _ near-origin (all-append _ _ _ far-origin holder-origin))
+  pub displaced_link_ends-origin : AllByRecursion (Origin s e o) (displaced_link_ends (reading s) e o)
+  displaced_link_ends-origin = all_once (reading s) (Origin s e o) (in_the_way (reading s) e o) (all-append _ _ _ near-origin (all-append _ _ _ far-origin holder-origin))
 
 ---------------------------------------------------------------- what a list keeps
 
@@ -128,9 +131,37 @@ holder-contains s n d legal h =
     let m = s.metamodel in
     let l = holder-some s.links n d h in
     let at = indexed_held l.0 n d (legal.links.set.placed.sides l.0 l.1) l.2 in
-    let by = holding-feature l.0 n d l.2 in
+    let by = holding_end-feature l.0 n d l.2 in
     let whose : (shape m d.feature).containing ≡ Some by.0 = sym (container_at (kinds_of m) (kinds-are m legal.metamodel) l.0 d (at.0, node_value n) (legal.links.kinds l.0 l.1) at.1) ∙ by.1 in
     whose ∙ ap (λ (k : ℕ). Some (record { 0 = k })) (sym by.2)
+
+-- the end that contains an object has it
+held-there : (s : Model) → IsLegal s → (o : ObjectNo) (e : End) → holder s.links (node.Object o) ≡ Some e → has_value (values_at s e) (value.Object o) ≡ true
+held-there s legal o e held =
+    let n = node.Object o in
+    let l = holder-some s.links n e held in
+    let at = indexed_held l.0 n e (legal.links.set.placed.sides l.0 l.1) l.2 in
+    let there = (legal.links.set.placed.ends e).has at.0 (node_value n) (l.0, l.1, at.1) in
+    let refers = contains-reference s.metamodel e.feature e.feature (holder-contains s n e legal held) in
+    has-at (values_at s e) (value.Object o) at.0 (ap (λ (vs : List Value). slice_get vs at.0) (values-linked s e refers) ∙ there)
+
+-- the end of a containment has exactly the objects that it contains
+pub contained-there : (s : Model) (e : End) (o : ObjectNo) → IsLegal s → is_containment s.metamodel e.feature ≡ true → option_map_or (same_end e) (holder s.links (node.Object o)) false ≡ has_value (values_at s e) (value.Object o)
+contained-there s e o legal contains =
+    let vs = values_at s e in
+    let v = value.Object o in
+    elim (has_value vs v) as (λ b. has_value vs v ≡ b → option_map_or (same_end e) (holder s.links (node.Object o)) false ≡ b) [
+      | true ↦ λ there. ap (λ (q : Option End). option_map_or (same_end e) q false) (holder-at s legal e.node e.feature contains (index_in vs v) o (index-at vs v there)) ∙ same_end-self e
+      | false ↦ λ absent. by (holder s.links (node.Object o)) refl absent
+    ] refl
+  where
+    by : (q : Option End) → holder s.links (node.Object o) ≡ q → has_value (values_at s e) (value.Object o) ≡ false → option_map_or (same_end e) q false ≡ false
+    by None is absent = refl
+    by (Some d) is absent =
+        elim (same_end e d) as (λ b. same_end e d ≡ b → b ≡ false) [
+          | true ↦ λ same. absurd (false≢true (sym absent ∙ held-there s legal o e (is ∙ ap Some (sym (same_end-true e d same)))))
+          | false ↦ λ _. refl
+        ] refl
 
 and_second : (a b : Bool) → (b ≡ true → ⊥) → (a && b) ≡ false
 and_second true true h = absurd (h refl)
@@ -184,7 +215,7 @@ module _ (s : Model) (legal : IsLegal s) (e : End) (o : ObjectNo) (has : has_fea
         self : (f : FeatureNo) → same_feature f f ≡ true
         self f = eq-eqb f.0 f.0 refl
 
-        by : (q : Option FeatureNo) → (shape s.metamodel e.feature).containing ≡ q → contained e o q ≡ Some at.part → same_link (reading s) (link_end e w) t ≡ false
+        by : (q : Option FeatureNo) → (shape s.metamodel e.feature).containing ≡ q → node_contained e o q ≡ Some at.part → same_link (reading s) (link_end e w) t ≡ false
         by None is becomes = absurd (none-some at.part becomes)
         by (Some h) is becomes = elim (containing_is_known s.metamodel legal.metamodel e.feature h (feature-in_range s e legal has) is) [
           | inl same ↦
@@ -203,11 +234,11 @@ module _ (s : Model) (legal : IsLegal s) (e : End) (o : ObjectNo) (has : has_fea
   none-any p (t ∷ ts) all = rw all.0 (none-any p ts all.1)
 
   -- a list that lacks an object keeps all its values when the links that a new link of the object displaces are cut
-  pub near-kept : Lacks s.links e (value.Object o) → end (without_all s.links (names_of (yields (reading s) e o))) e ≡ end s.links e
+  pub near-kept : Lacks s.links e (value.Object o) → end (without_all s.links (names_of (displaced_link_ends (reading s) e o))) e ≡ end s.links e
   near-kept lacks =
       let m = kinds_of s.metamodel in
-      let ts = yields (reading s) e o in
+      let ts = displaced_link_ends (reading s) e o in
       end-without_all m (kinds-are s.metamodel legal.metamodel) s.links (names_of ts) legal.links.set legal.links.kinds e
       ∙ filter_all (is_named m (names_of ts) e) (end s.links e) (λ k w at.
       is_named-same_link (reading s) ts (link_end e w)
-      ∙ none-any (same_link (reading s) (link_end e w)) ts (all-weaker _ _ ts (not-displaced w (λ same. lacks k (subst (λ (x : Value). slice_get (end s.links e) k ≡ Some x) same at))) (yields-origin s e o)))
+      ∙ none-any (same_link (reading s) (link_end e w)) ts (all-weaker _ _ ts (not-displaced w (λ same. lacks k (subst (λ (x : Value). slice_get (end s.links e) k ≡ Some x) same at))) (displaced_link_ends-origin s e o)))

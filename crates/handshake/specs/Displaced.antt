@@ -12,12 +12,12 @@ use Rattle.mm_types.specs.declared.value.Value.{Value}
 use Rattle.mm_types.specs.declared.value.Value.TheVariants as value
 use Rattle.removal.specs.declared.link_end.LinkEnd.{LinkEnd}
 use Rattle.links.specs.Links.{far_end}
-use Rattle.links.specs.Holders.{contained}
+use Rattle.links.specs.Holders.{node_contained}
 use Rattle.models.specs.Reading.{Reading, is_repeat, shape_at, first_at, value_at}
 use Rattle.removal.specs.TreeLinkEnds.{link_end, tree_link_ends}
 use Rattle.handshake.specs.declared.act.Act.{Act}
 use Rattle.handshake.specs.declared.change.Change.{Change}
-use Rattle.proxies.specs.declared.target.Target.{Target}
+use Rattle.proxies.specs.declared.resolved_proxy.ResolvedProxy.{ResolvedProxy}
 use Rattle.proxies.specs.Resolving.{opposite_end, target_at}
 use Rattle.handshake.specs.declared.change.Change.TheVariants.{At, Delete}
 use Rattle.handshake.specs.declared.act.Act.TheVariants.{Set, Unset, Add, Remove, RemoveValue, Resolve}
@@ -27,14 +27,14 @@ abbrev pub other_side : Node → Value → Option FeatureNo → Option LinkEnd
 other_side n (value.Object o) (Some g) = Some (link_end (far_end o g) (node_value n))
 other_side n _ _ = None
 
-abbrev pub turned : Reading → LinkEnd → Option LinkEnd
-turned r t = other_side t.end.node t.value (shape_at r t.end).opposite
+abbrev pub opposite_link_end : Reading → LinkEnd → Option LinkEnd
+opposite_link_end r t = other_side t.end.node t.value (shape_at r t.end).opposite
 
 abbrev pub same_link_end : LinkEnd → LinkEnd → Bool
 same_link_end t u = same_end t.end u.end && same_value t.value u.value
 
 abbrev pub same_link : Reading → LinkEnd → LinkEnd → Bool
-same_link r t u = same_link_end t u || option_map_or (same_link_end t) (turned r u) false
+same_link r t u = same_link_end t u || option_map_or (same_link_end t) (opposite_link_end r u) false
 
 -- the links of the values of an end
 abbrev pub link_ends_at : Reading → End → List LinkEnd
@@ -61,8 +61,8 @@ abbrev pub with_link_end : Reading → List LinkEnd → LinkEnd → List LinkEnd
 with_link_end r ts t = if list_any (same_link r t) ts then ts else ts ++ t ∷ []
 
 -- each link once, by the first name that the list has for it
-abbrev pub once : Reading → List LinkEnd → List LinkEnd
-once r ts = fold (with_link_end r) [] ts
+abbrev pub each_link_once : Reading → List LinkEnd → List LinkEnd
+each_link_once r ts = fold (with_link_end r) [] ts
 
 -- the links that a new link may displace: the link of the value of the end, if the end is single; the link of the value of the opposite
 -- end, if that is single; and the link that contains the node that becomes contained
@@ -70,7 +70,7 @@ abbrev pub in_the_way : Reading → End → ObjectNo → List LinkEnd
 in_the_way r e o =
     link_ends_if_single r e
     ++ (option_map_or (link_ends_if_single r) (opposite_end r e o) []
-    ++ option_map_or (λ n. option_to_list (holding_link_end r n)) (contained e o (shape_at r e).containing) [])
+    ++ option_map_or (λ n. option_to_list (holding_link_end r n)) (node_contained e o (shape_at r e).containing) [])
 
 -- whether an end is single and has a link
 abbrev pub is_taken : Reading → End → Bool
@@ -81,11 +81,11 @@ abbrev pub displaces : Reading → End → ObjectNo → Bool
 displaces r e o =
     is_taken r e
     || (option_map_or (is_taken r) (opposite_end r e o) false
-    || option_map_or (λ n. is_some (r.holder n)) (contained e o (shape_at r e).containing) false)
+    || option_map_or (λ n. is_some (r.holder n)) (node_contained e o (shape_at r e).containing) false)
 
 -- the links that a new link of an object at e displaces
-abbrev pub yields : Reading → End → ObjectNo → List LinkEnd
-yields r e o = once r (in_the_way r e o)
+abbrev pub displaced_link_ends : Reading → End → ObjectNo → List LinkEnd
+displaced_link_ends r e o = each_link_once r (in_the_way r e o)
 
 ---------------------------------------------------------------- changes
 
@@ -102,22 +102,22 @@ abbrev pub is_plain_add : Reading → End → Value → Bool
 is_plain_add r e v = not (shape_at r e).is_reference || is_repeat r e v
 
 abbrev pub cut_by_new : Reading → End → Value → List LinkEnd
-cut_by_new r e (value.Object o) = yields r e o
+cut_by_new r e (value.Object o) = displaced_link_ends r e o
 cut_by_new r e v = []
 
 -- the link of the counterpart of a proxy that is resolved, if it has one
-abbrev pub counter_link_end : Reading → Target → List LinkEnd
+abbrev pub counter_link_end : Reading → ResolvedProxy → List LinkEnd
 counter_link_end r x = option_map_or (λ c. link_end_in r c.end c.index) x.counterpart []
 
 -- the links of a proxy at an index and of its counterpart
-abbrev pub link_ends_joined : Reading → End → ℕ → Target → List LinkEnd
+abbrev pub link_ends_joined : Reading → End → ℕ → ResolvedProxy → List LinkEnd
 link_ends_joined r e i x = link_end_in r e i ++ counter_link_end r x
 
 abbrev pub link_ends_resolved : Reading → End → ℕ → List LinkEnd
 link_ends_resolved r e i = link_end_in r e i ++ option_map_or (counter_link_end r) (target_at r e i) []
 
 abbrev pub cut_by_set : Reading → End → Value → List LinkEnd
-cut_by_set r e (value.Object o) = yields r e o
+cut_by_set r e (value.Object o) = displaced_link_ends r e o
 cut_by_set r e v = link_ends_at r e
 
 -- the index of the value that an act takes out of a list, if it takes one out

@@ -11,8 +11,8 @@ use Rattle.models.specs.Reading.{Reading, position_for, shape_at}
 use Rattle.handshake.specs.declared.change.Change.{Change}
 use Rattle.handshake.specs.declared.change.Change.TheVariants.{At, ResolveAll, Load}
 use Rattle.handshake.specs.declared.act.Act.TheVariants.{Set, Add, Move, Resolve}
-use Rattle.proxies.specs.declared.target.Counterpart.{Counterpart}
-use Rattle.proxies.specs.declared.target.Target.{Target}
+use Rattle.proxies.specs.declared.resolved_proxy.Counterpart.{Counterpart}
+use Rattle.proxies.specs.declared.resolved_proxy.ResolvedProxy.{ResolvedProxy}
 use Rattle.removal.specs.declared.link_end.LinkEnd.{LinkEnd}
 use Rattle.doc_loader.specs.LoadEdits.{load_edits}
 use Rattle.handshake.specs.Displaced.{cut_link_ends, is_plain_add, is_plain_set, link_ends_joined}
@@ -40,18 +40,18 @@ abbrev pub back_edit : Reading → Counterpart → Edit
 back_edit r c = Shift c.end c.index (length (r.values c.end) - 1)
 
 -- the edits that put a link instead of its proxies
-abbrev pub joining : Reading → End → ℕ → Target → List Edit
-joining r e i x = option_to_list (new_put r e i (value.Object x.object)) ++ option_to_list (option_map (back_edit r) x.counterpart)
+abbrev pub joining_edits : Reading → End → ℕ → ResolvedProxy → List Edit
+joining_edits r e i x = option_to_list (new_put r e i (value.Object x.object)) ++ option_to_list (option_map (back_edit r) x.counterpart)
 
 -- the edits of one proxy when all are resolved: they cut the links of the proxy and of its counterpart, and put the new link in their place
 abbrev pub edits_of : Resolution → List Edit
 edits_of x =
     let e = end_of x.site in
-    map cut_of (link_ends_joined x.reads e x.site.index x.target) ++ joining x.reads e x.site.index x.target
+    map cut_of (link_ends_joined x.reads e x.site.index x.target) ++ joining_edits x.reads e x.site.index x.target
 
 -- a load makes all links of its document; all proxies are resolved one after another
 abbrev pub made_edits : Reading → Change → List Edit
-made_edits r (At e (Resolve i)) = option_map_or (joining r e i) (target_at r e i) []
+made_edits r (At e (Resolve i)) = option_map_or (joining_edits r e i) (target_at r e i) []
 made_edits r ResolveAll = flat_map edits_of (resolutions r (sites r))
 made_edits r (Load k doc) = load_edits r.metamodel r.next k doc
 made_edits r c = option_to_list (made_edit r c)

@@ -8,20 +8,20 @@ use Rattle.mm_types.specs.declared.numbers.Node.TheVariants as node
 use Rattle.mm_types.specs.declared.end.End.{End}
 use Rattle.mm_types.specs.declared.value.Value.{Value}
 use Rattle.mm_types.specs.declared.value.Value.TheVariants as value
-use Rattle.mm_values.specs.Values.{applied}
-use Rattle.mm_values.specs.declared.edit.ValueEdit.{ValueEdit}
-use Rattle.mm_values.specs.declared.edit.ValueEdit.TheVariants.{NewObject, DropObject, PutList, InsertValue, RemoveValue as TakeValue, MoveValue, NewUri}
+use Rattle.mm_values.specs.Values.{values_after_edits}
+use Rattle.mm_values.specs.declared.value_edit.ValueEdit.{ValueEdit}
+use Rattle.mm_values.specs.declared.value_edit.ValueEdit.TheVariants.{NewObject, DropObject, PutList, InsertValue, RemoveValue as TakeValue, MoveValue, NewUri}
 use Rattle.links.specs.Links.{Links, cut_value, end, put, shift, without_nodes}
 use Rattle.models.specs.Reading.{Reading, first_at, is_repeat, position_for, shape_at}
 use Rattle.models.specs.Model.{Model, reading}
 use Rattle.containment.specs.Forest.{subtree}
-use Rattle.removal.specs.Outer.{gone}
+use Rattle.removal.specs.Outer.{is_in_subtree}
 use Rattle.handshake.specs.declared.act.Act.{Act}
 use Rattle.handshake.specs.declared.change.Change.{Change}
 use Rattle.handshake.specs.declared.change.Change.TheVariants.{At, Create, Delete, NewResource, ResolveAll, Load}
 use Rattle.handshake.specs.declared.act.Act.TheVariants.{Set, Unset, Add, Move, Resolve}
-use Rattle.proxies.specs.declared.target.Counterpart.{Counterpart}
-use Rattle.proxies.specs.declared.target.Target.{Target}
+use Rattle.proxies.specs.declared.resolved_proxy.Counterpart.{Counterpart}
+use Rattle.proxies.specs.declared.resolved_proxy.ResolvedProxy.{ResolvedProxy}
 use Rattle.removal.specs.declared.link_end.LinkEnd.{LinkEnd}
 use Rattle.doc_loader.specs.Loading.{loaded_links, loaded_values, with_links}
 use Rattle.handshake.specs.Displaced.{cut_link_ends, is_plain_add, is_plain_set, link_ends_joined, taken_index}
@@ -91,8 +91,8 @@ abbrev pub put_back : Links → ℕ → Counterpart → Links
 put_back s n c = shift s c.end c.index n
 
 -- a link replaces its proxies, here and at the opposite end
-abbrev pub joined : Links → Reading → End → ℕ → Target → Links
-joined s r e i x =
+abbrev pub links_after_join : Links → Reading → End → ℕ → ResolvedProxy → Links
+links_after_join s r e i x =
     let t = with_value s r e (Some i) (value.Object x.object) in
     option_map_or (λ c. put_back t (length (end s c.end)) c) x.counterpart t
 
@@ -100,26 +100,26 @@ joined s r e i x =
 abbrev pub with_resolution : Links → Resolution → Links
 with_resolution s x =
     let e = end_of x.site in
-    joined (without_link_ends s (link_ends_joined x.reads e x.site.index x.target)) x.reads e x.site.index x.target
+    links_after_join (without_link_ends s (link_ends_joined x.reads e x.site.index x.target)) x.reads e x.site.index x.target
 
 -- the links after a change made its link, or moved a value
 abbrev pub put_by : Links → Reading → Change → Links
 put_by s r (At e (Set v)) = if is_plain_set r e v then s else with_value s r e None v
 put_by s r (At e (Add v i)) = if is_plain_add r e v then s else with_value s r e i v
 put_by s r (At e (Move to from)) = if (shape_at r e).is_reference then shift s e to from else s
-put_by s r (At e (Resolve i)) = option_map_or (joined s r e i) (target_at r e i) s
+put_by s r (At e (Resolve i)) = option_map_or (links_after_join s r e i) (target_at r e i) s
 put_by s r ResolveAll = fold with_resolution s (resolutions r (sites r))
 put_by s r (Load k doc) = with_links s (loaded_links r.metamodel r.next k doc)
 put_by s r _ = s
 
 -- the links that a change leaves: a deletion takes all links that name a destroyed object, any other change the links that it cuts
 abbrev pub links_left : Links → Reading → Change → Links
-links_left s r c = option_map_or (λ o. without_nodes s (gone r o)) (destroyed_by c) (without_link_ends s (cut_link_ends r c))
+links_left s r c = option_map_or (λ o. without_nodes s (is_in_subtree r o)) (destroyed_by c) (without_link_ends s (cut_link_ends r c))
 
 abbrev pub links_after : Links → Reading → Change → Links
 links_after s r c = put_by (links_left s r c) r c
 
 ---------------------------------------------------------------- both
 
-abbrev pub after : Model → Change → Model
-after s c = record s { values = applied s.values (value_edits (reading s) c); links = links_after s.links (reading s) c }
+abbrev pub model_after : Model → Change → Model
+model_after s c = record s { values = values_after_edits s.values (value_edits (reading s) c); links = links_after s.links (reading s) c }

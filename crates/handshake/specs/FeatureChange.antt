@@ -14,7 +14,7 @@ use Rattle.notice_chain.specs.declared.kind.NoticeKind.TheVariants as kind
 use Rattle.notice_chain.specs.declared.notice.Notice.{Notice}
 use Rattle.models.specs.Reading.{Reading, held_at, shape_at}
 use Rattle.notice_chain.specs.Kinds.{no_index}
-use Rattle.notice_chain.specs.Replay.{added, moved, removed, replayed_in, resolved}
+use Rattle.notice_chain.specs.Replay.{ends_after_notice, list_after_add, list_after_position_move, list_after_remove, list_after_resolve}
 use Rattle.handshake.specs.declared.change_kind.ChangeKind.{ChangeKind}
 use Rattle.handshake.specs.declared.change_kind.ChangeKind.TheVariants.{Gains, GainsAt, Loses, LosesAt, Unsets, Moves, Resolves}
 use Rattle.handshake.specs.declared.change_kind.FeatureChange.{FeatureChange}
@@ -51,44 +51,44 @@ abbrev pub has_flag : Metamodel → FeatureNo → Bool
 has_flag m f = (shape m f).is_unsettable
 
 -- the notification of each feature change is read in the ends so far; replaying it gives the ends for the next one
-abbrev pub told : Metamodel → Ends → List FeatureChange → List Notice
-told m e [] = []
-told m e (t ∷ ts) =
+abbrev pub change_notices : Metamodel → Ends → List FeatureChange → List Notice
+change_notices m e [] = []
+change_notices m e (t ∷ ts) =
     let n = notice_of (shape m t.at.feature) t.at t.does (e t.at) in
-    n ∷ told m (replayed_in (has_flag m) e n) ts
+    n ∷ change_notices m (ends_after_notice (has_flag m) e n) ts
 
 ---------------------------------------------------------------- what it does, said plainly
 
 -- the list without the first of a value
-abbrev pub without : List Value → Value → List Value
-without [] v = []
-without (w ∷ ws) v = if same_value v w then ws else w ∷ without ws v
+abbrev pub list_without_value : List Value → Value → List Value
+list_without_value [] v = []
+list_without_value (w ∷ ws) v = if same_value v w then ws else w ∷ list_without_value ws v
 
 -- the values of an end after a feature change
-abbrev pub changed : Shape → ChangeKind → List Value → List Value
-changed a (Gains v) vs = if a.is_single then v ∷ [] else vs ++ v ∷ []
-changed a (GainsAt i v) vs = added vs (pos i) v
-changed a (Loses v) vs = if a.is_single then value.Null ∷ [] else without vs v
-changed a (LosesAt i) vs = removed vs (pos i)
-changed a Unsets vs = a.default ∷ []
-changed a (Moves to from) vs = moved vs (pos from) (pos to)
-changed a (Resolves i v) vs = if a.is_single then v ∷ [] else resolved vs (pos i) v
+abbrev pub values_after_change : Shape → ChangeKind → List Value → List Value
+values_after_change a (Gains v) vs = if a.is_single then v ∷ [] else vs ++ v ∷ []
+values_after_change a (GainsAt i v) vs = list_after_add vs (pos i) v
+values_after_change a (Loses v) vs = if a.is_single then value.Null ∷ [] else list_without_value vs v
+values_after_change a (LosesAt i) vs = list_after_remove vs (pos i)
+values_after_change a Unsets vs = a.default ∷ []
+values_after_change a (Moves to from) vs = list_after_position_move vs (pos from) (pos to)
+values_after_change a (Resolves i v) vs = if a.is_single then v ∷ [] else list_after_resolve vs (pos i) v
 
 -- the set flag of an end after a feature change: a gain or loss of an unsettable single end turns it on, and unsetting turns it off
-abbrev pub flagged : Shape → ChangeKind → Bool → Bool
-flagged a (Gains v) b = if a.is_single then a.is_unsettable else b
-flagged a (GainsAt i v) b = b
-flagged a (Loses v) b = if a.is_single then a.is_unsettable else b
-flagged a (LosesAt i) b = b
-flagged a Unsets b = false
-flagged a (Moves to from) b = b
-flagged a (Resolves i v) b = b
+abbrev pub flag_after_change : Shape → ChangeKind → Bool → Bool
+flag_after_change a (Gains v) b = if a.is_single then a.is_unsettable else b
+flag_after_change a (GainsAt i v) b = b
+flag_after_change a (Loses v) b = if a.is_single then a.is_unsettable else b
+flag_after_change a (LosesAt i) b = b
+flag_after_change a Unsets b = false
+flag_after_change a (Moves to from) b = b
+flag_after_change a (Resolves i v) b = b
 
-abbrev pub happened : Metamodel → Ends → FeatureChange → Ends
-happened m e t =
+abbrev pub ends_after_change : Metamodel → Ends → FeatureChange → Ends
+ends_after_change m e t =
     let a = shape m t.at.feature in
-    with_held e t.at (record { values = changed a t.does (e t.at).values; flag = flagged a t.does (e t.at).flag })
+    with_held e t.at (record { values = values_after_change a t.does (e t.at).values; flag = flag_after_change a t.does (e t.at).flag })
 
-abbrev pub happened_all : Metamodel → Ends → List FeatureChange → Ends
-happened_all m e [] = e
-happened_all m e (t ∷ ts) = happened_all m (happened m e t) ts
+abbrev pub ends_after_changes : Metamodel → Ends → List FeatureChange → Ends
+ends_after_changes m e [] = e
+ends_after_changes m e (t ∷ ts) = ends_after_changes m (ends_after_change m e t) ts

@@ -22,13 +22,13 @@ use Rattle.handshake.specs.declared.change_kind.ChangeKind.TheVariants.{Gains, G
 use Rattle.handshake.specs.declared.change_kind.ChangeKind.{ChangeKind}
 use Rattle.handshake.specs.declared.change_kind.FeatureChange.{FeatureChange}
 use Rattle.proxies.specs.declared.resolved.Resolved.{Resolved}
-use Rattle.proxies.specs.declared.target.Target.{Target}
+use Rattle.proxies.specs.declared.resolved_proxy.ResolvedProxy.{ResolvedProxy}
 use Rattle.removal.specs.declared.link_end.LinkEnd.{LinkEnd}
-use Rattle.handshake.specs.Displaced.{cut_link_ends, is_plain_set, taken_index, turned}
+use Rattle.handshake.specs.Displaced.{cut_link_ends, is_plain_set, opposite_link_end, taken_index}
 use Rattle.proxies.specs.Proxies.{end_of, sites}
-use Rattle.proxies.specs.ResolvingAll.{Resolution, done, left, resolutions}
+use Rattle.proxies.specs.ResolvingAll.{Resolution, resolutions, resolved_count, unresolved_count}
 use Rattle.proxies.specs.Resolving.{opposite_end, target_at}
-use Rattle.handshake.specs.FeatureChange.{feature_change, told}
+use Rattle.handshake.specs.FeatureChange.{change_notices, feature_change}
 
 ---------------------------------------------------------------- links
 
@@ -38,11 +38,11 @@ loss t = feature_change t.end (Loses t.value)
 -- the losses at both ends of a link; an end that contains comes first
 abbrev pub losses : Reading → LinkEnd → List FeatureChange
 losses r t =
-    option_map_or (λ u. if is_containment r.metamodel u.end.feature then loss u ∷ loss t ∷ [] else loss t ∷ loss u ∷ []) (turned r t) (loss t ∷ [])
+    option_map_or (λ u. if is_containment r.metamodel u.end.feature then loss u ∷ loss t ∷ [] else loss t ∷ loss u ∷ []) (opposite_link_end r t) (loss t ∷ [])
 
 -- the loss at the other end of a link; and `far_losses`, at the other ends of several links
 abbrev pub far_loss : Reading → LinkEnd → List FeatureChange
-far_loss r t = option_map_or (λ u. loss u ∷ []) (turned r t) []
+far_loss r t = option_map_or (λ u. loss u ∷ []) (opposite_link_end r t) []
 
 abbrev pub far_losses : Reading → List LinkEnd → List FeatureChange
 far_losses r ts = flat_map (far_loss r) ts
@@ -77,22 +77,22 @@ gain_at None v = Gains v
 gain_at (Some i) v = GainsAt i v
 
 -- the losses at the far ends of the links that are cut, and then the end's own
-abbrev pub taken_out : Reading → End → List LinkEnd → ℕ → List FeatureChange
-taken_out r e ts i = far_losses r ts ++ feature_change e (LosesAt i) ∷ []
+abbrev pub changes_of_remove : Reading → End → List LinkEnd → ℕ → List FeatureChange
+changes_of_remove r e ts i = far_losses r ts ++ feature_change e (LosesAt i) ∷ []
 
 -- the losses when the first occurrence of a value is taken out; none if the value is not there
-abbrev pub value_taken_out : Reading → End → List LinkEnd → Value → List FeatureChange
-value_taken_out r e ts v = option_map_or (taken_out r e ts) (first_at r e v) []
+abbrev pub changes_of_remove_value : Reading → End → List LinkEnd → Value → List FeatureChange
+changes_of_remove_value r e ts v = option_map_or (changes_of_remove r e ts) (first_at r e v) []
 
-abbrev pub emptied : Reading → End → List FeatureChange
-emptied r e = if (shape_at r e).is_single then feature_change e Unsets ∷ [] else all_lost e (length (r.values e))
+abbrev pub changes_of_unset : Reading → End → List FeatureChange
+changes_of_unset r e = if (shape_at r e).is_single then feature_change e Unsets ∷ [] else all_lost e (length (r.values e))
 
-abbrev pub set_to : Reading → End → Value → List LinkEnd → List FeatureChange
-set_to r e v ts = (if is_plain_set r e v then [] else before_gain r e v ts) ++ feature_change e (Gains v) ∷ []
+abbrev pub changes_of_set : Reading → End → Value → List LinkEnd → List FeatureChange
+changes_of_set r e v ts = (if is_plain_set r e v then [] else before_gain r e v ts) ++ feature_change e (Gains v) ∷ []
 
 -- the feature changes of an addition; none if the list is unique and has the value already
-abbrev pub added : Reading → End → Value → Option ℕ → List LinkEnd → List FeatureChange
-added r e v i ts = if is_repeat r e v then [] else before_gain r e v ts ++ feature_change e (gain_at i v) ∷ []
+abbrev pub changes_of_add : Reading → End → Value → Option ℕ → List LinkEnd → List FeatureChange
+changes_of_add r e v i ts = if is_repeat r e v then [] else before_gain r e v ts ++ feature_change e (gain_at i v) ∷ []
 
 -- the object that a change destroys, with all objects below it
 abbrev pub destroyed_by : Change → Option ObjectNo
@@ -105,7 +105,7 @@ resolves_one (At e (Resolve i)) = true
 resolves_one _ = false
 
 -- the target of the proxy that a change resolves
-abbrev pub target_of : Reading → Change → Option Target
+abbrev pub target_of : Reading → Change → Option ResolvedProxy
 target_of r (At e (Resolve i)) = target_at r e i
 target_of r _ = None
 
@@ -121,43 +121,43 @@ resolves_all _ = false
 
 -- how many proxies a change that resolves all resolves, and how many remain
 abbrev pub resolved_by : Reading → Change → Option Resolved
-resolved_by r c = if resolves_all c then Some (record { done = done r; left = left r }) else None
+resolved_by r c = if resolves_all c then Some (record { done = resolved_count r; left = unresolved_count r }) else None
 
 -- the losses of an end of another node, in order, when an object and all objects below it are destroyed
 abbrev pub lost_with : Reading → ObjectNo → End → List FeatureChange
 lost_with r o d = map (λ v. feature_change d (Loses v)) (filter (is_lost r o d) (r.values d))
 
 -- the losses of a deletion: at each end of other nodes in order, and last at the end that contains the object
-abbrev pub destroyed : Reading → ObjectNo → List FeatureChange
-destroyed r o =
+abbrev pub changes_of_delete : Reading → ObjectNo → List FeatureChange
+changes_of_delete r o =
     flat_map (lost_with r o) (touched_ends r o)
     ++ map (λ d. feature_change d (Loses (value.Object o))) (option_to_list (r.holder (node.Object o)))
 
 -- the list of a resource's roots gains each root of a document, in order
-abbrev pub loaded : Reading → ResourceNo → Doc → List FeatureChange
-loaded r k doc = map (λ v. feature_change (contents_end r.metamodel k) (Gains v)) (roots_loaded r.next doc)
+abbrev pub changes_of_load : Reading → ResourceNo → Doc → List FeatureChange
+changes_of_load r k doc = map (λ v. feature_change (contents_end r.metamodel k) (Gains v)) (roots_loaded r.next doc)
 
 -- the proxy at the opposite end, if there is one, is resolved, and then the proxy of the end itself
-abbrev pub resolved : End → ℕ → Target → List FeatureChange
-resolved e i x =
+abbrev pub changes_of_resolve : End → ℕ → ResolvedProxy → List FeatureChange
+changes_of_resolve e i x =
     option_map_or (λ c. feature_change c.end (Resolves c.index (node_value e.node)) ∷ []) x.counterpart []
     ++ feature_change e (Resolves i (value.Object x.object)) ∷ []
 
 -- the feature changes of one resolved proxy among several
 abbrev pub resolution_told : Resolution → List FeatureChange
-resolution_told x = resolved (end_of x.site) x.site.index x.target
+resolution_told x = changes_of_resolve (end_of x.site) x.site.index x.target
 
 -- the feature changes of a change that cuts the links ts
 abbrev pub feature_changes_with : Reading → Change → List LinkEnd → List FeatureChange
-feature_changes_with r (At e (Set v)) ts = set_to r e v ts
-feature_changes_with r (At e Unset) ts = far_losses r ts ++ emptied r e
-feature_changes_with r (At e (Add v i)) ts = added r e v i ts
+feature_changes_with r (At e (Set v)) ts = changes_of_set r e v ts
+feature_changes_with r (At e Unset) ts = far_losses r ts ++ changes_of_unset r e
+feature_changes_with r (At e (Add v i)) ts = changes_of_add r e v i ts
 feature_changes_with r (At e (Move to from)) ts = feature_change e (Moves to from) ∷ []
-feature_changes_with r (At e (Resolve i)) ts = option_map_or (resolved e i) (target_at r e i) []
-feature_changes_with r (At e a) ts = option_map_or (taken_out r e ts) (taken_index r e a) []
-feature_changes_with r (Delete o) ts = destroyed r o
+feature_changes_with r (At e (Resolve i)) ts = option_map_or (changes_of_resolve e i) (target_at r e i) []
+feature_changes_with r (At e a) ts = option_map_or (changes_of_remove r e ts) (taken_index r e a) []
+feature_changes_with r (Delete o) ts = changes_of_delete r o
 feature_changes_with r ResolveAll ts = flat_map resolution_told (resolutions r (sites r))
-feature_changes_with r (Load k doc) ts = loaded r k doc
+feature_changes_with r (Load k doc) ts = changes_of_load r k doc
 feature_changes_with r _ ts = []
 
 abbrev pub feature_changes : Reading → Change → List FeatureChange
@@ -165,4 +165,4 @@ feature_changes r c = feature_changes_with r c (cut_link_ends r c)
 
 -- the notifications of a change, in order
 abbrev pub chain : Reading → Change → List Notice
-chain r c = told r.metamodel (held_at r) (feature_changes r c)
+chain r c = change_notices r.metamodel (held_at r) (feature_changes r c)

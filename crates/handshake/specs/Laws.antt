@@ -13,8 +13,8 @@ use Rattle.models.specs.Legal.{IsLegal}
 use Rattle.models.specs.Model.{Model, reading}
 use Rattle.models.specs.Reading.{Reading, held_at, shape_at}
 use Rattle.models.specs.Steady.{HasSteadyTexts}
-use Rattle.removal.specs.Outer.{gone}
-use Rattle.notice_chain.specs.Replay.{replayed_all}
+use Rattle.removal.specs.Outer.{is_in_subtree}
+use Rattle.notice_chain.specs.Replay.{ends_after_notices}
 use Rattle.handshake.specs.declared.change.Change.{Change}
 use Rattle.handshake.specs.declared.change.Change.TheVariants.{At, Load, NewResource}
 use Rattle.handshake.specs.declared.act.Act.TheVariants.{Unset}
@@ -22,7 +22,7 @@ use Rattle.handshake.specs.declared.change_kind.ChangeKind.TheVariants.{Unsets}
 use Rattle.handshake.specs.declared.change_kind.FeatureChange.{FeatureChange}
 use Rattle.removal.specs.declared.link_end.LinkEnd.{LinkEnd}
 use Rattle.handshake.specs.Displaced.{cut_link_ends, same_link}
-use Rattle.handshake.specs.Effects.{after}
+use Rattle.handshake.specs.Effects.{model_after}
 use Rattle.handshake.specs.Changes.{HasReadDocument}
 use Rattle.handshake.specs.Refusals.{early_refusal, late_refusal}
 use Rattle.handshake.specs.FeatureChange.{has_flag, feature_change}
@@ -39,7 +39,7 @@ IsBrought _ = Unit {0}
 
 -- a change leaves a legal model
 abbrev pub KeepsLegal : Model → Change → Type 0
-KeepsLegal = OfAllowed (λ s c. HasReadDocument s.metamodel c → IsBrought c → IsLegal (after s c))
+KeepsLegal = OfAllowed (λ s c. HasReadDocument s.metamodel c → IsBrought c → IsLegal (model_after s c))
 
 -- the URI that a change brings, and the URIs of the proxies that it brings, are normalised
 abbrev pub BringsSteadyTexts : Change → Type 0
@@ -49,11 +49,11 @@ BringsSteadyTexts _ = Unit {0}
 
 -- if the URIs of a model and of a change are normalised, so are the URIs of the model after the change
 abbrev pub KeepsSteady : Model → Change → Type 0
-KeepsSteady s c = HasSteadyTexts s → BringsSteadyTexts c → HasSteadyTexts (after s c)
+KeepsSteady s c = HasSteadyTexts s → BringsSteadyTexts c → HasSteadyTexts (model_after s c)
 
 -- whether a node is an object that a change destroys
 abbrev pub goes_with : Reading → Change → Node → Bool
-goes_with r c n = option_map_or (λ o. gone r o n) (destroyed_by c) false
+goes_with r c n = option_map_or (λ o. is_in_subtree r o n) (destroyed_by c) false
 
 -- whether a node is an object whose number is n or higher
 abbrev pub is_object_from : ℕ → Node → Bool
@@ -67,7 +67,7 @@ comes_with r c n = is_some (loaded_by c) && is_object_from r.next n
 -- the chain of a change, replayed at an end, gives the values of the end after the change. Excepted are the ends of nodes that it destroys,
 -- or that a load makes
 abbrev pub ChainReplays : Model → Change → Type 0
-ChainReplays = OfAllowed (λ s c. HasReadDocument s.metamodel c → (d : End) → goes_with (reading s) c d.node ≡ false → comes_with (reading s) c d.node ≡ false → replayed_all (has_flag s.metamodel) (held_at (reading s)) (chain (reading s) c) d ≡ held_at (reading (after s c)) d)
+ChainReplays = OfAllowed (λ s c. HasReadDocument s.metamodel c → (d : End) → goes_with (reading s) c d.node ≡ false → comes_with (reading s) c d.node ≡ false → ends_after_notices (has_flag s.metamodel) (held_at (reading s)) (chain (reading s) c) d ≡ held_at (reading (model_after s c)) d)
 
 -- whether a change may take several values out of one list, or put several in
 abbrev pub takes_many : Reading → Change → Bool

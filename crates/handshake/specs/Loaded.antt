@@ -16,10 +16,10 @@ use Rattle.models.specs.Model.{Model, attribute_values, reading}
 use Rattle.models.specs.Reading.{Reading, contents_end}
 use Rattle.resource_docs.specs.Read.{values_in}
 use Rattle.resource_docs.specs.declared.doc.Doc.{Doc}
-use Rattle.doc_loader.specs.Loading.{loaded, loaded_value, object_end, roots_loaded}
+use Rattle.doc_loader.specs.Loading.{loaded_number, loaded_value, object_end, roots_loaded}
 use Rattle.doc_loader.specs.Typed.{class_in}
 use Rattle.handshake.specs.declared.change.Change.TheVariants.{Load}
-use Rattle.handshake.specs.Effects.{after}
+use Rattle.handshake.specs.Effects.{model_after}
 use Rattle.handshake.specs.Laws.{OfAllowed, comes_with}
 use Rattle.handshake.specs.Changes.{HasReadDocument}
 
@@ -35,7 +35,7 @@ IsContainer m f c = (lookups.is_container m f ≡ true) × ((shape m f).opposite
 pub record HasObjectsOf (r : Reading) (doc : Doc) (t : Reading) : Type 0 where
   pub next : t.next ≡ r.next + length doc.objects
   -- each object has its class
-  pub classes : (o : ObjectNo) → t.class (loaded r.next o) ≡ class_in doc o
+  pub classes : (o : ObjectNo) → t.class (loaded_number r.next o) ≡ class_in doc o
   -- an attribute has the values that are written, else its default
   pub attributes : (o : ObjectNo) (f : FeatureNo) → (shape r.metamodel f).is_reference ≡ false
       → t.values (object_end r.next o f) ≡ attribute_values (shape r.metamodel f) (values_in doc o f)
@@ -47,19 +47,19 @@ pub record HasObjectsOf (r : Reading) (doc : Doc) (t : Reading) : Type 0 where
       → t.values (object_end r.next o f) ≡ map (loaded_value r.next) (values_in doc o f)
   -- the container reference of an object has the object in whose containment it is written, and is empty for an object that no object contains
   pub containers : (o b : ObjectNo) (f c : FeatureNo) → IsContainer r.metamodel f c → IsWrittenWith doc b c o
-      → t.values (object_end r.next o f) ≡ value.Object (loaded r.next b) ∷ []
+      → t.values (object_end r.next o f) ≡ value.Object (loaded_number r.next b) ∷ []
   pub no_containers : (o : ObjectNo) (f c : FeatureNo) → IsContainer r.metamodel f c → ((b : ObjectNo) → IsWrittenWith doc b c o → ⊥)
       → t.values (object_end r.next o f) ≡ []
   -- an object that is written under a containment is held there
   pub holders : (o b : ObjectNo) (f : FeatureNo) → is_containment r.metamodel f ≡ true → IsWrittenWith doc o f b
-      → t.holder (node.Object (loaded r.next b)) ≡ Some (object_end r.next o f)
+      → t.holder (node.Object (loaded_number r.next b)) ≡ Some (object_end r.next o f)
 
 -- the roots of a document are in a resource
 pub record HasRootsOf (r : Reading) (k : ResourceNo) (doc : Doc) (t : Reading) : Type 0 where
   -- the roots are in the document's order
   pub contents : t.values (contents_end r.metamodel k) ≡ roots_loaded r.next doc
   -- each root is held by the resource
-  pub holders : (i : ℕ) (o : ObjectNo) → slice_get doc.roots i ≡ Some o → t.holder (node.Object (loaded r.next o)) ≡ Some (contents_end r.metamodel k)
+  pub holders : (i : ℕ) (o : ObjectNo) → slice_get doc.roots i ≡ Some o → t.holder (node.Object (loaded_number r.next o)) ≡ Some (contents_end r.metamodel k)
 
 -- all else is as before: the metamodel, the URIs, and each node without a new number, except the roots of the resource
 pub record IsElseAsBefore (r : Reading) (k : ResourceNo) (doc : Doc) (t : Reading) : Type 0 where
@@ -79,4 +79,4 @@ pub record IsLoaded (r : Reading) (k : ResourceNo) (doc : Doc) (t : Reading) : T
 
 -- after the load of a document that was read, the model is as the document says
 abbrev pub LoadsEnds : Model → ResourceNo → Doc → Type 0
-LoadsEnds s k doc = OfAllowed (λ s c. HasReadDocument s.metamodel c → IsLoaded (reading s) k doc (reading (after s c))) s (Load k doc)
+LoadsEnds s k doc = OfAllowed (λ s c. HasReadDocument s.metamodel c → IsLoaded (reading s) k doc (reading (model_after s c))) s (Load k doc)

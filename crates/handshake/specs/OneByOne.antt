@@ -4,10 +4,10 @@ use Rattle.std.specs.Prelude.{◌≡◌, ℕ, zero, suc, Bool, List, [], ◌∷�
 use Rattle.mm_types.specs.Conditions.{◌else_by◌}
 use Rattle.notice_chain.specs.declared.notice.Notice.{Notice}
 use Rattle.models.specs.Model.{Model, reading}
-use Rattle.handshake.specs.Effects.{after}
+use Rattle.handshake.specs.Effects.{model_after}
 use Rattle.proxies.specs.Proxies.{end_of, sites}
 use Rattle.handshake.specs.Refusals.{early_refusal, late_refusal}
-use Rattle.proxies.specs.ResolvingAll.{done, left}
+use Rattle.proxies.specs.ResolvingAll.{resolved_count, unresolved_count}
 use Rattle.handshake.specs.FeatureChanges.{chain}
 use Rattle.handshake.specs.declared.change.Change.{Change}
 use Rattle.handshake.specs.declared.change.Change.TheVariants.{At, ResolveAll}
@@ -23,21 +23,21 @@ is_refused s c = is_some (early_refusal (reading s) c else_by late_refusal (read
 -- the model after the proxies at some locations were resolved one after another
 abbrev pub after_each : Model → List ProxySite → Model
 after_each s [] = s
-after_each s (p ∷ ps) = if is_refused s (resolve p) then after_each s ps else after_each (after s (resolve p)) ps
+after_each s (p ∷ ps) = if is_refused s (resolve p) then after_each s ps else after_each (model_after s (resolve p)) ps
 
 -- the notifications of these resolves, one after another
 abbrev pub told_by_each : Model → List ProxySite → List Notice
 told_by_each s [] = []
 told_by_each s (p ∷ ps) =
-    if is_refused s (resolve p) then told_by_each s ps else chain (reading s) (resolve p) ++ told_by_each (after s (resolve p)) ps
+    if is_refused s (resolve p) then told_by_each s ps else chain (reading s) (resolve p) ++ told_by_each (model_after s (resolve p)) ps
 
 -- how many proxies these resolves resolve
 abbrev pub count_of_each : Model → List ProxySite → ℕ
 count_of_each s [] = zero
-count_of_each s (p ∷ ps) = if is_refused s (resolve p) then count_of_each s ps else suc (count_of_each (after s (resolve p)) ps)
+count_of_each s (p ∷ ps) = if is_refused s (resolve p) then count_of_each s ps else suc (count_of_each (model_after s (resolve p)) ps)
 
 pub record ResolvesEach (s : Model) : Type 0 where
-  pub leaves : after s ResolveAll ≡ after_each s (sites (reading s))
+  pub leaves : model_after s ResolveAll ≡ after_each s (sites (reading s))
   pub tells : chain (reading s) ResolveAll ≡ told_by_each s (sites (reading s))
-  pub counts : done (reading s) ≡ count_of_each s (sites (reading s))
-  pub rest : left (reading s) ≡ length (sites (reading (after s ResolveAll)))
+  pub counts : resolved_count (reading s) ≡ count_of_each s (sites (reading s))
+  pub rest : unresolved_count (reading s) ≡ length (sites (reading (model_after s ResolveAll)))

@@ -8,13 +8,13 @@ use Rattle.notice_chain.specs.declared.kind.NoticeKind.TheVariants as kind
 use Rattle.notice_chain.specs.declared.notice.Notice.{Notice}
 use Rattle.models.specs.Reading.{Reading, held_at, shape_at}
 use Rattle.removal.specs.declared.loss.Loss.{Loss}
-use Rattle.doc_loader.specs.Loading.{loaded}
+use Rattle.doc_loader.specs.Loading.{loaded_number}
 use Rattle.handshake.specs.declared.chain.Report.{Report}
 use Rattle.handshake.specs.FeatureChange.{notice}
 
 -- the notification of a report, read in a model
-abbrev pub reported : Reading → End → Report → Notice
-reported r e p = notice (shape_at r e) e (held_at r e) p.kind p.old_value p.new_value p.position
+abbrev pub report_notice : Reading → End → Report → Notice
+report_notice r e p = notice (shape_at r e) e (held_at r e) p.kind p.old_value p.new_value p.position
 
 -- the notification of a loss, read in a model in which the end still has the value: SET to null at a single end, else REMOVE at its
 -- position
@@ -32,7 +32,7 @@ root_notice n e x =
       feature = Some e.feature;
       kind = kind.Add;
       old_value = value.Null;
-      new_value = value.Object (loaded n x.1);
+      new_value = value.Object (loaded_number n x.1);
       position = pos x.0;
       was_set = nat_lt 0 x.0;
     }

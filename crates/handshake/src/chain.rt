@@ -5,7 +5,7 @@ ghost use Rattle.mm_types.specs.Shapes.{shape};
 ghost use Rattle.models.specs.Model.{reading};
 ghost use Rattle.removal.specs.Losses.{losses as losses_of};
 ghost use Rattle.removal.specs.Removals.{IsRemoval};
-ghost use Rattle.handshake.specs.Reports.{lost_notice as lost_notice_of, reported};
+ghost use Rattle.handshake.specs.Reports.{lost_notice as lost_notice_of, report_notice};
 ghost use Rattle.handshake.specs.FeatureChange.{notice_at, feature_change};
 ghost use Rattle.handshake.specs.declared.change_kind.ChangeKind.TheVariants.{Gains, Loses, Resolves, Unsets};
 
@@ -135,7 +135,7 @@ fn report_of<L: LinkStore>(
     at: End,
     does: ChangeKind,
 ) -> Result<Report, AllocError>
-    ensures { IfOk result (λ p. reported (reading model.now) at p ≡ notice_at (reading model.now) (feature_change at does)) }
+    ensures { IfOk result (λ p. report_notice (reading model.now) at p ≡ notice_at (reading model.now) (feature_change at does)) }
 {
     match does {
         ChangeKind::Gains(value) => gain(alloc, model, at, value),
@@ -171,7 +171,7 @@ fn resolved<L: LinkStore>(
     index: u32,
     value: Value,
 ) -> Result<Report, AllocError>
-    ensures { IfOk result (λ p. reported (reading model.now) at p ≡ notice_at (reading model.now) (feature_change at (Resolves index value))) }
+    ensures { IfOk result (λ p. report_notice (reading model.now) at p ≡ notice_at (reading model.now) (feature_change at (Resolves index value))) }
 {
     let position = if model.meta().is_single(at.feature) {
         NO_INDEX
@@ -193,7 +193,7 @@ fn gain<L: LinkStore>(
     at: End,
     value: Value,
 ) -> Result<Report, AllocError>
-    ensures { IfOk result (λ p. reported (reading model.now) at p ≡ notice_at (reading model.now) (feature_change at (Gains value))) }
+    ensures { IfOk result (λ p. report_notice (reading model.now) at p ≡ notice_at (reading model.now) (feature_change at (Gains value))) }
 {
     if !model.meta().is_single(at.feature) {
         return Ok(Report {
@@ -213,7 +213,7 @@ fn gain<L: LinkStore>(
 
 /// A loss: SET to null at a single end, else REMOVE at the position of the value.
 fn loss<L: LinkStore>(model: &ModelRef<L>, at: End, value: Value) -> Report
-    ensures { reported (reading model.now) at result ≡ notice_at (reading model.now) (feature_change at (Loses value)) }
+    ensures { report_notice (reading model.now) at result ≡ notice_at (reading model.now) (feature_change at (Loses value)) }
 {
     if model.meta().is_single(at.feature) {
         return Report {
@@ -244,7 +244,7 @@ fn index_of<L: LinkStore>(model: &ModelRef<L>, at: End, value: &Value) -> u32
 
 /// UNSET, from the value of a single end to its default.
 fn unset<L: LinkStore>(alloc: Global, model: &ModelRef<L>, at: End) -> Result<Report, AllocError>
-    ensures { IfOk result (λ p. reported (reading model.now) at p ≡ notice_at (reading model.now) (feature_change at Unsets)) }
+    ensures { IfOk result (λ p. report_notice (reading model.now) at p ≡ notice_at (reading model.now) (feature_change at Unsets)) }
 {
     Ok(Report {
         kind: NoticeKind::Unset,

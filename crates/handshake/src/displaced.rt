@@ -1,10 +1,11 @@
 //! Which links a change cuts.
-ghost use Rattle.std.specs.Prelude.{◌≡◌, ◌++◌, [], true, None, fold, OnOk, IfOk, IfSome, option_map, option_to_list, if◌then◌else◌};
+ghost use Rattle.std.specs.Prelude.{◌≡◌, ◌++◌, [], false, true, None, fold, OnOk, IfOk, IfSome, option_map, option_to_list, if◌then◌else◌};
 ghost use Rattle.std.specs.Option.{option_map_or};
 ghost use Rattle.mm_types.specs.Shapes.{shape};
 ghost use Rattle.links.specs.Holders as h;
 ghost use Rattle.models.specs.Found.{found_value};
 ghost use Rattle.models.specs.Model.{reading};
+ghost use Rattle.mm_types.specs.declared.numbers.Node.TheVariants as node;
 ghost use Rattle.removal.specs.Removals.{IsRemoval};
 ghost use Rattle.removal.specs.TreeLinkEnds as t;
 ghost use Rattle.removal.specs.TreeLinkEnds.{link_end};
@@ -18,11 +19,12 @@ ghost use Rattle.handshake.specs.declared.change.Change.TheVariants.{At};
 use crate::act::Act;
 use crate::change::Change;
 use crate::link_end::{is_among, node_value};
+use crate::plain::{is_plain_add, is_plain_set};
 use links::LinkStore;
 use mm_meta::Meta;
 use mm_types::{End, Node, ObjectNo, Value};
 use models::{Found, ModelRef};
-use proxies::{Target, opposite_end};
+use proxies::{ResolvedProxy, opposite_end};
 use removal::{LinkEnd, Removal, tree_link_ends};
 use std::alloc::{AllocError, Global};
 
@@ -59,7 +61,7 @@ pub(crate) fn yields<L: LinkStore>(
     object: ObjectNo,
 ) -> Result<Vec<LinkEnd>, AllocError>
     requires reference { (shape model.now.metamodel end.feature).is_reference ≡ true }
-    ensures { IfOk result (λ ts. ts.items ≡ d.yields (reading model.now) end object) }
+    ensures { IfOk result (λ ts. ts.items ≡ d.displaced_link_ends (reading model.now) end object) }
 {
     model.lemma_is_legal();
     let mut link_ends = Vec::new(alloc);
@@ -134,7 +136,7 @@ fn add<L: LinkStore>(
 
 /// The node that becomes contained when an object is put into an end.
 fn contained(meta: &Meta, end: End, object: ObjectNo) -> Option<Node>
-    ensures { result ≡ h.contained end object (shape meta.now end.feature).containing }
+    ensures { result ≡ h.node_contained end object (shape meta.now end.feature).containing }
 {
     match meta.containing(end.feature) {
         Some(containing) if containing == end.feature => Some(Node::Object(object)),
@@ -149,7 +151,7 @@ pub fn cut_link_ends<L: LinkStore>(
     model: &ModelRef<L>,
     change: &Change,
     removal: &Option<Removal>,
-    target: Option<Target>,
+    target: Option<ResolvedProxy>,
 ) -> Result<Vec<LinkEnd>, AllocError>
     requires removal { IsRemovalOf (reading model.now) change.now removal.now }
     requires found { target ≡ target_of (reading model.now) change.now }
@@ -171,7 +173,7 @@ fn cut_by_act<L: LinkStore>(
     model: &ModelRef<L>,
     end: End,
     act: &Act,
-    target: Option<Target>,
+    target: Option<ResolvedProxy>,
 ) -> Result<Vec<LinkEnd>, AllocError>
     requires found { target ≡ target_of (reading model.now) (At end act.now) }
     ensures { IfOk result (λ ts. ts.items ≡ d.cut_link_ends (reading model.now) (At end act.now)) }
@@ -193,7 +195,7 @@ fn link_ends_resolved<L: LinkStore>(
     model: &ModelRef<L>,
     end: End,
     index: u32,
-    target: Option<Target>,
+    target: Option<ResolvedProxy>,
 ) -> Result<Vec<LinkEnd>, AllocError>
     requires found { target ≡ target_at (reading model.now) end index }
     ensures { IfOk result (λ ts. ts.items ≡ (if (shape model.now.metamodel end.feature).is_reference then d.link_ends_resolved (reading model.now) end index else [])) }
@@ -209,14 +211,14 @@ fn link_ends_resolved<L: LinkStore>(
 pub fn add_counterpart<L: LinkStore>(
     alloc: Global,
     model: &ModelRef<L>,
-    target: Option<Target>,
+    target: Option<ResolvedProxy>,
     link_ends: &mut Vec<LinkEnd>,
 ) -> Result<(), AllocError>
     ensures { OnOk result (link_ends.new.items ≡ link_ends.old.items ++ option_map_or (d.counter_link_end (reading model.now)) target []) }
 {
     match target {
         Some(
-            Target {
+            ResolvedProxy {
                 counterpart: Some(other),
                 ..
             },
@@ -346,32 +348,4 @@ pub fn push_link_end(
         link_ends.push(LinkEnd { end, value })?;
     }
     Ok(())
-}
-
-/// Whether an addition makes no link: it is to an attribute, or the list is unique and has the value already.
-pub fn is_plain_add<L: LinkStore>(model: &ModelRef<L>, end: End, value: &Value) -> bool
-    ensures { result ≡ d.is_plain_add (reading model.now) end value.now }
-{
-    !model.meta().is_reference(end.feature) || model.is_repeat(end, value)
-}
-
-/// Whether a set makes and cuts no link: the feature is an attribute, or the end has that value already.
-pub fn is_plain_set<L: LinkStore>(model: &ModelRef<L>, end: End, value: &Value) -> bool
-    ensures { result ≡ d.is_plain_set (reading model.now) end value.now }
-{
-    if !model.meta().is_reference(end.feature) {
-        return true;
-    }
-    has_already(model, end, value)
-}
-
-/// Whether a single reference has a value already.
-pub fn has_already<L: LinkStore>(model: &ModelRef<L>, end: End, value: &Value) -> bool
-    requires reference { (shape model.now.metamodel end.feature).is_reference ≡ true }
-    ensures { result ≡ d.has_already (reading model.now) end value.now }
-{
-    match model.value_at(end) {
-        Some(found) => found.is(value),
-        None => matches!(value, Value::Null),
-    }
 }

@@ -11,12 +11,12 @@ ghost use Rattle.handshake.specs.declared.change.Change.TheVariants.{At};
 use crate::act::Act;
 use crate::change::Change;
 use crate::change_kind::{ChangeKind, FeatureChange};
-use crate::displaced::is_plain_set;
 use crate::link_end::{node_value, turned};
+use crate::plain::{is_plain_set, is_repeat};
 use links::LinkStore;
 use mm_types::{End, ObjectNo, Value};
 use models::ModelRef;
-use proxies::{Target, opposite_end};
+use proxies::{ResolvedProxy, opposite_end};
 use removal::LinkEnd;
 use std::alloc::{AllocError, Global};
 
@@ -27,7 +27,7 @@ pub fn feature_changes<L: LinkStore>(
     model: &ModelRef<L>,
     change: &Change,
     link_ends: &[LinkEnd],
-    target: Option<Target>,
+    target: Option<ResolvedProxy>,
 ) -> Result<Vec<FeatureChange>, AllocError>
     requires destroys_nothing { destroyed_by change.now ≡ None }
     requires loads_nothing { loaded_by change.now ≡ None }
@@ -49,7 +49,7 @@ fn push_act<L: LinkStore>(
     end: End,
     act: &Act,
     link_ends: &[LinkEnd],
-    target: Option<Target>,
+    target: Option<ResolvedProxy>,
     out: &mut Vec<FeatureChange>,
 ) -> Result<(), AllocError>
     requires found { target ≡ target_of (reading model.now) (At end act.now) }
@@ -73,7 +73,7 @@ fn push_unset<L: LinkStore>(
     link_ends: &[LinkEnd],
     out: &mut Vec<FeatureChange>,
 ) -> Result<(), AllocError>
-    ensures { OnOk result (out.new.items ≡ out.old.items ++ (t.far_losses (reading model.now) link_ends.now ++ t.emptied (reading model.now) end)) }
+    ensures { OnOk result (out.new.items ≡ out.old.items ++ (t.far_losses (reading model.now) link_ends.now ++ t.changes_of_unset (reading model.now) end)) }
 {
     push_far_losses(model, link_ends, out)?;
     push_emptied(model, end, out)
@@ -83,10 +83,10 @@ fn push_unset<L: LinkStore>(
 pub fn push_resolved(
     end: End,
     index: u32,
-    target: Option<Target>,
+    target: Option<ResolvedProxy>,
     out: &mut Vec<FeatureChange>,
 ) -> Result<(), AllocError>
-    ensures { OnOk result (out.new.items ≡ out.old.items ++ option_map_or (t.resolved end index) target []) }
+    ensures { OnOk result (out.new.items ≡ out.old.items ++ option_map_or (t.changes_of_resolve end index) target []) }
 {
     let Some(target) = target else {
         return Ok(());
@@ -110,7 +110,7 @@ fn push_set<L: LinkStore>(
     link_ends: &[LinkEnd],
     out: &mut Vec<FeatureChange>,
 ) -> Result<(), AllocError>
-    ensures { OnOk result (out.new.items ≡ out.old.items ++ t.set_to (reading model.now) end value.now link_ends.now) }
+    ensures { OnOk result (out.new.items ≡ out.old.items ++ t.changes_of_set (reading model.now) end value.now link_ends.now) }
 {
     if !is_plain_set(model, end, value) {
         push_cuts(model, end, value, link_ends, out)?;
@@ -127,9 +127,9 @@ fn push_added<L: LinkStore>(
     link_ends: &[LinkEnd],
     out: &mut Vec<FeatureChange>,
 ) -> Result<(), AllocError>
-    ensures { OnOk result (out.new.items ≡ out.old.items ++ t.added (reading model.now) end value.now index link_ends.now) }
+    ensures { OnOk result (out.new.items ≡ out.old.items ++ t.changes_of_add (reading model.now) end value.now index link_ends.now) }
 {
-    if model.is_repeat(end, value) {
+    if is_repeat(model, end, value) {
         return Ok(());
     }
     push_cuts(model, end, value, link_ends, out)?;
@@ -154,7 +154,7 @@ fn push_taken_out<L: LinkStore>(
     index: u32,
     out: &mut Vec<FeatureChange>,
 ) -> Result<(), AllocError>
-    ensures { OnOk result (out.new.items ≡ out.old.items ++ t.taken_out (reading model.now) end link_ends.now index) }
+    ensures { OnOk result (out.new.items ≡ out.old.items ++ t.changes_of_remove (reading model.now) end link_ends.now index) }
 {
     push_far_losses(model, link_ends, out)?;
     push(out, end, ChangeKind::LosesAt(index))
@@ -168,7 +168,7 @@ fn push_value_taken_out<L: LinkStore>(
     value: &Value,
     out: &mut Vec<FeatureChange>,
 ) -> Result<(), AllocError>
-    ensures { OnOk result (out.new.items ≡ out.old.items ++ t.value_taken_out (reading model.now) end link_ends.now value.now) }
+    ensures { OnOk result (out.new.items ≡ out.old.items ++ t.changes_of_remove_value (reading model.now) end link_ends.now value.now) }
 {
     match model.position(end, value) {
         Some(index) => push_taken_out(model, end, link_ends, index, out),
@@ -182,7 +182,7 @@ fn push_emptied<L: LinkStore>(
     end: End,
     out: &mut Vec<FeatureChange>,
 ) -> Result<(), AllocError>
-    ensures { OnOk result (out.new.items ≡ out.old.items ++ t.emptied (reading model.now) end) }
+    ensures { OnOk result (out.new.items ≡ out.old.items ++ t.changes_of_unset (reading model.now) end) }
 {
     if model.meta().is_single(end.feature) {
         return push(out, end, ChangeKind::Unsets);

@@ -7,11 +7,11 @@ ghost use Rattle.mm_types.specs.declared.numbers.ResourceNo.{ResourceNo};
 ghost use Rattle.models.specs.Legal.{IsLegal};
 ghost use Rattle.models.specs.Model.{Model};
 ghost use Rattle.resource_docs.specs.declared.doc.Doc.{Doc};
-ghost use Rattle.notice_chain.specs.Replay.{replayed_all};
+ghost use Rattle.notice_chain.specs.Replay.{ends_after_notices};
 ghost use Rattle.handshake.specs.Laws.{ChainReplays, CutsNoLinkTwice, FarEndsAreApart, KeepsLegal, KeepsSteady, TellsNoEndTwice, TellsNoSingleEndTwice};
 ghost use Rattle.handshake.specs.Loaded.{LoadsEnds};
 ghost use Rattle.handshake.specs.OneByOne.{ResolvesEach};
-ghost use Rattle.handshake.specs.FeatureChange.{happened_all, has_flag, told};
+ghost use Rattle.handshake.specs.FeatureChange.{change_notices, ends_after_changes, has_flag};
 ghost use Rattle.handshake.specs.declared.change.Change.{Change};
 ghost use Rattle.handshake.specs.declared.change_kind.FeatureChange.{FeatureChange};
 
@@ -29,7 +29,7 @@ pub fn keeps_steady_texts()
 /// Replaying the notifications of feature changes makes these changes, one after another, at every end.
 #[tactic(auto, using(crate::proofs::ReplayLemmas::replaying))]
 pub fn the_notices_of_feature_changes_replay_them()
-    ensures { (m : Metamodel) (e : Ends) (ts : List FeatureChange) → replayed_all (has_flag m) e (told m e ts) ≡ happened_all m e ts }
+    ensures { (m : Metamodel) (e : Ends) (ts : List FeatureChange) → ends_after_notices (has_flag m) e (change_notices m e ts) ≡ ends_after_changes m e ts }
 {}
 
 /// The chain of a change of a legal model that is not refused, replayed on the values of an end, gives the values of the end after the

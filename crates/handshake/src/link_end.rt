@@ -23,7 +23,7 @@ pub(crate) fn node_value(node: Node) -> Value
 
 /// The same link, named by its other end, if it has one.
 pub(crate) fn turned<L: LinkStore>(model: &ModelRef<L>, link_end: &LinkEnd) -> Option<LinkEnd>
-    ensures { result ≡ d.turned (reading model.now) link_end.now }
+    ensures { result ≡ d.opposite_link_end (reading model.now) link_end.now }
 {
     match &link_end.value {
         Value::Object(object) => match opposite_end(model, link_end.end, *object) {

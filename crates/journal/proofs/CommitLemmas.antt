@@ -2,7 +2,7 @@
 use Rattle.std.proofs.Common.{◌≡◌, inl, ℕ, ◌+◌, ◌<◌, ◌≤◌, List, [], ◌∷◌, ◌++◌, length, ◌∙◌, ap, subst, arith}
 use Rattle.journal.specs.Disk.{Elapses, Follows, IsDurable, LeavesOnly, Overwrites, Torn}
 use Rattle.journal.specs.Journal.{IsBeforeOrAfter}
-use Rattle.journal.specs.Lines.{at_rest, entries, recovered}
+use Rattle.journal.specs.Lines.{at_rest, entries, recovered_lines}
 use Rattle.journal.specs.declared.entries.TheConstants.{MARK}
 use Rattle.journal.proofs.CrashLemmas.{length-file, length-staged, mark_crash, marked_is, stage_crash, staged, staged_is, tail_of}
 use Rattle.journal.proofs.MomentLemmas.{begins, goes_on}
@@ -10,13 +10,13 @@ use Rattle.journal.proofs.MomentLemmas.{begins, goes_on}
 module _ {D : Type 0} (seen : D → List ℕ) (may_leave : D → List ℕ → Type 0) (moment : D → ℕ) (left_since : D → ℕ → List ℕ → Type 0)
     (only_now : (file : D) (c : List ℕ) → left_since file (moment file) c → may_leave file c)
     (d : D) (end : ℕ) (text : List ℕ)
-    (file : seen d ≡ at_rest (recovered (seen d))) (ends : end ≡ length (entries (recovered (seen d)))) (durable : IsDurable (seen d) (may_leave d))
-    (text_is : text ≡ at_rest (recovered text)) (some : 1 < length text) where
+    (file : seen d ≡ at_rest (recovered_lines (seen d))) (ends : end ≡ length (entries (recovered_lines (seen d)))) (durable : IsDurable (seen d) (may_leave d))
+    (text_is : text ≡ at_rest (recovered_lines text)) (some : 1 < length text) where
   abbrev lines : List (List ℕ)
-  lines = recovered (seen d)
+  lines = recovered_lines (seen d)
 
   abbrev more : List (List ℕ)
-  more = recovered text
+  more = recovered_lines text
 
   abbrev tail : List ℕ
   tail = tail_of text
@@ -40,7 +40,7 @@ module _ {D : Type 0} (seen : D → List ℕ) (may_leave : D → List ℕ → Ty
   room = omega (arith, length-file (seen d) text end file ends text_is some)
 
   at_start : Leaves d
-  at_start = begins moment left_since d P (λ c left. inl (ap recovered (durable c (only_now d c left))))
+  at_start = begins moment left_since d P (λ c left. inl (ap recovered_lines (durable c (only_now d c left))))
 
   -- the first write
   module _ (d1 : D) (torn1 : Follows (Torn (end + 1) (length tail)) (may_leave d) (may_leave d1)) (time1 : Goes d d1) where

@@ -4,9 +4,9 @@ use Rattle.std.proofs.lemmas.Bool.{cases_eq}
 use Rattle.std.proofs.lemmas.List.{append-nil, drop_all, drop_at, drop_more, take_all, take_at, take_rest}
 use Rattle.journal.specs.Disk.{Follows, IsDurable, Overwrites, Torn}
 use Rattle.journal.specs.Journal.{IsBeforeOrAfter}
-use Rattle.journal.specs.Lines.{at_rest, entries, recovered}
+use Rattle.journal.specs.Lines.{at_rest, entries, recovered_lines}
 use Rattle.journal.specs.declared.entries.TheConstants.{MARK, NEWLINE}
-use Rattle.journal.proofs.EntryLemmas.{entries-append, recovered-entries, recovered-lines, recovered-stopped}
+use Rattle.journal.proofs.EntryLemmas.{entries-append, recovered_lines-entries, recovered_lines-lines, recovered_lines-stopped}
 
 -- a text without its first byte, as a slice has it
 abbrev pub tail_of : List ℕ → List ℕ
@@ -17,13 +17,13 @@ at_rest-marked [] some = absurd (omega arith)
 at_rest-marked (l ∷ ls) some = refl
 
 -- a file at rest, and the text of a commit
-module _ (file text : List ℕ) (end : ℕ) (file_is : file ≡ at_rest (recovered file)) (ends : end ≡ length (entries (recovered file)))
-    (text_is : text ≡ at_rest (recovered text)) (some : 1 < length text) where
+module _ (file text : List ℕ) (end : ℕ) (file_is : file ≡ at_rest (recovered_lines file)) (ends : end ≡ length (entries (recovered_lines file)))
+    (text_is : text ≡ at_rest (recovered_lines text)) (some : 1 < length text) where
   abbrev lines : List (List ℕ)
-  lines = recovered file
+  lines = recovered_lines file
 
   abbrev more : List (List ℕ)
-  more = recovered text
+  more = recovered_lines text
 
   abbrev tail : List ℕ
   tail = tail_of text
@@ -47,14 +47,14 @@ module _ (file text : List ℕ) (end : ℕ) (file_is : file ≡ at_rest (recover
   -- ---- the first write
 
   -- whatever a crash in the first write leaves, the newline is there
-  torn_behind : (n : ℕ) (c : List ℕ) → Torn (end + 1) n file c → recovered c ≡ lines
+  torn_behind : (n : ℕ) (c : List ℕ) → Torn (end + 1) n file c → recovered_lines c ≡ lines
   torn_behind n c torn =
       let front : take (end + 1) c ≡ at_rest lines = torn.front ∙ take_all (end + 1) file (omega (arith, length-file)) ∙ file_is in
       let whole : c ≡ entries lines ++ NEWLINE ∷ drop (end + 1) c =
       sym (take-append-drop (end + 1) c) ∙ ap (λ (l : List ℕ). l ++ drop (end + 1) c) front ∙ append_assoc (entries lines) (NEWLINE ∷ []) (drop (end + 1) c) in
-      ap recovered whole ∙ recovered-stopped lines NEWLINE (drop (end + 1) c) (recovered-lines file) (omega arith)
+      ap recovered_lines whole ∙ recovered_lines-stopped lines NEWLINE (drop (end + 1) c) (recovered_lines-lines file) (omega arith)
 
-  pub stage_crash : (n : ℕ) (old new : List ℕ → Type 0) → IsDurable file old → Follows (Torn (end + 1) n) old new → (c : List ℕ) → new c → recovered c ≡ lines
+  pub stage_crash : (n : ℕ) (old new : List ℕ → Type 0) → IsDurable file old → Follows (Torn (end + 1) n) old new → (c : List ℕ) → new c → recovered_lines c ≡ lines
   stage_crash n old new only follows c left =
       let from = follows c left in
       torn_behind n c (subst (λ f. Torn (end + 1) n f c) (only from.0 from.1) from.2)
@@ -81,10 +81,10 @@ module _ (file text : List ℕ) (end : ℕ) (file_is : file ≡ at_rest (recover
   marked_by : (b : ℕ) → IsBeforeOrAfter lines more (entries lines ++ b ∷ tail)
   marked_by b = elim (cases_eq b MARK) [
     | inl is ↦ inr
-        (ap (λ (k : ℕ). recovered (entries lines ++ k ∷ tail)) is
-        ∙ recovered-entries lines (MARK ∷ tail) (recovered-lines file)
-        ∙ ap (λ (l : List ℕ). lines ++ recovered l) (tail_is ∙ sym text_is))
-    | inr other ↦ inl (recovered-stopped lines b tail (recovered-lines file) other)
+        (ap (λ (k : ℕ). recovered_lines (entries lines ++ k ∷ tail)) is
+        ∙ recovered_lines-entries lines (MARK ∷ tail) (recovered_lines-lines file)
+        ∙ ap (λ (l : List ℕ). lines ++ recovered_lines l) (tail_is ∙ sym text_is))
+    | inr other ↦ inl (recovered_lines-stopped lines b tail (recovered_lines-lines file) other)
   ]
 
   torn_mark : (c : List ℕ) → Torn end 1 staged c → IsBeforeOrAfter lines more c

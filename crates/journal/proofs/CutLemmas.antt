@@ -3,9 +3,9 @@ use Rattle.std.proofs.Common.{◌≡◌, ◌≢◌, ◌+◌, ◌-◌, ◌<◌, �
 use Rattle.std.proofs.lemmas.List.{append-nil, drop_at, drop_more, take_rest}
 use Rattle.std.proofs.lemmas.List.Elements.{All-from_get_or, recursion_from_All}
 use Rattle.memchr.specs.Find.{NoneBefore, Nowhere, Passes, is_byte}
-use Rattle.journal.specs.Lines.{CutsEntry, CutsLine, IsCut, IsEntry, IsLine, ended, entries, marked, recovered, with_byte}
+use Rattle.journal.specs.Lines.{CutsEntry, CutsLine, IsCut, IsEntry, IsLine, ended_lines, entries, marked_lines, recovered_lines, with_byte}
 use Rattle.journal.specs.declared.entries.TheConstants.{MARK, NEWLINE}
-use Rattle.journal.proofs.EntryLemmas.{Line, Lines, ended-byte, entries-append, recovered-entries, recovered-entry}
+use Rattle.journal.proofs.EntryLemmas.{Line, Lines, ended_lines-byte, entries-append, recovered_lines-entries, recovered_lines-entry}
 
 -- ---- the first newline
 
@@ -26,26 +26,26 @@ cut_at bytes n first here = record {
   in_line = before_newline bytes n first;
 }
 
-ended-without_newline : (bytes : List ℕ) → Line bytes → ended bytes ≡ []
-ended-without_newline [] plain = refl
-ended-without_newline (c ∷ cs) plain = ended-byte c cs plain.0 ∙ ap (with_byte c) (ended-without_newline cs plain.1)
+ended_lines-without_newline : (bytes : List ℕ) → Line bytes → ended_lines bytes ≡ []
+ended_lines-without_newline [] plain = refl
+ended_lines-without_newline (c ∷ cs) plain = ended_lines-byte c cs plain.0 ∙ ap (with_byte c) (ended_lines-without_newline cs plain.1)
 
-pub ended-nowhere : (bytes : List ℕ) → Nowhere (Passes (is_byte 10) bytes) 0 (length bytes) → ended bytes ≡ []
-ended-nowhere bytes nowhere =
-    ended-without_newline bytes
+pub ended_lines-nowhere : (bytes : List ℕ) → Nowhere (Passes (is_byte 10) bytes) 0 (length bytes) → ended_lines bytes ≡ []
+ended_lines-nowhere bytes nowhere =
+    ended_lines-without_newline bytes
     (recursion_from_All (λ c. c ≢ 10) bytes (All-from_get_or (λ c. c ≢ 10) bytes 0 (λ k low e. nowhere k (omega arith) low (eq-eqb _ _ e))))
 
 -- ---- the first entry
 
 -- a line after a mark is an entry
 pub cut_entry : (cut : Option (Bor (List ℕ) × Bor (List ℕ))) (bytes : List ℕ) → CutsLine cut bytes → CutsEntry cut (MARK ∷ bytes)
-cut_entry None bytes cuts = ap (λ (ls : List (List ℕ)). marked (with_byte MARK ls)) cuts
+cut_entry None bytes cuts = ap (λ (ls : List (List ℕ)). marked_lines (with_byte MARK ls)) cuts
 cut_entry (Some p) bytes cuts = record {
   bytes_are = ap (λ (l : List ℕ). MARK ∷ l) cuts.bytes_are;
   in_line = cuts.in_line;
   lines_are =
-      ap (λ (l : List ℕ). recovered (MARK ∷ l)) cuts.bytes_are
-      ∙ recovered-entry p.0.now p.1.now (recursion_from_All (λ c. c ≢ 10) p.0.now cuts.in_line);
+      ap (λ (l : List ℕ). recovered_lines (MARK ∷ l)) cuts.bytes_are
+      ∙ recovered_lines-entry p.0.now p.1.now (recursion_from_All (λ c. c ≢ 10) p.0.now cuts.in_line);
   shorter =
       let long : length bytes ≡ length p.0.now + length (NEWLINE ∷ p.1.now) = ap length cuts.bytes_are ∙ length-append p.0.now (NEWLINE ∷ p.1.now) in
       omega (arith, long);
@@ -74,23 +74,23 @@ read_more bytes rest line more so_far one = record {
       ∙ ap (λ l. l ++ more) (sym (entries-append so_far.lines (line ∷ [])));
 }
 
-module _ (bytes rest : List ℕ) (read : Read bytes rest) (none : recovered rest ≡ []) where
+module _ (bytes rest : List ℕ) (read : Read bytes rest) (none : recovered_lines rest ≡ []) where
   -- all entries were read if the rest stands for no line
-  recovered-read : recovered bytes ≡ read.lines
-  recovered-read =
-      ap recovered read.bytes_are
-      ∙ recovered-entries read.lines rest read.plain
+  recovered_lines-read : recovered_lines bytes ≡ read.lines
+  recovered_lines-read =
+      ap recovered_lines read.bytes_are
+      ∙ recovered_lines-entries read.lines rest read.plain
       ∙ ap (λ (ls : List (List ℕ)). read.lines ++ ls) none
       ∙ append-nil read.lines
 
-  pub read_split : bytes ≡ entries (recovered bytes) ++ rest
-  read_split = read.bytes_are ∙ ap (λ (ls : List (List ℕ)). entries ls ++ rest) (sym recovered-read)
+  pub read_split : bytes ≡ entries (recovered_lines bytes) ++ rest
+  read_split = read.bytes_are ∙ ap (λ (ls : List (List ℕ)). entries ls ++ rest) (sym recovered_lines-read)
 
-  pub read_len : length bytes ≡ length (entries (recovered bytes)) + length rest
-  read_len = ap length read_split ∙ length-append (entries (recovered bytes)) rest
+  pub read_len : length bytes ≡ length (entries (recovered_lines bytes)) + length rest
+  read_len = ap length read_split ∙ length-append (entries (recovered_lines bytes)) rest
 
   pub read_drop : drop (length bytes - length rest) bytes ≡ rest
   read_drop =
       let n = length bytes - length rest in
-      let at : length (entries (recovered bytes)) ≡ n = omega (arith, read_len) in
-      ap (λ l. drop n l) read_split ∙ drop_at (entries (recovered bytes)) rest n at
+      let at : length (entries (recovered_lines bytes)) ≡ n = omega (arith, read_len) in
+      ap (λ l. drop n l) read_split ∙ drop_at (entries (recovered_lines bytes)) rest n at

@@ -1,7 +1,7 @@
 -- A journal between two calls, and what a crash leaves of it.
 use Rattle.std.specs.Prelude.{◌≡◌, ◌⊎◌, ℕ, List, ◌++◌, length}
 use Rattle.journal.specs.Disk.{IsDurable}
-use Rattle.journal.specs.Lines.{AreEntries, at_rest, entries, recovered}
+use Rattle.journal.specs.Lines.{AreEntries, at_rest, entries, recovered_lines}
 use Rattle.journal.specs.declared.journal.Journal.{Journal}
 
 -- the disk that has the file
@@ -9,25 +9,25 @@ abbrev pub disk_of : {D : Type 0} → Journal D → D
 disk_of journal = journal.disk
 
 -- the lines that were noted since the last commit
-abbrev pub noted : {D : Type 0} → Journal D → List (List ℕ)
-noted journal = recovered journal.pending.items
+abbrev pub noted_lines : {D : Type 0} → Journal D → List (List ℕ)
+noted_lines journal = recovered_lines journal.pending.items
 
 module _ {D : Type 0} (seen : D → List ℕ) where
   -- the lines that the file stands for
-  abbrev pub kept : Journal D → List (List ℕ)
-  kept journal = recovered (seen journal.disk)
+  abbrev pub journal_lines : Journal D → List (List ℕ)
+  journal_lines journal = recovered_lines (seen journal.disk)
 
   -- The file is the entries of its lines and an empty line; a crash leaves exactly that file; and the journal knows how long the entries
   -- are.
   pub record IsSettled (may_leave : D → List ℕ → Type 0) (journal : Journal D) : Type 0 where
-    pub file : seen journal.disk ≡ at_rest (kept journal)
-    pub end : journal.end ≡ length (entries (kept journal))
+    pub file : seen journal.disk ≡ at_rest (journal_lines journal)
+    pub end : journal.end ≡ length (entries (journal_lines journal))
     pub durable : IsDurable (seen journal.disk) (may_leave journal.disk)
     pub pending : AreEntries journal.pending.items
 
 -- a file stands for these lines
 abbrev pub StandsFor : List (List ℕ) → List ℕ → Type 0
-StandsFor ls file = recovered file ≡ ls
+StandsFor ls file = recovered_lines file ≡ ls
 
 -- a file stands for only these lines, or for these lines and all further ones
 abbrev pub IsBeforeOrAfter : List (List ℕ) → List (List ℕ) → List ℕ → Type 0

@@ -10,19 +10,19 @@ with_byte c [] = []
 with_byte c (l ∷ ls) = (c ∷ l) ∷ ls
 
 -- the lines that end with a newline, without the newlines
-abbrev pub ended : List ℕ → List (List ℕ)
-ended [] = []
-ended (c ∷ cs) = if c == NEWLINE then [] ∷ ended cs else with_byte c (ended cs)
+abbrev pub ended_lines : List ℕ → List (List ℕ)
+ended_lines [] = []
+ended_lines (c ∷ cs) = if c == NEWLINE then [] ∷ ended_lines cs else with_byte c (ended_lines cs)
 
 -- the lines before the first line without a mark at its front, each without its mark
-abbrev pub marked : List (List ℕ) → List (List ℕ)
-marked [] = []
-marked ([] ∷ ls) = []
-marked ((c ∷ l) ∷ ls) = if c == MARK then l ∷ marked ls else []
+abbrev pub marked_lines : List (List ℕ) → List (List ℕ)
+marked_lines [] = []
+marked_lines ([] ∷ ls) = []
+marked_lines ((c ∷ l) ∷ ls) = if c == MARK then l ∷ marked_lines ls else []
 
 -- the lines that a file stands for
-abbrev pub recovered : List ℕ → List (List ℕ)
-recovered file = marked (ended file)
+abbrev pub recovered_lines : List ℕ → List (List ℕ)
+recovered_lines file = marked_lines (ended_lines file)
 
 abbrev pub IsLine : List ℕ → Type 0
 IsLine l = All (λ c. c ≢ NEWLINE) l
@@ -41,7 +41,7 @@ at_rest ls = entries ls ++ NEWLINE ∷ []
 
 -- the bytes are the entries of some lines
 abbrev pub AreEntries : List ℕ → Type 0
-AreEntries bytes = bytes ≡ entries (recovered bytes)
+AreEntries bytes = bytes ≡ entries (recovered_lines bytes)
 
 -- Some bytes are a line, its newline, and a rest.
 pub record IsCut (bytes line rest : List ℕ) : Type 0 where
@@ -50,17 +50,17 @@ pub record IsCut (bytes line rest : List ℕ) : Type 0 where
 
 -- the result of a cut is the first line and the rest, or none if no line ends with a newline
 abbrev pub CutsLine : Option (Bor (List ℕ) × Bor (List ℕ)) → List ℕ → Type 0
-CutsLine None bytes = ended bytes ≡ []
+CutsLine None bytes = ended_lines bytes ≡ []
 CutsLine (Some p) bytes = IsCut bytes p.0.now p.1.now
 
 -- Bytes that begin with the entry of a line; the other bytes are the rest.
 pub record IsEntry (bytes line rest : List ℕ) : Type 0 where
   pub bytes_are : bytes ≡ MARK ∷ line ++ NEWLINE ∷ rest
   pub in_line : IsLine line
-  pub lines_are : recovered bytes ≡ line ∷ recovered rest
+  pub lines_are : recovered_lines bytes ≡ line ∷ recovered_lines rest
   pub shorter : length rest < length bytes
 
 -- the result of a cut is the line of the first entry and the rest, or none if the bytes stand for no line
 abbrev pub CutsEntry : Option (Bor (List ℕ) × Bor (List ℕ)) → List ℕ → Type 0
-CutsEntry None bytes = recovered bytes ≡ []
+CutsEntry None bytes = recovered_lines bytes ≡ []
 CutsEntry (Some p) bytes = IsEntry bytes p.0.now p.1.now

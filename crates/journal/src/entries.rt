@@ -1,6 +1,6 @@
 //! The entry of a line in a file: a mark, the line, and a newline.
 ghost use Rattle.std.specs.Prelude.{◌≡◌, ◌++◌, [], ◌∷◌, drop, length, take, OnOk, OnErr};
-ghost use Rattle.journal.specs.Lines.{CutsEntry, CutsLine, entries, entry, recovered};
+ghost use Rattle.journal.specs.Lines.{CutsEntry, CutsLine, entries, entry, recovered_lines};
 
 use memchr::memchr;
 use std::alloc::AllocError;
@@ -33,9 +33,9 @@ pub fn next_entry(bytes: &[u8]) -> Option<(&[u8], &[u8])>
 
 /// How many bytes the entries at the front of a file have.
 pub(crate) fn entries_len(bytes: &[u8]) -> usize
-    ensures split { bytes.now ≡ entries (recovered bytes.now) ++ drop result bytes.now }
-    ensures len { result ≡ length (entries (recovered bytes.now)) }
-    ensures rest { recovered (drop result bytes.now) ≡ [] }
+    ensures split { bytes.now ≡ entries (recovered_lines bytes.now) ++ drop result bytes.now }
+    ensures len { result ≡ length (entries (recovered_lines bytes.now)) }
+    ensures rest { recovered_lines (drop result bytes.now) ≡ [] }
 {
     let mut rest = bytes;
     'entries: while let Some((_, more)) = next_entry(rest) {

@@ -2,8 +2,8 @@
 //! has it.
 ghost use Rattle.std.specs.Prelude.{◌≡◌, ◌<◌, ◌≤◌, ◌^◌, ◌++◌, [], ◌∷◌, drop, length, true, IfErr, IfOk, IsErrOf, OnErr, OnOk};
 ghost use Rattle.journal.specs.Disk.{IsDurable, LeavesOnly};
-ghost use Rattle.journal.specs.Journal.{IsBeforeOrAfter, IsSettled, StandsFor, disk_of, kept, noted};
-ghost use Rattle.journal.specs.Lines.{IsLine, at_rest, entries, recovered};
+ghost use Rattle.journal.specs.Journal.{IsBeforeOrAfter, IsSettled, StandsFor, disk_of, journal_lines, noted_lines};
+ghost use Rattle.journal.specs.Lines.{IsLine, at_rest, entries, recovered_lines};
 
 use crate::disk::{Disk, DiskFault};
 use crate::entries::{MARK, NEWLINE, entries_len, put_entry};
@@ -25,16 +25,16 @@ pub struct Journal<D: Disk> {
 /// Puts a text of entries after the entries of a file. First it writes all but the first mark of the text; when that is on the disk, it
 /// writes the mark.
 fn append<D: Disk>(disk: &mut D, end: usize, text: &[u8]) -> Result<(), DiskFault>
-    requires file { D.seen disk.old ≡ at_rest (recovered (D.seen disk.old)) }
-    requires end { end ≡ length (entries (recovered (D.seen disk.old))) }
+    requires file { D.seen disk.old ≡ at_rest (recovered_lines (D.seen disk.old)) }
+    requires end { end ≡ length (entries (recovered_lines (D.seen disk.old))) }
     requires durable { IsDurable (D.seen disk.old) (D.may_leave disk.old) }
     requires room { end < 2 ^ 62 }
-    requires text { text.now ≡ at_rest (recovered text.now) }
+    requires text { text.now ≡ at_rest (recovered_lines text.now) }
     requires some { 1 < length text.now }
-    ensures written { OnOk result (D.seen disk.new ≡ at_rest (recovered (D.seen disk.old) ++ recovered text.now)) }
+    ensures written { OnOk result (D.seen disk.new ≡ at_rest (recovered_lines (D.seen disk.old) ++ recovered_lines text.now)) }
     ensures durable { OnOk result (IsDurable (D.seen disk.new) (D.may_leave disk.new)) }
     ensures any_moment { LeavesOnly D.moment D.left_since disk.old disk.new
-        (IsBeforeOrAfter (recovered (D.seen disk.old)) (recovered text.now)) }
+        (IsBeforeOrAfter (recovered_lines (D.seen disk.old)) (recovered_lines text.now)) }
     ensures later { D.faults disk.old ≤ D.faults disk.new }
     ensures failed { IsErrOf result DiskFault.Failed → D.faults disk.old < D.faults disk.new }
     ensures full { IsErrOf result DiskFault.Full → ⊥ }
@@ -49,13 +49,13 @@ fn append<D: Disk>(disk: &mut D, end: usize, text: &[u8]) -> Result<(), DiskFaul
 
 /// Cuts a file off after its entries, and ends it with an empty line.
 fn repair<D: Disk>(disk: &mut D, end: usize) -> Result<(), DiskFault>
-    requires split { D.seen disk.old ≡ entries (recovered (D.seen disk.old)) ++ drop end (D.seen disk.old) }
-    requires end { end ≡ length (entries (recovered (D.seen disk.old))) }
-    requires rest { recovered (drop end (D.seen disk.old)) ≡ [] }
+    requires split { D.seen disk.old ≡ entries (recovered_lines (D.seen disk.old)) ++ drop end (D.seen disk.old) }
+    requires end { end ≡ length (entries (recovered_lines (D.seen disk.old))) }
+    requires rest { recovered_lines (drop end (D.seen disk.old)) ≡ [] }
     requires durable { IsDurable (D.seen disk.old) (D.may_leave disk.old) }
-    ensures at_rest { OnOk result (D.seen disk.new ≡ at_rest (recovered (D.seen disk.old))) }
+    ensures at_rest { OnOk result (D.seen disk.new ≡ at_rest (recovered_lines (D.seen disk.old))) }
     ensures durable { OnOk result (IsDurable (D.seen disk.new) (D.may_leave disk.new)) }
-    ensures any_moment { LeavesOnly D.moment D.left_since disk.old disk.new (StandsFor (recovered (D.seen disk.old))) }
+    ensures any_moment { LeavesOnly D.moment D.left_since disk.old disk.new (StandsFor (recovered_lines (D.seen disk.old))) }
     ensures failed { IsErrOf result DiskFault.Failed → D.faults disk.old < D.faults disk.new }
     ensures full { IsErrOf result DiskFault.Full → ⊥ }
 {
@@ -77,13 +77,13 @@ fn is_ended(bytes: &[u8], end: usize) -> bool
 /// Repairs the end of a file that has these bytes. A file that needs no repair is not written.
 fn settle<D: Disk>(disk: &mut D, bytes: &[u8], end: usize) -> Result<(), DiskFault>
     requires bytes { D.seen disk.old ≡ bytes.now }
-    requires split { bytes.now ≡ entries (recovered bytes.now) ++ drop end bytes.now }
-    requires end { end ≡ length (entries (recovered bytes.now)) }
-    requires rest { recovered (drop end bytes.now) ≡ [] }
+    requires split { bytes.now ≡ entries (recovered_lines bytes.now) ++ drop end bytes.now }
+    requires end { end ≡ length (entries (recovered_lines bytes.now)) }
+    requires rest { recovered_lines (drop end bytes.now) ≡ [] }
     requires durable { IsDurable (D.seen disk.old) (D.may_leave disk.old) }
-    ensures at_rest { OnOk result (D.seen disk.new ≡ at_rest (recovered bytes.now)) }
+    ensures at_rest { OnOk result (D.seen disk.new ≡ at_rest (recovered_lines bytes.now)) }
     ensures durable { OnOk result (IsDurable (D.seen disk.new) (D.may_leave disk.new)) }
-    ensures any_moment { LeavesOnly D.moment D.left_since disk.old disk.new (StandsFor (recovered bytes.now)) }
+    ensures any_moment { LeavesOnly D.moment D.left_since disk.old disk.new (StandsFor (recovered_lines bytes.now)) }
     ensures failed { IsErrOf result DiskFault.Failed → D.faults disk.old < D.faults disk.new }
     ensures full { IsErrOf result DiskFault.Full → ⊥ }
 {
@@ -102,10 +102,10 @@ pub fn open<D: Disk>(alloc: Global, mut disk: D, bytes: &[u8]) -> Result<Journal
     // After a restart, the bytes that are read are those on the disk.
     requires durable { IsDurable (D.seen disk) (D.may_leave disk) }
     ensures settled { IfOk result (λ journal. IsSettled D.seen D.may_leave journal) }
-    ensures kept { IfOk result (λ journal. kept D.seen journal ≡ recovered bytes.now) }
-    ensures noted { IfOk result (λ journal. noted journal ≡ []) }
-    ensures any_moment { IfOk result (λ journal. LeavesOnly D.moment D.left_since disk (disk_of journal) (StandsFor (recovered bytes.now))) }
-    ensures any_moment_err { IfErr result (λ e. LeavesOnly D.moment D.left_since disk e.1 (StandsFor (recovered bytes.now))) }
+    ensures kept { IfOk result (λ journal. journal_lines D.seen journal ≡ recovered_lines bytes.now) }
+    ensures noted { IfOk result (λ journal. noted_lines journal ≡ []) }
+    ensures any_moment { IfOk result (λ journal. LeavesOnly D.moment D.left_since disk (disk_of journal) (StandsFor (recovered_lines bytes.now))) }
+    ensures any_moment_err { IfErr result (λ e. LeavesOnly D.moment D.left_since disk e.1 (StandsFor (recovered_lines bytes.now))) }
     ensures failed { IfErr result (λ e. e.0 ≡ DiskFault.Failed → D.faults disk < D.faults e.1) }
     ensures full { IfErr result (λ e. e.0 ≡ DiskFault.Full → ⊥) }
 {
@@ -126,8 +126,8 @@ impl<D: Disk> Journal<D> {
         requires line { IsLine line.now }
         requires settled { IsSettled D.seen D.may_leave self.old }
         ensures settled { IsSettled D.seen D.may_leave self.new }
-        ensures ok { OnOk result (noted self.new ≡ noted self.old ++ line.now ∷ []) }
-        ensures err { OnErr result (noted self.new ≡ noted self.old) }
+        ensures ok { OnOk result (noted_lines self.new ≡ noted_lines self.old ++ line.now ∷ []) }
+        ensures err { OnErr result (noted_lines self.new ≡ noted_lines self.old) }
         ensures disk { disk_of self.new ≡ disk_of self.old }
     {
         let len = self.pending.len();
@@ -147,15 +147,15 @@ impl<D: Disk> Journal<D> {
     pub fn commit(&mut self) -> Result<(), DiskFault>
         requires { IsSettled D.seen D.may_leave self.old }
         ensures settled { OnOk result (IsSettled D.seen D.may_leave self.new) }
-        ensures kept { OnOk result (kept D.seen self.new ≡ kept D.seen self.old ++ noted self.old) }
-        ensures noted { OnOk result (noted self.new ≡ []) }
+        ensures kept { OnOk result (journal_lines D.seen self.new ≡ journal_lines D.seen self.old ++ noted_lines self.old) }
+        ensures noted { OnOk result (noted_lines self.new ≡ []) }
         // A crash at any moment leaves the lines from before the call, without the noted lines or with all of them.
         ensures any_moment { LeavesOnly D.moment D.left_since (disk_of self.old) (disk_of self.new)
-            (IsBeforeOrAfter (kept D.seen self.old) (noted self.old)) }
+            (IsBeforeOrAfter (journal_lines D.seen self.old) (noted_lines self.old)) }
         // The number of failed calls of the disk never falls.
         ensures later { D.faults (disk_of self.old) ≤ D.faults (disk_of self.new) }
         ensures failed { IsErrOf result DiskFault.Failed → D.faults (disk_of self.old) < D.faults (disk_of self.new) }
-        ensures full { IsErrOf result DiskFault.Full → 2 ^ 62 ≤ length (entries (kept D.seen self.old)) }
+        ensures full { IsErrOf result DiskFault.Full → 2 ^ 62 ≤ length (entries (journal_lines D.seen self.old)) }
         ensures untouched { IsErrOf result DiskFault.Full → disk_of self.new ≡ disk_of self.old }
     {
         if self.pending.is_empty() {

@@ -4,7 +4,7 @@ ghost use Rattle.std.specs.Prelude.{⊤};
 use crate::journals::lines_of;
 use crate::torn_disk::TornDisk;
 use crate::waiting::Pieces;
-use durable::{Outbox, Session, Turn, replay, run_dialogue};
+use durable::{JournalTurn, Outbox, Session, replay, run_dialogue};
 use journal::open;
 use script_streams::RunFault;
 use std::alloc::{AllocError, Global};
@@ -21,20 +21,20 @@ struct Counter {
 impl Session for Counter {
     ghost runs = { λ _ _ _ _. ⊤ };
 
-    fn answer(&mut self, line: &[u8], text: &mut Vec<u8>) -> Result<Turn, AllocError> {
+    fn answer(&mut self, line: &[u8], text: &mut Vec<u8>) -> Result<JournalTurn, AllocError> {
         match line.first() {
             Some(b'+') => {
                 text.extend_from_slice(b"ok\n")?;
                 self.count = self.count.saturating_add(1);
-                Ok(Turn::Kept)
+                Ok(JournalTurn::Kept)
             }
             Some(b'?') => {
                 text.extend_from_slice(&[self.count.saturating_add(b'0'), b'\n'])?;
-                Ok(Turn::Other)
+                Ok(JournalTurn::Other)
             }
             _ => {
                 text.extend_from_slice(b"no\n")?;
-                Ok(Turn::Other)
+                Ok(JournalTurn::Other)
             }
         }
     }

@@ -30,8 +30,8 @@ abbrev pub text : Data → Option (List ℕ)
 text = as_str
 
 -- a value that may be absent and is there
-abbrev pub given : {X : Type 0} → (Data → Option X) → Data → Option (Option X)
-given reading d = option_map Some (reading d)
+abbrev pub given_value : {X : Type 0} → (Data → Option X) → Data → Option (Option X)
+given_value reading d = option_map Some (reading d)
 
 -- true or false
 abbrev pub flag : Data → Option Bool
@@ -89,12 +89,12 @@ pub record Fields (X : Type 0) : Type 0 where
   pub reading : Data → Option X
 
 -- a key that has to be there
-abbrev pub required : {X : Type 0} → List ℕ → (Data → Option X) → Fields X
-required key reading = record { keys = key ∷ []; reading = required_at key reading }
+abbrev pub required_field : {X : Type 0} → List ℕ → (Data → Option X) → Fields X
+required_field key reading = record { keys = key ∷ []; reading = required_at key reading }
 
 -- a key that may be absent, and its value then
-abbrev pub optional : {X : Type 0} → List ℕ → (Data → Option X) → X → Fields X
-optional key reading absent = record { keys = key ∷ []; reading = optional_at key reading absent }
+abbrev pub optional_field : {X : Type 0} → List ℕ → (Data → Option X) → X → Fields X
+optional_field key reading absent = record { keys = key ∷ []; reading = optional_at key reading absent }
 
 -- no fields yet; x is the value itself, or a function of the values that further fields read
 abbrev pub makes : {X : Type 0} → X → Fields X

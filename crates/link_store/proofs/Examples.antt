@@ -6,7 +6,7 @@ use Rattle.mm_types.specs.declared.numbers.Node.{Node}
 use Rattle.mm_types.specs.declared.numbers.Node.TheVariants as node
 use Rattle.mm_types.specs.declared.value.Value.TheVariants as value
 use Rattle.links.specs.declared.link.Link.{Link}
-use Rattle.links.specs.Links.{joined}
+use Rattle.links.specs.Links.{joined_link}
 use Rattle.link_store.specs.Rows.{places_in}
 
 abbrev object : ℕ → Node
@@ -20,7 +20,7 @@ staff = record { 0 = 1 }
 
 -- library 0 contains persons 1 and 2 by its feature 1, the opposite of feature 0
 abbrev library : List Link
-library = joined (at_end 0 1) 1 (at_end 2 0) 0 (Some staff) ∷ joined (at_end 0 1) 0 (at_end 1 0) 0 (Some staff) ∷ []
+library = joined_link (at_end 0 1) 1 (at_end 2 0) 0 (Some staff) ∷ joined_link (at_end 0 1) 0 (at_end 1 0) 0 (Some staff) ∷ []
 
 places_of_library : places_in library (at_end 1 0 ∷ at_end 2 0 ∷ at_end 3 0 ∷ []) (value.Object (record { 0 = 0 })) ≡ record { feature = record { 0 = 0 }; node = object 1; position = 0 } ∷ record { feature = record { 0 = 0 }; node = object 2; position = 0 } ∷ []
 places_of_library = refl

@@ -12,7 +12,7 @@ use Rattle.links.proofs.PutLemmas.{cases_end}
 use Rattle.link_store.proofs.RowLemmas.{of_rows}
 use Rattle.links.specs.Holders.{is_far_node}
 use Rattle.links.specs.LegalSets.{HasTwoSides, IsPlaced}
-use Rattle.links.specs.Indexed.{far_value, indexed}
+use Rattle.links.specs.Indexed.{far_value, indexed_value}
 use Rattle.links.specs.Plans.{AreIncoming, has_end}
 use Rattle.link_store.specs.Rows.{ends_to, ends_with, far_ends_to, if_end}
 use Rattle.links.specs.declared.link.Far.TheVariants.{At, Alone, Proxy}
@@ -39,32 +39,32 @@ is_far_node_value e (Alone o) n two h = same_node_if (node.Object o) n (same_nod
 is_far_node_value e (Proxy t) n two h = absurd (not_proxy t n h)
 
 module _ (l : Link) (n : Node) (two : HasTwoSides l.end l.far) where
-  far_ends-has : (e : End) (x : Far) → l.far ≡ x → has_end (far_ends_to l.end.node x n) e ≡ true → (k : ℕ) × (indexed l e ≡ Some (k, node_value n))
+  far_ends-has : (e : End) (x : Far) → l.far ≡ x → has_end (far_ends_to l.end.node x n) e ≡ true → (k : ℕ) × (indexed_value l e ≡ Some (k, node_value n))
   far_ends-has e (At d j) h q =
       let p = if_end-is (same_node l.end.node n) d e q in
       let same = same_node-true l.end.node n p.0 in
       let sides = subst (λ (x : Far). HasTwoSides l.end x) h two in
       let ne : l.end ≢ d = λ is. sides.0 (λ i. (sym is i).feature.0) in
-      (j, subst (λ (y : End). indexed l y ≡ Some (j, node_value n)) p.1 (indexed_at l d j h ne ∙ (λ i. Some (j, node_value (same i)))))
+      (j, subst (λ (y : End). indexed_value l y ≡ Some (j, node_value n)) p.1 (indexed_at l d j h ne ∙ (λ i. Some (j, node_value (same i)))))
   far_ends-has e (Alone o) h q = absurd (false≢true q)
   far_ends-has e (Proxy t) h q = absurd (false≢true q)
 
   -- an end of the scan has the node
-  ends_to-has : (e : End) → has_end (ends_to l n) e ≡ true → (k : ℕ) × (indexed l e ≡ Some (k, node_value n))
+  ends_to-has : (e : End) → has_end (ends_to l n) e ≡ true → (k : ℕ) × (indexed_value l e ≡ Some (k, node_value n))
   ends_to-has e q = elim (has_end_cases (if_end (is_far_node l.far n) l.end) (far_ends_to l.end.node l.far n) e q) [
     | inl near ↦
         let p = if_end-is (is_far_node l.far n) l.end e near in
         let same = is_far_node-true l.far n p.0 in
-        (l.index, subst (λ (y : End). indexed l y ≡ Some (l.index, node_value n)) p.1 (indexed_near l ∙ (λ i. Some (l.index, same i))))
+        (l.index, subst (λ (y : End). indexed_value l y ≡ Some (l.index, node_value n)) p.1 (indexed_near l ∙ (λ i. Some (l.index, same i))))
     | inr far ↦ far_ends-has e l.far refl far
   ]
 
-  has-far_ends : (e : End) (k : ℕ) (x : Far) → l.far ≡ x → l.end ≢ e → indexed l e ≡ Some (k, node_value n) → has_end (far_ends_to l.end.node x n) e ≡ true
+  has-far_ends : (e : End) (k : ℕ) (x : Far) → l.far ≡ x → l.end ≢ e → indexed_value l e ≡ Some (k, node_value n) → has_end (far_ends_to l.end.node x n) e ≡ true
   has-far_ends e k (At d j) h ne at = elim (cases_end d e) [
     | inl same ↦
         let sides = subst (λ (x : Far). HasTwoSides l.end x) h two in
         let apart : l.end ≢ d = λ is. sides.0 (λ i. (sym is i).feature.0) in
-        let here = subst (λ (y : End). indexed l y ≡ Some (j, node_value l.end.node)) same (indexed_at l d j h apart) in
+        let here = subst (λ (y : End). indexed_value l y ≡ Some (j, node_value l.end.node)) same (indexed_at l d j h apart) in
         let is = same_node_value l.end.node n sides.1 (some_pair_parts j k (node_value l.end.node) (node_value n) (sym here ∙ at)).1 in
         if_end_is (same_node l.end.node n) d e (same_node_if l.end.node n is) same
     | inr ne_d ↦ absurd (none-some _ (sym (indexed_out l d e j h ne ne_d) ∙ at))
@@ -73,10 +73,10 @@ module _ (l : Link) (n : Node) (two : HasTwoSides l.end l.far) where
   has-far_ends e k (Proxy t) h ne at = absurd (none-some _ (sym (indexed_proxy l e t h ne) ∙ at))
 
   -- and each end that has it is found
-  has-ends_to : (e : End) (k : ℕ) → indexed l e ≡ Some (k, node_value n) → has_end (ends_to l n) e ≡ true
+  has-ends_to : (e : End) (k : ℕ) → indexed_value l e ≡ Some (k, node_value n) → has_end (ends_to l n) e ≡ true
   has-ends_to e k at = elim (cases_end l.end e) [
     | inl same ↦
-        let here = subst (λ (y : End). indexed l y ≡ Some (l.index, far_value l.far)) same (indexed_near l) in
+        let here = subst (λ (y : End). indexed_value l y ≡ Some (l.index, far_value l.far)) same (indexed_near l) in
         let is = (some_pair_parts l.index k (far_value l.far) (node_value n) (sym here ∙ at)).1 in
         has_end_left (if_end (is_far_node l.far n) l.end) (far_ends_to l.end.node l.far n) e (if_end_is (is_far_node l.far n) l.end e (is_far_node_value l.end l.far n two is) same)
     | inr ne ↦ has_end_right (if_end (is_far_node l.far n) l.end) (far_ends_to l.end.node l.far n) e (has-far_ends e k l.far refl ne at)

@@ -11,7 +11,7 @@ use Rattle.links.proofs.ScanLemmas.{is_value_at-indexed, is_value_at-true, same_
 use Rattle.links.specs.Holders.{first_holding, holder}
 use Rattle.links.specs.LegalSets.{IsHeldOnce, IsPlaced}
 use Rattle.links.specs.Links.{at_indexed, end, length_at, object_at, object_of, proxy_at, text_of, value_at}
-use Rattle.links.specs.Indexed.{has_value, indexed}
+use Rattle.links.specs.Indexed.{has_value, indexed_value}
 use Rattle.links.specs.Plans.{Lacks}
 use Rattle.link_store.specs.Rows.{first_object, first_text, index_of, is_index, object_on, position_in, text_on}
 use Rattle.links.specs.declared.link.Link.{Link}
@@ -34,7 +34,7 @@ object_step (Some p) k rest = elim (p.0 == k) as (λ b. (if b then object_of p.1
 
 first_object-value : (rows : List Link) (e : End) (k : ℕ) → first_object rows e k ≡ option_and_then object_of (value_at rows e k)
 first_object-value [] e k = refl
-first_object-value (l ∷ ls) e k = ap (λ (r : Option ObjectNo). if is_index k (indexed l e) then object_on (indexed l e) else r) (first_object-value ls e k) ∙ object_step (indexed l e) k (value_at ls e k)
+first_object-value (l ∷ ls) e k = ap (λ (r : Option ObjectNo). if is_index k (indexed_value l e) then object_on (indexed_value l e) else r) (first_object-value ls e k) ∙ object_step (indexed_value l e) k (value_at ls e k)
 
 pub rows_object : (rows : List Link) → IsPlaced (of_rows rows) → (e : End) (k : ℕ) → first_object rows e k ≡ object_at (of_rows rows) e k
 rows_object rows placed e k = first_object-value rows e k ∙ ap (λ (o : Option Value). option_and_then object_of o) (rows_at rows placed e k)
@@ -46,31 +46,31 @@ text_step (Some p) k rest = elim (p.0 == k) as (λ b. (if b then text_of p.1 els
 
 first_text-value : (rows : List Link) (e : End) (k : ℕ) → first_text rows e k ≡ option_and_then text_of (value_at rows e k)
 first_text-value [] e k = refl
-first_text-value (l ∷ ls) e k = ap (λ (r : Option (List ℕ)). if is_index k (indexed l e) then text_on (indexed l e) else r) (first_text-value ls e k) ∙ text_step (indexed l e) k (value_at ls e k)
+first_text-value (l ∷ ls) e k = ap (λ (r : Option (List ℕ)). if is_index k (indexed_value l e) then text_on (indexed_value l e) else r) (first_text-value ls e k) ∙ text_step (indexed_value l e) k (value_at ls e k)
 
 pub rows_text : (rows : List Link) → IsPlaced (of_rows rows) → (e : End) (k : ℕ) → first_text rows e k ≡ proxy_at (of_rows rows) e k
 rows_text rows placed e k = first_text-value rows e k ∙ ap (λ (o : Option Value). option_and_then text_of o) (rows_at rows placed e k)
 
 ---------------------------------------------------------------- where a value is
 
-position_in-some : (ls : List Link) (e : End) (v : Value) (k : ℕ) → position_in ls e v ≡ Some k → (l : Link) × Among l ls × (indexed l e ≡ Some (k, v))
+position_in-some : (ls : List Link) (e : End) (v : Value) (k : ℕ) → position_in ls e v ≡ Some k → (l : Link) × Among l ls × (indexed_value l e ≡ Some (k, v))
 position_in-some [] e v k h = absurd (none-some k h)
 position_in-some (l ∷ ls) e v k h =
-    elim (has_value e v l) as (λ b. has_value e v l ≡ b → (if b then index_of (indexed l e) else position_in ls e v) ≡ Some k → (m : Link) × Among m (l ∷ ls) × (indexed m e ≡ Some (k, v))) [
+    elim (has_value e v l) as (λ b. has_value e v l ≡ b → (if b then index_of (indexed_value l e) else position_in ls e v) ≡ Some k → (m : Link) × Among m (l ∷ ls) × (indexed_value m e ≡ Some (k, v))) [
       | true ↦ λ q s.
-          let at = is_value_at-true (indexed l e) v q in
+          let at = is_value_at-true (indexed_value l e) v q in
           let n = same_Some at.0 k (sym (ap index_of at.1) ∙ s) in
           (l, Among_head l ls, at.1 ∙ (λ i. Some (n i, v)))
       | false ↦ λ q s. let found = position_in-some ls e v k s in (found.0, Among_tail found.0 l ls found.1, found.2)
     ] refl h
 
-position_in-none : (ls : List Link) (e : End) (v : Value) → position_in ls e v ≡ None → (m : Link) (k : ℕ) → Among m ls → indexed m e ≡ Some (k, v) → ⊥
+position_in-none : (ls : List Link) (e : End) (v : Value) → position_in ls e v ≡ None → (m : Link) (k : ℕ) → Among m ls → indexed_value m e ≡ Some (k, v) → ⊥
 position_in-none [] e v h m k among at = false≢true among
 position_in-none (l ∷ ls) e v h m k among at =
-    elim (has_value e v l) as (λ b. has_value e v l ≡ b → (if b then index_of (indexed l e) else position_in ls e v) ≡ None → ⊥) [
-      | true ↦ λ q s. let here = is_value_at-true (indexed l e) v q in none-some here.0 (sym s ∙ ap index_of here.1)
+    elim (has_value e v l) as (λ b. has_value e v l ≡ b → (if b then index_of (indexed_value l e) else position_in ls e v) ≡ None → ⊥) [
+      | true ↦ λ q s. let here = is_value_at-true (indexed_value l e) v q in none-some here.0 (sym s ∙ ap index_of here.1)
       | false ↦ λ q s. elim (Among_cases m l ls among) [
-        | inl same ↦ true≢false (sym (is_value_at-indexed (indexed l e) k v (subst (λ (x : Link). indexed x e ≡ Some (k, v)) same at)) ∙ q)
+        | inl same ↦ true≢false (sym (is_value_at-indexed (indexed_value l e) k v (subst (λ (x : Link). indexed_value x e ≡ Some (k, v)) same at)) ∙ q)
         | inr later ↦ position_in-none ls e v s m k later at
       ]
     ] refl h

@@ -17,7 +17,7 @@ use Rattle.link_store.specs.declared.rows.LinkPositions.{LinkPositions}
 use Rattle.links.specs.Holders.{is_far_node}
 use Rattle.links.specs.Found.{entries_by}
 use Rattle.links.specs.Links.{lower, object_of, raise, shifted_index, text_of}
-use Rattle.links.specs.Indexed.{has_value, indexed}
+use Rattle.links.specs.Indexed.{has_value, indexed_value}
 
 abbrev pub changed_index : Renumbering → ℕ → ℕ
 changed_index (Raise i) k = raise i k
@@ -32,7 +32,7 @@ CanChange (Shift to from) k = k + 1 < 2 ^ 32
 
 -- the position that the link has in e, if any, can change
 abbrev pub CanMove : Renumbering → End → Link → Type 0
-CanMove r e l = MatchOption (indexed l e) ⊤ (λ p. CanChange r p.0)
+CanMove r e l = MatchOption (indexed_value l e) ⊤ (λ p. CanChange r p.0)
 
 abbrev pub index_of : Option (ℕ × Value) → Option ℕ
 index_of p = option_map (λ q. q.0) p
@@ -40,7 +40,7 @@ index_of p = option_map (λ q. q.0) p
 -- the position in e of the first link that has v there
 abbrev pub position_in : List Link → End → Value → Option ℕ
 position_in [] e v = None
-position_in (l ∷ ls) e v = if has_value e v l then index_of (indexed l e) else position_in ls e v
+position_in (l ∷ ls) e v = if has_value e v l then index_of (indexed_value l e) else position_in ls e v
 
 -- whether a position with its value is position k
 abbrev pub is_index : ℕ → Option (ℕ × Value) → Bool
@@ -53,7 +53,7 @@ object_on p = option_and_then (λ (q : ℕ × Value). object_of q.1) p
 -- the object of the first link that has position k in e
 abbrev pub first_object : List Link → End → ℕ → Option ObjectNo
 first_object [] e k = None
-first_object (l ∷ ls) e k = if is_index k (indexed l e) then object_on (indexed l e) else first_object ls e k
+first_object (l ∷ ls) e k = if is_index k (indexed_value l e) then object_on (indexed_value l e) else first_object ls e k
 
 -- the text of the proxy at a position with its value
 abbrev pub text_on : Option (ℕ × Value) → Option (List ℕ)
@@ -62,7 +62,7 @@ text_on p = option_and_then (λ (q : ℕ × Value). text_of q.1) p
 -- the proxy's text of the first link that has position k in e
 abbrev pub first_text : List Link → End → ℕ → Option (List ℕ)
 first_text [] e k = None
-first_text (l ∷ ls) e k = if is_index k (indexed l e) then text_on (indexed l e) else first_text ls e k
+first_text (l ∷ ls) e k = if is_index k (indexed_value l e) then text_on (indexed_value l e) else first_text ls e k
 
 abbrev pub far_position : Far → Option (End × ℕ)
 far_position (At d j) = Some (d, j)

@@ -3,9 +3,9 @@ ghost use Rattle.std.specs.FinSet as set;
 ghost use Rattle.std.specs.List.{All};
 ghost use Rattle.std.specs.Prelude.{◌≡◌, ◌+◌, ◌<◌, ◌≤◌, not, map, filter, vec_len, vec_capacity};
 ghost use Rattle.links.specs.LegalSets.{IsPlaced};
-ghost use Rattle.links.specs.Links.{cut_value, joined, new_link, put_proxy, shift};
-ghost use Rattle.links.specs.Indexed.{has_value, moved};
-ghost use Rattle.links.specs.Plans.{edited, put_edit};
+ghost use Rattle.links.specs.Links.{cut_value, joined_link, new_link, put_proxy, shift};
+ghost use Rattle.links.specs.Indexed.{has_value, renumbered_link};
+ghost use Rattle.links.specs.Plans.{links_after_edit, put_edit};
 ghost use Rattle.link_store.specs.Rows.{CanMove, changed_index};
 
 use crate::renumbering::Renumbering;
@@ -16,7 +16,7 @@ use mm_types::{End, FeatureNo, Node, ObjectNo, Text, Value};
 /// Changes the link's position in an end.
 fn move_row(link: &mut Link, end: End, by: Renumbering)
     requires { CanMove by end link.old }
-    ensures { link.new ≡ moved link.old end (changed_index by) }
+    ensures { link.new ≡ renumbered_link link.old end (changed_index by) }
 {
     if link.end == end {
         link.index = by.changed(link.index);
@@ -30,7 +30,7 @@ fn move_row(link: &mut Link, end: End, by: Renumbering)
 /// Changes the positions of one end.
 fn renumber(rows: &mut Vec<Link>, end: End, by: Renumbering)
     requires { All (CanMove by end) rows.old.items }
-    ensures rows { rows.new.items ≡ map (λ l. moved l end (changed_index by)) rows.old.items }
+    ensures rows { rows.new.items ≡ map (λ l. renumbered_link l end (changed_index by)) rows.old.items }
     ensures len { vec_len rows.new ≡ vec_len rows.old }
     ensures capacity { vec_capacity rows.new ≡ vec_capacity rows.old }
 {
@@ -73,7 +73,7 @@ fn cut_row(rows: &mut Vec<Link>, end: End, value: &Value)
 
 /// A link between positions of two ends, written from the lower feature.
 fn join(x: End, i: u32, y: End, j: u32, container: Option<FeatureNo>) -> Link
-    ensures { result ≡ joined x i y j container }
+    ensures { result ≡ joined_link x i y j container }
 {
     if x.feature.0 < y.feature.0 {
         Link {
@@ -125,7 +125,7 @@ fn new_row(rows: &[Link], link: NewLink) -> Link
 pub(crate) fn put_row(rows: &mut Vec<Link>, link: NewLink)
     requires placed { IsPlaced (set.from_list rows.old.items) }
     requires room { vec_len rows.old < vec_capacity rows.old }
-    ensures put { set.from_list rows.new.items ≡ edited (set.from_list rows.old.items) (put_edit link) }
+    ensures put { set.from_list rows.new.items ≡ links_after_edit (set.from_list rows.old.items) (put_edit link) }
     ensures len { vec_len rows.new ≡ vec_len rows.old + 1 }
     ensures capacity { vec_capacity rows.new ≡ vec_capacity rows.old }
 {
@@ -166,7 +166,7 @@ fn shift_rows(rows: &mut Vec<Link>, end: End, to: u32, from: u32)
 pub(crate) fn edit_rows(rows: &mut Vec<Link>, edit: Edit)
     requires placed { IsPlaced (set.from_list rows.old.items) }
     requires room { vec_len rows.old < vec_capacity rows.old }
-    ensures edited { set.from_list rows.new.items ≡ edited (set.from_list rows.old.items) edit }
+    ensures edited { set.from_list rows.new.items ≡ links_after_edit (set.from_list rows.old.items) edit }
     ensures len { vec_len rows.new ≤ vec_len rows.old + 1 }
     ensures capacity { vec_capacity rows.new ≡ vec_capacity rows.old }
 {

@@ -10,7 +10,7 @@ use Rattle.links.proofs.AcyclicLemmas.{IsForest_no_cycle}
 use Rattle.links.proofs.ClimbLemmas.{climb_step, climb_stop, under_holder, under_more}
 use Rattle.links.proofs.HolderLemmas.{holder-some, test_some}
 use Rattle.links.proofs.PlaceLemmas.{same_node_if}
-use Rattle.links.specs.Holders.{HasNoCycle, IsUnder, above, climb, climbed, far_holding, held_through, holder, is_far_node}
+use Rattle.links.specs.Holders.{HasNoCycle, IsUnder, above, climb, far_holding, held_through, holder, is_far_node, nearest_nodes_above}
 use Rattle.links.specs.LegalSets.{HasTwoSides, IsLegalSet, IsObject}
 use Rattle.links.specs.Links.{Links}
 use Rattle.links.specs.declared.link.Far.TheVariants.{At, Alone, Proxy}
@@ -56,33 +56,33 @@ resource_top s r legal = elim (holder s (node.Resource r)) as (λ o. holder s (n
 ---------------------------------------------------------------- above
 
 -- after the end of a chain further steps list no more nodes
-climbed_more : (s : Links) (k : ℕ) (n : Node) → climb s (suc k) n ≡ None → climbed (holder s) k n ≡ climbed (holder s) (suc k) n
+climbed_more : (s : Links) (k : ℕ) (n : Node) → climb s (suc k) n ≡ None → nearest_nodes_above (holder s) k n ≡ nearest_nodes_above (holder s) (suc k) n
 climbed_more s zero n h =
-    elim (holder s n) as (λ o. holder s n ≡ o → [] ≡ option_map_or (λ (e : End). e.node ∷ climbed (holder s) zero e.node) o []) [
+    elim (holder s n) as (λ o. holder s n ≡ o → [] ≡ option_map_or (λ (e : End). e.node ∷ nearest_nodes_above (holder s) zero e.node) o []) [
       | None ↦ λ _. refl
       | Some e ↦ λ q. absurd (none-some e.node (sym h ∙ climb_step s n e zero q))
     ] refl
 climbed_more s (suc k) n h =
-    elim (holder s n) as (λ o. holder s n ≡ o → option_map_or (λ (e : End). e.node ∷ climbed (holder s) k e.node) o [] ≡ option_map_or (λ (e : End). e.node ∷ climbed (holder s) (suc k) e.node) o []) [
+    elim (holder s n) as (λ o. holder s n ≡ o → option_map_or (λ (e : End). e.node ∷ nearest_nodes_above (holder s) k e.node) o [] ≡ option_map_or (λ (e : End). e.node ∷ nearest_nodes_above (holder s) (suc k) e.node) o []) [
       | None ↦ λ _. refl
       | Some e ↦ λ q. ap (λ (ns : List Node). e.node ∷ ns) (climbed_more s k e.node (sym (climb_step s n e (suc k) q) ∙ h))
     ] refl
 
 -- a node that is found above is reached by holders
-climbed-under : (s : Links) (k : ℕ) (x y : Node) → list_any (same_node y) (climbed (holder s) k x) ≡ true → IsUnder s x y
-climbed-under s zero x y h = absurd (false≢true h)
-climbed-under s (suc k) x y h =
-    elim (holder s x) as (λ o. holder s x ≡ o → list_any (same_node y) (option_map_or (λ (e : End). e.node ∷ climbed (holder s) k e.node) o []) ≡ true → IsUnder s x y) [
+nearest_nodes_above-under : (s : Links) (k : ℕ) (x y : Node) → list_any (same_node y) (nearest_nodes_above (holder s) k x) ≡ true → IsUnder s x y
+nearest_nodes_above-under s zero x y h = absurd (false≢true h)
+nearest_nodes_above-under s (suc k) x y h =
+    elim (holder s x) as (λ o. holder s x ≡ o → list_any (same_node y) (option_map_or (λ (e : End). e.node ∷ nearest_nodes_above (holder s) k e.node) o []) ≡ true → IsUnder s x y) [
       | None ↦ λ q p. absurd (false≢true p)
-      | Some e ↦ λ q p. elim (or_cases (same_node y e.node) (list_any (same_node y) (climbed (holder s) k e.node)) p) [
+      | Some e ↦ λ q p. elim (or_cases (same_node y e.node) (list_any (same_node y) (nearest_nodes_above (holder s) k e.node)) p) [
         | inl here ↦ under_holder s x e y q (sym (same_node-true y e.node here))
-        | inr later ↦ under_more s x e y q (climbed-under s k e.node y later)
+        | inr later ↦ under_more s x e y q (nearest_nodes_above-under s k e.node y later)
       ]
     ] refl h
 
 pub above-under : (s : Links) (x y : Node) → list_any (same_node y) (above s x) ≡ true → IsUnder s x y
 unfolding above
-above-under s x y h = climbed-under s (set.len s) x y h
+above-under s x y h = nearest_nodes_above-under s (set.len s) x y h
 
 module _ (s : Links) (legal : IsLegalSet s) (free : HasNoCycle s) where
   -- the nodes above a node are the holder's node and then the nodes above it

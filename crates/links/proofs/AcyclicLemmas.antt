@@ -6,7 +6,7 @@ use Rattle.std.proofs.lemmas.Option.{none-some}
 use Rattle.links.proofs.ClimbLemmas.{climb_step, climb_stop}
 use Rattle.links.proofs.EditLemmas.{In-remove, In_remove}
 use Rattle.links.proofs.HolderLemmas.{holder-none, holder-some, holder_is, through_one}
-use Rattle.links.specs.Holders.{HasNoCycle, IsForest, climb, holder, holding}
+use Rattle.links.specs.Holders.{HasNoCycle, IsForest, climb, holder, holding_end}
 use Rattle.links.specs.LegalSets.{IsHeldOnce}
 use Rattle.links.specs.Links.{In, Links}
 use Rattle.links.specs.Order.{link_cmp, link_cmp_total}
@@ -14,7 +14,7 @@ use Rattle.links.specs.declared.link.Link.{Link}
 use Rattle.mm_types.specs.declared.end.End.{End}
 use Rattle.mm_types.specs.declared.numbers.Node.{Node}
 
-module _ (s : Links) (once : IsHeldOnce s) (x : Node) (l : Link) (within : In l s) (up : End) (holds : holding l x ≡ Some up) where
+module _ (s : Links) (once : IsHeldOnce s) (x : Node) (l : Link) (within : In l s) (up : End) (holds : holding_end l x ≡ Some up) where
   abbrev less : Links
   less = set.remove s l
 
@@ -31,7 +31,7 @@ module _ (s : Links) (once : IsHeldOnce s) (x : Node) (l : Link) (within : In l 
         ] refl
         | Some e ↦ λ h.
             let m = holder-some s y e h in
-            let other : m.0 ≢ l = λ same. ne (through_one l.container l y x e up (subst (λ (k : Link). holding k y ≡ Some e) same m.2) holds) in
+            let other : m.0 ≢ l = λ same. ne (through_one l.container l y x e up (subst (λ (k : Link). holding_end k y ≡ Some e) same m.2) holds) in
             holder_is less y m.0 e less_once (In_remove s l m.0 other m.1) m.2
       ] refl
 

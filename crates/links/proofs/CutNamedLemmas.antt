@@ -14,14 +14,14 @@ use Rattle.links.proofs.ForestLemmas.{HoldsLess, under_less}
 use Rattle.links.proofs.HolderLemmas.{holder-cut, holder-some, indexed_held, test_some, unheld}
 use Rattle.links.proofs.KindLemmas.{kinds_cut_value}
 use Rattle.links.proofs.LegalLemmas.{cut_value_legal}
-use Rattle.links.proofs.NamedLemmas.{named-value, names_nothing, indexed-named, value-named}
+use Rattle.links.proofs.NamedLemmas.{named-value, names_nothing, indexed_value-named, value-named}
 use Rattle.links.proofs.ScanLemmas.{cut_value_is, find-none, find-some, is_value_at-indexed, is_value_at-true, one_with}
-use Rattle.links.specs.Holders.{HasNoCycle, above, holder, holding}
+use Rattle.links.specs.Holders.{HasNoCycle, above, holder, holding_end}
 use Rattle.links.specs.Laws.{AreOnce, AreThere, cut_edit, cut_edits, is_named, kept_holder, names, without_all}
 use Rattle.links.specs.LegalSets.{AreKinds, AreOfKind, HasTwoSides, IsLegalSet, IsObject, IsPlaced, Kinds}
-use Rattle.links.specs.Links.{In, Links, cut, cut_some, cut_value, end, without}
-use Rattle.links.specs.Indexed.{far_indexed, far_value, has_value, is_value_at, indexed}
-use Rattle.links.specs.Plans.{EditFits, Has, IsEditOfKind, IsPlanOfKind, Lacks, MakesNoCycle, PlanFits, PlanMakesNoCycle, applied, edited}
+use Rattle.links.specs.Links.{In, Links, cut, cut_some, cut_value, end, list_without}
+use Rattle.links.specs.Indexed.{far_indexed, far_value, has_value, is_value_at, indexed_value}
+use Rattle.links.specs.Plans.{EditFits, Has, IsEditOfKind, IsPlanOfKind, Lacks, MakesNoCycle, PlanFits, PlanMakesNoCycle, links_after_edit, links_after_edits}
 use Rattle.links.specs.declared.link.Far.TheVariants.{At, Alone, Proxy}
 use Rattle.links.specs.declared.link.Far.{Far}
 use Rattle.links.specs.declared.link.Link.{Link}
@@ -33,19 +33,19 @@ use Rattle.mm_types.specs.declared.value.Value.TheVariants as value
 use Rattle.mm_types.specs.declared.value.Value.{Value}
 
 -- an end and a value name a link, which is cut, or they name none, and nothing changes
-pub cut_value-cases : (s : Links) → IsPlaced s → (e : End) (v : Value) → ((l : Link) × (k : ℕ) × In l s × (indexed l e ≡ Some (k, v)) × (cut_value s e v ≡ cut s l)) ⊎ ((cut_value s e v ≡ s) × Lacks s e v)
+pub cut_value-cases : (s : Links) → IsPlaced s → (e : End) (v : Value) → ((l : Link) × (k : ℕ) × In l s × (indexed_value l e ≡ Some (k, v)) × (cut_value s e v ≡ cut s l)) ⊎ ((cut_value s e v ≡ s) × Lacks s e v)
 unfolding cut_value
 cut_value-cases s placed e v =
-    elim (find (has_value e v) (set.items s)) as (λ o. find (has_value e v) (set.items s) ≡ o → ((l : Link) × (k : ℕ) × In l s × (indexed l e ≡ Some (k, v)) × (cut_some s o ≡ cut s l)) ⊎ ((cut_some s o ≡ s) × Lacks s e v)) [
+    elim (find (has_value e v) (set.items s)) as (λ o. find (has_value e v) (set.items s) ≡ o → ((l : Link) × (k : ℕ) × In l s × (indexed_value l e ≡ Some (k, v)) × (cut_some s o ≡ cut s l)) ⊎ ((cut_some s o ≡ s) × Lacks s e v)) [
       | None ↦ λ h. inr (refl, λ k at. let st = (placed.ends e).only k v at in find-none (set.items s) e v st.0 k h ((items_HasLinks s).has st.0 st.1) st.2)
       | Some l ↦ λ h. let found = find-some (set.items s) e v l h in inl (l, found.1.0, (items_HasLinks s).only l found.0, found.1.1, refl)
     ] refl
 
 -- without one link, an end keeps all values except the value of that link
-pub end-cut_filter : (s : Links) → IsPlaced s → (l : Link) → In l s → (d : End) → end (cut s l) d ≡ filter (λ w. not (is_value_at w (indexed l d))) (end s d)
+pub end-cut_filter : (s : Links) → IsPlaced s → (l : Link) → In l s → (d : End) → end (cut s l) d ≡ filter (λ w. not (is_value_at w (indexed_value l d))) (end s d)
 end-cut_filter s placed l within d =
     end-cut s placed l within d
-    ∙ elim (indexed l d) as (λ o. indexed l d ≡ o → without (end s d) o ≡ filter (λ w. not (is_value_at w o)) (end s d)) [
+    ∙ elim (indexed_value l d) as (λ o. indexed_value l d ≡ o → list_without (end s d) o ≡ filter (λ w. not (is_value_at w o)) (end s d)) [
       | None ↦ λ h. sym (filter_all (λ w. false) (end s d) (λ k w at. refl))
       | Some p ↦ λ h. remove-filter (end s d) p.0 p.1 (placed.distinct d) ((placed.ends d).has p.0 p.1 (l, within, h))
     ] refl
@@ -81,7 +81,7 @@ module _ (m : Kinds) (ok : AreKinds m) (s : Links) (legal : IsLegalSet s) (kinds
   end-cut_value d = elim (cut_value-cases s legal.placed e v) [
     | inl (l, k, within, at, is) ↦
         ap (λ (t : Links). end t d) is ∙ end-cut_filter s legal.placed l within d
-        ∙ ap (λ (p : Value → Bool). filter (λ w. not (p w)) (end s d)) (λ i w. indexed-named m l (kinds l within) (legal.placed.sides l within) e k v at d w i)
+        ∙ ap (λ (p : Value → Bool). filter (λ w. not (p w)) (end s d)) (λ i w. indexed_value-named m l (kinds l within) (legal.placed.sides l within) e k v at d w i)
     | inr (is, lacks) ↦ ap (λ (t : Links). end t d) is ∙ sym (filter_all (names m e v d) (end s d) (λ j w at. names_nothing m ok s legal kinds e v lacks d w (j, at)))
   ]
 
@@ -90,29 +90,29 @@ module _ (m : Kinds) (ok : AreKinds m) (s : Links) (legal : IsLegalSet s) (kinds
     abbrev kept : Option End → Option End
     kept o = option_and_then (λ (d : End). if names m e v d (node_value n) then None else Some d) o
 
-    unnamed : (l : Link) (k : ℕ) (within : In l s) → indexed l e ≡ Some (k, v) → (d : End) → holder s n ≡ Some d → names m e v d (node_value n) ≡ false → unheld (holding l n) (Some d) ≡ Some d
-    unnamed l k within at d h q = elim (holding l n) as (λ o. holding l n ≡ o → unheld o (Some d) ≡ Some d) [
+    unnamed : (l : Link) (k : ℕ) (within : In l s) → indexed_value l e ≡ Some (k, v) → (d : End) → holder s n ≡ Some d → names m e v d (node_value n) ≡ false → unheld (holding_end l n) (Some d) ≡ Some d
+    unnamed l k within at d h q = elim (holding_end l n) as (λ o. holding_end l n ≡ o → unheld o (Some d) ≡ Some d) [
       | None ↦ λ _. refl
       | Some x ↦ λ g.
           let j = holder-some s n d h in
           let same = legal.held l j.0 n x d within j.1 g j.2 in
           let p = indexed_held l n x (legal.placed.sides l within) g in
-          let stands = is_value_at-indexed (indexed l d) p.0 (node_value n) (subst (λ (y : End). indexed l y ≡ Some (p.0, node_value n)) same p.1) in
+          let stands = is_value_at-indexed (indexed_value l d) p.0 (node_value n) (subst (λ (y : End). indexed_value l y ≡ Some (p.0, node_value n)) same p.1) in
           absurd (true≢false (sym (value-named m l (kinds l within) (legal.placed.sides l within) e k v at d (node_value n) stands) ∙ q))
     ] refl
 
-    named : (l : Link) (k : ℕ) (within : In l s) → indexed l e ≡ Some (k, v) → (d : End) → holder s n ≡ Some d → names m e v d (node_value n) ≡ true → unheld (holding l n) (Some d) ≡ None
+    named : (l : Link) (k : ℕ) (within : In l s) → indexed_value l e ≡ Some (k, v) → (d : End) → holder s n ≡ Some d → names m e v d (node_value n) ≡ true → unheld (holding_end l n) (Some d) ≡ None
     named l k within at d h q =
         let j = holder-some s n d h in
         let held = indexed_held j.0 n d (legal.placed.sides j.0 j.1) j.2 in
-        let there = is_value_at-true (indexed l d) (node_value n) (named-value m l (kinds l within) (legal.placed.sides l within) e k v at d (node_value n) q) in
+        let there = is_value_at-true (indexed_value l d) (node_value n) (named-value m l (kinds l within) (legal.placed.sides l within) e k v at d (node_value n) q) in
         let same = one_with s l j.0 d (node_value n) there.0 held.0 legal.placed within j.1 there.1 held.1 in
-        ap (λ (o : Option End). unheld o (Some d)) (ap (λ (x : Link). holding x n) same ∙ j.2)
+        ap (λ (o : Option End). unheld o (Some d)) (ap (λ (x : Link). holding_end x n) same ∙ j.2)
 
-    after_cut : (l : Link) (k : ℕ) → In l s → indexed l e ≡ Some (k, v) → unheld (holding l n) (holder s n) ≡ kept (holder s n)
-    after_cut l k within at = elim (holder s n) as (λ o. holder s n ≡ o → unheld (holding l n) o ≡ kept o) [
-      | None ↦ λ h. elim (holding l n) as (λ o. unheld o None ≡ None) [ None ↦ refl | Some x ↦ refl ]
-      | Some d ↦ λ h. elim (names m e v d (node_value n)) as (λ b. names m e v d (node_value n) ≡ b → unheld (holding l n) (Some d) ≡ (if b then None else Some d)) [
+    after_cut : (l : Link) (k : ℕ) → In l s → indexed_value l e ≡ Some (k, v) → unheld (holding_end l n) (holder s n) ≡ kept (holder s n)
+    after_cut l k within at = elim (holder s n) as (λ o. holder s n ≡ o → unheld (holding_end l n) o ≡ kept o) [
+      | None ↦ λ h. elim (holding_end l n) as (λ o. unheld o None ≡ None) [ None ↦ refl | Some x ↦ refl ]
+      | Some d ↦ λ h. elim (names m e v d (node_value n)) as (λ b. names m e v d (node_value n) ≡ b → unheld (holding_end l n) (Some d) ≡ (if b then None else Some d)) [
         | true ↦ λ q. named l k within at d h q
         | false ↦ λ q. unnamed l k within at d h q
       ] refl
@@ -206,7 +206,7 @@ far_linked e d (At c j) k v two at = subst (λ (w : Value). IsLinked w) (λ i. (
 far_linked e d (Alone o) k v two at = absurd (none-some _ at)
 far_linked e d (Proxy t) k v two at = absurd (none-some _ at)
 
-indexed_linked : (l : Link) (d : End) (k : ℕ) (v : Value) → HasTwoSides l.end l.far → indexed l d ≡ Some (k, v) → IsLinked v
+indexed_linked : (l : Link) (d : End) (k : ℕ) (v : Value) → HasTwoSides l.end l.far → indexed_value l d ≡ Some (k, v) → IsLinked v
 indexed_linked l d k v two at =
     elim (same_end l.end d) as (λ b. (if b then Some (l.index, far_value l.far) else far_indexed l.far (node_value l.end.node) d) ≡ Some (k, v) → IsLinked v) [
       | true ↦ λ q. subst (λ (w : Value). IsLinked w) (some_pair_parts l.index k (far_value l.far) v q).1 (near_linked l.end l.far two)
@@ -221,13 +221,13 @@ cut_fits s e (value.Object o) is has = has
 cut_fits s e (value.Proxy t) is has = has
 cut_fits s e _ is has = absurd is
 
-edited-cut_edit : (s : Links) (e : End) (v : Value) → IsLinked v → edited s (cut_edit e v) ≡ cut_value s e v
-edited-cut_edit s e (value.Object o) is = refl
-edited-cut_edit s e (value.Proxy t) is = refl
-edited-cut_edit s e _ is = absurd is
+links_after_edit-cut_edit : (s : Links) (e : End) (v : Value) → IsLinked v → links_after_edit s (cut_edit e v) ≡ cut_value s e v
+links_after_edit-cut_edit s e (value.Object o) is = refl
+links_after_edit-cut_edit s e (value.Proxy t) is = refl
+links_after_edit-cut_edit s e _ is = absurd is
 
-edited_there : (s : Links) (e : End) (v : Value) → IsLegalSet s → Has s e v → edited s (cut_edit e v) ≡ cut_value s e v
-edited_there s e v legal has = edited-cut_edit s e v (has_linked s legal.placed e v has)
+edited_there : (s : Links) (e : End) (v : Value) → IsLegalSet s → Has s e v → links_after_edit s (cut_edit e v) ≡ cut_value s e v
+edited_there s e v legal has = links_after_edit-cut_edit s e v (has_linked s legal.placed e v has)
 
 kind_of_cut : (m : Kinds) (e : End) (v : Value) → IsEditOfKind m (cut_edit e v)
 kind_of_cut m e (value.Object o) = tt
@@ -245,7 +245,7 @@ cut_without_cycle s e _ = tt
 
 pub cuts_without_cycle : (s : Links) (ts : List (End × Value)) → PlanMakesNoCycle s (cut_edits ts)
 cuts_without_cycle s [] = tt
-cuts_without_cycle s (t ∷ ts) = (cut_without_cycle s t.0 t.1, cuts_without_cycle (edited s (cut_edit t.0 t.1)) ts)
+cuts_without_cycle s (t ∷ ts) = (cut_without_cycle s t.0 t.1, cuts_without_cycle (links_after_edit s (cut_edit t.0 t.1)) ts)
 
 module _ (m : Kinds) (ok : AreKinds m) where
   -- a value whose link is not cut is at its old position, or at a lower one
@@ -259,11 +259,11 @@ module _ (m : Kinds) (ok : AreKinds m) where
   there_after s legal kinds t (u ∷ us) others there = (has_after s legal kinds t u others.0 there.0, there_after s legal kinds t us others.1 there.1)
 
   -- the plan cuts the links that the names name
-  pub applied-cut_edits : (s : Links) (ts : List (End × Value)) → IsLegalSet s → AreOfKind m s → AreThere s ts → AreOnce m ts → applied s (cut_edits ts) ≡ without_all s ts
-  applied-cut_edits s [] legal kinds there once = refl
-  applied-cut_edits s (t ∷ ts) legal kinds there once =
-      ap (λ (u : Links). applied u (cut_edits ts)) (edited_there s t.0 t.1 legal there.0)
-      ∙ applied-cut_edits (cut_value s t.0 t.1) ts (cut_value_legal s t.0 t.1 legal) (kinds_cut_value m s t.0 t.1 kinds) (there_after s legal kinds t ts once.0 there.1) once.1
+  pub links_after_edits-cut_edits : (s : Links) (ts : List (End × Value)) → IsLegalSet s → AreOfKind m s → AreThere s ts → AreOnce m ts → links_after_edits s (cut_edits ts) ≡ without_all s ts
+  links_after_edits-cut_edits s [] legal kinds there once = refl
+  links_after_edits-cut_edits s (t ∷ ts) legal kinds there once =
+      ap (λ (u : Links). links_after_edits u (cut_edits ts)) (edited_there s t.0 t.1 legal there.0)
+      ∙ links_after_edits-cut_edits (cut_value s t.0 t.1) ts (cut_value_legal s t.0 t.1 legal) (kinds_cut_value m s t.0 t.1 kinds) (there_after s legal kinds t ts once.0 there.1) once.1
 
   -- the plan fits, if each named link exists and is named once
   pub cuts_fit : (s : Links) (ts : List (End × Value)) → IsLegalSet s → AreOfKind m s → AreThere s ts → AreOnce m ts → PlanFits s (cut_edits ts)

@@ -14,12 +14,12 @@ use Rattle.links.proofs.LegalLemmas.{edited_legal}
 use Rattle.links.proofs.PlaceLemmas.{same_node_if}
 use Rattle.links.proofs.PutLemmas.{apart_of}
 use Rattle.links.proofs.ScanLemmas.{find-some}
-use Rattle.links.specs.Holders.{HasNoCycle, far_holding, held_through, holder, holding, is_far_node}
+use Rattle.links.specs.Holders.{HasNoCycle, far_holding, held_through, holder, holding_end, is_far_node}
 use Rattle.links.specs.LegalSets.{IsHeldOnce, IsLegalSet, IsPlaced}
 use Rattle.links.specs.Links.{In, Links, cut, cut_some, cut_value, new_link, no_links, put, put_proxy, shift}
 use Rattle.links.specs.Order.{link_cmp}
 use Rattle.links.specs.Indexed.{has_value}
-use Rattle.links.specs.Plans.{EditFits, IsOutside, MakesNoCycle, PlanFits, PlanMakesNoCycle, applied, edited}
+use Rattle.links.specs.Plans.{EditFits, IsOutside, MakesNoCycle, PlanFits, PlanMakesNoCycle, links_after_edit, links_after_edits}
 use Rattle.links.specs.declared.link.Far.TheVariants.{At, Alone, Proxy}
 use Rattle.links.specs.declared.link.Far.{Far}
 use Rattle.links.specs.declared.link.Link.{Link}
@@ -40,10 +40,10 @@ unheld_less (Some d) x e h = absurd (none-some e h)
 
 -- a cut makes no new holders
 pub cut_less : (s : Links) (l : Link) → IsPlaced s → IsHeldOnce s → In l s → HoldsLess (cut s l) s
-cut_less s l placed once within y e h = unheld_less (holding l y) (holder s y) e (sym (holder-cut s placed once l within y) ∙ h)
+cut_less s l placed once within y e h = unheld_less (holding_end l y) (holder s y) e (sym (holder-cut s placed once l within y) ∙ h)
 
 -- a link contains one node, or none
-pub held_one : (l : Link) → ((x : Node) × (d : End) × (holding l x ≡ Some d)) ⊎ ((x : Node) → holding l x ≡ None)
+pub held_one : (l : Link) → ((x : Node) × (d : End) × (holding_end l x ≡ Some d)) ⊎ ((x : Node) → holding_end l x ≡ None)
 held_one l = through l.container
   where
     near : (f : Far) → ((x : Node) × (d : End) × ((if is_far_node f x then Some l.end else None) ≡ Some d)) ⊎ ((x : Node) → (if is_far_node f x then Some l.end else None) ≡ None)
@@ -67,17 +67,17 @@ held_one l = through l.container
     ]
 
 -- no link contains two nodes
-pub held_other : (l : Link) (x y : Node) (d : End) → holding l x ≡ Some d → y ≢ x → holding l y ≡ None
-held_other l x y d h ne = elim (holding l y) as (λ o. holding l y ≡ o → o ≡ None) [
+pub held_other : (l : Link) (x y : Node) (d : End) → holding_end l x ≡ Some d → y ≢ x → holding_end l y ≡ None
+held_other l x y d h ne = elim (holding_end l y) as (λ o. holding_end l y ≡ o → o ≡ None) [
   | None ↦ λ _. refl
   | Some e ↦ λ g. absurd (ne (through_one l.container l y x e d g h))
 ] refl
 
-pub put_no_cycle : (s : Links) (e : End) (i : ℕ) (n : ObjectNo) (g c : Option FeatureNo) → IsHeldOnce s → HasNoCycle s → ((x : Node) (d : End) → holding (new_link s e i n g c) x ≡ Some d → holder s x ≡ None) → IsOutside s (new_link s e i n g c) → HasNoCycle (put s e i n g c)
+pub put_no_cycle : (s : Links) (e : End) (i : ℕ) (n : ObjectNo) (g c : Option FeatureNo) → IsHeldOnce s → HasNoCycle s → ((x : Node) (d : End) → holding_end (new_link s e i n g c) x ≡ Some d → holder s x ≡ None) → IsOutside s (new_link s e i n g c) → HasNoCycle (put s e i n g c)
 put_no_cycle s e i n g c once free can out =
     let l = new_link s e i n g c in
     let t = put s e i n g c in
-    let is : (y : Node) → holder t y ≡ option_or (holding l y) (holder s y) = holder-put s e i n g c once can in
+    let is : (y : Node) → holder t y ≡ option_or (holding_end l y) (holder s y) = holder-put s e i n g c once can in
     elim (held_one l) [
       | inr none ↦ no_cycle_less s t (λ y d h. ap (λ (o : Option End). option_or o (holder s y)) (sym (none y)) ∙ sym (is y) ∙ h) free
       | inl p ↦
@@ -94,16 +94,16 @@ pub cut_value_no_cycle : (s : Links) (e : End) (v : Value) → IsLegalSet s → 
 unfolding cut_value
 cut_value_no_cycle s e v legal free = cut_some_no_cycle s (find (has_value e v) (set.items s)) legal (λ l h. (items_HasLinks s).only l (find-some (set.items s) e v l h).0) free
 
-edited_no_cycle : (s : Links) (x : Edit) → IsLegalSet s → EditFits s x → MakesNoCycle s x → HasNoCycle s → HasNoCycle (edited s x)
+edited_no_cycle : (s : Links) (x : Edit) → IsLegalSet s → EditFits s x → MakesNoCycle s x → HasNoCycle s → HasNoCycle (links_after_edit s x)
 edited_no_cycle s (edit.Cut e n) legal fits out free = cut_value_no_cycle s e (value.Object n) legal free
 edited_no_cycle s (edit.Put e i n g c) legal fits out free = put_no_cycle s e i n g c legal.held free (free_new s e i n g c (apart_of s e n g fits.1) fits.2) out
 edited_no_cycle s (edit.Shift e to from) legal fits out free = no_cycle_less s (shift s e to from) (λ y d h. sym (holder-shift s e to from legal.held y) ∙ h) free
 edited_no_cycle s (edit.PutProxy e i t) legal fits out free = no_cycle_less s (put_proxy s e i t) (λ y d h. sym (holder-put_proxy s e i t legal.held y) ∙ h) free
 edited_no_cycle s (edit.CutProxy e t) legal fits out free = cut_value_no_cycle s e (value.Proxy t) legal free
 
-pub plan_makes_no_cycle : (s : Links) (plan : List Edit) → IsLegalSet s → PlanFits s plan → PlanMakesNoCycle s plan → HasNoCycle s → HasNoCycle (applied s plan)
+pub plan_makes_no_cycle : (s : Links) (plan : List Edit) → IsLegalSet s → PlanFits s plan → PlanMakesNoCycle s plan → HasNoCycle s → HasNoCycle (links_after_edits s plan)
 plan_makes_no_cycle s [] legal fits out free = free
-plan_makes_no_cycle s (x ∷ xs) legal fits out free = plan_makes_no_cycle (edited s x) xs (edited_legal s x legal fits.0) fits.1 out.1 (edited_no_cycle s x legal fits.0 out.0 free)
+plan_makes_no_cycle s (x ∷ xs) legal fits out free = plan_makes_no_cycle (links_after_edit s x) xs (edited_legal s x legal fits.0) fits.1 out.1 (edited_no_cycle s x legal fits.0 out.0 free)
 
 pub none_holder : (x : Node) → holder no_links x ≡ None
 none_holder x = elim (holder no_links x) as (λ o. holder no_links x ≡ o → o ≡ None) [

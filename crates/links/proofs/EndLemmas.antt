@@ -11,7 +11,7 @@ use Rattle.std.specs.Ordering.{is_eq}
 use Rattle.links.specs.LegalSets.{IsEnd}
 use Rattle.links.specs.Links.{In, Links, at_indexed, end, length_at, past, value_at, values_from}
 use Rattle.links.specs.Order.{link_cmp, link_cmp_exact, link_cmp_total}
-use Rattle.links.specs.Indexed.{indexed}
+use Rattle.links.specs.Indexed.{indexed_value}
 use Rattle.links.specs.declared.link.Link.{Link}
 use Rattle.mm_types.specs.declared.end.End.{End}
 use Rattle.mm_types.specs.declared.value.Value.{Value}
@@ -65,38 +65,38 @@ at_indexed-none (Some p) k other h =
       | false ↦ λ e q. (λ v is. eqb-false p.0 k e (ap (λ (x : ℕ × Value). x.0) (same_Some p (k, v) is)), q)
     ] refl h
 
-pub value_at-some : (ls : List Link) (e : End) (k : ℕ) (v : Value) → value_at ls e k ≡ Some v → (l : Link) × Among l ls × (indexed l e ≡ Some (k, v))
+pub value_at-some : (ls : List Link) (e : End) (k : ℕ) (v : Value) → value_at ls e k ≡ Some v → (l : Link) × Among l ls × (indexed_value l e ≡ Some (k, v))
 value_at-some [] e k v h = absurd (none-some v h)
-value_at-some (l ∷ ls) e k v h = elim (at_indexed-some (indexed l e) k (value_at ls e k) v h) [
+value_at-some (l ∷ ls) e k v h = elim (at_indexed-some (indexed_value l e) k (value_at ls e k) v h) [
   | inl here ↦ (l, Among_head l ls, here)
   | inr later ↦ let found = value_at-some ls e k v later in (found.0, Among_tail found.0 l ls found.1, found.2)
 ]
 
-pub value_at-none : (ls : List Link) (e : End) (k : ℕ) → value_at ls e k ≡ None → (m : Link) (v : Value) → Among m ls → indexed m e ≡ Some (k, v) → ⊥
+pub value_at-none : (ls : List Link) (e : End) (k : ℕ) → value_at ls e k ≡ None → (m : Link) (v : Value) → Among m ls → indexed_value m e ≡ Some (k, v) → ⊥
 value_at-none [] e k h m v among at = false≢true among
 value_at-none (l ∷ ls) e k h m v among at =
-    let parts = at_indexed-none (indexed l e) k (value_at ls e k) h in
+    let parts = at_indexed-none (indexed_value l e) k (value_at ls e k) h in
     elim (Among_cases m l ls among) [
-      | inl same ↦ parts.0 v (subst (λ (x : Link). indexed x e ≡ Some (k, v)) same at)
+      | inl same ↦ parts.0 v (subst (λ (x : Link). indexed_value x e ≡ Some (k, v)) same at)
       | inr later ↦ value_at-none ls e k parts.1 m v later at
     ]
 
 -- each position is below the length
-pub length_at-above : (ls : List Link) (e : End) (m : Link) (k : ℕ) (v : Value) → Among m ls → indexed m e ≡ Some (k, v) → k < length_at ls e
+pub length_at-above : (ls : List Link) (e : End) (m : Link) (k : ℕ) (v : Value) → Among m ls → indexed_value m e ≡ Some (k, v) → k < length_at ls e
 length_at-above [] e m k v among at = absurd (false≢true among)
 length_at-above (l ∷ ls) e m k v among at = elim (Among_cases m l ls among) [
   | inl same ↦
-      let here : past (indexed l e) ≡ suc k = ap past (subst (λ (x : Link). indexed x e ≡ Some (k, v)) same at) in
+      let here : past (indexed_value l e) ≡ suc k = ap past (subst (λ (x : Link). indexed_value x e ≡ Some (k, v)) same at) in
       omega (arith, here)
   | inr later ↦ omega (arith, length_at-above ls e m k v later at)
 ]
 
 -- the length is the least number that is above all positions
-pub length_at-below : (ls : List Link) (e : End) (n : ℕ) → ((m : Link) (k : ℕ) (v : Value) → Among m ls → indexed m e ≡ Some (k, v) → k < n) → length_at ls e ≤ n
+pub length_at-below : (ls : List Link) (e : End) (n : ℕ) → ((m : Link) (k : ℕ) (v : Value) → Among m ls → indexed_value m e ≡ Some (k, v) → k < n) → length_at ls e ≤ n
 length_at-below [] e n h = omega arith
 length_at-below (l ∷ ls) e n h =
     let later = length_at-below ls e n (λ m k v among at. h m k v (Among_tail m l ls among) at) in
-    let here : past (indexed l e) ≤ n = elim (indexed l e) as (λ o. indexed l e ≡ o → past o ≤ n) [ None ↦ λ _. omega arith | Some p ↦ λ at. omega (arith, h l p.0 p.1 (Among_head l ls) at) ] refl in
+    let here : past (indexed_value l e) ≤ n = elim (indexed_value l e) as (λ o. indexed_value l e ≡ o → past o ≤ n) [ None ↦ λ _. omega arith | Some p ↦ λ at. omega (arith, h l p.0 p.1 (Among_head l ls) at) ] refl in
     omega (arith, later, here)
 
 -- a position without a value is past the end

@@ -10,11 +10,11 @@ use Rattle.mm_types.specs.declared.value.Value.{Value}
 use Rattle.mm_types.specs.declared.value.Value.TheVariants as value
 use Rattle.links.specs.declared.link.Link.{Link}
 use Rattle.links.specs.declared.plan.Edit.TheVariants as edit
-use Rattle.links.specs.Holders.{contained, containing, first_holding}
+use Rattle.links.specs.Holders.{end_containing, first_holding, node_contained}
 use Rattle.links.specs.Laws.{cut_edits, goes, is_named, kept_holder, names}
 use Rattle.links.specs.LegalSets.{Kinds}
-use Rattle.links.specs.Links.{joined, new_proxy, values}
-use Rattle.mm_types.specs.Lists.{shifted}
+use Rattle.links.specs.Links.{joined_link, new_proxy, values}
+use Rattle.mm_types.specs.Lists.{values_after_move}
 
 abbrev object : ℕ → Node
 object n = node.Object (record { 0 = n })
@@ -31,8 +31,8 @@ staff = record { 0 = 1 }
 -- library 0 contains persons 1 and 2 by its feature 1, the opposite of feature 0; and has a proxy under feature 2
 abbrev library : List Link
 library =
-    joined (at_end 0 1) 1 (at_end 2 0) 0 (Some staff)
-    ∷ joined (at_end 0 1) 0 (at_end 1 0) 0 (Some staff)
+    joined_link (at_end 0 1) 1 (at_end 2 0) 0 (Some staff)
+    ∷ joined_link (at_end 0 1) 0 (at_end 1 0) 0 (Some staff)
     ∷ new_proxy (at_end 0 2) 0 (104 ∷ [])
     ∷ []
 
@@ -54,13 +54,13 @@ holder_of_person = refl
 holder_of_library : first_holding library (object 0) ≡ None
 holder_of_library = refl
 
-contained_by_put : contained (at_end 0 1) (record { 0 = 3 }) (Some staff) ≡ Some (object 3)
+contained_by_put : node_contained (at_end 0 1) (record { 0 = 3 }) (Some staff) ≡ Some (object 3)
 contained_by_put = refl
 
-contained_by_put_back : contained (at_end 3 0) (record { 0 = 0 }) (Some staff) ≡ Some (object 3)
+contained_by_put_back : node_contained (at_end 3 0) (record { 0 = 0 }) (Some staff) ≡ Some (object 3)
 contained_by_put_back = refl
 
-moved_staff : shifted (object_value 1 ∷ object_value 2 ∷ object_value 3 ∷ []) 2 0 ≡ object_value 2 ∷ object_value 3 ∷ object_value 1 ∷ []
+moved_staff : values_after_move (object_value 1 ∷ object_value 2 ∷ object_value 3 ∷ []) 2 0 ≡ object_value 2 ∷ object_value 3 ∷ object_value 1 ∷ []
 moved_staff = refl
 
 ---------------------------------------------------------------- names and puts
@@ -105,10 +105,10 @@ no_longer_held = refl
 cut_of_proxy : cut_edits ((at_end 0 2, value.Proxy (104 ∷ [])) ∷ []) ≡ edit.CutProxy (at_end 0 2) (104 ∷ []) ∷ []
 cut_of_proxy = refl
 
-containing_by_put : containing (at_end 0 1) (record { 0 = 3 }) (Some staff) ≡ Some (at_end 0 1)
+containing_by_put : end_containing (at_end 0 1) (record { 0 = 3 }) (Some staff) ≡ Some (at_end 0 1)
 containing_by_put = refl
 
-containing_by_put_back : containing (at_end 3 0) (record { 0 = 0 }) (Some staff) ≡ Some (at_end 0 1)
+containing_by_put_back : end_containing (at_end 3 0) (record { 0 = 0 }) (Some staff) ≡ Some (at_end 0 1)
 containing_by_put_back = refl
 
 person_goes : filter (λ v. not (goes (λ n. same_node n (object 2)) v)) (values library (at_end 0 1)) ≡ object_value 1 ∷ []

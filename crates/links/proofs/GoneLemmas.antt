@@ -20,11 +20,11 @@ use Rattle.links.proofs.PutLemmas.{cases_end}
 use Rattle.links.proofs.AmongLemmas.{Among-filter, Among_filter}
 use Rattle.links.proofs.SameLinksLemmas.{same_by_ends}
 use Rattle.links.proofs.ScanLemmas.{first_holding-none, first_holding-some, is_value_at-indexed, is_value_at-true, one_with}
-use Rattle.links.specs.Holders.{HasNoCycle, first_holding, holder, holding}
+use Rattle.links.specs.Holders.{HasNoCycle, first_holding, holder, holding_end}
 use Rattle.links.specs.Laws.{goes, is_named, without_all}
 use Rattle.links.specs.LegalSets.{AreKinds, AreOfKind, HasTwoSides, IsLegalSet, IsObject, Kinds}
 use Rattle.links.specs.Links.{In, Links, cut_value, end, far_touches, touches, without_nodes}
-use Rattle.links.specs.Indexed.{bare, far_value, is_value_at, indexed}
+use Rattle.links.specs.Indexed.{link_without_positions, far_value, is_value_at, indexed_value}
 use Rattle.links.specs.Plans.{Has}
 use Rattle.links.specs.declared.link.Far.TheVariants.{At, Alone, Proxy}
 use Rattle.links.specs.declared.link.Far.{Far}
@@ -44,46 +44,46 @@ module _ (s t : Links) (legal_s : IsLegalSet s) (legal : IsLegalSet t) (part : I
   less = cut_value t l.end (far_value l.far)
 
   -- if a link of the smaller set has a value of this link in an end, it is this link
-  the_same : (k : Link) → In k t → (d : End) (w : Value) → is_value_at w (indexed k d) ≡ true → is_value_at w (indexed l d) ≡ true → bare k ≡ bare l
+  the_same : (k : Link) → In k t → (d : End) (w : Value) → is_value_at w (indexed_value k d) ≡ true → is_value_at w (indexed_value l d) ≡ true → link_without_positions k ≡ link_without_positions l
   the_same k h d w in_k in_l =
       let was = part k h in
-      let at_k = is_value_at-true (indexed was.0 d) w (sym (same_has k was.0 d w was.2) ∙ in_k) in
-      let at_l = is_value_at-true (indexed l d) w in_l in
-      was.2 ∙ ap (λ (x : Link). bare x) (one_with s was.0 l d w at_k.0 at_l.0 legal_s.placed was.1 within at_k.1 at_l.1)
+      let at_k = is_value_at-true (indexed_value was.0 d) w (sym (same_has k was.0 d w was.2) ∙ in_k) in
+      let at_l = is_value_at-true (indexed_value l d) w in_l in
+      was.2 ∙ ap (λ (x : Link). link_without_positions x) (one_with s was.0 l d w at_k.0 at_l.0 legal_s.placed was.1 within at_k.1 at_l.1)
 
-  near_has : is_value_at (far_value l.far) (indexed l l.end) ≡ true
-  near_has = is_value_at-indexed (indexed l l.end) l.index (far_value l.far) (indexed_near l)
+  near_has : is_value_at (far_value l.far) (indexed_value l l.end) ≡ true
+  near_has = is_value_at-indexed (indexed_value l l.end) l.index (far_value l.far) (indexed_near l)
 
   -- if the set lacks the link, no link of it is that one
-  absent : ((j : ℕ) → slice_get (end t l.end) j ≡ Some (far_value l.far) → ⊥) → (k : Link) → In k t → bare k ≡ bare l → ⊥
+  absent : ((j : ℕ) → slice_get (end t l.end) j ≡ Some (far_value l.far) → ⊥) → (k : Link) → In k t → link_without_positions k ≡ link_without_positions l → ⊥
   absent lacks k h same =
-      let at = is_value_at-true (indexed k l.end) (far_value l.far) (same_has k l l.end (far_value l.far) same ∙ near_has) in
+      let at = is_value_at-true (indexed_value k l.end) (far_value l.far) (same_has k l l.end (far_value l.far) same ∙ near_has) in
       lacks at.0 ((legal.placed.ends l.end).has at.0 (far_value l.far) (k, h, at.1))
 
-  cut_end : (d : End) → end less d ≡ filter (λ w. not (is_value_at w (indexed l d))) (end t d)
+  cut_end : (d : End) → end less d ≡ filter (λ w. not (is_value_at w (indexed_value l d))) (end t d)
   cut_end d = elim (cut_value-cases t legal.placed l.end (far_value l.far)) [
     | inl (k, j, h, at, is) ↦
-        let same = the_same k h l.end (far_value l.far) (is_value_at-indexed (indexed k l.end) j (far_value l.far) at) near_has in
+        let same = the_same k h l.end (far_value l.far) (is_value_at-indexed (indexed_value k l.end) j (far_value l.far) at) near_has in
         ap (λ (u : Links). end u d) is ∙ end-cut_filter t legal.placed k h d
         ∙ ap (λ (p : Value → Bool). filter (λ w. not (p w)) (end t d)) (λ i w. same_has k l d w same i)
     | inr (is, lacks) ↦
         ap (λ (u : Links). end u d) is
-        ∙ sym (filter_all (λ w. is_value_at w (indexed l d)) (end t d) (λ j w at. elim (is_value_at w (indexed l d)) as (λ b. is_value_at w (indexed l d) ≡ b → b ≡ false) [
+        ∙ sym (filter_all (λ w. is_value_at w (indexed_value l d)) (end t d) (λ j w at. elim (is_value_at w (indexed_value l d)) as (λ b. is_value_at w (indexed_value l d) ≡ b → b ≡ false) [
           | true ↦ λ q.
               let st = (legal.placed.ends d).only j w at in
-              absurd (absent lacks st.0 st.1 (the_same st.0 st.1 d w (is_value_at-indexed (indexed st.0 d) j w st.2) q))
+              absurd (absent lacks st.0 st.1 (the_same st.0 st.1 d w (is_value_at-indexed (indexed_value st.0 d) j w st.2) q))
           | false ↦ λ q. refl
         ] refl))
   ]
 
-  cut_holder : (n : Node) → holder less n ≡ unheld (holding l n) (holder t n)
+  cut_holder : (n : Node) → holder less n ≡ unheld (holding_end l n) (holder t n)
   cut_holder n = elim (cut_value-cases t legal.placed l.end (far_value l.far)) [
     | inl (k, j, h, at, is) ↦
-        let same = the_same k h l.end (far_value l.far) (is_value_at-indexed (indexed k l.end) j (far_value l.far) at) near_has in
+        let same = the_same k h l.end (far_value l.far) (is_value_at-indexed (indexed_value k l.end) j (far_value l.far) at) near_has in
         ap (λ (u : Links). holder u n) is ∙ holder-cut t legal.placed legal.held k h n ∙ ap (λ (o : Option End). unheld o (holder t n)) (same_holding k l n same)
     | inr (is, lacks) ↦
         ap (λ (u : Links). holder u n) is
-        ∙ elim (holding l n) as (λ o. holding l n ≡ o → holder t n ≡ unheld o (holder t n)) [
+        ∙ elim (holding_end l n) as (λ o. holding_end l n ≡ o → holder t n ≡ unheld o (holder t n)) [
           | None ↦ λ g. refl
           | Some x ↦ λ g. elim (holder t n) as (λ o. holder t n ≡ o → o ≡ None) [
             | None ↦ λ h. refl
@@ -93,8 +93,8 @@ module _ (s t : Links) (legal_s : IsLegalSet s) (legal : IsLegalSet t) (part : I
                 let same = legal_s.held was.0 l n d x was.1 within (sym (same_holding k.0 was.0 n was.2) ∙ k.2) g in
                 let at_k = indexed_held k.0 n d (legal.placed.sides k.0 k.1) k.2 in
                 let at_l = indexed_held l n x (legal_s.placed.sides l within) g in
-                let here = subst (λ (y : End). indexed l y ≡ Some (at_l.0, node_value n)) (sym same) at_l.1 in
-                absurd (absent lacks k.0 k.1 (the_same k.0 k.1 d (node_value n) (is_value_at-indexed (indexed k.0 d) at_k.0 (node_value n) at_k.1) (is_value_at-indexed (indexed l d) at_l.0 (node_value n) here)))
+                let here = subst (λ (y : End). indexed_value l y ≡ Some (at_l.0, node_value n)) (sym same) at_l.1 in
+                absurd (absent lacks k.0 k.1 (the_same k.0 k.1 d (node_value n) (is_value_at-indexed (indexed_value k.0 d) at_k.0 (node_value n) at_k.1) (is_value_at-indexed (indexed_value l d) at_l.0 (node_value n) here)))
           ] refl
         ] refl
   ]
@@ -128,7 +128,7 @@ cut_each_no_cycle s (l ∷ ls) legal free = cut_each_no_cycle (cut_value s l.end
 
 -- some link of the list has w in d
 abbrev some_has : List Link → End → Value → Bool
-some_has ls d w = list_any (λ l. is_value_at w (indexed l d)) ls
+some_has ls d w = list_any (λ l. is_value_at w (indexed_value l d)) ls
 
 unheld_twice : (a b o : Option End) → unheld b (unheld a o) ≡ unheld (option_or a b) o
 unheld_twice None b o = refl
@@ -142,7 +142,7 @@ module _ (s : Links) (legal_s : IsLegalSet s) where
       let within = all l (Among_head l ls) in
       end-cut_each (cut_value t l.end (far_value l.far)) ls (cut_value_legal t l.end (far_value l.far) legal) (part_cut s t legal_s legal part l within) (λ k h. all k (Among_tail k l ls h)) d
       ∙ ap (λ (xs : List Value). filter (λ w. not (some_has ls d w)) xs) (cut_end s t legal_s legal part l within d)
-      ∙ filter_twice (λ w. is_value_at w (indexed l d)) (some_has ls d) (end t d)
+      ∙ filter_twice (λ w. is_value_at w (indexed_value l d)) (some_has ls d) (end t d)
 
   holder-cut_each : (t : Links) (ls : List Link) → IsLegalSet t → IsPart t s → ((l : Link) → Among l ls → In l s) → (n : Node) → holder (cut_each t ls) n ≡ unheld (first_holding ls n) (holder t n)
   holder-cut_each t [] legal part all n = refl
@@ -150,7 +150,7 @@ module _ (s : Links) (legal_s : IsLegalSet s) where
       let within = all l (Among_head l ls) in
       holder-cut_each (cut_value t l.end (far_value l.far)) ls (cut_value_legal t l.end (far_value l.far) legal) (part_cut s t legal_s legal part l within) (λ k h. all k (Among_tail k l ls h)) n
       ∙ ap (unheld (first_holding ls n)) (cut_holder s t legal_s legal part l within n)
-      ∙ unheld_twice (holding l n) (first_holding ls n) (holder t n)
+      ∙ unheld_twice (holding_end l n) (first_holding ls n) (holder t n)
 
 ---------------------------------------------------------------- nodes that go
 
@@ -174,13 +174,13 @@ far_goes gone e (Alone o) two = refl
 far_goes gone e (Proxy t) two = refl
 
 -- a link names a node that is removed, if the end or the value at any of its positions does
-module _ (gone : Node → Bool) (l : Link) (two : HasTwoSides l.end l.far) (d : End) (j : ℕ) (w : Value) (at : indexed l d ≡ Some (j, w)) where
+module _ (gone : Node → Bool) (l : Link) (two : HasTwoSides l.end l.far) (d : End) (j : ℕ) (w : Value) (at : indexed_value l d ≡ Some (j, w)) where
   touches_far : (x : Far) → l.far ≡ x → l.end ≢ d → touches gone l ≡ (gone d.node || goes gone w)
   touches_far (At c i) h ne = elim (cases_end c d) [
     | inl same ↦
         let sides = subst (λ (x : Far). HasTwoSides l.end x) h two in
         let apart : l.end ≢ c = λ is. sides.0 (λ t. (sym is t).feature.0) in
-        let here = subst (λ (x : End). indexed l x ≡ Some (i, node_value l.end.node)) same (indexed_at l c i h apart) in
+        let here = subst (λ (x : End). indexed_value l x ≡ Some (i, node_value l.end.node)) same (indexed_at l c i h apart) in
         let is_w = (some_pair_parts i j (node_value l.end.node) w (sym here ∙ at)).1 in
         ap (λ (x : Far). if gone l.end.node then true else far_touches gone x) h
         ∙ or_turned (gone l.end.node) (gone c.node)
@@ -194,7 +194,7 @@ module _ (gone : Node → Bool) (l : Link) (two : HasTwoSides l.end l.far) (d : 
   touches_indexed : touches gone l ≡ (gone d.node || goes gone w)
   touches_indexed = elim (cases_end l.end d) [
     | inl same ↦
-        let here = subst (λ (x : End). indexed l x ≡ Some (l.index, far_value l.far)) same (indexed_near l) in
+        let here = subst (λ (x : End). indexed_value l x ≡ Some (l.index, far_value l.far)) same (indexed_near l) in
         let is_w = (some_pair_parts l.index j (far_value l.far) w (sym here ∙ at)).1 in
         if_or (gone l.end.node) (far_touches gone l.far)
         ∙ ap (λ (b : Bool). gone l.end.node || b) (far_goes gone l.end l.far two)
@@ -233,11 +233,11 @@ module _ (s : Links) (gone : Node → Bool) (legal : IsLegalSet s) where
       let is = touches_indexed gone st.0 (legal.placed.sides st.0 st.1) d k w st.2 in
       same-tests _ _
       (λ h.
-      let l = any_link (λ x. is_value_at w (indexed x d)) going h in
+      let l = any_link (λ x. is_value_at w (indexed_value x d)) going h in
       let parts = going_in l.0 l.1 in
-      let there = is_value_at-true (indexed l.0 d) w l.2 in
+      let there = is_value_at-true (indexed_value l.0 d) w l.2 in
       sym is ∙ ap (touches gone) (one_with s st.0 l.0 d w k there.0 legal.placed st.1 parts.0 st.2 there.1) ∙ parts.1)
-      (λ h. link_any (λ x. is_value_at w (indexed x d)) going st.0 (in_going st.0 st.1 (is ∙ h)) (is_value_at-indexed (indexed st.0 d) k w st.2))
+      (λ h. link_any (λ x. is_value_at w (indexed_value x d)) going st.0 (in_going st.0 st.1 (is ∙ h)) (is_value_at-indexed (indexed_value st.0 d) k w st.2))
 
   part_itself : IsPart s s
   part_itself k h = (k, h, refl)
@@ -281,7 +281,7 @@ module _ (s : Links) (gone : Node → Bool) (legal : IsLegalSet s) where
                 let parts = going_in l.0 l.1 in
                 let same = legal.held l.0 k.0 n x d parts.0 k.1 l.2 k.2 in
                 let there = indexed_held l.0 n x (legal.placed.sides l.0 parts.0) l.2 in
-                let here = subst (λ (y : End). indexed l.0 y ≡ Some (there.0, node_value n)) same there.1 in
+                let here = subst (λ (y : End). indexed_value l.0 y ≡ Some (there.0, node_value n)) same there.1 in
                 let one = one_with s l.0 k.0 d (node_value n) there.0 at.0 legal.placed parts.0 k.1 here at.1 in
                 absurd (true≢false (sym parts.1 ∙ ap (touches gone) one ∙ is ∙ q))
           ] refl

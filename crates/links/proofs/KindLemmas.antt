@@ -3,11 +3,11 @@ use Rattle.std.proofs.Common.{◌≡◌, ℕ, List, [], ◌∷◌, true, false, 
 use Rattle.std.specs.Prelude.{find}
 use Rattle.std.specs.FinSet as set
 use Rattle.std.proofs.lemmas.Bool.{ltb-true, ltb-false}
-use Rattle.links.proofs.EditLemmas.{In-insert, In-remove, In-renumbered}
+use Rattle.links.proofs.EditLemmas.{In-insert, In-remove, In-renumbered_links}
 use Rattle.links.specs.LegalSets.{AreKinds, AreOfKind, FarOfKind, IsOfKind, Kinds}
-use Rattle.links.specs.Links.{Links, cut, cut_some, cut_value, joined, lower, lowered_far, new_link, new_proxy, put, put_proxy, raise, renumbered, shift, shifted_index}
-use Rattle.links.specs.Indexed.{far_moved, has_value, moved}
-use Rattle.links.specs.Plans.{IsEditOfKind, IsPlanOfKind, applied, edited}
+use Rattle.links.specs.Links.{Links, cut, cut_some, cut_value, joined_link, lower, lowered_far, new_link, new_proxy, put, put_proxy, raise, renumbered_links, shift, shifted_index}
+use Rattle.links.specs.Indexed.{far_moved, has_value, renumbered_link}
+use Rattle.links.specs.Plans.{IsEditOfKind, IsPlanOfKind, links_after_edit, links_after_edits}
 use Rattle.links.specs.declared.link.Far.TheVariants.{At, Alone, Proxy}
 use Rattle.links.specs.declared.link.Far.{Far}
 use Rattle.links.specs.declared.link.Link.{Link}
@@ -20,7 +20,7 @@ use Rattle.mm_types.specs.declared.numbers.ObjectNo.{ObjectNo}
 use Rattle.mm_types.specs.declared.value.Value.TheVariants as value
 use Rattle.mm_types.specs.declared.value.Value.{Value}
 
-pub kind_joined : (kinds : Kinds) (x : End) (i : ℕ) (y : End) (j : ℕ) → kinds.opposite x.feature ≡ Some y.feature → kinds.opposite y.feature ≡ Some x.feature → ((y.feature.0 ≡ x.feature.0) → ⊥) → kinds.container x.feature ≡ kinds.container y.feature → IsOfKind kinds (joined x i y j (kinds.container x.feature))
+pub kind_joined : (kinds : Kinds) (x : End) (i : ℕ) (y : End) (j : ℕ) → kinds.opposite x.feature ≡ Some y.feature → kinds.opposite y.feature ≡ Some x.feature → ((y.feature.0 ≡ x.feature.0) → ⊥) → kinds.container x.feature ≡ kinds.container y.feature → IsOfKind kinds (joined_link x i y j (kinds.container x.feature))
 kind_joined kinds x i y j xy yx ne cc_ =
     elim (ltb x.feature.0 y.feature.0) as (λ b. ltb x.feature.0 y.feature.0 ≡ b → IsOfKind kinds (if b then record { end = x; index = i; far = At y j; container = kinds.container x.feature } else record { end = y; index = j; far = At x i; container = kinds.container x.feature })) [
       | true ↦ λ h. record { far = (xy, yx, ltb-true x.feature.0 y.feature.0 h); container = refl }
@@ -32,15 +32,15 @@ FarOfKind-moved kinds f (At d j) e r h = elim (same_end d e) as (λ b. FarOfKind
 FarOfKind-moved kinds f (Alone n) e r h = h
 FarOfKind-moved kinds f (Proxy t) e r h = h
 
-kind_moved : (kinds : Kinds) (l : Link) (e : End) (r : ℕ → ℕ) → IsOfKind kinds l → IsOfKind kinds (moved l e r)
+kind_moved : (kinds : Kinds) (l : Link) (e : End) (r : ℕ → ℕ) → IsOfKind kinds l → IsOfKind kinds (renumbered_link l e r)
 kind_moved kinds l e r h = elim (same_end l.end e) as (λ b. IsOfKind kinds (if b then record l { index = r l.index } else record l { far = far_moved l.far e r })) [
   | true ↦ record { far = h.far; container = h.container }
   | false ↦ record { far = FarOfKind-moved kinds l.end.feature l.far e r h.far; container = h.container }
 ]
 
 module _ (m : Kinds) (s : Links) (ks : AreOfKind m s) where
-  kinds-renumbered : (e : End) (r : ℕ → ℕ) → AreOfKind m (renumbered s e r)
-  kinds-renumbered e r l h = let from = In-renumbered s e r l h in subst (λ (k : Link). IsOfKind m k) from.2 (kind_moved m from.0 e r (ks from.0 from.1))
+  kinds-renumbered_links : (e : End) (r : ℕ → ℕ) → AreOfKind m (renumbered_links s e r)
+  kinds-renumbered_links e r l h = let from = In-renumbered_links s e r l h in subst (λ (k : Link). IsOfKind m k) from.2 (kind_moved m from.0 e r (ks from.0 from.1))
 
   kinds-insert : (k : Link) → IsOfKind m k → AreOfKind m (set.insert s k)
   kinds-insert k new l h = elim (In-insert s k l h) [
@@ -58,25 +58,25 @@ module _ (m : Kinds) (ok : AreKinds m) where
 
   pub kinds_put : (s : Links) (e : End) (i : ℕ) (n : ObjectNo) → AreOfKind m s → AreOfKind m (put s e i n (m.opposite e.feature) (m.container e.feature))
   unfolding put
-  kinds_put s e i n ks = kinds-insert m (renumbered s e (raise i)) (kinds-renumbered m s ks e (raise i)) (new_link s e i n (m.opposite e.feature) (m.container e.feature)) (kind_new s e i n (m.opposite e.feature) refl)
+  kinds_put s e i n ks = kinds-insert m (renumbered_links s e (raise i)) (kinds-renumbered_links m s ks e (raise i)) (new_link s e i n (m.opposite e.feature) (m.container e.feature)) (kind_new s e i n (m.opposite e.feature) refl)
 
 module _ (m : Kinds) where
   pub kinds_put_proxy : (s : Links) (e : End) (i : ℕ) (t : List ℕ) → m.container e.feature ≡ None → AreOfKind m s → AreOfKind m (put_proxy s e i t)
   unfolding put_proxy
-  kinds_put_proxy s e i t plain ks = kinds-insert m (renumbered s e (raise i)) (kinds-renumbered m s ks e (raise i)) (new_proxy e i t) (record { far = tt; container = sym plain })
+  kinds_put_proxy s e i t plain ks = kinds-insert m (renumbered_links s e (raise i)) (kinds-renumbered_links m s ks e (raise i)) (new_proxy e i t) (record { far = tt; container = sym plain })
 
   kinds_lowered : (s : Links) (x : Far) → AreOfKind m s → AreOfKind m (lowered_far s x)
-  kinds_lowered s (At d j) ks = kinds-renumbered m s ks d (lower j)
+  kinds_lowered s (At d j) ks = kinds-renumbered_links m s ks d (lower j)
   kinds_lowered s (Alone n) ks = ks
   kinds_lowered s (Proxy t) ks = ks
 
   pub kinds_cut : (s : Links) (l : Link) → AreOfKind m s → AreOfKind m (cut s l)
   unfolding cut
-  kinds_cut s l ks = kinds_lowered (renumbered (set.remove s l) l.end (lower l.index)) l.far (kinds-renumbered m (set.remove s l) (kinds-remove m s ks l) l.end (lower l.index))
+  kinds_cut s l ks = kinds_lowered (renumbered_links (set.remove s l) l.end (lower l.index)) l.far (kinds-renumbered_links m (set.remove s l) (kinds-remove m s ks l) l.end (lower l.index))
 
   pub kinds_shift : (s : Links) (e : End) (to from : ℕ) → AreOfKind m s → AreOfKind m (shift s e to from)
   unfolding shift
-  kinds_shift s e to from ks = kinds-renumbered m s ks e (shifted_index to from)
+  kinds_shift s e to from ks = kinds-renumbered_links m s ks e (shifted_index to from)
 
   kinds_cut_some : (s : Links) (o : Option Link) → AreOfKind m s → AreOfKind m (cut_some s o)
   kinds_cut_some s None ks = ks
@@ -87,7 +87,7 @@ module _ (m : Kinds) where
   kinds_cut_value s e v ks = kinds_cut_some s (find (has_value e v) (set.items s)) ks
 
 module _ (m : Kinds) (ok : AreKinds m) where
-  pub edited_kinds : (s : Links) (x : Edit) → AreOfKind m s → IsEditOfKind m x → AreOfKind m (edited s x)
+  pub edited_kinds : (s : Links) (x : Edit) → AreOfKind m s → IsEditOfKind m x → AreOfKind m (links_after_edit s x)
   edited_kinds s (edit.Cut e n) ks is = kinds_cut_value m s e (value.Object n) ks
   edited_kinds s (edit.Put e i n g c) ks is = subst (λ (t : Links). AreOfKind m t) (λ j. put s e i n (sym is.0 j) (sym is.1 j)) (kinds_put m ok s e i n ks)
   edited_kinds s (edit.Shift e to from) ks is = kinds_shift m s e to from ks
@@ -95,6 +95,6 @@ module _ (m : Kinds) (ok : AreKinds m) where
   edited_kinds s (edit.CutProxy e t) ks is = kinds_cut_value m s e (value.Proxy t) ks
 
   -- a plan of the kinds keeps links of the kinds
-  pub plan_keeps_kinds : (s : Links) (plan : List Edit) → AreOfKind m s → IsPlanOfKind m plan → AreOfKind m (applied s plan)
+  pub plan_keeps_kinds : (s : Links) (plan : List Edit) → AreOfKind m s → IsPlanOfKind m plan → AreOfKind m (links_after_edits s plan)
   plan_keeps_kinds s [] ks is = ks
-  plan_keeps_kinds s (x ∷ xs) ks is = plan_keeps_kinds (edited s x) xs (edited_kinds s x ks is.0) is.1
+  plan_keeps_kinds s (x ∷ xs) ks is = plan_keeps_kinds (links_after_edit s x) xs (edited_kinds s x ks is.0) is.1

@@ -13,7 +13,7 @@ use Rattle.links.specs.LegalSets.{AreOfKind, IsLegalSet, Kinds}
 use Rattle.links.specs.Links.{In, Links, cut_some, cut_value, end, no_links, put, put_proxy, shift}
 use Rattle.links.specs.Order.{link_cmp}
 use Rattle.links.specs.Indexed.{has_value}
-use Rattle.links.specs.Plans.{EditFits, IsPlanOfKind, PlanFits, PlanMakesNoCycle, PutFits, applied, edited}
+use Rattle.links.specs.Plans.{EditFits, IsPlanOfKind, PlanFits, PlanMakesNoCycle, PutFits, links_after_edit, links_after_edits}
 use Rattle.links.specs.declared.link.Link.{Link}
 use Rattle.links.specs.declared.plan.Edit.TheVariants as edit
 use Rattle.links.specs.declared.plan.Edit.{Edit}
@@ -40,7 +40,7 @@ put_proxy_legal s e i t legal fits = record { placed = put_proxy_placed s e i t 
 pub shift_legal : (s : Links) (e : End) (to from : ℕ) → IsLegalSet s → from < length (end s e) → to < length (end s e) → IsLegalSet (shift s e to from)
 shift_legal s e to from legal f t = record { placed = shift_placed s legal.placed e to from f t; held = IsHeldOnce-shift s e to from legal.held }
 
-pub edited_legal : (s : Links) (x : Edit) → IsLegalSet s → EditFits s x → IsLegalSet (edited s x)
+pub edited_legal : (s : Links) (x : Edit) → IsLegalSet s → EditFits s x → IsLegalSet (links_after_edit s x)
 edited_legal s (edit.Cut e n) legal fits = cut_value_legal s e (value.Object n) legal
 edited_legal s (edit.Put e i n g c) legal fits = put_legal s e i n g c legal fits
 edited_legal s (edit.Shift e to from) legal fits = shift_legal s e to from legal fits.0 fits.1
@@ -48,9 +48,9 @@ edited_legal s (edit.PutProxy e i t) legal fits = put_proxy_legal s e i t legal 
 edited_legal s (edit.CutProxy e t) legal fits = cut_value_legal s e (value.Proxy t) legal
 
 -- the law of plans
-pub plan_keeps_legal : (s : Links) (plan : List Edit) → IsLegalSet s → PlanFits s plan → IsLegalSet (applied s plan)
+pub plan_keeps_legal : (s : Links) (plan : List Edit) → IsLegalSet s → PlanFits s plan → IsLegalSet (links_after_edits s plan)
 plan_keeps_legal s [] legal fits = legal
-plan_keeps_legal s (x ∷ xs) legal fits = plan_keeps_legal (edited s x) xs (edited_legal s x legal fits.0) fits.1
+plan_keeps_legal s (x ∷ xs) legal fits = plan_keeps_legal (links_after_edit s x) xs (edited_legal s x legal fits.0) fits.1
 
 none_in : (l : Link) → In l no_links → ⊥
 none_in l h = false≢true (sym (set.contains-empty link_cmp l) ∙ h)
@@ -64,18 +64,18 @@ none_kinds m l h = absurd (none_in l h)
 
 ---------------------------------------------------------------- plans end to end
 
-pub applied-append : (s : Links) (xs ys : List Edit) → applied s (xs ++ ys) ≡ applied (applied s xs) ys
-applied-append s [] ys = refl
-applied-append s (x ∷ xs) ys = applied-append (edited s x) xs ys
+pub links_after_edits-append : (s : Links) (xs ys : List Edit) → links_after_edits s (xs ++ ys) ≡ links_after_edits (links_after_edits s xs) ys
+links_after_edits-append s [] ys = refl
+links_after_edits-append s (x ∷ xs) ys = links_after_edits-append (links_after_edit s x) xs ys
 
-pub PlanFits-append : (s : Links) (xs ys : List Edit) → PlanFits s xs → PlanFits (applied s xs) ys → PlanFits s (xs ++ ys)
+pub PlanFits-append : (s : Links) (xs ys : List Edit) → PlanFits s xs → PlanFits (links_after_edits s xs) ys → PlanFits s (xs ++ ys)
 PlanFits-append s [] ys a b = b
-PlanFits-append s (x ∷ xs) ys a b = (a.0, PlanFits-append (edited s x) xs ys a.1 b)
+PlanFits-append s (x ∷ xs) ys a b = (a.0, PlanFits-append (links_after_edit s x) xs ys a.1 b)
 
 pub IsPlanOfKind-append : (m : Kinds) (xs ys : List Edit) → IsPlanOfKind m xs → IsPlanOfKind m ys → IsPlanOfKind m (xs ++ ys)
 IsPlanOfKind-append m [] ys a b = b
 IsPlanOfKind-append m (x ∷ xs) ys a b = (a.0, IsPlanOfKind-append m xs ys a.1 b)
 
-pub PlanMakesNoCycle-append : (s : Links) (xs ys : List Edit) → PlanMakesNoCycle s xs → PlanMakesNoCycle (applied s xs) ys → PlanMakesNoCycle s (xs ++ ys)
+pub PlanMakesNoCycle-append : (s : Links) (xs ys : List Edit) → PlanMakesNoCycle s xs → PlanMakesNoCycle (links_after_edits s xs) ys → PlanMakesNoCycle s (xs ++ ys)
 PlanMakesNoCycle-append s [] ys a b = b
-PlanMakesNoCycle-append s (x ∷ xs) ys a b = (a.0, PlanMakesNoCycle-append (edited s x) xs ys a.1 b)
+PlanMakesNoCycle-append s (x ∷ xs) ys a b = (a.0, PlanMakesNoCycle-append (links_after_edit s x) xs ys a.1 b)

@@ -10,7 +10,7 @@ use Rattle.std.proofs.lemmas.Option.{same_Some}
 use Rattle.std.specs.Prelude.{◌⊎◌}
 use Rattle.links.specs.LegalSets.{IsDistinct}
 use Rattle.links.specs.Links.{lower, raise, shifted_index}
-use Rattle.mm_types.specs.Lists.{put_back, shifted}
+use Rattle.mm_types.specs.Lists.{put_back, values_after_move}
 use Rattle.mm_types.specs.declared.value.Value.{Value}
 
 module _ {X : Type 0} where
@@ -73,7 +73,7 @@ length_remove_le [] (suc i) = omega arith
 length_remove_le (y ∷ xs) zero = omega arith
 length_remove_le (y ∷ xs) (suc i) = omega (arith, length_remove_le xs i)
 
-pub length_shifted : (xs : List Value) (to from : ℕ) → from < length xs → to < length xs → length (shifted xs to from) ≡ length xs
+pub length_shifted : (xs : List Value) (to from : ℕ) → from < length xs → to < length xs → length (values_after_move xs to from) ≡ length xs
 length_shifted xs to from f t =
     elim (slice_get xs from) as (λ o. slice_get xs from ≡ o → length (put_back o xs to from) ≡ length xs) [
       | None ↦ λ h. refl
@@ -178,7 +178,7 @@ distinct_remove xs i d j k v a b =
 pub removed_absent : (xs : List Value) (i : ℕ) (x : Value) → IsDistinct xs → slice_get xs i ≡ Some x → (k : ℕ) → slice_get (remove xs i) k ≡ Some x → ⊥
 removed_absent xs i x d here k a = let p = remove_back xs i k x a in p.1 (d p.0 i x p.3 here)
 
-pub distinct_shifted : (xs : List Value) (to from : ℕ) → from < length xs → to < length xs → IsDistinct xs → IsDistinct (shifted xs to from)
+pub distinct_shifted : (xs : List Value) (to from : ℕ) → from < length xs → to < length xs → IsDistinct xs → IsDistinct (values_after_move xs to from)
 distinct_shifted xs to from f t d =
     elim (slice_get xs from) as (λ o. slice_get xs from ≡ o → IsDistinct (put_back o xs to from)) [
       | None ↦ λ h. d

@@ -12,7 +12,7 @@ use Rattle.links.proofs.SideLemmas.{both_ends_agree, far_cases, paired_far}
 use Rattle.links.specs.Laws.{names, names_far}
 use Rattle.links.specs.LegalSets.{AreKinds, AreOfKind, FarOfKind, HasTwoSides, IsLegalSet, IsObject, IsOfKind, Kinds}
 use Rattle.links.specs.Links.{Links, end, far_end}
-use Rattle.links.specs.Indexed.{far_value, is_value_at, indexed}
+use Rattle.links.specs.Indexed.{far_value, is_value_at, indexed_value}
 use Rattle.links.specs.Plans.{Has, Lacks}
 use Rattle.links.specs.declared.link.Far.TheVariants.{At, Alone, Proxy}
 use Rattle.links.specs.declared.link.Far.{Far}
@@ -34,13 +34,13 @@ use Rattle.mm_types.specs.declared.value.Value.{Value}
 abbrev pub AreOpposite : Kinds → End → End → Value → Value → Type 0
 AreOpposite m e d v w = (m.opposite e.feature ≡ Some d.feature) × IsObject d.node × (v ≡ node_value d.node) × (w ≡ node_value e.node)
 
-module _ (m : Kinds) (l : Link) (ok : IsOfKind m l) (two : HasTwoSides l.end l.far) (e d : End) (j k : ℕ) (v w : Value) (ne : e ≢ d) (at_e : indexed l e ≡ Some (j, v)) (at_d : indexed l d ≡ Some (k, w)) where
+module _ (m : Kinds) (l : Link) (ok : IsOfKind m l) (two : HasTwoSides l.end l.far) (e d : End) (j k : ℕ) (v w : Value) (ne : e ≢ d) (at_e : indexed_value l e ≡ Some (j, v)) (at_d : indexed_value l d ≡ Some (k, w)) where
   near_first : (c : End) (i : ℕ) → l.far ≡ At c i → l.end ≢ c → l.end ≡ e → c ≡ d → AreOpposite m e d v w
   near_first c i h apart same_e same_d =
       let kind = subst (λ (x : Far). FarOfKind m l.end.feature x) h ok.far in
       let sides = subst (λ (x : Far). HasTwoSides l.end x) h two in
-      let near = subst (λ (x : End). indexed l x ≡ Some (l.index, far_value l.far)) same_e (indexed_near l) in
-      let far = subst (λ (x : End). indexed l x ≡ Some (i, node_value l.end.node)) same_d (indexed_at l c i h apart) in
+      let near = subst (λ (x : End). indexed_value l x ≡ Some (l.index, far_value l.far)) same_e (indexed_near l) in
+      let far = subst (λ (x : End). indexed_value l x ≡ Some (i, node_value l.end.node)) same_d (indexed_at l c i h apart) in
       let is_v = (some_pair_parts l.index j (far_value l.far) v (sym near ∙ at_e)).1 in
       let is_w = (some_pair_parts i k (node_value l.end.node) w (sym far ∙ at_d)).1 in (
         subst (λ (x : End). m.opposite x.feature ≡ Some d.feature) same_e (subst (λ (x : End). m.opposite l.end.feature ≡ Some x.feature) same_d kind.0),
@@ -53,8 +53,8 @@ module _ (m : Kinds) (l : Link) (ok : IsOfKind m l) (two : HasTwoSides l.end l.f
   far_first c i h apart same_e same_d =
       let kind = subst (λ (x : Far). FarOfKind m l.end.feature x) h ok.far in
       let sides = subst (λ (x : Far). HasTwoSides l.end x) h two in
-      let far = subst (λ (x : End). indexed l x ≡ Some (i, node_value l.end.node)) same_e (indexed_at l c i h apart) in
-      let near = subst (λ (x : End). indexed l x ≡ Some (l.index, far_value l.far)) same_d (indexed_near l) in
+      let far = subst (λ (x : End). indexed_value l x ≡ Some (i, node_value l.end.node)) same_e (indexed_at l c i h apart) in
+      let near = subst (λ (x : End). indexed_value l x ≡ Some (l.index, far_value l.far)) same_d (indexed_near l) in
       let is_v = (some_pair_parts i j (node_value l.end.node) v (sym far ∙ at_e)).1 in
       let is_w = (some_pair_parts l.index k (far_value l.far) w (sym near ∙ at_d)).1 in (
         subst (λ (x : End). m.opposite x.feature ≡ Some d.feature) same_e (subst (λ (x : End). m.opposite c.feature ≡ Some x.feature) same_d kind.1),
@@ -126,31 +126,31 @@ names_opposite m e v d w (opposite, object, is_v, is_w) =
 
 ---------------------------------------------------------------- the link that has a name
 
-module _ (m : Kinds) (l : Link) (ok : IsOfKind m l) (two : HasTwoSides l.end l.far) (e : End) (k : ℕ) (v : Value) (at : indexed l e ≡ Some (k, v)) (d : End) (w : Value) where
-  pub value-named : is_value_at w (indexed l d) ≡ true → names m e v d w ≡ true
+module _ (m : Kinds) (l : Link) (ok : IsOfKind m l) (two : HasTwoSides l.end l.far) (e : End) (k : ℕ) (v : Value) (at : indexed_value l e ≡ Some (k, v)) (d : End) (w : Value) where
+  pub value-named : is_value_at w (indexed_value l d) ≡ true → names m e v d w ≡ true
   value-named h =
-      let there = is_value_at-true (indexed l d) w h in
+      let there = is_value_at-true (indexed_value l d) w h in
       elim (cases_end e d) [
         | inl same ↦
-            let here = subst (λ (x : End). indexed l x ≡ Some (k, v)) same at in
+            let here = subst (λ (x : End). indexed_value l x ≡ Some (k, v)) same at in
             let is = (some_pair_parts k there.0 v w (sym here ∙ there.1)).1 in
             subst (λ (x : End). names m e v x w ≡ true) same (subst (λ (x : Value). names m e v e x ≡ true) is (names-itself m e v))
         | inr ne ↦ names_opposite m e v d w (two_entries m l ok two e d k there.0 v w ne at there.1)
       ]
 
-  pub named-value : names m e v d w ≡ true → is_value_at w (indexed l d) ≡ true
+  pub named-value : names m e v d w ≡ true → is_value_at w (indexed_value l d) ≡ true
   named-value h = elim (names-true m e v d w h) [
-    | inl near ↦ is_value_at-indexed (indexed l d) k w (subst (λ (x : Value). indexed l d ≡ Some (k, x)) near.1 (subst (λ (x : End). indexed l x ≡ Some (k, v)) near.0 at))
+    | inl near ↦ is_value_at-indexed (indexed_value l d) k w (subst (λ (x : Value). indexed_value l d ≡ Some (k, x)) near.1 (subst (λ (x : End). indexed_value l x ≡ Some (k, v)) near.0 at))
     | inr (o, g, is_v, opposite, is_d, is_w) ↦
         let y = far_end o g in
-        let here = subst (λ (x : Value). indexed l e ≡ Some (k, x)) is_v at in
+        let here = subst (λ (x : Value). indexed_value l e ≡ Some (k, x)) is_v at in
         let other = far_cases l e y k two (paired_far m l.end.feature l.far e.feature g opposite ok.far) here l.far refl in
-        is_value_at-indexed (indexed l d) other.0 w (subst (λ (x : Value). indexed l d ≡ Some (other.0, x)) is_w (subst (λ (x : End). indexed l x ≡ Some (other.0, node_value e.node)) is_d other.1))
+        is_value_at-indexed (indexed_value l d) other.0 w (subst (λ (x : Value). indexed_value l d ≡ Some (other.0, x)) is_w (subst (λ (x : End). indexed_value l x ≡ Some (other.0, node_value e.node)) is_d other.1))
   ]
 
   -- the name of a link says at which positions the link is
-  pub indexed-named : is_value_at w (indexed l d) ≡ names m e v d w
-  indexed-named = same-tests _ _ value-named named-value
+  pub indexed_value-named : is_value_at w (indexed_value l d) ≡ names m e v d w
+  indexed_value-named = same-tests _ _ value-named named-value
 
 -- if a name names no link of a set, no value of an end is named by it
 pub names_nothing : (m : Kinds) → AreKinds m → (s : Links) → IsLegalSet s → AreOfKind m s → (e : End) (v : Value) → Lacks s e v → (d : End) (w : Value) → Has s d w → names m e v d w ≡ false

@@ -4,7 +4,7 @@ use Rattle.std.proofs.Common.{◌≡◌, ◌≢◌, ℕ, true, false, List, Some
 use Rattle.std.specs.Option.{option_map}
 use Rattle.std.specs.Bool.{Decides}
 use Rattle.links.specs.LegalSets.{IsObject}
-use Rattle.links.specs.Indexed.{bare, bare_far, far_moved, far_indexed, far_value, moved, indexed}
+use Rattle.links.specs.Indexed.{link_without_positions, bare_far, far_moved, far_indexed, far_value, renumbered_link, indexed_value}
 use Rattle.links.specs.declared.link.Far.TheVariants.{At, Alone, Proxy}
 use Rattle.links.specs.declared.link.Far.{Far}
 use Rattle.links.specs.declared.link.Link.{Link}
@@ -60,9 +60,9 @@ far_indexed-moved (Alone n) v e r = refl
 far_indexed-moved (Proxy t) v e r = refl
 
 -- its position in that end is renumbered
-pub indexed-moved : (l : Link) (e : End) (r : ℕ → ℕ) → indexed (moved l e r) e ≡ option_map (renumbered_indexed r) (indexed l e)
-indexed-moved l e r =
-    elim (same_end l.end e) as (λ b. same_end l.end e ≡ b → indexed (if b then record l { index = r l.index } else record l { far = far_moved l.far e r }) e ≡ option_map (renumbered_indexed r) (if b then Some (l.index, far_value l.far) else far_indexed l.far (node_value l.end.node) e)) [
+pub indexed_value-renumbered_link : (l : Link) (e : End) (r : ℕ → ℕ) → indexed_value (renumbered_link l e r) e ≡ option_map (renumbered_indexed r) (indexed_value l e)
+indexed_value-renumbered_link l e r =
+    elim (same_end l.end e) as (λ b. same_end l.end e ≡ b → indexed_value (if b then record l { index = r l.index } else record l { far = far_moved l.far e r }) e ≡ option_map (renumbered_indexed r) (if b then Some (l.index, far_value l.far) else far_indexed l.far (node_value l.end.node) e)) [
       | true ↦ λ h. rw h refl
       | false ↦ λ h. rw h (far_indexed-moved l.far (node_value l.end.node) e r)
     ] refl
@@ -77,9 +77,9 @@ far_indexed-moved_other (Alone n) v d e r ne = refl
 far_indexed-moved_other (Proxy t) v d e r ne = refl
 
 -- its position in another end is as it was
-pub indexed-moved_other : (l : Link) (d e : End) (r : ℕ → ℕ) → d ≢ e → indexed (moved l e r) d ≡ indexed l d
-indexed-moved_other l d e r ne =
-    elim (same_end l.end e) as (λ b. same_end l.end e ≡ b → indexed (if b then record l { index = r l.index } else record l { far = far_moved l.far e r }) d ≡ indexed l d) [
+pub indexed_value-moved_other : (l : Link) (d e : End) (r : ℕ → ℕ) → d ≢ e → indexed_value (renumbered_link l e r) d ≡ indexed_value l d
+indexed_value-moved_other l d e r ne =
+    elim (same_end l.end e) as (λ b. same_end l.end e ≡ b → indexed_value (if b then record l { index = r l.index } else record l { far = far_moved l.far e r }) d ≡ indexed_value l d) [
       | true ↦ λ h. let other = ne-same_end l.end d (λ (same : l.end ≡ d). ne (sym same ∙ same_end-true l.end e h)) in rw other refl
       | false ↦ λ h. rw (far_value-moved l.far e r, far_indexed-moved_other l.far (node_value l.end.node) d e r ne) refl
     ] refl
@@ -90,8 +90,8 @@ bare_far-moved (Alone n) e r = refl
 bare_far-moved (Proxy t) e r = refl
 
 -- a change of positions leaves the rest of the link
-pub bare-moved : (l : Link) (e : End) (r : ℕ → ℕ) → bare (moved l e r) ≡ bare l
-bare-moved l e r = elim (same_end l.end e) as (λ b. bare (if b then record l { index = r l.index } else record l { far = far_moved l.far e r }) ≡ bare l) [
+pub link_without_positions-renumbered_link : (l : Link) (e : End) (r : ℕ → ℕ) → link_without_positions (renumbered_link l e r) ≡ link_without_positions l
+link_without_positions-renumbered_link l e r = elim (same_end l.end e) as (λ b. link_without_positions (if b then record l { index = r l.index } else record l { far = far_moved l.far e r }) ≡ link_without_positions l) [
   | true ↦ refl
   | false ↦ λ i. record { end = l.end; index = 0; far = bare_far-moved l.far e r i; container = l.container }
 ]

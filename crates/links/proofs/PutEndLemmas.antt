@@ -11,7 +11,7 @@ use Rattle.links.proofs.CycleLemmas.{put_no_cycle}
 use Rattle.links.proofs.HolderLemmas.{holder-put}
 use Rattle.links.proofs.PlaceLemmas.{same_feature-true, same_node_if}
 use Rattle.links.proofs.PutLemmas.{IsApart, apart_of, end-put_near, end-put_other, put_far}
-use Rattle.links.specs.Holders.{HasNoCycle, contained, containing, holder, holding}
+use Rattle.links.specs.Holders.{HasNoCycle, end_containing, holder, holding_end, node_contained}
 use Rattle.links.specs.Laws.{IsFar, IsPutOutside, is_contained, is_far, is_of_pair, put_end, put_holder}
 use Rattle.links.specs.LegalSets.{IsLegalSet}
 use Rattle.links.specs.Links.{Links, end, far_end, new_link, put}
@@ -59,9 +59,9 @@ same_feature-turned f h = same-tests _ _ (λ p. eq-eqb h.0 f.0 (sym (eqb-true f.
 
 -- the node that a new link contains, and its holder
 abbrev held_new : End → ObjectNo → Option FeatureNo → Option FeatureNo → Node → Option End
-held_new e o g c n = if is_of_pair e.feature g c && is_contained e o c n then containing e o c else None
+held_new e o g c n = if is_of_pair e.feature g c && is_contained e o c n then end_containing e o c else None
 
-alone_held : (e : End) (i : ℕ) (o : ObjectNo) (c : Option FeatureNo) (n : Node) → holding (record { end = e; index = i; far = Alone o; container = c }) n ≡ held_new e o None c n
+alone_held : (e : End) (i : ℕ) (o : ObjectNo) (c : Option FeatureNo) (n : Node) → holding_end (record { end = e; index = i; far = Alone o; container = c }) n ≡ held_new e o None c n
 alone_held e i o None n = refl
 alone_held e i o (Some h) n =
     let flip = same_feature-turned e.feature h in
@@ -81,7 +81,7 @@ far_held e o g h n =
       | false ↦ λ q. refl
     ] refl)
 
-near_held : (e : End) (i : ℕ) (o : ObjectNo) (g : FeatureNo) (j : ℕ) (c : Option FeatureNo) (n : Node) → holding (record { end = e; index = i; far = At (far_end o g) j; container = c }) n ≡ held_new e o (Some g) c n
+near_held : (e : End) (i : ℕ) (o : ObjectNo) (g : FeatureNo) (j : ℕ) (c : Option FeatureNo) (n : Node) → holding_end (record { end = e; index = i; far = At (far_end o g) j; container = c }) n ≡ held_new e o (Some g) c n
 near_held e i o g j None n = refl
 near_held e i o g j (Some h) n =
     let flip = same_feature-turned e.feature h in
@@ -91,7 +91,7 @@ near_held e i o g j (Some h) n =
       | false ↦ far_held e o g h n
     ])
 
-turned_held : (e : End) (i : ℕ) (o : ObjectNo) (g : FeatureNo) (j : ℕ) (c : Option FeatureNo) (n : Node) → ((g.0 ≡ e.feature.0) → ⊥) → holding (record { end = far_end o g; index = j; far = At e i; container = c }) n ≡ held_new e o (Some g) c n
+turned_held : (e : End) (i : ℕ) (o : ObjectNo) (g : FeatureNo) (j : ℕ) (c : Option FeatureNo) (n : Node) → ((g.0 ≡ e.feature.0) → ⊥) → holding_end (record { end = far_end o g; index = j; far = At e i; container = c }) n ≡ held_new e o (Some g) c n
 turned_held e i o g j None n apart = refl
 turned_held e i o g j (Some h) n apart =
     let flip = same_feature-turned e.feature h in
@@ -105,19 +105,19 @@ turned_held e i o g j (Some h) n apart =
     nested true = refl
     nested false = refl
 
-holding-new : (s : Links) (e : End) (i : ℕ) (o : ObjectNo) (g c : Option FeatureNo) (n : Node) → IsApart e g → holding (new_link s e i o g c) n ≡ held_new e o g c n
-holding-new s e i o None c n apart = alone_held e i o c n
-holding-new s e i o (Some g) c n apart =
+holding_end-new : (s : Links) (e : End) (i : ℕ) (o : ObjectNo) (g c : Option FeatureNo) (n : Node) → IsApart e g → holding_end (new_link s e i o g c) n ≡ held_new e o g c n
+holding_end-new s e i o None c n apart = alone_held e i o c n
+holding_end-new s e i o (Some g) c n apart =
     let j = length (end s (far_end o g)) in
-    elim (ltb e.feature.0 g.0) as (λ b. holding (if b then record { end = e; index = i; far = At (far_end o g) j; container = c } else record { end = far_end o g; index = j; far = At e i; container = c }) n ≡ held_new e o (Some g) c n) [
+    elim (ltb e.feature.0 g.0) as (λ b. holding_end (if b then record { end = e; index = i; far = At (far_end o g) j; container = c } else record { end = far_end o g; index = j; far = At e i; container = c }) n ≡ held_new e o (Some g) c n) [
       | true ↦ near_held e i o g j c n
       | false ↦ turned_held e i o g j c n apart.0
     ]
 
-some_or : (b : Bool) (c : Option FeatureNo) (e : End) (o : ObjectNo) (n : Node) (x : Option End) → option_or (if b && is_contained e o c n then containing e o c else None) x ≡ (if b && is_contained e o c n then containing e o c else x)
+some_or : (b : Bool) (c : Option FeatureNo) (e : End) (o : ObjectNo) (n : Node) (x : Option End) → option_or (if b && is_contained e o c n then end_containing e o c else None) x ≡ (if b && is_contained e o c n then end_containing e o c else x)
 some_or false c e o n x = refl
 some_or true None e o n x = refl
-some_or true (Some h) e o n x = elim (same_node (if same_feature h e.feature then node.Object o else e.node) n) as (λ t. option_or (if t then containing e o (Some h) else None) x ≡ (if t then containing e o (Some h) else x)) [ true ↦ refl | false ↦ refl ]
+some_or true (Some h) e o n x = elim (same_node (if same_feature h e.feature then node.Object o else e.node) n) as (λ t. option_or (if t then end_containing e o (Some h) else None) x ≡ (if t then end_containing e o (Some h) else x)) [ true ↦ refl | false ↦ refl ]
 
 module _ (s : Links) (e : End) (i : ℕ) (o : ObjectNo) (g c : Option FeatureNo) (legal : IsLegalSet s) (fits : EditFits s (edit.Put e i o g c)) where
   -- the node that the new link contains gets its holder, and all other holders stay
@@ -125,12 +125,12 @@ module _ (s : Links) (e : End) (i : ℕ) (o : ObjectNo) (g c : Option FeatureNo)
   holder-put_is n =
       let apart = apart_of s e o g fits.1 in
       holder-put s e i o g c legal.held (free_new s e i o g c apart fits.2) n
-      ∙ ap (λ (x : Option End). option_or x (holder s n)) (holding-new s e i o g c n apart)
+      ∙ ap (λ (x : Option End). option_or x (holder s n)) (holding_end-new s e i o g c n apart)
       ∙ some_or (is_of_pair e.feature g c) c e o n (holder s n)
 
 ---------------------------------------------------------------- cycles
 
-contained_is : (e : End) (o : ObjectNo) (c : Option FeatureNo) (n : Node) → is_contained e o c n ≡ true → contained e o c ≡ Some n
+contained_is : (e : End) (o : ObjectNo) (c : Option FeatureNo) (n : Node) → is_contained e o c n ≡ true → node_contained e o c ≡ Some n
 contained_is e o None n h = absurd (true≢false (sym h))
 contained_is e o (Some h) n is = ap Some (same_node-true (if same_feature h e.feature then node.Object o else e.node) n is)
 
@@ -141,7 +141,7 @@ taken false x d h = absurd (none-some d h)
 module _ (s : Links) (e : End) (i : ℕ) (o : ObjectNo) (g c : Option FeatureNo) (legal : IsLegalSet s) (fits : EditFits s (edit.Put e i o g c)) (free : HasNoCycle s) (clear : IsPutOutside s e o c) where
   pub put_outside : IsOutside s (new_link s e i o g c)
   put_outside x d h =
-      let is = taken (is_of_pair e.feature g c && is_contained e o c x) (containing e o c) d (sym (holding-new s e i o g c x (apart_of s e o g fits.1)) ∙ h) in
+      let is = taken (is_of_pair e.feature g c && is_contained e o c x) (end_containing e o c) d (sym (holding_end-new s e i o g c x (apart_of s e o g fits.1)) ∙ h) in
       let out = clear x d (contained_is e o c x (and_parts (is_of_pair e.feature g c) (is_contained e o c x) is.0).1) is.1 in (
         λ same. true≢false (sym (same_node_if d.node x same) ∙ out.0),
         λ under. true≢false (sym ((above_under s legal free d.node x).1 under) ∙ out.1),

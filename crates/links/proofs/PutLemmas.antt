@@ -4,14 +4,14 @@ use Rattle.std.specs.Prelude.{◌⊎◌}
 use Rattle.std.specs.List.{insert}
 use Rattle.std.proofs.lemmas.Bool.{true≢false, cases_Bool}
 use Rattle.std.proofs.lemmas.Option.{slice_get_within, none-some, some_pair_parts}
-use Rattle.links.proofs.EditLemmas.{AreTwoSided, AreTwoSided-insert, AreTwoSided-renumbered, IsEnd-insert_last, IsEnd-insert_none, IsEnd-raise_insert, IsEnd-renumbered_other, IsOnce, IsOnce-insert, IsOnce-renumbered, IsVacant, KeepsApart, Stands-renumbered, Stands-renumbered_other}
+use Rattle.links.proofs.EditLemmas.{AreTwoSided, AreTwoSided-insert, AreTwoSided-renumbered_links, IsEnd-insert_last, IsEnd-insert_none, IsEnd-raise_insert, IsEnd-renumbered_other, IsOnce, IsOnce-insert, IsOnce-renumbered_links, IsVacant, KeepsApart, Stands-renumbered_links, Stands-renumbered_other}
 use Rattle.links.proofs.EndLemmas.{end_is}
 use Rattle.links.proofs.ListLemmas as lists
 use Rattle.links.proofs.PlaceLemmas.{Decides-same_end, ne-same_end}
 use Rattle.links.specs.Laws.{IsFar}
 use Rattle.links.specs.LegalSets.{HasTwoSides, IsDistinct, IsEnd, IsObject, IsPlaced, Stands, most}
-use Rattle.links.specs.Links.{Links, end, far_end, joined, new_link, new_proxy, put, put_proxy, raise, renumbered}
-use Rattle.links.specs.Indexed.{indexed}
+use Rattle.links.specs.Links.{Links, end, far_end, joined_link, new_link, new_proxy, put, put_proxy, raise, renumbered_links}
+use Rattle.links.specs.Indexed.{indexed_value}
 use Rattle.links.specs.Plans.{FarFitsIn, Lacks, PutFits}
 use Rattle.links.specs.declared.link.Far.TheVariants.{At}
 use Rattle.links.specs.declared.link.Link.{Link}
@@ -51,23 +51,23 @@ placed_from s all once apart = record {
 ---------------------------------------------------------------- where a new link is
 
 module _ (x : End) (i : ℕ) (y : End) (j : ℕ) (c : Option FeatureNo) (ne : x ≢ y) where
-  pub indexed-joined_near : indexed (joined x i y j c) x ≡ Some (i, node_value y.node)
-  indexed-joined_near =
-      elim (ltb x.feature.0 y.feature.0) as (λ b. indexed (if b then record { end = x; index = i; far = At y j; container = c } else record { end = y; index = j; far = At x i; container = c }) x ≡ Some (i, node_value y.node)) [
+  pub indexed_value-joined_near : indexed_value (joined_link x i y j c) x ≡ Some (i, node_value y.node)
+  indexed_value-joined_near =
+      elim (ltb x.feature.0 y.feature.0) as (λ b. indexed_value (if b then record { end = x; index = i; far = At y j; container = c } else record { end = y; index = j; far = At x i; container = c }) x ≡ Some (i, node_value y.node)) [
         | true ↦ rw (same_end-self x) refl
         | false ↦ let other = ne-same_end y x (λ same. ne (sym same)) in rw (other, same_end-self x) refl
       ]
 
-  pub indexed-joined_far : indexed (joined x i y j c) y ≡ Some (j, node_value x.node)
-  indexed-joined_far =
-      elim (ltb x.feature.0 y.feature.0) as (λ b. indexed (if b then record { end = x; index = i; far = At y j; container = c } else record { end = y; index = j; far = At x i; container = c }) y ≡ Some (j, node_value x.node)) [
+  pub indexed_value-joined_far : indexed_value (joined_link x i y j c) y ≡ Some (j, node_value x.node)
+  indexed_value-joined_far =
+      elim (ltb x.feature.0 y.feature.0) as (λ b. indexed_value (if b then record { end = x; index = i; far = At y j; container = c } else record { end = y; index = j; far = At x i; container = c }) y ≡ Some (j, node_value x.node)) [
         | true ↦ let other = ne-same_end x y ne in rw (other, same_end-self y) refl
         | false ↦ rw (same_end-self y) refl
       ]
 
-  pub indexed-joined_other : (d : End) → x ≢ d → y ≢ d → indexed (joined x i y j c) d ≡ None
-  indexed-joined_other d nx ny =
-      elim (ltb x.feature.0 y.feature.0) as (λ b. indexed (if b then record { end = x; index = i; far = At y j; container = c } else record { end = y; index = j; far = At x i; container = c }) d ≡ None) [
+  pub indexed_value-joined_other : (d : End) → x ≢ d → y ≢ d → indexed_value (joined_link x i y j c) d ≡ None
+  indexed_value-joined_other d nx ny =
+      elim (ltb x.feature.0 y.feature.0) as (λ b. indexed_value (if b then record { end = x; index = i; far = At y j; container = c } else record { end = y; index = j; far = At x i; container = c }) d ≡ None) [
         | true ↦ let ox = ne-same_end x d nx in let oy = ne-same_end y d ny in rw (ox, oy) refl
         | false ↦ let ox = ne-same_end x d nx in let oy = ne-same_end y d ny in rw (oy, ox) refl
       ]
@@ -80,7 +80,7 @@ module _ (s : Links) (placed : IsPlaced s) (e : End) (i : ℕ) (n : ObjectNo) (c
   IsEnd-put_near None apart = IsEnd-raise_insert s e (end s e) (placed.ends e) (new_link s e i n None c) i (value.Object n) fits (rw (same_end-self e) refl)
   IsEnd-put_near (Some g) apart =
       let far = far_end n g in
-      IsEnd-raise_insert s e (end s e) (placed.ends e) (new_link s e i n (Some g) c) i (value.Object n) fits (indexed-joined_near e i far (length (end s far)) c (λ same. apart.0 (λ j. (sym same j).feature.0)))
+      IsEnd-raise_insert s e (end s e) (placed.ends e) (new_link s e i n (Some g) c) i (value.Object n) fits (indexed_value-joined_near e i far (length (end s far)) c (λ same. apart.0 (λ j. (sym same j).feature.0)))
 
   IsEnd-put_far : (g : FeatureNo) → IsApart e (Some g) → (d : End) → IsFar n (Some g) d → IsEnd (put s e i n (Some g) c) d (end s d ++ node_value e.node ∷ [])
   unfolding put
@@ -88,17 +88,17 @@ module _ (s : Links) (placed : IsPlaced s) (e : End) (i : ℕ) (n : ObjectNo) (c
       let far = far_end n g in
       let ne : far ≢ e = λ same. apart.0 (λ j. (same j).feature.0) in
       subst (λ (d : End). IsEnd (put s e i n (Some g) c) d (end s d ++ node_value e.node ∷ [])) is
-      (IsEnd-insert_last (renumbered s e (raise i)) (new_link s e i n (Some g) c) far (end s far) (node_value e.node) (indexed-joined_far e i far (length (end s far)) c (λ same. ne (sym same)))
+      (IsEnd-insert_last (renumbered_links s e (raise i)) (new_link s e i n (Some g) c) far (end s far) (node_value e.node) (indexed_value-joined_far e i far (length (end s far)) c (λ same. ne (sym same)))
       (IsEnd-renumbered_other s far e (raise i) (end s far) ne (placed.ends far)))
 
   IsEnd-put_other : (g : Option FeatureNo) → IsApart e g → (d : End) → e ≢ d → (IsFar n g d → ⊥) → IsEnd (put s e i n g c) d (end s d)
   unfolding put
   IsEnd-put_other None apart d ne not_far =
-      IsEnd-insert_none (renumbered s e (raise i)) (new_link s e i n None c) d (end s d) (let other = ne-same_end e d ne in rw other refl)
+      IsEnd-insert_none (renumbered_links s e (raise i)) (new_link s e i n None c) d (end s d) (let other = ne-same_end e d ne in rw other refl)
       (IsEnd-renumbered_other s d e (raise i) (end s d) (λ same. ne (sym same)) (placed.ends d))
   IsEnd-put_other (Some g) apart d ne not_far =
       let far = far_end n g in
-      IsEnd-insert_none (renumbered s e (raise i)) (new_link s e i n (Some g) c) d (end s d) (indexed-joined_other e i far (length (end s far)) c (λ same. apart.0 (λ j. (sym same j).feature.0)) d ne not_far)
+      IsEnd-insert_none (renumbered_links s e (raise i)) (new_link s e i n (Some g) c) d (end s d) (indexed_value-joined_other e i far (length (end s far)) c (λ same. apart.0 (λ j. (sym same j).feature.0)) d ne not_far)
       (IsEnd-renumbered_other s d e (raise i) (end s d) (λ same. ne (sym same)) (placed.ends d))
 
   module _ (g : Option FeatureNo) (apart : IsApart e g) where
@@ -134,15 +134,15 @@ HasTwoSides-new s e i n (Some g) c apart =
     ]
 
 -- no link is at the position of the new link
-IsVacant-new : (s : Links) (placed : IsPlaced s) (e : End) (i : ℕ) (n : ObjectNo) (g c : Option FeatureNo) → IsApart e g → IsVacant (renumbered s e (raise i)) (new_link s e i n g c)
+IsVacant-new : (s : Links) (placed : IsPlaced s) (e : End) (i : ℕ) (n : ObjectNo) (g c : Option FeatureNo) → IsApart e g → IsVacant (renumbered_links s e (raise i)) (new_link s e i n g c)
 IsVacant-new s placed e i n None c apart d k v w at st =
     elim (cases_end e d) [
       | inl same ↦
-          let here : indexed (new_link s e i n None c) e ≡ Some (i, value.Object n) = rw (same_end-self e) refl in
-          let parts = some_pair_parts i k (value.Object n) v (sym here ∙ subst (λ (x : End). indexed (new_link s e i n None c) x ≡ Some (k, v)) (sym same) at) in
-          let from = Stands-renumbered s e (raise i) k w (subst (λ (x : End). Stands (renumbered s e (raise i)) x k w) (sym same) st) in
+          let here : indexed_value (new_link s e i n None c) e ≡ Some (i, value.Object n) = rw (same_end-self e) refl in
+          let parts = some_pair_parts i k (value.Object n) v (sym here ∙ subst (λ (x : End). indexed_value (new_link s e i n None c) x ≡ Some (k, v)) (sym same) at) in
+          let from = Stands-renumbered_links s e (raise i) k w (subst (λ (x : End). Stands (renumbered_links s e (raise i)) x k w) (sym same) st) in
           lists.raise_other i from.0 (from.2 ∙ sym parts.0)
-      | inr ne ↦ none-some _ ((let other = ne-same_end e d ne in let out : indexed (new_link s e i n None c) d ≡ None = rw other refl in sym out) ∙ at)
+      | inr ne ↦ none-some _ ((let other = ne-same_end e d ne in let out : indexed_value (new_link s e i n None c) d ≡ None = rw other refl in sym out) ∙ at)
     ]
 IsVacant-new s placed e i n (Some g) c apart d k v w at st =
     let far = far_end n g in
@@ -150,16 +150,16 @@ IsVacant-new s placed e i n (Some g) c apart d k v w at st =
     let ne : e ≢ far = λ same. apart.0 (λ j. (sym same j).feature.0) in
     elim (cases_end e d) [
       | inl same ↦
-          let parts = some_pair_parts i k (value.Object n) v (sym (indexed-joined_near e i far (length (end s far)) c ne) ∙ subst (λ (x : End). indexed new x ≡ Some (k, v)) (sym same) at) in
-          let from = Stands-renumbered s e (raise i) k w (subst (λ (x : End). Stands (renumbered s e (raise i)) x k w) (sym same) st) in
+          let parts = some_pair_parts i k (value.Object n) v (sym (indexed_value-joined_near e i far (length (end s far)) c ne) ∙ subst (λ (x : End). indexed_value new x ≡ Some (k, v)) (sym same) at) in
+          let from = Stands-renumbered_links s e (raise i) k w (subst (λ (x : End). Stands (renumbered_links s e (raise i)) x k w) (sym same) st) in
           lists.raise_other i from.0 (from.2 ∙ sym parts.0)
       | inr ne_e ↦ elim (cases_end far d) [
         | inl same ↦
-            let parts = some_pair_parts (length (end s far)) k (node_value e.node) v (sym (indexed-joined_far e i far (length (end s far)) c ne) ∙ subst (λ (x : End). indexed new x ≡ Some (k, v)) (sym same) at) in
-            let was = Stands-renumbered_other s e (raise i) far k w (λ h. ne (sym h)) (subst (λ (x : End). Stands (renumbered s e (raise i)) x k w) (sym same) st) in
+            let parts = some_pair_parts (length (end s far)) k (node_value e.node) v (sym (indexed_value-joined_far e i far (length (end s far)) c ne) ∙ subst (λ (x : End). indexed_value new x ≡ Some (k, v)) (sym same) at) in
+            let was = Stands-renumbered_other s e (raise i) far k w (λ h. ne (sym h)) (subst (λ (x : End). Stands (renumbered_links s e (raise i)) x k w) (sym same) st) in
             let bound = slice_get_within (end s far) k w ((placed.ends far).has k w was) in
             omega (arith, bound, parts.0)
-        | inr ne_f ↦ none-some _ (sym (indexed-joined_other e i far (length (end s far)) c ne d ne_e ne_f) ∙ at)
+        | inr ne_f ↦ none-some _ (sym (indexed_value-joined_other e i far (length (end s far)) c ne d ne_e ne_f) ∙ at)
       ]
     ]
 
@@ -169,11 +169,11 @@ keeps_apart_raise s e i j k v w a b h = lists.raise_injective i j k h
 pub put_placed : (s : Links) (e : End) (i : ℕ) (n : ObjectNo) (g c : Option FeatureNo) → IsPlaced s → PutFits s e i (value.Object n) → FarFitsIn s e n g → IsPlaced (put s e i n g c)
 unfolding put
 put_placed s e i n g c placed ok fits =
-    let r = renumbered s e (raise i) in
+    let r = renumbered_links s e (raise i) in
     let new = new_link s e i n g c in
     placed_from (put s e i n g c) (ends g fits)
-    (IsOnce-insert r new (IsOnce-renumbered s e (raise i) placed.once (keeps_apart_raise s e i)) (IsVacant-new s placed e i n g c (apart_of s e n g fits)))
-    (AreTwoSided-insert r new (AreTwoSided-renumbered s e (raise i) placed.sides) (HasTwoSides-new s e i n g c (apart_of s e n g fits)))
+    (IsOnce-insert r new (IsOnce-renumbered_links s e (raise i) placed.once (keeps_apart_raise s e i)) (IsVacant-new s placed e i n g c (apart_of s e n g fits)))
+    (AreTwoSided-insert r new (AreTwoSided-renumbered_links s e (raise i) placed.sides) (HasTwoSides-new s e i n g c (apart_of s e n g fits)))
   where
     far : (g : Option FeatureNo) → FarFitsIn s e n g → (d : End) → IsFar n g d → (xs : List Value) × IsEnd (put s e i n g c) d xs × IsDistinct xs × (length xs ≤ most)
     far None fits d is = absurd is
@@ -201,10 +201,10 @@ put_placed s e i n g c placed ok fits =
 ---------------------------------------------------------------- a proxy
 
 module _ (s : Links) (e : End) (i : ℕ) (t : List ℕ) (placed : IsPlaced s) (can : PutFits s e i (value.Proxy t)) where
-  indexed-proxy : (d : End) → e ≢ d → indexed (new_proxy e i t) d ≡ None
-  indexed-proxy d ne = let other = ne-same_end e d ne in rw other refl
+  indexed_value-proxy : (d : End) → e ≢ d → indexed_value (new_proxy e i t) d ≡ None
+  indexed_value-proxy d ne = let other = ne-same_end e d ne in rw other refl
 
-  indexed_proxy : indexed (new_proxy e i t) e ≡ Some (i, value.Proxy t)
+  indexed_proxy : indexed_value (new_proxy e i t) e ≡ Some (i, value.Proxy t)
   indexed_proxy = rw (same_end-self e) refl
 
   IsEnd-proxy_near : IsEnd (put_proxy s e i t) e (insert (end s e) i (value.Proxy t))
@@ -213,7 +213,7 @@ module _ (s : Links) (e : End) (i : ℕ) (t : List ℕ) (placed : IsPlaced s) (c
 
   IsEnd-proxy_other : (d : End) → e ≢ d → IsEnd (put_proxy s e i t) d (end s d)
   unfolding put_proxy
-  IsEnd-proxy_other d ne = IsEnd-insert_none (renumbered s e (raise i)) (new_proxy e i t) d (end s d) (indexed-proxy d ne) (IsEnd-renumbered_other s d e (raise i) (end s d) (λ same. ne (sym same)) (placed.ends d))
+  IsEnd-proxy_other d ne = IsEnd-insert_none (renumbered_links s e (raise i)) (new_proxy e i t) d (end s d) (indexed_value-proxy d ne) (IsEnd-renumbered_other s d e (raise i) (end s d) (λ same. ne (sym same)) (placed.ends d))
 
   pub end-put_proxy_near : end (put_proxy s e i t) e ≡ insert (end s e) i (value.Proxy t)
   end-put_proxy_near = end_is (put_proxy s e i t) e (insert (end s e) i (value.Proxy t)) IsEnd-proxy_near
@@ -221,22 +221,22 @@ module _ (s : Links) (e : End) (i : ℕ) (t : List ℕ) (placed : IsPlaced s) (c
   pub end-put_proxy_other : (d : End) → e ≢ d → end (put_proxy s e i t) d ≡ end s d
   end-put_proxy_other d ne = end_is (put_proxy s e i t) d (end s d) (IsEnd-proxy_other d ne)
 
-  IsVacant-proxy : IsVacant (renumbered s e (raise i)) (new_proxy e i t)
+  IsVacant-proxy : IsVacant (renumbered_links s e (raise i)) (new_proxy e i t)
   IsVacant-proxy d k v w at st = elim (cases_end e d) [
     | inl same ↦
-        let parts = some_pair_parts i k (value.Proxy t) v (sym indexed_proxy ∙ subst (λ (x : End). indexed (new_proxy e i t) x ≡ Some (k, v)) (sym same) at) in
-        let from = Stands-renumbered s e (raise i) k w (subst (λ (x : End). Stands (renumbered s e (raise i)) x k w) (sym same) st) in
+        let parts = some_pair_parts i k (value.Proxy t) v (sym indexed_proxy ∙ subst (λ (x : End). indexed_value (new_proxy e i t) x ≡ Some (k, v)) (sym same) at) in
+        let from = Stands-renumbered_links s e (raise i) k w (subst (λ (x : End). Stands (renumbered_links s e (raise i)) x k w) (sym same) st) in
         lists.raise_other i from.0 (from.2 ∙ sym parts.0)
-    | inr ne ↦ none-some _ (sym (indexed-proxy d ne) ∙ at)
+    | inr ne ↦ none-some _ (sym (indexed_value-proxy d ne) ∙ at)
   ]
 
   pub put_proxy_placed : IsPlaced (put_proxy s e i t)
   unfolding put_proxy
   put_proxy_placed =
-      let r = renumbered s e (raise i) in
+      let r = renumbered_links s e (raise i) in
       placed_from (put_proxy s e i t) ends
-      (IsOnce-insert r (new_proxy e i t) (IsOnce-renumbered s e (raise i) placed.once (keeps_apart_raise s e i)) IsVacant-proxy)
-      (AreTwoSided-insert r (new_proxy e i t) (AreTwoSided-renumbered s e (raise i) placed.sides) tt)
+      (IsOnce-insert r (new_proxy e i t) (IsOnce-renumbered_links s e (raise i) placed.once (keeps_apart_raise s e i)) IsVacant-proxy)
+      (AreTwoSided-insert r (new_proxy e i t) (AreTwoSided-renumbered_links s e (raise i) placed.sides) tt)
     where
       ends : (d : End) → (xs : List Value) × IsEnd (put_proxy s e i t) d xs × IsDistinct xs × (length xs ≤ most)
       ends d = elim (cases_end e d) [

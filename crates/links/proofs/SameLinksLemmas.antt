@@ -6,7 +6,7 @@ use Rattle.links.proofs.ScanLemmas.{same_links}
 use Rattle.links.proofs.ShownLemmas.{shown_in}
 use Rattle.links.specs.LegalSets.{AreOfKind, FarOfKind, IsPlaced, Kinds}
 use Rattle.links.specs.Links.{In, Links, end}
-use Rattle.links.specs.Indexed.{far_value, indexed}
+use Rattle.links.specs.Indexed.{far_value, indexed_value}
 use Rattle.links.specs.declared.link.Far.TheVariants.{At}
 use Rattle.links.specs.declared.link.Far.{Far}
 use Rattle.links.specs.declared.link.Link.{Link}
@@ -16,7 +16,7 @@ use Rattle.mm_types.specs.declared.value.Value.{Value}
 
 module _ (kinds : Kinds) (s t : Links) (ls : IsPlaced s) (lt : IsPlaced t) (ks : AreOfKind kinds s) (kt : AreOfKind kinds t) (same : (e : End) → end s e ≡ end t e) where
   -- t has at a position the value that a link of s has there
-  there : (l : Link) → In l s → (e : End) (k : ℕ) (v : Value) → indexed l e ≡ Some (k, v) → slice_get (end t e) k ≡ Some v
+  there : (l : Link) → In l s → (e : End) (k : ℕ) (v : Value) → indexed_value l e ≡ Some (k, v) → slice_get (end t e) k ≡ Some v
   there l h e k v at = sym (ap (λ (xs : List Value). slice_get xs k) (same e)) ∙ (ls.ends e).has k v (l, h, at)
 
   apart : (l : Link) (d : End) (j : ℕ) → In l s → l.far ≡ At d j → l.end ≢ d

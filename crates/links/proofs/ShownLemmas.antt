@@ -7,7 +7,7 @@ use Rattle.links.proofs.PlaceLemmas.{not_proxy, same_node_value}
 use Rattle.links.proofs.PutLemmas.{cases_end}
 use Rattle.links.specs.LegalSets.{AreOfKind, FarOfKind, HasTwoSides, IsOfKind, IsPlaced, Kinds}
 use Rattle.links.specs.Links.{In, Links, end}
-use Rattle.links.specs.Indexed.{far_value, indexed}
+use Rattle.links.specs.Indexed.{far_value, indexed_value}
 use Rattle.links.specs.declared.link.Far.TheVariants.{At, Alone, Proxy}
 use Rattle.links.specs.declared.link.Far.{Far}
 use Rattle.links.specs.declared.link.Link.{Link}
@@ -37,10 +37,10 @@ object_value x y h = cc
 no_feature : (o : Option FeatureNo) (f : FeatureNo) → o ≡ None → o ≡ Some f → ⊥
 no_feature o f a b = none-some f (sym a ∙ b)
 
-module _ (kinds : Kinds) (t : Links) (lt : IsPlaced t) (kt : AreOfKind kinds t) (l : Link) (s : IsShown kinds t l) (m : Link) (g : In m t) (at : indexed m l.end ≡ Some (l.index, far_value l.far)) where
+module _ (kinds : Kinds) (t : Links) (lt : IsPlaced t) (kt : AreOfKind kinds t) (l : Link) (s : IsShown kinds t l) (m : Link) (g : In m t) (at : indexed_value m l.end ≡ Some (l.index, far_value l.far)) where
   same_side : l.end ≡ m.end → (l.index ≡ m.index) × (far_value l.far ≡ far_value m.far)
   same_side e =
-      let here = subst (λ (x : End). indexed m x ≡ Some (m.index, far_value m.far)) (sym e) (indexed_near m) in
+      let here = subst (λ (x : End). indexed_value m x ≡ Some (m.index, far_value m.far)) (sym e) (indexed_near m) in
       let parts = some_pair_parts m.index l.index (far_value m.far) (far_value l.far) (sym here ∙ at) in
       (sym parts.0, sym parts.1)
 
@@ -83,7 +83,7 @@ module _ (kinds : Kinds) (t : Links) (lt : IsPlaced t) (kt : AreOfKind kinds t) 
   crossed_text c k fm e n fl =
       let km = subst (λ (x : Far). FarOfKind kinds m.end.feature x) fm (kt m g).far in
       let nm : m.end ≢ c = λ q. omega (arith, km.2, ap (λ (x : End). x.feature.0) q) in
-      let here = subst (λ (x : End). indexed m x ≡ Some (k, node_value m.end.node)) e (indexed_at m c k fm nm) in
+      let here = subst (λ (x : End). indexed_value m x ≡ Some (k, node_value m.end.node)) e (indexed_at m c k fm nm) in
       not_proxy n m.end.node (sym (ap far_value fl) ∙ sym (some_pair_parts k l.index (node_value m.end.node) (far_value l.far) (sym here ∙ at)).1)
 
   crossed_far : ((n : List ℕ) → l.far ≡ Proxy n → ⊥) → (f : Far) → l.far ≡ f → kinds.opposite l.end.feature ≡ Some m.end.feature → m.end.feature.0 < l.end.feature.0 → ⊥

@@ -7,7 +7,7 @@ use Rattle.links.proofs.PlaceLemmas.{not_proxy, same_node_value}
 use Rattle.links.proofs.PutLemmas.{cases_end}
 use Rattle.links.specs.LegalSets.{AreOfKind, FarOfKind, HasTwoSides, IsLegalSet, IsPlaced, Kinds}
 use Rattle.links.specs.Links.{In, Links, end}
-use Rattle.links.specs.Indexed.{far_value, indexed}
+use Rattle.links.specs.Indexed.{far_value, indexed_value}
 use Rattle.links.specs.Plans.{Has}
 use Rattle.links.specs.declared.link.Far.TheVariants.{At, Alone, Proxy}
 use Rattle.links.specs.declared.link.Far.{Far}
@@ -32,30 +32,30 @@ ArePaired s f g = (l : Link) → In l s → IsPaired l f g
 pub same_parts : (x y : End) → x.node ≡ y.node → x.feature.0 ≡ y.feature.0 → x ≡ y
 same_parts x y n f = λ i. record { node = n i; feature = record { 0 = f i } }
 
-module _ (l : Link) (x y : End) (k : ℕ) (two : HasTwoSides l.end l.far) (pair : IsPaired l x.feature y.feature) (at : indexed l x ≡ Some (k, node_value y.node)) where
+module _ (l : Link) (x y : End) (k : ℕ) (two : HasTwoSides l.end l.far) (pair : IsPaired l x.feature y.feature) (at : indexed_value l x ≡ Some (k, node_value y.node)) where
   -- the link that has y's node at a position of x has x's node at a position of y
-  far_at : (d : End) (j : ℕ) → l.far ≡ At d j → (m : ℕ) × (indexed l y ≡ Some (m, node_value x.node))
+  far_at : (d : End) (j : ℕ) → l.far ≡ At d j → (m : ℕ) × (indexed_value l y ≡ Some (m, node_value x.node))
   far_at d j h =
       let sides = subst (λ (o : Far). HasTwoSides l.end o) h two in
       let p = subst (λ (o : Far). FarOf o l.end.feature x.feature y.feature) h pair in
       let ne : l.end ≢ d = λ same. sides.0 (λ i. (sym same i).feature.0) in
       elim (cases_end l.end x) [
         | inl same ↦
-            let here = subst (λ (e : End). indexed l e ≡ Some (l.index, far_value l.far)) same (indexed_near l) in
+            let here = subst (λ (e : End). indexed_value l e ≡ Some (l.index, far_value l.far)) same (indexed_near l) in
             let v = same_node_value d.node y.node sides.2 (subst (λ (o : Far). far_value o ≡ node_value y.node) h (some_pair_parts l.index k (far_value l.far) (node_value y.node) (sym here ∙ at)).1) in
             let is = same_parts d y v (p.0 (λ i. (same i).feature.0)) in
-            (j, subst (λ (e : End). indexed l e ≡ Some (j, node_value x.node)) is (indexed_at l d j h ne ∙ (λ i. Some (j, node_value (same i).node))))
+            (j, subst (λ (e : End). indexed_value l e ≡ Some (j, node_value x.node)) is (indexed_at l d j h ne ∙ (λ i. Some (j, node_value (same i).node))))
         | inr other ↦ elim (cases_end d x) [
           | inl same ↦
-              let here = subst (λ (e : End). indexed l e ≡ Some (j, node_value l.end.node)) same (indexed_at l d j h ne) in
+              let here = subst (λ (e : End). indexed_value l e ≡ Some (j, node_value l.end.node)) same (indexed_at l d j h ne) in
               let v = same_node_value l.end.node y.node sides.1 (some_pair_parts j k (node_value l.end.node) (node_value y.node) (sym here ∙ at)).1 in
               let is = same_parts l.end y v (p.1 (λ i. (same i).feature.0)) in
-              (l.index, subst (λ (e : End). indexed l e ≡ Some (l.index, node_value x.node)) is (indexed_near l ∙ ap (λ (o : Far). Some (l.index, far_value o)) h ∙ (λ i. Some (l.index, node_value (same i).node))))
+              (l.index, subst (λ (e : End). indexed_value l e ≡ Some (l.index, node_value x.node)) is (indexed_near l ∙ ap (λ (o : Far). Some (l.index, far_value o)) h ∙ (λ i. Some (l.index, node_value (same i).node))))
           | inr out ↦ absurd (none-some _ (sym (indexed_out l d x j h other out) ∙ at))
         ]
       ]
 
-  pub far_cases : (f : Far) → l.far ≡ f → (m : ℕ) × (indexed l y ≡ Some (m, node_value x.node))
+  pub far_cases : (f : Far) → l.far ≡ f → (m : ℕ) × (indexed_value l y ≡ Some (m, node_value x.node))
   far_cases (At d j) h = far_at d j h
   far_cases (Alone n) h = elim (cases_end l.end x) [
     | inl same ↦ absurd (subst (λ (o : Far). FarOf o l.end.feature x.feature y.feature) h pair (λ i. (same i).feature.0))
@@ -63,7 +63,7 @@ module _ (l : Link) (x y : End) (k : ℕ) (two : HasTwoSides l.end l.far) (pair 
   ]
   far_cases (Proxy t) h = elim (cases_end l.end x) [
     | inl same ↦
-        let here = subst (λ (e : End). indexed l e ≡ Some (l.index, far_value l.far)) same (indexed_near l) in
+        let here = subst (λ (e : End). indexed_value l e ≡ Some (l.index, far_value l.far)) same (indexed_near l) in
         absurd (not_proxy t y.node (subst (λ (o : Far). far_value o ≡ node_value y.node) h (some_pair_parts l.index k (far_value l.far) (node_value y.node) (sym here ∙ at)).1))
     | inr ne ↦ absurd (none-some _ (sym (indexed_proxy l x t h ne) ∙ at))
   ]

@@ -19,7 +19,7 @@ use Rattle.links.proofs.PutLemmas.{apart_of, end-put_other, end-put_proxy_other}
 use Rattle.links.specs.Laws.{IsFar, contains_by, edit_end, names, names_far, touches_containment}
 use Rattle.links.specs.LegalSets.{AreKinds, AreOfKind, IsLegalSet, Kinds}
 use Rattle.links.specs.Links.{Links, end, far_end}
-use Rattle.links.specs.Plans.{EditFits, IsEditOfKind, IsPlanOfKind, PlanFits, applied, edited}
+use Rattle.links.specs.Plans.{EditFits, IsEditOfKind, IsPlanOfKind, PlanFits, links_after_edit, links_after_edits}
 use Rattle.links.specs.declared.plan.Edit.{Edit}
 use Rattle.links.specs.declared.plan.Edit.TheVariants as edit
 
@@ -61,18 +61,18 @@ module _ (m : Kinds) (ok : AreKinds m) where
 
   ---------------------------------------------------------------- edits
 
-  edited-leaves : (s : Links) (x : Edit) → IsLegalSet s → AreOfKind m s → EditFits s x → IsEditOfKind m x → contains_by m (edit_end x).feature ≡ false → (d : End) → contains_by m d.feature ≡ true → end (edited s x) d ≡ end s d
-  edited-leaves s (edit.Cut e o) legal kinds fits kind out d holds =
+  links_after_edit-leaves : (s : Links) (x : Edit) → IsLegalSet s → AreOfKind m s → EditFits s x → IsEditOfKind m x → contains_by m (edit_end x).feature ≡ false → (d : End) → contains_by m d.feature ≡ true → end (links_after_edit s x) d ≡ end s d
+  links_after_edit-leaves s (edit.Cut e o) legal kinds fits kind out d holds =
       end-cut_value m ok s legal kinds e (value.Object o) d ∙ filter_all (names m e (value.Object o) d) (end s d) (λ k w at. names-none e d (value.Object o) w out holds)
-  edited-leaves s (edit.Put e i o g c) legal kinds fits kind out d holds =
+  links_after_edit-leaves s (edit.Put e i o g c) legal kinds fits kind out d holds =
       end-put_other s legal.placed e i o c fits.0.in_range g (apart_of s e o g fits.1) d (apart e d out holds) (not-far e d o g (sym kind.0) out holds)
-  edited-leaves s (edit.Shift e to from) legal kinds fits kind out d holds = end-shift_other s legal.placed e to from fits.0 fits.1 d (apart e d out holds)
-  edited-leaves s (edit.PutProxy e i t) legal kinds fits kind out d holds = end-put_proxy_other s e i t legal.placed fits d (apart e d out holds)
-  edited-leaves s (edit.CutProxy e t) legal kinds fits kind out d holds =
+  links_after_edit-leaves s (edit.Shift e to from) legal kinds fits kind out d holds = end-shift_other s legal.placed e to from fits.0 fits.1 d (apart e d out holds)
+  links_after_edit-leaves s (edit.PutProxy e i t) legal kinds fits kind out d holds = end-put_proxy_other s e i t legal.placed fits d (apart e d out holds)
+  links_after_edit-leaves s (edit.CutProxy e t) legal kinds fits kind out d holds =
       end-cut_value m ok s legal kinds e (value.Proxy t) d ∙ filter_all (names m e (value.Proxy t) d) (end s d) (λ k w at. names-none e d (value.Proxy t) w out holds)
 
-  pub plan-leaves : (s : Links) (plan : List Edit) → IsLegalSet s → AreOfKind m s → PlanFits s plan → IsPlanOfKind m plan → touches_containment m plan ≡ false → (d : End) → contains_by m d.feature ≡ true → end (applied s plan) d ≡ end s d
+  pub plan-leaves : (s : Links) (plan : List Edit) → IsLegalSet s → AreOfKind m s → PlanFits s plan → IsPlanOfKind m plan → touches_containment m plan ≡ false → (d : End) → contains_by m d.feature ≡ true → end (links_after_edits s plan) d ≡ end s d
   plan-leaves s [] legal kinds fits kind out d holds = refl
   plan-leaves s (x ∷ xs) legal kinds fits kind out d holds =
       let none = or_parts (contains_by m (edit_end x).feature) (touches_containment m xs) out in
-      plan-leaves (edited s x) xs (edited_legal s x legal fits.0) (edited_kinds m ok s x kinds kind.0) fits.1 kind.1 none.1 d holds ∙ edited-leaves s x legal kinds fits.0 kind.0 none.0 d holds
+      plan-leaves (links_after_edit s x) xs (edited_legal s x legal fits.0) (edited_kinds m ok s x kinds kind.0) fits.1 kind.1 none.1 d holds ∙ links_after_edit-leaves s x legal kinds fits.0 kind.0 none.0 d holds

@@ -33,38 +33,38 @@ held_through (Some h) l n =
     else far_holding l.far h l.end.node n
 
 -- the end through which a link contains n, if it does
-abbrev pub holding : Link → Node → Option End
-holding l n = held_through l.container l n
+abbrev pub holding_end : Link → Node → Option End
+holding_end l n = held_through l.container l n
 
 -- the first of the links that contains n gives its end
 abbrev pub first_holding : List Link → Node → Option End
 first_holding [] n = None
-first_holding (l ∷ ls) n = option_or (holding l n) (first_holding ls n)
+first_holding (l ∷ ls) n = option_or (holding_end l n) (first_holding ls n)
 
 -- the end that contains n
 unfoldable pub holder : Links → Node → Option End
 holder s n = first_holding (set.items s) n
 
 -- the node that becomes contained when an object is put into e, where h is the containing feature of the pair
-abbrev pub contained : End → ObjectNo → Option FeatureNo → Option Node
-contained e o None = None
-contained e o (Some h) = Some (if same_feature h e.feature then node.Object o else e.node)
+abbrev pub node_contained : End → ObjectNo → Option FeatureNo → Option Node
+node_contained e o None = None
+node_contained e o (Some h) = Some (if same_feature h e.feature then node.Object o else e.node)
 
 -- the end that contains a node when an object is put into e, where h is the containing feature of the pair
-abbrev pub containing : End → ObjectNo → Option FeatureNo → Option End
-containing e o None = None
-containing e o (Some h) = Some (if same_feature h e.feature then e else far_end o h)
+abbrev pub end_containing : End → ObjectNo → Option FeatureNo → Option End
+end_containing e o None = None
+end_containing e o (Some h) = Some (if same_feature h e.feature then e else far_end o h)
 
 ---------------------------------------------------------------- above
 
 -- the nodes above n, the nearest first, at most so many; `up` gives the end that holds a node
-abbrev pub climbed : (Node → Option End) → ℕ → Node → List Node
-climbed up zero n = []
-climbed up (suc k) n = option_map_or (λ (e : End). e.node ∷ climbed up k e.node) (up n) []
+abbrev pub nearest_nodes_above : (Node → Option End) → ℕ → Node → List Node
+nearest_nodes_above up zero n = []
+nearest_nodes_above up (suc k) n = option_map_or (λ (e : End). e.node ∷ nearest_nodes_above up k e.node) (up n) []
 
 -- the nodes above n, the nearest first; no chain of holders is longer than the number of links
 unfoldable pub above : Links → Node → List Node
-above s n = climbed (holder s) (set.len s) n
+above s n = nearest_nodes_above (holder s) (set.len s) n
 
 -- the node that so many steps of `holder` lead to from x
 abbrev pub climb : Links → ℕ → Node → Option Node

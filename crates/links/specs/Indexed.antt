@@ -22,8 +22,8 @@ far_indexed (Alone o) v e = None
 far_indexed (Proxy t) v e = None
 
 -- the position and the value of a link in e, if it is there
-abbrev pub indexed : Link → End → Option (ℕ × Value)
-indexed l e = if same_end l.end e then Some (l.index, far_value l.far) else far_indexed l.far (node_value l.end.node) e
+abbrev pub indexed_value : Link → End → Option (ℕ × Value)
+indexed_value l e = if same_end l.end e then Some (l.index, far_value l.far) else far_indexed l.far (node_value l.end.node) e
 
 -- whether the value at a position is v
 abbrev pub is_value_at : Value → Option (ℕ × Value) → Bool
@@ -31,7 +31,7 @@ is_value_at v p = option_map_or (λ q. same_value q.1 v) p false
 
 -- a link is in e with the value v
 abbrev pub has_value : End → Value → Link → Bool
-has_value e v l = is_value_at v (indexed l e)
+has_value e v l = is_value_at v (indexed_value l e)
 
 -- the far side, its position in e changed by r
 abbrev pub far_moved : Far → End → (ℕ → ℕ) → Far
@@ -40,8 +40,8 @@ far_moved (Alone o) e r = Alone o
 far_moved (Proxy t) e r = Proxy t
 
 -- the link, its position in e changed by r
-abbrev pub moved : Link → End → (ℕ → ℕ) → Link
-moved l e r = if same_end l.end e then record l { index = r l.index } else record l { far = far_moved l.far e r }
+abbrev pub renumbered_link : Link → End → (ℕ → ℕ) → Link
+renumbered_link l e r = if same_end l.end e then record l { index = r l.index } else record l { far = far_moved l.far e r }
 
 abbrev pub bare_far : Far → Far
 bare_far (At d j) = At d 0
@@ -49,5 +49,5 @@ bare_far (Alone o) = Alone o
 bare_far (Proxy t) = Proxy t
 
 -- the link without its positions, which is the part that no edit of another link changes
-abbrev pub bare : Link → Link
-bare l = record { end = l.end; index = 0; far = bare_far l.far; container = l.container }
+abbrev pub link_without_positions : Link → Link
+link_without_positions l = record { end = l.end; index = 0; far = bare_far l.far; container = l.container }

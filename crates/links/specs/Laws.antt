@@ -13,11 +13,11 @@ use Rattle.mm_types.specs.declared.value.Value.TheVariants as value
 use Rattle.links.specs.declared.link.Link.{Link}
 use Rattle.links.specs.declared.plan.Edit.{Edit}
 use Rattle.links.specs.declared.plan.Edit.TheVariants as edit
-use Rattle.links.specs.Holders.{above, contained, containing, holder, holding}
+use Rattle.links.specs.Holders.{above, end_containing, holder, holding_end, node_contained}
 use Rattle.links.specs.LegalSets.{Kinds}
-use Rattle.links.specs.Links.{In, Links, cut, cut_value, end, far_end, new_link, put, put_proxy, shift, touches, without, without_nodes}
-use Rattle.mm_types.specs.Lists.{shifted}
-use Rattle.links.specs.Indexed.{indexed}
+use Rattle.links.specs.Links.{In, Links, cut, cut_value, end, far_end, list_without, new_link, put, put_proxy, shift, touches, without_nodes}
+use Rattle.mm_types.specs.Lists.{values_after_move}
+use Rattle.links.specs.Indexed.{indexed_value}
 use Rattle.links.specs.Plans.{Has, Lacks}
 
 -- d is the far end of a put: the end of the object that is put, under the opposite
@@ -31,7 +31,7 @@ pub record PutMakes (s : Links) (e : End) (i : ℕ) (o : ObjectNo) (g c : Option
   pub near : end (put s e i o g c) e ≡ insert (end s e) i (value.Object o)
   pub far : (d : End) → IsFar o g d → end (put s e i o g c) d ≡ end s d ++ node_value e.node ∷ []
   pub others : (d : End) → (e ≡ d → ⊥) → (IsFar o g d → ⊥) → end (put s e i o g c) d ≡ end s d
-  pub holders : (n : Node) → holder (put s e i o g c) n ≡ option_or (holding (new_link s e i o g c) n) (holder s n)
+  pub holders : (n : Node) → holder (put s e i o g c) n ≡ option_or (holding_end (new_link s e i o g c) n) (holder s n)
 
 -- whether d is the far end of a put
 abbrev pub is_far : ObjectNo → Option FeatureNo → End → Bool
@@ -50,12 +50,12 @@ abbrev pub is_of_pair : FeatureNo → Option FeatureNo → Option FeatureNo → 
 is_of_pair f g c = option_map_or (λ h. same_feature h f || is_feature h g) c false
 
 abbrev pub is_contained : End → ObjectNo → Option FeatureNo → Node → Bool
-is_contained e o c n = option_map_or (λ x. same_node x n) (contained e o c) false
+is_contained e o c n = option_map_or (λ x. same_node x n) (node_contained e o c) false
 
 -- the end that contains n after an object is put into e, where g is the opposite and c the containing feature of the pair
 abbrev pub put_holder : Links → End → ObjectNo → Option FeatureNo → Option FeatureNo → Node → Option End
 put_holder s e o g c n =
-    if is_of_pair e.feature g c && is_contained e o c n then containing e o c else holder s n
+    if is_of_pair e.feature g c && is_contained e o c n then end_containing e o c else holder s n
 
 -- each end and each holder after a put, computed
 pub record PutGives (s : Links) (e : End) (i : ℕ) (o : ObjectNo) (g c : Option FeatureNo) : Type 0 where
@@ -65,7 +65,7 @@ pub record PutGives (s : Links) (e : End) (i : ℕ) (o : ObjectNo) (g c : Option
 -- the node that would be the container of x is neither x nor below x
 abbrev pub IsPutOutside : Links → End → ObjectNo → Option FeatureNo → Type 0
 IsPutOutside s e o c =
-    (x : Node) (d : End) → contained e o c ≡ Some x → containing e o c ≡ Some d
+    (x : Node) (d : End) → node_contained e o c ≡ Some x → end_containing e o c ≡ Some d
     → (same_node d.node x ≡ false) × (list_any (same_node x) (above s d.node) ≡ false)
 
 -- the proxy is at its position, and all else is as it was
@@ -76,13 +76,13 @@ pub record PutProxyMakes (s : Links) (e : End) (i : ℕ) (t : List ℕ) : Type 0
 
 -- each end loses the link's value there, and the node that the link contained has no holder; the link can be cut by its value at either end
 pub record CutMakes (s : Links) (l : Link) : Type 0 where
-  pub named : (e : End) (k : ℕ) (v : Value) → indexed l e ≡ Some (k, v) → cut_value s e v ≡ cut s l
-  pub ends : (d : End) → end (cut s l) d ≡ without (end s d) (indexed l d)
-  pub holders : (n : Node) → holder (cut s l) n ≡ option_map_or (λ x. None) (holding l n) (holder s n)
+  pub named : (e : End) (k : ℕ) (v : Value) → indexed_value l e ≡ Some (k, v) → cut_value s e v ≡ cut s l
+  pub ends : (d : End) → end (cut s l) d ≡ list_without (end s d) (indexed_value l d)
+  pub holders : (n : Node) → holder (cut s l) n ≡ option_map_or (λ x. None) (holding_end l n) (holder s n)
 
 -- one value of one end moves, and all else is as it was
 pub record ShiftMakes (s : Links) (e : End) (to from : ℕ) : Type 0 where
-  pub near : end (shift s e to from) e ≡ shifted (end s e) to from
+  pub near : end (shift s e to from) e ≡ values_after_move (end s e) to from
   pub others : (d : End) → (e ≡ d → ⊥) → end (shift s e to from) d ≡ end s d
   pub holders : (n : Node) → holder (shift s e to from) n ≡ holder s n
 

@@ -9,13 +9,13 @@ use Rattle.mm_types.specs.declared.value.Value.{Value}
 use Rattle.links.specs.declared.link.Far.{Far}
 use Rattle.links.specs.declared.link.Far.TheVariants.{At, Alone, Proxy}
 use Rattle.links.specs.declared.link.Link.{Link}
-use Rattle.links.specs.Holders.{holding}
+use Rattle.links.specs.Holders.{holding_end}
 use Rattle.links.specs.Links.{In, Links, end}
-use Rattle.links.specs.Indexed.{indexed}
+use Rattle.links.specs.Indexed.{indexed_value}
 
 -- some link is at position k of e, with the value v
 abbrev pub Stands : Links → End → ℕ → Value → Type 0
-Stands s e k v = (l : Link) × In l s × (indexed l e ≡ Some (k, v))
+Stands s e k v = (l : Link) × In l s × (indexed_value l e ≡ Some (k, v))
 
 -- the list has each value that is in e at its position, and nothing else
 pub record IsEnd (s : Links) (e : End) (xs : List Value) : Type 0 where
@@ -43,14 +43,14 @@ most = 1000000
 -- the positions of each end are 0 to its length - 1, each once, and no end repeats a value
 pub record IsPlaced (s : Links) : Type 0 where
   pub ends : (e : End) → IsEnd s e (end s e)
-  pub once : (l k : Link) (e : End) (i : ℕ) (v w : Value) → In l s → In k s → indexed l e ≡ Some (i, v) → indexed k e ≡ Some (i, w) → l ≡ k
+  pub once : (l k : Link) (e : End) (i : ℕ) (v w : Value) → In l s → In k s → indexed_value l e ≡ Some (i, v) → indexed_value k e ≡ Some (i, w) → l ≡ k
   pub distinct : (e : End) → IsDistinct (end s e)
   pub sides : (l : Link) → In l s → HasTwoSides l.end l.far
   pub few : (e : End) → length (end s e) ≤ most
 
 -- no node is contained twice
 abbrev pub IsHeldOnce : Links → Type 0
-IsHeldOnce s = (l k : Link) (n : Node) (x y : End) → In l s → In k s → holding l n ≡ Some x → holding k n ≡ Some y → x ≡ y
+IsHeldOnce s = (l k : Link) (n : Node) (x y : End) → In l s → In k s → holding_end l n ≡ Some x → holding_end k n ≡ Some y → x ≡ y
 
 pub record IsLegalSet (s : Links) : Type 0 where
   pub placed : IsPlaced s

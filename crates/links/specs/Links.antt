@@ -16,7 +16,7 @@ use Rattle.links.specs.declared.link.Far.{Far}
 use Rattle.links.specs.declared.link.Far.TheVariants.{At, Alone, Proxy}
 use Rattle.links.specs.declared.link.Link.{Link}
 use Rattle.links.specs.Order.{link_cmp, coded_link}
-use Rattle.links.specs.Indexed.{far_value, has_value, moved, indexed}
+use Rattle.links.specs.Indexed.{far_value, has_value, renumbered_link, indexed_value}
 
 abbrev pub Links : Type 0
 Links = FinSet link_cmp
@@ -40,7 +40,7 @@ at_indexed (Some p) k other = if p.0 == k then Some p.1 else other
 -- the value at position k of e
 abbrev pub value_at : List Link → End → ℕ → Option Value
 value_at [] e k = None
-value_at (l ∷ ls) e k = at_indexed (indexed l e) k (value_at ls e k)
+value_at (l ∷ ls) e k = at_indexed (indexed_value l e) k (value_at ls e k)
 
 abbrev pub past : Option (ℕ × Value) → ℕ
 past p = option_map_or (λ q. suc q.0) p 0
@@ -48,7 +48,7 @@ past p = option_map_or (λ q. suc q.0) p 0
 -- one more than the last position of e
 abbrev pub length_at : List Link → End → ℕ
 length_at [] e = 0
-length_at (l ∷ ls) e = max (past (indexed l e)) (length_at ls e)
+length_at (l ∷ ls) e = max (past (indexed_value l e)) (length_at ls e)
 
 -- the values at n positions of e, from k on
 abbrev pub values_from : List Link → End → ℕ → ℕ → List Value
@@ -81,8 +81,8 @@ proxy_at s e k = option_and_then text_of (slice_get (end s e) k)
 ---------------------------------------------------------------- edits
 
 -- the set, each position in e changed by r
-unfoldable pub renumbered : Links → End → (ℕ → ℕ) → Links
-renumbered s e r = set.from_list (map (λ l. moved l e r) (set.items s))
+unfoldable pub renumbered_links : Links → End → (ℕ → ℕ) → Links
+renumbered_links s e r = set.from_list (map (λ l. renumbered_link l e r) (set.items s))
 
 abbrev pub raise : ℕ → ℕ → ℕ
 raise i k = if nat_lt k i then k else suc k
@@ -95,13 +95,13 @@ abbrev pub shifted_index : ℕ → ℕ → ℕ → ℕ
 shifted_index to from k = if k == from then to else raise to (lower from k)
 
 abbrev pub lowered_far : Links → Far → Links
-lowered_far s (At d j) = renumbered s d (lower j)
+lowered_far s (At d j) = renumbered_links s d (lower j)
 lowered_far s (Alone o) = s
 lowered_far s (Proxy t) = s
 
 -- takes the link out, and lowers the later positions at its ends
 unfoldable pub cut : Links → Link → Links
-cut s l = lowered_far (renumbered (set.remove s l) l.end (lower l.index)) l.far
+cut s l = lowered_far (renumbered_links (set.remove s l) l.end (lower l.index)) l.far
 
 abbrev pub cut_some : Links → Option Link → Links
 cut_some s o = option_map_or (cut s) o s
@@ -111,8 +111,8 @@ unfoldable pub cut_value : Links → End → Value → Links
 cut_value s e v = cut_some s (find (has_value e v) (set.items s))
 
 -- one link between positions of two ends, written from the lower feature
-abbrev pub joined : End → ℕ → End → ℕ → Option FeatureNo → Link
-joined x i y j c =
+abbrev pub joined_link : End → ℕ → End → ℕ → Option FeatureNo → Link
+joined_link x i y j c =
     if nat_lt x.feature.0 y.feature.0
     then record { end = x; index = i; far = At y j; container = c }
     else record { end = y; index = j; far = At x i; container = c }
@@ -123,11 +123,11 @@ far_end o g = record { node = node.Object o; feature = g }
 -- the link that puts an object at i in e, where g is the opposite of e's feature; at the far end it is last
 abbrev pub new_link : Links → End → ℕ → ObjectNo → Option FeatureNo → Option FeatureNo → Link
 new_link s e i o None c = record { end = e; index = i; far = Alone o; container = c }
-new_link s e i o (Some g) c = joined e i (far_end o g) (length (end s (far_end o g))) c
+new_link s e i o (Some g) c = joined_link e i (far_end o g) (length (end s (far_end o g))) c
 
 -- puts an object at i in e
 unfoldable pub put : Links → End → ℕ → ObjectNo → Option FeatureNo → Option FeatureNo → Links
-put s e i o g c = set.insert (renumbered s e (raise i)) (new_link s e i o g c)
+put s e i o g c = set.insert (renumbered_links s e (raise i)) (new_link s e i o g c)
 
 -- the proxy of a text at i in e
 abbrev pub new_proxy : End → ℕ → List ℕ → Link
@@ -135,15 +135,15 @@ new_proxy e i t = record { end = e; index = i; far = Proxy t; container = None }
 
 -- puts a proxy at i in e
 unfoldable pub put_proxy : Links → End → ℕ → List ℕ → Links
-put_proxy s e i t = set.insert (renumbered s e (raise i)) (new_proxy e i t)
+put_proxy s e i t = set.insert (renumbered_links s e (raise i)) (new_proxy e i t)
 
 -- moves the value at `from` in e, so that it then is at `to`
 unfoldable pub shift : Links → End → ℕ → ℕ → Links
-shift s e to from = renumbered s e (shifted_index to from)
+shift s e to from = renumbered_links s e (shifted_index to from)
 
 -- a list without the value at a position: an end after a cut
-abbrev pub without : List Value → Option (ℕ × Value) → List Value
-without vs p = option_map_or (λ q. remove vs q.0) p vs
+abbrev pub list_without : List Value → Option (ℕ × Value) → List Value
+list_without vs p = option_map_or (λ q. remove vs q.0) p vs
 
 abbrev pub far_touches : (Node → Bool) → Far → Bool
 far_touches gone (At d j) = gone d.node

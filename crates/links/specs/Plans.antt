@@ -15,23 +15,23 @@ use Rattle.links.specs.declared.link.NewLink.{NewLink}
 use Rattle.links.specs.declared.plan.Edit.{Edit}
 use Rattle.links.specs.declared.plan.Edit.TheVariants as edit
 use Rattle.links.specs.Links.{Links, cut_value, end, far_end, new_link, put, put_proxy, shift}
-use Rattle.links.specs.Holders.{IsUnder, contained, holder, holding}
+use Rattle.links.specs.Holders.{IsUnder, holder, holding_end, node_contained}
 use Rattle.links.specs.LegalSets.{IsObject, Kinds, most}
 
 -- the edit that puts a link in
 abbrev pub put_edit : NewLink → Edit
 put_edit l = edit.Put l.end l.index l.object l.opposite l.container
 
-abbrev pub edited : Links → Edit → Links
-edited s (edit.Cut e o) = cut_value s e (value.Object o)
-edited s (edit.Put e i o g c) = put s e i o g c
-edited s (edit.Shift e to from) = shift s e to from
-edited s (edit.PutProxy e i t) = put_proxy s e i t
-edited s (edit.CutProxy e t) = cut_value s e (value.Proxy t)
+abbrev pub links_after_edit : Links → Edit → Links
+links_after_edit s (edit.Cut e o) = cut_value s e (value.Object o)
+links_after_edit s (edit.Put e i o g c) = put s e i o g c
+links_after_edit s (edit.Shift e to from) = shift s e to from
+links_after_edit s (edit.PutProxy e i t) = put_proxy s e i t
+links_after_edit s (edit.CutProxy e t) = cut_value s e (value.Proxy t)
 
 -- the edits, one after another
-abbrev pub applied : Links → List Edit → Links
-applied = fold edited
+abbrev pub links_after_edits : Links → List Edit → Links
+links_after_edits = fold links_after_edit
 
 ---------------------------------------------------------------- what fits
 
@@ -66,7 +66,7 @@ IsFree s (Some n) = holder s n ≡ None
 
 abbrev pub EditFits : Links → Edit → Type 0
 EditFits s (edit.Cut e o) = Has s e (value.Object o)
-EditFits s (edit.Put e i o g c) = PutFits s e i (value.Object o) × FarFitsIn s e o g × IsFree s (contained e o c)
+EditFits s (edit.Put e i o g c) = PutFits s e i (value.Object o) × FarFitsIn s e o g × IsFree s (node_contained e o c)
 EditFits s (edit.Shift e to from) = (from < length (end s e)) × (to < length (end s e))
 EditFits s (edit.PutProxy e i t) = PutFits s e i (value.Proxy t)
 EditFits s (edit.CutProxy e t) = Has s e (value.Proxy t)
@@ -74,7 +74,7 @@ EditFits s (edit.CutProxy e t) = Has s e (value.Proxy t)
 -- each edit fits in its turn
 abbrev pub PlanFits : Links → List Edit → Type 0
 PlanFits s [] = Unit {0}
-PlanFits s (x ∷ xs) = EditFits s x × PlanFits (edited s x) xs
+PlanFits s (x ∷ xs) = EditFits s x × PlanFits (links_after_edit s x) xs
 
 ---------------------------------------------------------------- kinds and cycles
 
@@ -96,7 +96,7 @@ HasPlanOfKind kinds plan = (m : Kinds) × kinds m × IsPlanOfKind m plan
 
 -- the container that a link gives to a node x is neither x nor below x
 abbrev pub IsOutside : Links → Link → Type 0
-IsOutside s l = (x : Node) (d : End) → holding l x ≡ Some d → ((d.node ≡ x) → ⊥) × (IsUnder s d.node x → ⊥)
+IsOutside s l = (x : Node) (d : End) → holding_end l x ≡ Some d → ((d.node ≡ x) → ⊥) × (IsUnder s d.node x → ⊥)
 
 abbrev pub MakesNoCycle : Links → Edit → Type 0
 MakesNoCycle s (edit.Cut e o) = Unit {0}
@@ -108,7 +108,7 @@ MakesNoCycle s (edit.CutProxy e t) = Unit {0}
 -- no edit, in its turn, puts a node below itself
 abbrev pub PlanMakesNoCycle : Links → List Edit → Type 0
 PlanMakesNoCycle s [] = Unit {0}
-PlanMakesNoCycle s (x ∷ xs) = MakesNoCycle s x × PlanMakesNoCycle (edited s x) xs
+PlanMakesNoCycle s (x ∷ xs) = MakesNoCycle s x × PlanMakesNoCycle (links_after_edit s x) xs
 
 ---------------------------------------------------------------- what has an object
 

@@ -17,7 +17,7 @@ ghost use Rattle.links.specs.Holders.{HasNoCycle, IsForest, IsUnder, above, hold
 ghost use Rattle.links.specs.Laws.{AreOnce, AreThere, BothEndsAgree, CutByNameMakes, CutMakes, CutsByNameMake, HaveSameEnds, IsPutOutside, NameLinksOf, PutGives, PutMakes, PutProxyMakes, ShiftMakes, WithoutNodesMakes, contains_by, cut_edits, touches_containment, without_all};
 ghost use Rattle.links.specs.LegalSets.{AreKinds, AreOfKind, IsLegalSet, Kinds};
 ghost use Rattle.links.specs.Links.{In, Links, cut_value, end, no_links, put, without_nodes};
-ghost use Rattle.links.specs.Plans.{EditFits, IsPlanOfKind, MakesNoCycle, PlanFits, PlanMakesNoCycle, applied};
+ghost use Rattle.links.specs.Plans.{EditFits, IsPlanOfKind, MakesNoCycle, PlanFits, PlanMakesNoCycle, links_after_edits};
 
 /// The empty set of links is legal, agrees with any kinds of features, and has no cycle.
 pub fn no_links_are_legal()
@@ -28,17 +28,17 @@ pub fn no_links_are_legal()
 
 /// A plan that fits keeps a legal set legal.
 pub fn a_plan_that_fits_keeps_a_set_legal()
-    ensures { (s : Links) (plan : List Edit) → IsLegalSet s → PlanFits s plan → IsLegalSet (applied s plan) }
+    ensures { (s : Links) (plan : List Edit) → IsLegalSet s → PlanFits s plan → IsLegalSet (links_after_edits s plan) }
 {}
 
 /// A plan that agrees with the kinds of features keeps links that agree with them.
 pub fn a_plan_keeps_the_kinds()
-    ensures { (m : Kinds) → AreKinds m → (s : Links) (plan : List Edit) → AreOfKind m s → IsPlanOfKind m plan → AreOfKind m (applied s plan) }
+    ensures { (m : Kinds) → AreKinds m → (s : Links) (plan : List Edit) → AreOfKind m s → IsPlanOfKind m plan → AreOfKind m (links_after_edits s plan) }
 {}
 
 /// A plan that puts no node below itself makes no cycle.
 pub fn a_plan_makes_no_cycle()
-    ensures { (s : Links) (plan : List Edit) → IsLegalSet s → PlanFits s plan → PlanMakesNoCycle s plan → HasNoCycle s → HasNoCycle (applied s plan) }
+    ensures { (s : Links) (plan : List Edit) → IsLegalSet s → PlanFits s plan → PlanMakesNoCycle s plan → HasNoCycle s → HasNoCycle (links_after_edits s plan) }
 {}
 
 /// If no node is under itself, no chain of holders is longer than the number of links.
@@ -122,17 +122,17 @@ pub fn what_is_cut_from_its_holder_is_free()
 /// cycle.
 pub fn a_plan_of_cuts_fits()
     ensures fits { (m : Kinds) → AreKinds m → (s : Links) (ts : List (End × Value)) → IsLegalSet s → AreOfKind m s → AreThere s ts → AreOnce m ts → PlanFits s (cut_edits ts) }
-    ensures makes { (m : Kinds) → AreKinds m → (s : Links) (ts : List (End × Value)) → IsLegalSet s → AreOfKind m s → AreThere s ts → AreOnce m ts → applied s (cut_edits ts) ≡ without_all s ts }
+    ensures makes { (m : Kinds) → AreKinds m → (s : Links) (ts : List (End × Value)) → IsLegalSet s → AreOfKind m s → AreThere s ts → AreOnce m ts → links_after_edits s (cut_edits ts) ≡ without_all s ts }
     ensures of_kind { (m : Kinds) (ts : List (End × Value)) → IsPlanOfKind m (cut_edits ts) }
     ensures no_cycle { (s : Links) (ts : List (End × Value)) → PlanMakesNoCycle s (cut_edits ts) }
 {}
 
 /// What two plans one after the other make, and that they fit.
 pub fn plans_follow_one_another()
-    ensures makes { (s : Links) (xs ys : List Edit) → applied s (xs ++ ys) ≡ applied (applied s xs) ys }
-    ensures fits { (s : Links) (xs ys : List Edit) → PlanFits s xs → PlanFits (applied s xs) ys → PlanFits s (xs ++ ys) }
+    ensures makes { (s : Links) (xs ys : List Edit) → links_after_edits s (xs ++ ys) ≡ links_after_edits (links_after_edits s xs) ys }
+    ensures fits { (s : Links) (xs ys : List Edit) → PlanFits s xs → PlanFits (links_after_edits s xs) ys → PlanFits s (xs ++ ys) }
     ensures of_kind { (m : Kinds) (xs ys : List Edit) → IsPlanOfKind m xs → IsPlanOfKind m ys → IsPlanOfKind m (xs ++ ys) }
-    ensures no_cycle { (s : Links) (xs ys : List Edit) → PlanMakesNoCycle s xs → PlanMakesNoCycle (applied s xs) ys → PlanMakesNoCycle s (xs ++ ys) }
+    ensures no_cycle { (s : Links) (xs ys : List Edit) → PlanMakesNoCycle s xs → PlanMakesNoCycle (links_after_edits s xs) ys → PlanMakesNoCycle s (xs ++ ys) }
 {}
 
 /// The ends and the holders after nodes are removed, with each link that names one of them. No link that is left names one.
@@ -152,7 +152,7 @@ pub fn a_shift_moves_in_one_end()
 
 /// A plan that edits no link that contains leaves each end of a containment or a container reference as it was.
 pub fn a_plan_of_other_links_leaves_what_contains()
-    ensures { (m : Kinds) → AreKinds m → (s : Links) (plan : List Edit) → IsLegalSet s → AreOfKind m s → PlanFits s plan → IsPlanOfKind m plan → touches_containment m plan ≡ false → (d : End) → contains_by m d.feature ≡ true → end (applied s plan) d ≡ end s d }
+    ensures { (m : Kinds) → AreKinds m → (s : Links) (plan : List Edit) → IsLegalSet s → AreOfKind m s → PlanFits s plan → IsPlanOfKind m plan → touches_containment m plan ≡ false → (d : End) → contains_by m d.feature ≡ true → end (links_after_edits s plan) d ≡ end s d }
 {}
 
 /// Links of the kinds of features agree at both ends.

@@ -7,7 +7,7 @@ ghost use Rattle.links.specs.declared.plan.Edit.{Edit};
 ghost use Rattle.links.specs.Holders.{holder as holder_of};
 ghost use Rattle.links.specs.LegalSets.{AreKinds, IsLegalSet, Kinds};
 ghost use Rattle.links.specs.Links.{Links, end as end_of, no_links, object_at, proxy_at as proxy_of};
-ghost use Rattle.links.specs.Plans.{AreIncoming, AreInOrder, AreEntriesOf, EditFits, HasPlanOfKind, IsEditOfKind, IsPlanOfKind, Lacks, PlanFits, applied, edited, incoming_end, put_edit};
+ghost use Rattle.links.specs.Plans.{AreIncoming, AreInOrder, AreEntriesOf, EditFits, HasPlanOfKind, IsEditOfKind, IsPlanOfKind, Lacks, PlanFits, links_after_edits, links_after_edit, incoming_end, put_edit};
 
 use crate::incoming::Incoming;
 use crate::link::NewLink;
@@ -84,7 +84,7 @@ pub trait LinkStore: Drop {
         requires fits { PlanFits (links self.old) plan }
         requires of_kind { HasPlanOfKind (kinds self.old) plan }
         requires reserved { has_room self.old plan }
-        ensures links { links self.new ≡ applied (links self.old) plan }
+        ensures links { links self.new ≡ links_after_edits (links self.old) plan }
         ensures kinds { (m : Kinds) → kinds self.old m → IsPlanOfKind m plan → kinds self.new m };
 
     /// Takes the memory for one link, and puts it in (`Edit::Put`). Errs only if memory is refused, and then no link changes.
@@ -92,6 +92,6 @@ pub trait LinkStore: Drop {
         requires legal { IsLegalSet (links self.old) }
         requires fits { EditFits (links self.old) (put_edit link) }
         requires of_kind { HasPlanOfKind (kinds self.old) (put_edit link ∷ []) }
-        ensures links { links self.new ≡ (if is_ok result then edited (links self.old) (put_edit link) else links self.old) }
+        ensures links { links self.new ≡ (if is_ok result then links_after_edit (links self.old) (put_edit link) else links self.old) }
         ensures kinds { (m : Kinds) → kinds self.old m → OnOk result (IsEditOfKind m (put_edit link)) → kinds self.new m };
 }

@@ -3,3 +3,4 @@ mod Unique
 mod Inside
 mod Deciding
 mod Faulting
+mod DocumentLemmas

@@ -1,14 +1,14 @@
 -- What the check of a metamodel document answers.
 use Rattle.std.specs.Prelude.{◌≡◌, Result, Ok, Err}
 use Rattle.mm_types.specs.Raw.{RawMetamodel}
-use Rattle.mm_types.specs.Resolved.{Metamodel, resolved}
+use Rattle.mm_types.specs.Resolved.{Metamodel, resolved_metamodel}
 use Rattle.mm_types.specs.WellFormed.{IsFirstFault, WellFormed}
 use Rattle.mm_types.specs.declared.meta_fault.MetaFault.{MetaFault}
 use Rattle.mm_types.specs.declared.meta_fault.MetaFault.TheVariants.{Syntax, Layout, Limit, IllFormed, Memory}
 
 -- the resolved metamodel if it is well-formed, else its first fault; nothing is said if memory is refused
 abbrev pub Checks : RawMetamodel → Result Metamodel MetaFault → Type 0
-Checks raw (Ok m) = WellFormed raw × (m ≡ resolved raw)
+Checks raw (Ok m) = WellFormed raw × (m ≡ resolved_metamodel raw)
 Checks raw (Err Syntax) = ⊥
 Checks raw (Err Layout) = ⊥
 Checks raw (Err Limit) = ⊥

@@ -1,4 +1,5 @@
 pub mod Checks
+pub mod Documents
 pub mod Checker
 pub mod Search
 pub mod Literals

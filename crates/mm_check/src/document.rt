@@ -2,9 +2,11 @@
 ghost use Rattle.std.specs.Prelude.{◌≡◌, IfOk};
 ghost use Rattle.mm_types.specs.WellFormed.{IsFault};
 ghost use Rattle.mm_check.specs.Checks.{Checks};
+ghost use Rattle.mm_check.specs.Documents.{Gives};
 ghost use Rattle.mm_check.specs.Outcome.{Finds};
 
 use crate::checker::Checker;
+use mm_load::load_meta;
 use mm_meta::{Meta, Resolution};
 use mm_types::{Condition, MetaFault, Place, RawMeta};
 use std::alloc::{AllocError, Global};
@@ -80,4 +82,13 @@ pub fn check(alloc: Global, raw: RawMeta) -> Result<Meta, MetaFault>
         Ok(Outcome::Fault(condition, place)) => Err(MetaFault::IllFormed(condition, place)),
         Err(_) => Err(MetaFault::Memory),
     }
+}
+
+/// The metamodel of a document, if the document can be read and is well-formed; else errs with its first fault, and with `Memory` if memory
+/// is refused.
+#[tactic(auto, using(crate::proofs::DocumentLemmas::gives_unread, crate::proofs::DocumentLemmas::gives_checked))]
+pub fn check_document(alloc: Global, document: &[u8]) -> Result<Meta, MetaFault>
+    ensures { Gives document.now result }
+{
+    check(alloc, load_meta(alloc, document)?)
 }

@@ -8,4 +8,4 @@ mod features;
 mod opposites;
 mod places;
 
-pub use document::check;
+pub use document::{check, check_document};

@@ -7,7 +7,7 @@ use Rattle.std.proofs.lemmas.List.{length-replicate}
 use Rattle.std.proofs.lemmas.List.Elements.{All-cons, All-contains, All-nil, All-weaker, Contains-append_cases, Contains-append_left, Contains-append_right}
 use Rattle.std.proofs.lemmas.List.Sums.{count_by-le-length}
 use Rattle.std.proofs.lemmas.Map.Views.{Contains-from_any, list_any-from_Contains}
-use Rattle.mm_types.specs.Features.{all_features, first_occurrences, listed}
+use Rattle.mm_types.specs.Features.{all_features, first_occurrences, listed_features}
 use Rattle.mm_types.specs.Graph.{Conforms, Reaches, Walk, by_class}
 use Rattle.mm_graph.specs.Order.{HasCycle, InRange}
 use Rattle.mm_graph.specs.Sets.{is_in}
@@ -70,25 +70,25 @@ flat_cases f x (e ∷ es) h = ⊎_elim
 abbrev pub HasDeclarer : List (List ℕ) → List (List ℕ) → ℕ → ℕ → Type 0
 HasDeclarer g own c f = (d : ℕ) × Conforms g c d × Contains (by_class own d) f
 
-listed_from : (g own : List (List ℕ)) (f depth n c d : ℕ) → n < depth → Walk g n c d → Contains (by_class own d) f → Contains (listed g own depth c) f
+listed_from : (g own : List (List ℕ)) (f depth n c d : ℕ) → n < depth → Walk g n c d → Contains (by_class own d) f → Contains (listed_features g own depth c) f
 listed_from g own f zero n c d below w h = absurd (omega arith)
 listed_from g own f (suc depth) zero c d below w h =
-    Contains-append_right (flat_map (listed g own depth) (by_class g c)) (by_class own c) f (subst (λ (x : ℕ). Contains (by_class own x) f) (sym w) h)
+    Contains-append_right (flat_map (listed_features g own depth) (by_class g c)) (by_class own c) f (subst (λ (x : ℕ). Contains (by_class own x) f) (sym w) h)
 listed_from g own f (suc depth) (suc n) c d below w h =
-    let inherited : Contains (flat_map (listed g own depth) (by_class g c)) f =
-    All-contains (λ (e : ℕ). Contains (listed g own depth e) f → Contains (flat_map (listed g own depth) (by_class g c)) f) (by_class g c) w.0
-    (all_flat (listed g own depth) f (by_class g c)) w.1 (listed_from g own f depth n w.0 d (omega arith) w.2 h) in
-    Contains-append_left (flat_map (listed g own depth) (by_class g c)) (by_class own c) f inherited
+    let inherited : Contains (flat_map (listed_features g own depth) (by_class g c)) f =
+    All-contains (λ (e : ℕ). Contains (listed_features g own depth e) f → Contains (flat_map (listed_features g own depth) (by_class g c)) f) (by_class g c) w.0
+    (all_flat (listed_features g own depth) f (by_class g c)) w.1 (listed_from g own f depth n w.0 d (omega arith) w.2 h) in
+    Contains-append_left (flat_map (listed_features g own depth) (by_class g c)) (by_class own c) f inherited
 
-listed_cases : (g own : List (List ℕ)) (f depth c : ℕ) → Contains (listed g own depth c) f → HasDeclarer g own c f
+listed_cases : (g own : List (List ℕ)) (f depth c : ℕ) → Contains (listed_features g own depth c) f → HasDeclarer g own c f
 listed_cases g own f zero c h = absurd (omega (arith, h.1))
 listed_cases g own f (suc depth) c h = ⊎_elim
-    (λ (a : Contains (flat_map (listed g own depth) (by_class g c)) f).
-    let p = flat_cases (listed g own depth) f (by_class g c) a in
+    (λ (a : Contains (flat_map (listed_features g own depth) (by_class g c)) f).
+    let p = flat_cases (listed_features g own depth) f (by_class g c) a in
     let r : HasDeclarer g own p.0 f = listed_cases g own f depth p.0 p.2 in
     (r.0, (suc r.1.0, (p.0, p.1, r.1.1)), r.2))
     (λ (b : Contains (by_class own c) f). (c, (0, refl), b))
-    (Contains-append_cases (flat_map (listed g own depth) (by_class g c)) (by_class own c) f h)
+    (Contains-append_cases (flat_map (listed_features g own depth) (by_class g c)) (by_class own c) f h)
 
 -- the first occurrences of a list are elements of the list
 in_firsts : (xs : List ℕ) (x : ℕ) → Contains (first_occurrences xs) x ↔ Contains xs x
@@ -103,7 +103,7 @@ pub has_declarer : (g own : List (List ℕ)) → InRange g → (HasCycle g → �
     → Contains (all_features g own c) f ↔ HasDeclarer g own c f
 unfolding all_features
 has_declarer g own range acyclic c f low =
-    let firsts = in_firsts (listed g own (length g) c) f in (
+    let firsts = in_firsts (listed_features g own (length g) c) f in (
       (λ h. listed_cases g own f (length g) c (firsts.0 h)),
       (λ h. firsts.1 (listed_from g own f (length g) h.1.0 c h.0 (walk_is_short g range acyclic h.1.0 c h.0 low h.1.1) h.1.1 h.2)),
     )

@@ -5,13 +5,13 @@ use Rattle.std.proofs.lemmas.Bool.{cases_order}
 use Rattle.mm_types.specs.Clashes.{Clash}
 use Rattle.mm_types.specs.Graph.{Conforms}
 use Rattle.mm_types.specs.Names.{repeats}
-use Rattle.mm_graph.specs.Gathered.{gathered}
+use Rattle.mm_graph.specs.Gathered.{gathered_names}
 use Rattle.mm_graph.specs.Sets.{IsSetOf}
 use Rattle.mm_graph.proofs.Places.{declared_place, has_place, place_of, same_place}
 use Rattle.mm_graph.proofs.Twice.{IsTwice, repeats_twice, twice_repeated}
 
 clash_from_twice : (g : List (List ℕ)) (names : List (List (List ℕ))) (c : ℕ) (s : List Bool) → IsSetOf (Conforms g c) s
-    → IsTwice (gathered s names) → Clash g names c
+    → IsTwice (gathered_names s names) → Clash g names c
 clash_from_twice g names c s is t =
     let one = has_place s names t.first t.name t.here in
     let other = has_place s names t.second t.name t.there in
@@ -34,7 +34,7 @@ clash_from_twice g names c s is t =
     }
 
 twice_from_clash : (g : List (List ℕ)) (names : List (List (List ℕ))) (c : ℕ) (s : List Bool) → IsSetOf (Conforms g c) s
-    → Clash g names c → IsTwice (gathered s names)
+    → Clash g names c → IsTwice (gathered_names s names)
 twice_from_clash g names c s is k =
     let one_kept = (is k.one).1 k.one_reached in
     let other_kept = (is k.other).1 k.other_reached in
@@ -51,8 +51,8 @@ twice_from_clash g names c s is k =
     (cases_order p q)
 
 pub clash_is : (g : List (List ℕ)) (names : List (List (List ℕ))) (c : ℕ) (s : List Bool) (b : Bool) → IsSetOf (Conforms g c) s
-    → b ≡ repeats [] (gathered s names) → IsTrue b ↔ Clash g names c
+    → b ≡ repeats [] (gathered_names s names) → IsTrue b ↔ Clash g names c
 clash_is g names c s b is answer = (
-  (λ (h : b ≡ true). clash_from_twice g names c s is (repeats_twice (gathered s names) (sym answer ∙ h))),
-  (λ (k : Clash g names c). answer ∙ twice_repeated (gathered s names) (twice_from_clash g names c s is k)),
+  (λ (h : b ≡ true). clash_from_twice g names c s is (repeats_twice (gathered_names s names) (sym answer ∙ h))),
+  (λ (k : Clash g names c). answer ∙ twice_repeated (gathered_names s names) (twice_from_clash g names c s is k)),
 )

@@ -3,7 +3,7 @@ use Rattle.std.proofs.Common.{◌≡◌, ◌∙◌, ◌<◌, List, [], ◌∷◌
 use Rattle.std.specs.List.{flat_map}
 use Rattle.std.proofs.lemmas.List.{get_or_default}
 use Rattle.mm_types.specs.Graph.{by_class}
-use Rattle.mm_types.specs.Features.{all_features, first_occurrences, listed, with_new}
+use Rattle.mm_types.specs.Features.{all_features, first_occurrences, listed_features, with_new}
 use Rattle.mm_graph.specs.Order.{IsOrder}
 use Rattle.mm_graph.specs.Rows.{from_supers}
 use Rattle.mm_graph.proofs.Merging.{same_listed, with_new-append, with_new_firsts}
@@ -24,9 +24,9 @@ at_place g own order j o within =
     let c = get_or order j 0 in
     let n = length g in
     ap first_occurrences (same_listed g own order o n (suc n) j (omega (arith, o.long)) (omega (arith, o.long)) within)
-    ∙ (with_new-append [] (flat_map (listed g own n) (by_class g c)) (by_class own c)
-    ∙ (ap (λ s. with_new s (by_class own c)) (sym (flat_firsts (listed g own n) [] (by_class g c)))
-    ∙ sym (with_new-append [] (flat_map (λ e. first_occurrences (listed g own n e)) (by_class g c)) (by_class own c))))
+    ∙ (with_new-append [] (flat_map (listed_features g own n) (by_class g c)) (by_class own c)
+    ∙ (ap (λ s. with_new s (by_class own c)) (sym (flat_firsts (listed_features g own n) [] (by_class g c)))
+    ∙ sym (with_new-append [] (flat_map (λ e. first_occurrences (listed_features g own n e)) (by_class g c)) (by_class own c))))
 
 pub all_features_is : (g own : List (List ℕ)) (order : List ℕ) → IsOrder g order → (c : ℕ) → c < length g
     → all_features g own c ≡ from_supers g own c

@@ -5,7 +5,7 @@ use Rattle.std.proofs.lemmas.Bool.{eqb-true, cases_eq}
 use Rattle.std.proofs.lemmas.List.Folds.{list_any-append}
 use Rattle.std.proofs.Math.Bool.{or-false, or-true, or_assoc}
 use Rattle.mm_types.specs.Graph.{by_class}
-use Rattle.mm_types.specs.Features.{all_features, first_occurrences, listed, with_new}
+use Rattle.mm_types.specs.Features.{all_features, first_occurrences, listed_features, with_new}
 use Rattle.mm_graph.specs.Rows.{with_rows}
 use Rattle.mm_graph.specs.Order.{IsOrder}
 
@@ -67,11 +67,11 @@ same_flat f h (e ∷ es) all =
 
 -- All depths past a class's index in the order list the same features.
 pub same_listed : (g own : List (List ℕ)) (order : List ℕ) → IsOrder g order → (k m j : ℕ) → j < k → j < m → j < length order
-    → listed g own k (get_or order j 0) ≡ listed g own m (get_or order j 0)
+    → listed_features g own k (get_or order j 0) ≡ listed_features g own m (get_or order j 0)
 same_listed g own order o zero m j low below within = absurd (omega arith)
 same_listed g own order o (suc k) zero j low below within = absurd (omega arith)
 same_listed g own order o (suc k) (suc m) j low below within =
-    ap (λ s. s ++ by_class own (get_or order j 0)) (same_flat (listed g own k) (listed g own m) (by_class g (get_or order j 0))
+    ap (λ s. s ++ by_class own (get_or order j 0)) (same_flat (listed_features g own k) (listed_features g own m) (by_class g (get_or order j 0))
     (λ i d less.
     let p = o.behind j within i d less in
     rw (← p.2) (same_listed g own order o k m p.0 (omega arith) (omega arith) (omega arith))))
@@ -84,10 +84,10 @@ unfolding all_features
 made_next g own rows order i o within made =
     let c = get_or order i 0 in
     let n = length g in
-    let known : All (λ (e : ℕ). by_class rows e ≡ first_occurrences (listed g own n e)) (by_class g c) =
+    let known : All (λ (e : ℕ). by_class rows e ≡ first_occurrences (listed_features g own n e)) (by_class g c) =
     λ k d low. (let p = o.behind i within k d low in rw (← p.2) (made p.0 p.1)) in
-    ap (λ s. with_new s (by_class own c)) (with_rows_listed rows (listed g own n) [] (by_class g c) known)
-    ∙ (sym (with_new-append [] (flat_map (listed g own n) (by_class g c)) (by_class own c))
+    ap (λ s. with_new s (by_class own c)) (with_rows_listed rows (listed_features g own n) [] (by_class g c) known)
+    ∙ (sym (with_new-append [] (flat_map (listed_features g own n) (by_class g c)) (by_class own c))
     ∙ ap first_occurrences (same_listed g own order o (suc n) n i (omega (arith, o.long)) (omega (arith, o.long)) within))
 
 pub row_set : (rows : List (List ℕ)) (c : ℕ) (made : List ℕ) (f : ℕ → List ℕ) (d : ℕ) → c < length rows → made ≡ f c

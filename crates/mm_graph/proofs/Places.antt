@@ -2,7 +2,7 @@
 use Rattle.std.proofs.Common.{◌≡◌, ◌∙◌, ◌+◌, ◌++◌, ◌⊎◌, Bool, true, false, List, [], ◌∷◌, ℕ, Some, ⊎_elim, inl, inr, suc, zero, ap, arith, length, refl, sym}
 use Rattle.std.specs.List.{slice_get, slice_index_or}
 use Rattle.std.proofs.lemmas.Option.{slice_get_within}
-use Rattle.mm_graph.specs.Gathered.{gathered}
+use Rattle.mm_graph.specs.Gathered.{gathered_names}
 use Rattle.mm_graph.specs.Sets.{is_in}
 
 -- the index, in the whole list, of the name that a class declares at an index of its own
@@ -34,13 +34,13 @@ get_cases (x ∷ xs) ys (suc p) n h = ⊎_elim
 
 -- a declared name is at its index
 pub declared_place : (bs : List Bool) (nss : List (List (List ℕ))) (c i : ℕ) (n : List ℕ) → is_in bs c ≡ true
-    → slice_get (slice_index_or nss c []) i ≡ Some n → slice_get (gathered bs nss) (place_of bs nss c i) ≡ Some n
+    → slice_get (slice_index_or nss c []) i ≡ Some n → slice_get (gathered_names bs nss) (place_of bs nss c i) ≡ Some n
 declared_place [] nss c i n kept at = cc
 declared_place (b ∷ bs) [] c i n kept at = cc
-declared_place (true ∷ bs) (ns ∷ nss) zero i n kept at = get_left ns (gathered bs nss) i n at
+declared_place (true ∷ bs) (ns ∷ nss) zero i n kept at = get_left ns (gathered_names bs nss) i n at
 declared_place (false ∷ bs) (ns ∷ nss) zero i n kept at = cc
 declared_place (true ∷ bs) (ns ∷ nss) (suc c) i n kept at =
-    get_right ns (gathered bs nss) (place_of bs nss c i) _ refl ∙ declared_place bs nss c i n kept at
+    get_right ns (gathered_names bs nss) (place_of bs nss c i) _ refl ∙ declared_place bs nss c i n kept at
 declared_place (false ∷ bs) (ns ∷ nss) (suc c) i n kept at = declared_place bs nss c i n kept at
 
 -- a class of the set declares the name that is at an index
@@ -51,15 +51,15 @@ pub record HasPlace (bs : List Bool) (nss : List (List (List ℕ))) (p : ℕ) (n
   pub at : slice_get (slice_index_or nss class []) index ≡ Some n
   pub place : place_of bs nss class index ≡ p
 
-pub has_place : (bs : List Bool) (nss : List (List (List ℕ))) (p : ℕ) (n : List ℕ) → slice_get (gathered bs nss) p ≡ Some n → HasPlace bs nss p n
+pub has_place : (bs : List Bool) (nss : List (List (List ℕ))) (p : ℕ) (n : List ℕ) → slice_get (gathered_names bs nss) p ≡ Some n → HasPlace bs nss p n
 has_place [] nss p n h = cc
 has_place (b ∷ bs) [] p n h = cc
 has_place (true ∷ bs) (ns ∷ nss) p n h = ⊎_elim
     (λ (l : slice_get ns p ≡ Some n). record { class = 0; index = p; kept = refl; at = l; place = refl })
-    (λ (r : (q : ℕ) × (p ≡ length ns + q) × (slice_get (gathered bs nss) q ≡ Some n)).
+    (λ (r : (q : ℕ) × (p ≡ length ns + q) × (slice_get (gathered_names bs nss) q ≡ Some n)).
     let d = has_place bs nss r.0 n r.2 in
     record { class = suc d.class; index = d.index; kept = d.kept; at = d.at; place = ap (λ q. length ns + q) d.place ∙ sym r.1 })
-    (get_cases ns (gathered bs nss) p n h)
+    (get_cases ns (gathered_names bs nss) p n h)
 has_place (false ∷ bs) (ns ∷ nss) p n h =
     let d = has_place bs nss p n h in
     record { class = suc d.class; index = d.index; kept = d.kept; at = d.at; place = d.place }

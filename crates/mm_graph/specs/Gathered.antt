@@ -2,8 +2,8 @@
 use Rattle.std.specs.Prelude.{ℕ, ◌++◌, Bool, true, false, List, [], ◌∷◌}
 
 -- the names that the classes of a set declare, one class after another
-abbrev pub gathered : List Bool → List (List (List ℕ)) → List (List ℕ)
-gathered [] nss = []
-gathered (b ∷ bs) [] = []
-gathered (true ∷ bs) (ns ∷ nss) = ns ++ gathered bs nss
-gathered (false ∷ bs) (ns ∷ nss) = gathered bs nss
+abbrev pub gathered_names : List Bool → List (List (List ℕ)) → List (List ℕ)
+gathered_names [] nss = []
+gathered_names (b ∷ bs) [] = []
+gathered_names (true ∷ bs) (ns ∷ nss) = ns ++ gathered_names bs nss
+gathered_names (false ∷ bs) (ns ∷ nss) = gathered_names bs nss

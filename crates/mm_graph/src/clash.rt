@@ -2,7 +2,7 @@
 ghost use Rattle.std.specs.Prelude.{[], ◌≡◌, ◌<◌, ◌↔◌, IfOk, IsTrue, length, map};
 ghost use Rattle.mm_types.specs.Clashes.{Clash};
 ghost use Rattle.mm_types.specs.Names.{repeats};
-ghost use Rattle.mm_graph.specs.Gathered.{gathered};
+ghost use Rattle.mm_graph.specs.Gathered.{gathered_names};
 ghost use Rattle.mm_graph.specs.Order.{InRange};
 
 use crate::reach::conforming;
@@ -31,7 +31,7 @@ fn gather<'a>(
     names: &'a [Seq<Text>],
 ) -> Result<Vec<&'a str>, AllocError>
     requires { length chosen.now ≡ length names.now }
-    ensures { IfOk result (λ v. map (λ n. n.now) v.items ≡ gathered chosen.now names.now) }
+    ensures { IfOk result (λ v. map (λ n. n.now) v.items ≡ gathered_names chosen.now names.now) }
 {
     let mut found: Vec<&'a str> = Vec::new(alloc);
     'classes: for (i, own) in names.iter().enumerate() {

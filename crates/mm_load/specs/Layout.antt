@@ -10,7 +10,7 @@ use Rattle.mm_types.specs.declared.raw.RawFeature.{RawFeature}
 use Rattle.mm_types.specs.declared.raw.RawKind.{RawKind}
 use Rattle.mm_types.specs.declared.raw.RawKind.TheVariants.{Attribute, Reference}
 use Rattle.mm_load.specs.declared.head.Head.{Head}
-use Rattle.json_fields.specs.Fields.{Fields, ◌also◌, ◌such_that◌, array_of, array_of_some, flag, given, makes, object_of, optional, required, text, whole_number, word}
+use Rattle.json_fields.specs.Fields.{Fields, ◌also◌, ◌such_that◌, array_of, array_of_some, flag, given_value, makes, object_of, optional_field, required_field, text, whole_number, word}
 
 -- ---- features
 
@@ -21,13 +21,13 @@ new_head name type_name lower upper = record { name = name; type_name = type_nam
 abbrev pub feature_fields : Fields Head
 feature_fields = makes new_head
     -- its name
-    also required (codes "name") text
+    also required_field (codes "name") text
     -- the name of its type
-    also required (codes "type") text
+    also required_field (codes "type") text
     -- its lower bound, or 0
-    also optional (codes "lower") whole_number (pos 0)
+    also optional_field (codes "lower") whole_number (pos 0)
     -- its upper bound, or 1
-    also optional (codes "upper") whole_number (pos 1)
+    also optional_field (codes "upper") whole_number (pos 1)
 
 abbrev pub new_attribute : Unit {0} → Bool → Bool → Option (List ℕ) → RawKind
 new_attribute kind unique unsettable default = Attribute unique unsettable default
@@ -36,13 +36,13 @@ new_attribute kind unique unsettable default = Attribute unique unsettable defau
 abbrev pub attribute_fields : Fields RawKind
 attribute_fields = makes new_attribute
     -- that it is one
-    also required (codes "kind") (word (codes "attribute"))
+    also required_field (codes "kind") (word (codes "attribute"))
     -- whether it repeats no value, or true
-    also optional (codes "unique") flag true
+    also optional_field (codes "unique") flag true
     -- whether it is unsettable, or false
-    also optional (codes "unsettable") flag false
+    also optional_field (codes "unsettable") flag false
     -- the literal of its default, or none
-    also optional (codes "default") (given text) None
+    also optional_field (codes "default") (given_value text) None
 
 abbrev pub new_reference : Unit {0} → Bool → Option (List ℕ) → RawKind
 new_reference kind containment opposite = Reference containment opposite
@@ -51,11 +51,11 @@ new_reference kind containment opposite = Reference containment opposite
 abbrev pub reference_fields : Fields RawKind
 reference_fields = makes new_reference
     -- that it is one
-    also required (codes "kind") (word (codes "reference"))
+    also required_field (codes "kind") (word (codes "reference"))
     -- whether it holds its objects as parts, or false
-    also optional (codes "containment") flag false
+    also optional_field (codes "containment") flag false
     -- the name of its opposite, or none
-    also optional (codes "opposite") (given text) None
+    also optional_field (codes "opposite") (given_value text) None
 
 abbrev pub new_feature : Head → RawKind → RawFeature
 new_feature head kind =
@@ -91,13 +91,13 @@ new_class name is_abstract supers features =
 abbrev pub class_fields : Fields RawClass
 class_fields = makes new_class
     -- its name
-    also required (codes "name") text
+    also required_field (codes "name") text
     -- whether it has no objects of its own, or false
-    also optional (codes "abstract") flag false
+    also optional_field (codes "abstract") flag false
     -- the names of its supertypes, in order, or none
-    also optional (codes "supers") (array_of text) []
+    also optional_field (codes "supers") (array_of text) []
     -- the features that it declares, in order, or none
-    also optional (codes "features") (array_of feature) []
+    also optional_field (codes "features") (array_of feature) []
 
 -- an object of those fields
 unfoldable pub class : Data → Option RawClass
@@ -112,9 +112,9 @@ new_enumeration name literals = record { name = name; literals = literals }
 abbrev pub enumeration_fields : Fields Enumeration
 enumeration_fields = makes new_enumeration
     -- its name
-    also required (codes "name") text
+    also required_field (codes "name") text
     -- its literals, in order, and one at least
-    also required (codes "literals") (array_of_some text)
+    also required_field (codes "literals") (array_of_some text)
 
 -- an object of those fields
 unfoldable pub enumeration : Data → Option Enumeration
@@ -129,9 +129,9 @@ new_document enums classes = record { enums = enums; classes = classes }
 abbrev pub document_fields : Fields RawMetamodel
 document_fields = makes new_document
     -- the enumerations, in order, or none
-    also optional (codes "enums") (array_of enumeration) []
+    also optional_field (codes "enums") (array_of enumeration) []
     -- the classes, in order
-    also required (codes "classes") (array_of class)
+    also required_field (codes "classes") (array_of class)
 
 -- an object of those fields
 unfoldable pub document : Data → Option RawMetamodel

@@ -9,22 +9,22 @@ use Rattle.mm_types.specs.declared.meta_fault.MetaFault.TheVariants.{Syntax, Lay
 use Rattle.mm_load.specs.Layout.{document}
 
 -- the metamodel if it is within the limits, else `Limit`
-abbrev pub limited : RawMetamodel → Result RawMetamodel MetaFault
-limited raw = if is_within_limits raw then Ok raw else Err Limit
+abbrev pub metamodel_if_within_limits : RawMetamodel → Result RawMetamodel MetaFault
+metamodel_if_within_limits raw = if is_within_limits raw then Ok raw else Err Limit
 
 -- `Layout` if the layout is wrong, else what the limits say
-abbrev pub laid_out : Option RawMetamodel → Result RawMetamodel MetaFault
-laid_out None = Err Layout
-laid_out (Some raw) = limited raw
+abbrev pub metamodel_of_layout : Option RawMetamodel → Result RawMetamodel MetaFault
+metamodel_of_layout None = Err Layout
+metamodel_of_layout (Some raw) = metamodel_if_within_limits raw
 
 -- `Syntax` if the bytes are no JSON, else what the layout says
-abbrev pub parsed : Option Data → Result RawMetamodel MetaFault
-parsed None = Err Syntax
-parsed (Some d) = laid_out (document d)
+abbrev pub metamodel_of_json : Option Data → Result RawMetamodel MetaFault
+metamodel_of_json None = Err Syntax
+metamodel_of_json (Some d) = metamodel_of_layout (document d)
 
 -- the metamodel that the bytes describe, or the lowest fault that applies
-unfoldable pub loaded : List ℕ → Result RawMetamodel MetaFault
-loaded bytes = if is_utf8 bytes then parsed (read bytes) else Err Syntax
+unfoldable pub metamodel_of_bytes : List ℕ → Result RawMetamodel MetaFault
+metamodel_of_bytes bytes = if is_utf8 bytes then metamodel_of_json (read bytes) else Err Syntax
 
 -- The loader returns the result that is defined, or `Memory`.
 abbrev pub Loads : Result RawMetamodel MetaFault → Result RawMetamodel MetaFault → Type 0

@@ -4,7 +4,7 @@ ghost use Rattle.serde_json.specs.Data.{object};
 ghost use Rattle.serde_json.specs.View.{members_view};
 ghost use Rattle.json_fields.specs.Fields.{Gives, Fields};
 ghost use Rattle.mm_load.specs.Layout.{document_fields};
-ghost use Rattle.mm_load.specs.Loaded.{limited};
+ghost use Rattle.mm_load.specs.Loaded.{metamodel_if_within_limits};
 
 use crate::from_json::FromJson;
 use crate::keys::{optional, required};
@@ -39,7 +39,7 @@ impl Document {
 
     /// The metamodel itself, or `Limit` if a count or a length passes its limit. Takes no memory.
     pub fn into_raw(self) -> Result<RawMeta, MetaFault>
-        ensures { result ≡ limited self }
+        ensures { result ≡ metamodel_if_within_limits self }
     {
         if !RawMeta::is_within_limits(self.enums.as_slice(), self.classes.as_slice()) {
             return Err(MetaFault::Limit);

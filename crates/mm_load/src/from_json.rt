@@ -2,7 +2,7 @@
 ghost use Rattle.std.specs.Prelude.{◌≡◌, Option};
 ghost use Rattle.serde_json.specs.Data.{Data};
 ghost use Rattle.serde_json.specs.View.{items_view, view};
-ghost use Rattle.json_fields.specs.Fields.{Gives, array_of, each, flag, given, text, whole_number};
+ghost use Rattle.json_fields.specs.Fields.{Gives, array_of, each, flag, given_value, text, whole_number};
 
 use json_fields::ReadFault;
 use mm_types::{Seq, Text, limits};
@@ -72,7 +72,7 @@ impl<T: FromJson + Drop> FromJson for Seq<T> {
 }
 
 impl<T: FromJson + Drop> FromJson for Option<T> {
-    ghost reads = { given T.FromJson.reads };
+    ghost reads = { given_value T.FromJson.reads };
 
     fn from_json(alloc: Global, value: Value) -> Result<Option<T>, ReadFault> {
         Ok(Some(T::from_json(alloc, value)?))

@@ -1,5 +1,5 @@
 //! The bytes of a document are read.
-ghost use Rattle.mm_load.specs.Loaded.{Loads, loaded};
+ghost use Rattle.mm_load.specs.Loaded.{Loads, metamodel_of_bytes};
 
 use crate::document::Document;
 use crate::from_json::FromJson;
@@ -18,7 +18,7 @@ use std::alloc::Global;
 /// linear in the document, except that the keys of a large object cost a logarithm. The texts are moved out of the
 /// parsed JSON, which is freed part by part as it is read.
 pub fn load_meta(alloc: Global, bytes: &[u8]) -> Result<RawMeta, MetaFault>
-    ensures { Loads result (loaded bytes.now) }
+    ensures { Loads result (metamodel_of_bytes bytes.now) }
 {
     let value = match Value::from_slice(alloc, bytes) {
         Ok(value) => value,

@@ -12,7 +12,7 @@ use Rattle.mm_types.specs.Graph.{Conforms, by_class}
 use Rattle.mm_types.specs.Lookups.{ConformsTo, feature, feature_by_name, feature_name, features, has_feature, name_in}
 use Rattle.mm_types.specs.OfDocument.{IsOfDocument}
 use Rattle.mm_types.specs.Raw.{RawMetamodel}
-use Rattle.mm_types.specs.Resolved.{Metamodel, class_no, feature_no, graph_of, own_of, resolved, resolved_feature}
+use Rattle.mm_types.specs.Resolved.{Metamodel, class_no, feature_no, graph_of, own_of, resolved_feature, resolved_metamodel}
 use Rattle.mm_types.specs.WellFormed.{WellFormed, own_names}
 use Rattle.mm_types.specs.declared.feature.Feature.{Feature}
 use Rattle.mm_types.specs.declared.meta_fault.Condition.TheVariants.{DuplicateName}
@@ -45,14 +45,14 @@ record IsInherited (raw : RawMetamodel) (c : ClassNo) (f : FeatureNo) (name : Li
   pub here : slice_get (get_or (own_names raw) class []) index ≡ Some name
   pub number : slice_get (by_class (own_of raw.classes) class) index ≡ Some f.0
 
-inherited : (raw : RawMetamodel) → WellFormed raw → (c : ClassNo) (f : FeatureNo) (x : Feature) → feature (resolved raw) f ≡ Some x → has_feature (resolved raw) c f ≡ true
+inherited : (raw : RawMetamodel) → WellFormed raw → (c : ClassNo) (f : FeatureNo) (x : Feature) → feature (resolved_metamodel raw) f ≡ Some x → has_feature (resolved_metamodel raw) c f ≡ true
     → IsInherited raw c f x.name
-unfolding resolved
+unfolding resolved_metamodel
 inherited raw well c f x is has =
     let p = declared_at raw f x is in
     let declared : IsDeclared raw p.0 p.1 p.2 f = p.3 in
     let same : x ≡ resolved_feature raw p.0 p.2 = let resolves = declared.resolves in cc in
-    let conforms : ConformsTo (resolved raw) c x.owner = (has_of_owner raw well c f x is).0 has in
+    let conforms : ConformsTo (resolved_metamodel raw) c x.owner = (has_of_owner raw well c f x is).0 has in
     record {
       class = p.0;
       index = p.1;
@@ -102,9 +102,9 @@ unique : (m : Metamodel) → IsOfDocument m → (c : ClassNo) (f g : FeatureNo) 
 unique m d c f g =
     subst (λ (n : Metamodel). IsOfDocument n → has_feature n c f ≡ true → has_feature n c g ≡ true → feature_name n f ≡ feature_name n g → g ≡ f) (sym d.is)
     (λ resolves one other names.
-    let x = there (resolved d.raw) resolves c f one in
-    let y = there (resolved d.raw) resolves c g other in
-    let same : y.0.name ≡ x.0.name = sym (name_there (resolved d.raw) g y.0 y.1) ∙ (sym names ∙ name_there (resolved d.raw) f x.0 x.1) in
+    let x = there (resolved_metamodel d.raw) resolves c f one in
+    let y = there (resolved_metamodel d.raw) resolves c g other in
+    let same : y.0.name ≡ x.0.name = sym (name_there (resolved_metamodel d.raw) g y.0 y.1) ∙ (sym names ∙ name_there (resolved_metamodel d.raw) f x.0 x.1) in
     numbered_alike g f (only_one d.raw d.well_formed c g f x.0.name
     (subst (λ (w : List ℕ). IsInherited d.raw c g w) same (inherited d.raw d.well_formed c g y.0 y.1 other)) (inherited d.raw d.well_formed c f x.0 x.1 one)))
     d
@@ -239,12 +239,17 @@ pushed (z ∷ xs) x y (suc k) is = ⊎_elim (λ h. inl h) (λ h. inr (ap suc h.0
 pub row_none : (m : Metamodel) (name : List ℕ) → IsRow m name []
 row_none m name c found is = cc
 
+-- what is true of each item, by its index, and of one more
+pub one_more : {X : Type 0} (Holds : ℕ → X → Type 0) (xs : List X) (n : ℕ) (x : X) → length xs ≡ n → Holds n x → ((k : ℕ) (y : X) → slice_get xs k ≡ Some y → Holds k y)
+    → (k : ℕ) (y : X) → slice_get (xs ++ x ∷ []) k ≡ Some y → Holds k y
+one_more Holds xs n x long here known k y at = ⊎_elim
+    (λ h. known k y h)
+    (λ h. subst (Holds k) h.1 (subst (λ (i : ℕ). Holds i x) (sym (h.0 ∙ long)) here))
+    (pushed xs x y k at)
+
 pub row_more : (m : Metamodel) (name : List ℕ) (by_class : List (Option FeatureNo)) (c : ℕ) (found : Option FeatureNo) → length by_class ≡ c → found ≡ feature_by_name m (class_no c) name
     → IsRow m name by_class → IsRow m name (by_class ++ found ∷ [])
-row_more m name by_class c found long is known k other at = ⊎_elim
-    (λ h. known k other h)
-    (λ h. sym h.1 ∙ (is ∙ ap (λ (n : ℕ). feature_by_name m (class_no n) name) (sym (h.0 ∙ long))))
-    (pushed by_class found other k at)
+row_more m name by_class c found long is known = one_more (λ k f. f ≡ feature_by_name m (class_no k) name) by_class c found long is known
 
 push_left : {X : Type 0} (xs : List X) (x d : X) (k : ℕ) → k < length xs → get_or (xs ++ x ∷ []) k d ≡ get_or xs k d
 push_left [] x d k low = absurd (omega arith)

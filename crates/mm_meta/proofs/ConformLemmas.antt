@@ -10,7 +10,7 @@ use Rattle.std.proofs.lemmas.Option.{get_or_from_slice_get, slice_get_within, un
 use Rattle.mm_types.specs.Graph.{Conforms}
 use Rattle.mm_types.specs.Lookups.{ConformsTo, conforms, conforms_within, feature, has_feature, supertypes}
 use Rattle.mm_types.specs.OfDocument.{IsOfDocument}
-use Rattle.mm_types.specs.Resolved.{Metamodel, graph_of, resolved}
+use Rattle.mm_types.specs.Resolved.{Metamodel, graph_of, resolved_metamodel}
 use Rattle.mm_types.specs.declared.class.Class.{Class}
 use Rattle.mm_types.specs.declared.feature.Feature.{Feature}
 use Rattle.mm_types.specs.declared.meta_fault.Condition.TheVariants.{Cycle}
@@ -26,7 +26,7 @@ use Rattle.mm_meta.proofs.MetaLemmas.{supertypes_resolved}
 use Rattle.mm_meta.proofs.OwnerLemmas.{has_as_owner}
 
 supertypes_are : (m : Metamodel) → (d : IsOfDocument m) → supertypes m ≡ graph_of d.raw.classes
-unfolding resolved
+unfolding resolved_metamodel
 supertypes_are m d = ap supertypes d.is ∙ supertypes_resolved d.raw.classes
 
 pub supertypes_in_range : (m : Metamodel) → IsOfDocument m → InRange (supertypes m)

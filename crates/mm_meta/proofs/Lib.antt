@@ -10,4 +10,6 @@ pub mod PlaceLemmas
 pub mod PairLemmas
 pub mod ConformLemmas
 pub mod ShapeLemmas
+pub mod OwnNameLemmas
+pub mod FeatureListLemmas
 pub mod Library

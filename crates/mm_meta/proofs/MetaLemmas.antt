@@ -8,7 +8,7 @@ use Rattle.std.proofs.lemmas.List.{length-append, length-map}
 use Rattle.std.proofs.lemmas.List.Quantifiers.{position-Some}
 use Rattle.mm_types.specs.Graph.{by_class}
 use Rattle.mm_types.specs.Raw.{RawMetamodel, class_fits, is_within_limits}
-use Rattle.mm_types.specs.Resolved.{Metamodel, class_no, classes_from, features_from, graph_of, resolved, resolved_feature}
+use Rattle.mm_types.specs.Resolved.{Metamodel, class_no, classes_from, features_from, graph_of, resolved_feature, resolved_metamodel}
 use Rattle.mm_types.specs.declared.class.Class.{Class}
 use Rattle.mm_types.specs.declared.class.Enumeration.{Enumeration}
 use Rattle.mm_types.specs.declared.numbers.ClassNo.{ClassNo}
@@ -37,14 +37,14 @@ features_few raw c (k ∷ ks) fits =
     omega arith
 
 pub few_classes : (m : Metamodel) → IsOfDocument m → length m.classes ≤ 1000
-unfolding resolved
+unfolding resolved_metamodel
 few_classes m d =
     let long : length m.classes ≡ length d.raw.classes = ap (λ (x : Metamodel). length x.classes) d.is ∙ length-classes_from d.raw.classes 0 d.raw.classes in
     let few : length d.raw.classes ≤ 1000 = few_raw d.raw d.fits in
     omega arith
 
 pub few_features : (m : Metamodel) → IsOfDocument m → length m.features ≤ 256000
-unfolding resolved
+unfolding resolved_metamodel
 few_features m d =
     let long : length m.features ≡ length (features_from d.raw 0 d.raw.classes) = ap (λ (x : Metamodel). length x.features) d.is in
     let few : length d.raw.classes ≤ 1000 = few_raw d.raw d.fits in
@@ -55,7 +55,7 @@ few_features m d =
 
 pub low_literal : (m : Metamodel) → IsOfDocument m → (e : ℕ) (name : List ℕ) (i : ℕ)
     → option_and_then (λ en. position (λ n. bytes_eq n name) en.literals) (slice_get m.enums e) ≡ Some i → i < 2 ^ 32
-unfolding resolved
+unfolding resolved_metamodel
 low_literal m d e name i found =
     literal_low d.raw e name i d.fits
     (subst (λ (es : List Enumeration). option_and_then (λ en. position (λ n. bytes_eq n name) en.literals) (slice_get es e) ≡ Some i) (ap (λ (x : Metamodel). x.enums) d.is) found)
@@ -90,6 +90,6 @@ supertypes_resolved classes =
     let long : length (graph_of classes) ≡ length classes = long_graph classes (graph_of classes) refl in
     supers_from classes 0 classes ∙ (ap (λ (n : ℕ). map (by_class (graph_of classes)) (range_with_len 0 n)) (sym long) ∙ rows_all (graph_of classes))
 
-pub resolved_is : (raw : RawMetamodel) (m : Metamodel) → m.enums ≡ raw.enums → m.classes ≡ classes_from raw.classes 0 raw.classes → m.features ≡ features_from raw 0 raw.classes → m ≡ resolved raw
-unfolding resolved
+pub resolved_is : (raw : RawMetamodel) (m : Metamodel) → m.enums ≡ raw.enums → m.classes ≡ classes_from raw.classes 0 raw.classes → m.features ≡ features_from raw 0 raw.classes → m ≡ resolved_metamodel raw
+unfolding resolved_metamodel
 resolved_is raw m e c f = λ i. record { enums = e i; classes = c i; features = f i }

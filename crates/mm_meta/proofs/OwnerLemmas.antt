@@ -13,7 +13,7 @@ use Rattle.mm_types.specs.Features.{all_features}
 use Rattle.mm_types.specs.Graph.{Conforms, by_class}
 use Rattle.mm_types.specs.Lookups.{ConformsTo, feature, has_feature}
 use Rattle.mm_types.specs.Raw.{RawMetamodel}
-use Rattle.mm_types.specs.Resolved.{Metamodel, classes_from, feature_no, features_from, graph_of, own_from, own_of, resolved, resolved_feature}
+use Rattle.mm_types.specs.Resolved.{Metamodel, classes_from, feature_no, features_from, graph_of, own_from, own_of, resolved_feature, resolved_metamodel}
 use Rattle.mm_types.specs.WellFormed.{WellFormed}
 use Rattle.mm_types.specs.declared.class.Class.{Class}
 use Rattle.mm_types.specs.declared.feature.Feature.{Feature}
@@ -122,8 +122,8 @@ any_number f (n ∷ ns) =
 
 -- a class has the features that the classes it conforms to declare
 has_declared : (raw : RawMetamodel) → WellFormed raw → (c : ClassNo) (f : FeatureNo)
-    → (has_feature (resolved raw) c f ≡ true) ↔ ((c.0 < length raw.classes) × HasDeclarer (graph_of raw.classes) (own_of raw.classes) c.0 f.0)
-unfolding resolved
+    → (has_feature (resolved_metamodel raw) c f ≡ true) ↔ ((c.0 < length raw.classes) × HasDeclarer (graph_of raw.classes) (own_of raw.classes) c.0 f.0)
+unfolding resolved_metamodel
 has_declared raw well c f =
     let cs = raw.classes in
     let g : List (List ℕ) = graph_of cs in
@@ -132,7 +132,7 @@ has_declared raw well c f =
     (λ (low : c.0 < length cs).
     let all : List ℕ = all_features g (own_of cs) c.0 in
     let here : 0 + c.0 ≡ c.0 = omega arith in
-    let has : has_feature (resolved raw) c f ≡ list_any (nat_eq f.0) all =
+    let has : has_feature (resolved_metamodel raw) c f ≡ list_any (nat_eq f.0) all =
     ap (λ (o : Option (List FeatureNo)). option_map_or is_it o false) (all_at cs 0 cs c.0 low ∙ ap (λ (n : ℕ). Some (map feature_no (all_features g (own_of cs) n))) here) ∙ any_number f.0 all in
     let long : length g ≡ length cs = long_graph cs g refl in
     let known = has_declarer g (own_of cs) (graph_in_range cs) (λ cycle. well Cycle (place.Class cycle.0) cycle.1) c.0 f.0 (omega arith) in (
@@ -141,7 +141,7 @@ has_declared raw well c f =
     ))
     (λ (past : length cs ≤ c.0).
     let long : length (classes_from cs 0 cs) ≡ length cs = length-classes_from cs 0 cs in
-    let none : has_feature (resolved raw) c f ≡ false =
+    let none : has_feature (resolved_metamodel raw) c f ≡ false =
     ap (λ (o : Option Class). option_map_or is_it (option_map (λ k. k.all) o) false) (slice_get_past (classes_from cs 0 cs) c.0 (omega arith)) in (
       (λ h. cc),
       (λ h. absurd (omega (arith, h.0))),
@@ -149,9 +149,9 @@ has_declared raw well c f =
     (cases_lt c.0 (length cs))
 
 -- a class has a feature if it conforms to the feature's owner
-pub has_of_owner : (raw : RawMetamodel) → WellFormed raw → (c : ClassNo) (f : FeatureNo) (x : Feature) → feature (resolved raw) f ≡ Some x
-    → (has_feature (resolved raw) c f ≡ true) ↔ ConformsTo (resolved raw) c x.owner
-unfolding resolved
+pub has_of_owner : (raw : RawMetamodel) → WellFormed raw → (c : ClassNo) (f : FeatureNo) (x : Feature) → feature (resolved_metamodel raw) f ≡ Some x
+    → (has_feature (resolved_metamodel raw) c f ≡ true) ↔ ConformsTo (resolved_metamodel raw) c x.owner
+unfolding resolved_metamodel
 has_of_owner raw well c f x is =
     let cs = raw.classes in
     let known = has_declared raw well c f in
@@ -187,11 +187,11 @@ has_as_owner m d c f x b =
     subst (λ (n : Metamodel). feature n f ≡ Some x → IsTrue b ↔ ConformsTo n c x.owner → b ≡ has_feature n c f) (sym d.is)
     (λ is tells.
     let known = has_of_owner d.raw d.well_formed c f x is in
-    both_ways b (has_feature (resolved d.raw) c f) (λ h. known.1 (tells.0 h)) (λ h. tells.1 (known.0 h)))
+    both_ways b (has_feature (resolved_metamodel d.raw) c f) (λ h. known.1 (tells.0 h)) (λ h. tells.1 (known.0 h)))
 
 -- no class has a feature that does not exist
-none_of : (raw : RawMetamodel) → WellFormed raw → (c : ClassNo) (f : FeatureNo) → feature (resolved raw) f ≡ None → has_feature (resolved raw) c f ≡ true → ⊥
-unfolding resolved
+none_of : (raw : RawMetamodel) → WellFormed raw → (c : ClassNo) (f : FeatureNo) → feature (resolved_metamodel raw) f ≡ None → has_feature (resolved_metamodel raw) c f ≡ true → ⊥
+unfolding resolved_metamodel
 none_of raw well c f is h =
     let p = (has_declared raw well c f).0 h in
     let o = declared_is_owned raw 0 0 raw.classes f.0 p.1.0 p.1.2 in
@@ -202,4 +202,4 @@ none_of raw well c f is h =
 pub has_none : (m : Metamodel) → IsOfDocument m → (c : ClassNo) (f : FeatureNo) → feature m f ≡ None → false ≡ has_feature m c f
 has_none m d c f =
     subst (λ (n : Metamodel). feature n f ≡ None → false ≡ has_feature n c f) (sym d.is)
-    (λ is. both_ways false (has_feature (resolved d.raw) c f) (λ h. cc) (λ h. absurd (none_of d.raw d.well_formed c f is h)))
+    (λ is. both_ways false (has_feature (resolved_metamodel d.raw) c f) (λ h. cc) (λ h. absurd (none_of d.raw d.well_formed c f is h)))

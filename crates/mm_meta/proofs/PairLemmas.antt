@@ -7,7 +7,7 @@ use Rattle.mm_types.specs.Graph.{by_class}
 use Rattle.mm_types.specs.Lookups.{feature, is_single, kind_opposite, opposite}
 use Rattle.mm_types.specs.OfDocument.{IsOfDocument}
 use Rattle.mm_types.specs.Raw.{RawMetamodel}
-use Rattle.mm_types.specs.Resolved.{Metamodel, class_named, class_no, feature_no, own_named, own_of, own_position, resolved, resolved_feature, resolved_kind, target_named}
+use Rattle.mm_types.specs.Resolved.{Metamodel, class_named, class_no, feature_no, own_named, own_of, own_position, resolved_feature, resolved_kind, resolved_metamodel, target_named}
 use Rattle.mm_types.specs.WellFormed.{WellFormed, feature_at, is_containment, opposite_name, test_feature_at}
 use Rattle.mm_types.specs.declared.feature.Feature.{Feature}
 use Rattle.mm_types.specs.declared.feature.Kind.TheVariants.{Reference}
@@ -58,7 +58,7 @@ near_resolved raw well c i d j p g far =
 -- two indexes with one number are one index
 one_place : (raw : RawMetamodel) → WellFormed raw → (c i d j : ℕ) (r s : RawFeature) (f g : FeatureNo) → IsDeclared raw c i r f → IsDeclared raw d j s g → g.0 ≡ f.0 → (d ≡ c) × (j ≡ i)
 one_place raw well c i d j r s f g here there same =
-    let x : feature (resolved raw) g ≡ Some (resolved_feature raw c r) = ap (slice_get (resolved raw).features) same ∙ here.resolves in
+    let x : feature (resolved_metamodel raw) g ≡ Some (resolved_feature raw c r) = ap (slice_get (resolved_metamodel raw).features) same ∙ here.resolves in
     let y = there.resolves in
     let features : resolved_feature raw d s ≡ resolved_feature raw c r = cc in
     let class : d ≡ c = ap (λ (z : Feature). z.owner.0) features in
@@ -66,7 +66,7 @@ one_place raw well c i d j r s f g here there same =
     (class, unique_names raw well c j i s r (subst (λ (e : ℕ). feature_at raw e j ≡ Some s) class there.here) here.here name)
 
 paired : (raw : RawMetamodel) → WellFormed raw → (c i d j : ℕ) (p : NameEachOther raw c i d j) (f g : FeatureNo) → IsDeclared raw c i p.near f → IsDeclared raw d j p.far g
-    → AreOpposites (resolved raw) f g
+    → AreOpposites (resolved_metamodel raw) f g
 paired raw well c i d j p f g near far = record {
   near = resolved_feature raw c p.near;
   far = resolved_feature raw d p.far;
@@ -94,21 +94,21 @@ one_value : {X : Type 0} (o : Option X) (x y : X) → o ≡ Some x → o ≡ Som
 one_value o x y a b = cc
 
 -- the opposite that a reference has is the one that the document names
-pair_at : (raw : RawMetamodel) → WellFormed raw → (c i : ℕ) (r : RawFeature) (f g : FeatureNo) → IsDeclared raw c i r f → HasOpposite raw c i → opposite (resolved raw) f ≡ Some g
-    → AreOpposites (resolved raw) f g
+pair_at : (raw : RawMetamodel) → WellFormed raw → (c i : ℕ) (r : RawFeature) (f g : FeatureNo) → IsDeclared raw c i r f → HasOpposite raw c i → opposite (resolved_metamodel raw) f ≡ Some g
+    → AreOpposites (resolved_metamodel raw) f g
 pair_at raw well c i r f g here h is =
     let p : NameEachOther raw c i h.class h.index = h.each_other in
     let near_is : r ≡ p.near = one_value (feature_at raw c i) r p.near here.here p.near_here in
     let n = number_of raw h.class h.index p.far p.far_here in
-    let both : AreOpposites (resolved raw) f n.0 = paired raw well c i h.class h.index p f n.0 (subst (λ (s : RawFeature). IsDeclared raw c i s f) near_is here) n.1 in
-    let number : n.0 ≡ g = one_value (opposite (resolved raw) f) n.0 g (opposite_is (resolved raw) f n.0 both) is in
-    subst (λ (e : FeatureNo). AreOpposites (resolved raw) f e) number both
+    let both : AreOpposites (resolved_metamodel raw) f n.0 = paired raw well c i h.class h.index p f n.0 (subst (λ (s : RawFeature). IsDeclared raw c i s f) near_is here) n.1 in
+    let number : n.0 ≡ g = one_value (opposite (resolved_metamodel raw) f) n.0 g (opposite_is (resolved_metamodel raw) f n.0 both) is in
+    subst (λ (e : FeatureNo). AreOpposites (resolved_metamodel raw) f e) number both
 
-pair_in : (raw : RawMetamodel) → WellFormed raw → (f g : FeatureNo) → opposite (resolved raw) f ≡ Some g → AreOpposites (resolved raw) f g
+pair_in : (raw : RawMetamodel) → WellFormed raw → (f g : FeatureNo) → opposite (resolved_metamodel raw) f ≡ Some g → AreOpposites (resolved_metamodel raw) f g
 pair_in raw well f g is =
-    option_and_then_some (λ (x : Feature). kind_opposite x.kind) (feature (resolved raw) f) g is (λ x here opposite_of_x.
+    option_and_then_some (λ (x : Feature). kind_opposite x.kind) (feature (resolved_metamodel raw) f) g is (λ x here opposite_of_x.
     let d = declared_at raw f x here in
-    let same : x ≡ resolved_feature raw d.0 d.2 = one_value (feature (resolved raw) f) x (resolved_feature raw d.0 d.2) here d.3.resolves in
+    let same : x ≡ resolved_feature raw d.0 d.2 = one_value (feature (resolved_metamodel raw) f) x (resolved_feature raw d.0 d.2) here d.3.resolves in
     let names : kind_opposite (resolved_kind raw d.2.type_name d.2.kind) ≡ Some g = ap (λ (z : Feature). kind_opposite z.kind) (sym same) ∙ opposite_of_x in
     let test : test_feature_at (λ r. is_some (opposite_name r.kind)) raw d.0 d.1 ≡ true =
     ap (λ (o : Option RawFeature). option_map_or (λ r. is_some (opposite_name r.kind)) o false) d.3.here ∙ names_one raw d.2.type_name d.2.kind g names in

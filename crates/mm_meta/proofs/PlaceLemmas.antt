@@ -9,7 +9,7 @@ use Rattle.std.proofs.lemmas.Option.{slice_get-map, slice_get_cases, slice_get_r
 use Rattle.mm_types.specs.Graph.{by_class}
 use Rattle.mm_types.specs.Lookups.{feature}
 use Rattle.mm_types.specs.Raw.{RawMetamodel}
-use Rattle.mm_types.specs.Resolved.{features_from, own_from, own_of, resolved, resolved_feature}
+use Rattle.mm_types.specs.Resolved.{features_from, own_from, own_of, resolved_feature, resolved_metamodel}
 use Rattle.mm_types.specs.WellFormed.{feature_at}
 use Rattle.mm_types.specs.declared.feature.Feature.{Feature}
 use Rattle.mm_types.specs.declared.numbers.FeatureNo.{FeatureNo}
@@ -107,11 +107,11 @@ numbered raw c n (k ∷ ks) (suc j) i r at =
 -- class c declares at index i the feature r, which has the number f and is resolved to x
 pub record IsDeclared (raw : RawMetamodel) (c i : ℕ) (r : RawFeature) (f : FeatureNo) : Type 0 where
   pub here : feature_at raw c i ≡ Some r
-  pub resolves : feature (resolved raw) f ≡ Some (resolved_feature raw c r)
+  pub resolves : feature (resolved_metamodel raw) f ≡ Some (resolved_feature raw c r)
   pub number : slice_get (by_class (own_of raw.classes) c) i ≡ Some f.0
 
-pub declared_at : (raw : RawMetamodel) (f : FeatureNo) (x : Feature) → feature (resolved raw) f ≡ Some x → (c : ℕ) × (i : ℕ) × (r : RawFeature) × IsDeclared raw c i r f
-unfolding resolved
+pub declared_at : (raw : RawMetamodel) (f : FeatureNo) (x : Feature) → feature (resolved_metamodel raw) f ≡ Some x → (c : ℕ) × (i : ℕ) × (r : RawFeature) × IsDeclared raw c i r f
+unfolding resolved_metamodel
 declared_at raw f x is =
     let p = placed raw 0 0 raw.classes f.0 x is in
     let class : 0 + p.class ≡ p.class = omega arith in
@@ -127,7 +127,7 @@ declared_at raw f x is =
     )
 
 pub number_of : (raw : RawMetamodel) (c i : ℕ) (r : RawFeature) → feature_at raw c i ≡ Some r → (f : FeatureNo) × IsDeclared raw c i r f
-unfolding resolved
+unfolding resolved_metamodel
 number_of raw c i r at =
     let p = numbered raw 0 0 raw.classes c i r at in
     let class : 0 + c ≡ c = omega arith in

@@ -5,6 +5,7 @@ use Rattle.mm_types.specs.Resolved.{Metamodel}
 use Rattle.mm_types.specs.Lookups.{contents, supertypes}
 use Rattle.mm_types.specs.declared.value.Value.TheVariants.{Null}
 use Rattle.mm_graph.specs.ConformTable.{IsConformTable}
+use Rattle.mm_meta.specs.Containments.{AreContainments}
 use Rattle.mm_meta.specs.FeatureNames.{AreFeatureNames, AreRows}
 use Rattle.mm_meta.specs.NameTable.{AreTablesOf, IsTableOf}
 use Rattle.mm_meta.specs.declared.meta.Meta.TheInside.{Inside}
@@ -20,5 +21,6 @@ pub record IsMeta (m : Inside) : Type 0 where
   pub finds_literals : AreTablesOf m.literal_tables.items (map (λ e. e.literals) m.enums)
   pub finds_features : AreFeatureNames m.names (map (λ f. f.name) m.features)
   pub finds_common : AreRows (metamodel m) m.common.items
+  pub finds_containments : AreContainments (metamodel m) m.containments.items
   pub null : m.null ≡ Null
   pub contents : m.contents ≡ contents (metamodel m) ∷ []

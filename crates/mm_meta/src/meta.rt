@@ -2,14 +2,16 @@
 ghost use Rattle.std.specs.Prelude.{◌≡◌, ◌∷◌, ◌<◌, [], IfOk, IfSome, length};
 ghost use Rattle.std.specs.Option.{option_copied};
 ghost use Rattle.mm_types.specs.Lookups as m;
-ghost use Rattle.mm_types.specs.Resolved.{feature_no, resolved};
+ghost use Rattle.mm_types.specs.Resolved.{feature_no, resolved_metamodel};
 ghost use Rattle.mm_types.specs.Shapes as shapes;
 ghost use Rattle.mm_types.specs.WellFormed.{WellFormed};
+ghost use Rattle.mm_meta.specs.Containments.{AreContainments, has_containment};
 ghost use Rattle.mm_meta.specs.FeatureNames.{AreRows, ComesTo, IsRow};
 
 use crate::feature_names::FeatureNames;
 use crate::name_table::{NameTable, position_at};
 use crate::resolution::Resolution;
+use crate::shapes::is_containment;
 use crate::tables::literal_tables;
 use mm_types::{Class, ClassNo, Enumeration, Feature, FeatureNo, Kind, RawMeta, Seq, Value};
 use std::alloc::{AllocError, Global};
@@ -37,6 +39,8 @@ pub struct Meta {
     /// For each name that many features have, a list with the feature of that name for each class. The list is at the number of the first
     /// feature of that name. For any other feature there is no list, or an empty one.
     common: Vec<Seq<Option<FeatureNo>>>,
+    /// For each class, whether it has a containment.
+    containments: Vec<bool>,
     /// The default of a reference.
     null: Value,
     /// All features of a resource.
@@ -62,7 +66,7 @@ impl Meta {
     pub fn new(alloc: Global, raw: RawMeta, resolution: Resolution) -> Result<Self, AllocError>
         requires well_formed { WellFormed raw }
         requires resolution { IsResolutionOf raw resolution }
-        ensures { IfOk result (λ m. m ≡ resolved raw) }
+        ensures { IfOk result (λ m. m ≡ resolved_metamodel raw) }
     {
         let Resolution {
             classes,
@@ -83,10 +87,12 @@ impl Meta {
             literal_tables,
             names,
             common: Vec::new(alloc),
+            containments: Vec::new(alloc),
             null: Value::Null,
             contents: [contents],
         };
         meta.keep_common(alloc)?;
+        meta.keep_containments(alloc)?;
         Ok(meta)
     }
 
@@ -209,6 +215,45 @@ impl Meta {
         Ok(())
     }
 
+    /// Whether a class has a containment, found by a look at each of its features.
+    fn finds_containment(&self, class: ClassNo) -> bool
+        ensures { result ≡ has_containment self.now class }
+    {
+        match self.features(class) {
+            Some(features) => features.iter().any(|feature| self.is_containment(*feature)),
+            None => false,
+        }
+    }
+
+    fn all_containments(&self, alloc: Global) -> Result<Vec<bool>, AllocError>
+        ensures { IfOk result (λ v. AreContainments self.now v.items) }
+    {
+        let mut found = Vec::with_capacity(alloc, self.classes.len())?;
+        'classes: for c in 0..self.classes.len() {
+            found.push(self.finds_containment(ClassNo(c as u32)))?;
+        }
+        Ok(found)
+    }
+
+    /// Keeps, for each class, whether it has a containment.
+    fn keep_containments(&mut self, alloc: Global) -> Result<(), AllocError>
+        ensures { self.new ≡ self.old }
+    {
+        let found = self.all_containments(alloc)?;
+        self.containments = found;
+        Ok(())
+    }
+
+    /// Whether a class has a containment, own or inherited, so that its objects can contain others. Takes constant time, and no memory.
+    pub fn has_containment(&self, class: ClassNo) -> bool
+        ensures { result ≡ has_containment self.now class }
+    {
+        match self.containments.get(class.0 as usize) {
+            Some(found) => *found,
+            None => self.finds_containment(class),
+        }
+    }
+
     /// The feature of a number; `None` for `contents()`.
     pub fn feature(&self, feature: FeatureNo) -> Option<&Feature>
         ensures { option_copied result ≡ m.feature self.now feature }
@@ -309,9 +354,9 @@ impl Meta {
     pub fn is_containment(&self, feature: FeatureNo) -> bool
         ensures { result ≡ shapes.is_containment self.now feature }
     {
-        match self.containing(feature) {
-            Some(containing) => feature.0 == containing.0,
-            None => false,
+        match self.feature(feature) {
+            Some(found) => is_containment(&found.kind),
+            None => feature.0 == self.contents().0,
         }
     }
 
@@ -349,14 +394,5 @@ impl Meta {
         ensures { result.now ≡ m.contents self.now ∷ [] }
     {
         &self.contents
-    }
-}
-
-fn is_containment(kind: &Kind) -> bool
-    ensures { result ≡ m.is_containment_kind kind.now }
-{
-    match kind {
-        Kind::Attribute { .. } => false,
-        Kind::Reference { containment, .. } => *containment,
     }
 }

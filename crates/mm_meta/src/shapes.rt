@@ -115,3 +115,15 @@ impl Meta {
         }
     }
 }
+
+pub(crate) fn is_containment(kind: &Kind) -> bool
+    ensures { result ≡ m.is_containment_kind kind.now }
+{
+    matches!(
+        kind,
+        Kind::Reference {
+            containment: true,
+            ..
+        }
+    )
+}

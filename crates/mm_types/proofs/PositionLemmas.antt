@@ -1,5 +1,5 @@
 -- The position of the first element of a list that passes a test.
-use Rattle.std.proofs.Common.{◌≡◌, ◌∙◌, ◌+◌, ℕ, suc, Bool, true, false, cond, nat_lt, List, ◌∷◌, length, position, Some, None, option_map, refl, ap, arith, le-leb}
+use Rattle.std.proofs.Common.{◌≡◌, ◌∙◌, ◌+◌, suc, Bool, true, false, cond, nat_lt, List, ◌∷◌, length, position, Some, None, option_map, refl, ap, arith, le-leb}
 use Rattle.std.specs.List.{position_or_len}
 use Rattle.std.proofs.lemmas.Bool.{le-ltb, lt-ltb, ltb-false, ltb-true}
 

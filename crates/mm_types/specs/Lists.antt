@@ -8,5 +8,5 @@ put_back None vs to from = vs
 put_back (Some v) vs to from = insert (remove vs from) to v
 
 -- a list after its value at `from` is taken out and inserted at `to`
-abbrev pub shifted : List Value → ℕ → ℕ → List Value
-shifted vs to from = put_back (slice_get vs from) vs to from
+abbrev pub values_after_move : List Value → ℕ → ℕ → List Value
+values_after_move vs to from = put_back (slice_get vs from) vs to from

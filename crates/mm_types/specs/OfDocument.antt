@@ -1,7 +1,7 @@
 -- The metamodels that documents give.
 use Rattle.std.specs.Prelude.{◌≡◌, IsTrue}
 use Rattle.mm_types.specs.Raw.{RawMetamodel, is_within_limits}
-use Rattle.mm_types.specs.Resolved.{Metamodel, resolved}
+use Rattle.mm_types.specs.Resolved.{Metamodel, resolved_metamodel}
 use Rattle.mm_types.specs.WellFormed.{WellFormed}
 
 -- a metamodel is given by some document; the document is well-formed and within the limits
@@ -9,4 +9,4 @@ pub record IsOfDocument (m : Metamodel) : Type 0 where
   pub raw : RawMetamodel
   pub fits : IsTrue (is_within_limits raw)
   pub well_formed : WellFormed raw
-  pub is : m ≡ resolved raw
+  pub is : m ≡ resolved_metamodel raw

@@ -1,22 +1,22 @@
 -- Edits of one list.
 use Rattle.std.specs.Prelude.{ℕ, List, insert, remove}
-use Rattle.mm_types.specs.Lists.{shifted}
+use Rattle.mm_types.specs.Lists.{values_after_move}
 use Rattle.mm_types.specs.declared.value.Value.{Value}
 use Rattle.mm_values.specs.Attributes.{HasPlace}
 use Rattle.mm_values.specs.declared.attribute_lists.Entry.{Entry}
 use Rattle.mm_values.specs.declared.list_edit.ListEdit.{ListEdit}
 use Rattle.mm_values.specs.declared.list_edit.ListEdit.TheVariants.{Insert, Remove, Move}
 
-abbrev pub changed : ListEdit → List Value → List Value
-changed (Insert i v) vs = insert vs i v
-changed (Remove i) vs = remove vs i
-changed (Move to from) vs = shifted vs to from
+abbrev pub list_after_edit : ListEdit → List Value → List Value
+list_after_edit (Insert i v) vs = insert vs i v
+list_after_edit (Remove i) vs = remove vs i
+list_after_edit (Move to from) vs = values_after_move vs to from
 
 -- how much capacity an edit takes
-abbrev pub taken : ListEdit → ℕ
-taken (Insert i v) = 1
-taken (Remove i) = 0
-taken (Move to from) = 0
+abbrev pub list_edit_capacity : ListEdit → ℕ
+list_edit_capacity (Insert i v) = 1
+list_edit_capacity (Remove i) = 0
+list_edit_capacity (Move to from) = 0
 
 -- the attribute's list has the capacity that the edit needs
 abbrev pub IsReadyFor : List Entry → ℕ → ListEdit → Type 0

@@ -1,10 +1,10 @@
 -- The edits of a plan.
 use Rattle.std.specs.Prelude.{List, [], ◌∷◌}
-use Rattle.mm_values.specs.declared.edit.ValueEdit.{ValueEdit}
-use Rattle.mm_values.specs.declared.plan.Edits.{Edits}
-use Rattle.mm_values.specs.declared.plan.Edits.TheVariants.{One, Many}
+use Rattle.mm_values.specs.declared.value_edit.ValueEdit.{ValueEdit}
+use Rattle.mm_values.specs.declared.plan.EditList.{EditList}
+use Rattle.mm_values.specs.declared.plan.EditList.TheVariants.{One, Many}
 
 -- the edits in their order, however they are kept
-abbrev pub edits_of : Edits → List ValueEdit
+abbrev pub edits_of : EditList → List ValueEdit
 edits_of (One e) = e ∷ []
 edits_of (Many es) = es

@@ -3,8 +3,8 @@ use Rattle.std.specs.Prelude.{ℕ, ◌+◌, ◌≤◌, ◌&&◌, Bool, true, fal
 use Rattle.std.specs.List.{list_any}
 use Rattle.mm_types.specs.declared.numbers.FeatureNo.{FeatureNo}
 use Rattle.mm_types.specs.declared.numbers.ObjectNo.{ObjectNo}
-use Rattle.mm_values.specs.declared.edit.ValueEdit.{ValueEdit}
-use Rattle.mm_values.specs.declared.edit.ValueEdit.TheVariants.{NewObject, PutList, InsertValue, NewUri}
+use Rattle.mm_values.specs.declared.value_edit.ValueEdit.{ValueEdit}
+use Rattle.mm_values.specs.declared.value_edit.ValueEdit.TheVariants.{NewObject, PutList, InsertValue, NewUri}
 use Rattle.mm_values.specs.declared.values.Values.{Values}
 use Rattle.mm_values.specs.Values.{ValuesState}
 use Rattle.mm_values.specs.Slots.{Slots, objects_of, none_taken, taken_at, HasPlaceAt}
@@ -45,18 +45,18 @@ places_taken (InsertValue x g i w u) = taken_at x g 1
 places_taken _ = none_taken
 
 -- how much capacity the list of o under f needs for a plan: none if the plan inserts no value into it
-abbrev pub needed : List ValueEdit → ℕ → ℕ → ℕ
-needed plan o f = if list_any (is_insert_at o f) plan then sum_by (λ e. places_taken e o f) plan else 0
+abbrev pub capacity_needed : List ValueEdit → ℕ → ℕ → ℕ
+capacity_needed plan o f = if list_any (is_insert_at o f) plan then sum_by (λ e. places_taken e o f) plan else 0
 
 -- the list that an edit puts, or inserts a value into, has an entry and the capacity that the plan needs
 abbrev pub HasPlaceFor : Slots → List ValueEdit → ValueEdit → Type 0
-HasPlaceFor r plan (PutList x g list flag) = HasPlaceAt r x.0 g.0 (needed plan x.0 g.0)
-HasPlaceFor r plan (InsertValue x g i w u) = HasPlaceAt r x.0 g.0 (needed plan x.0 g.0)
+HasPlaceFor r plan (PutList x g list flag) = HasPlaceAt r x.0 g.0 (capacity_needed plan x.0 g.0)
+HasPlaceFor r plan (InsertValue x g i w u) = HasPlaceAt r x.0 g.0 (capacity_needed plan x.0 g.0)
 HasPlaceFor r plan _ = Unit {0}
 
 -- if a list is given, it has the capacity that the plan needs
 abbrev pub HasPlacesIn : Slots → List ValueEdit → Option (ObjectNo × FeatureNo) → Type 0
-HasPlacesIn r plan list = IfSome list (λ p. HasPlaceAt r p.0.0 p.1.0 (needed plan p.0.0 p.1.0))
+HasPlacesIn r plan list = IfSome list (λ p. HasPlaceAt r p.0.0 p.1.0 (capacity_needed plan p.0.0 p.1.0))
 
 -- the plan can be applied with no memory taken
 pub record HasRoom (v : Values) (plan : List ValueEdit) : Type 0 where

@@ -2,7 +2,7 @@
 ghost use Rattle.std.specs.Prelude.{◌≡◌, ℕ, ◌-◌, [], length, option_copied, IfOk, IfErr, OnErr, OnOk};
 ghost use Rattle.mm_values.specs.Stored.{items_of, with_stored};
 ghost use Rattle.mm_values.specs.Attributes.{change_stored, stored_in, stored_under, taken_of, HasPlace, IsAt, IsGapFor};
-ghost use Rattle.mm_values.specs.ListEdits.{changed, taken, IsReadyFor};
+ghost use Rattle.mm_values.specs.ListEdits.{list_after_edit, list_edit_capacity, IsReadyFor};
 
 use crate::list_edit::ListEdit;
 use crate::new_values::NewValues;
@@ -219,8 +219,8 @@ impl AttributeLists {
     /// Changes the list that is stored under an attribute; the flag stays. Takes no memory.
     pub fn change(&mut self, feature: FeatureNo, edit: ListEdit)
         requires { IsReadyFor self.old feature.0 edit }
-        ensures stored { stored_in self.new ≡ change_stored (stored_in self.old) feature.0 (changed edit) }
-        ensures kept { (f n : ℕ) → HasPlace self.old f n → HasPlace self.new f (n - taken_of feature.0 (taken edit) f) }
+        ensures stored { stored_in self.new ≡ change_stored (stored_in self.old) feature.0 (list_after_edit edit) }
+        ensures kept { (f n : ℕ) → HasPlace self.old f n → HasPlace self.new f (n - taken_of feature.0 (list_edit_capacity edit) f) }
     {
         match self.find(feature) {
             Ok(at) => edit.make(&mut self.entries[at].list),

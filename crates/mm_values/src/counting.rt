@@ -1,9 +1,9 @@
 //! How much capacity a plan needs.
 ghost use Rattle.std.specs.Prelude.{◌≡◌, ℕ, count_by, IfOk};
 ghost use Rattle.std.specs.List.{list_any};
-ghost use Rattle.mm_values.specs.Room.{is_insert, is_insert_at, is_new_object, is_new_uri, needed};
+ghost use Rattle.mm_values.specs.Room.{capacity_needed, is_insert, is_insert_at, is_new_object, is_new_uri};
 
-use crate::edit::ValueEdit;
+use crate::value_edit::ValueEdit;
 use mm_types::{FeatureNo, ObjectNo};
 use std::alloc::AllocError;
 
@@ -30,7 +30,7 @@ fn has_insert(plan: &[ValueEdit]) -> bool
 
 /// The edits for which capacity has to be counted. If no edit puts a value into a list there are none, and counting takes no time.
 pub(crate) fn counted(plan: &[ValueEdit]) -> &[ValueEdit]
-    ensures { (o f : ℕ) → needed result.now o f ≡ needed plan.now o f }
+    ensures { (o f : ℕ) → capacity_needed result.now o f ≡ capacity_needed plan.now o f }
 {
     if has_insert(plan) { plan } else { &[] }
 }
@@ -48,7 +48,7 @@ pub(crate) fn places_needed(
     object: ObjectNo,
     feature: FeatureNo,
 ) -> Result<usize, AllocError>
-    ensures { IfOk result (λ n. n ≡ needed plan.now object.0 feature.0) }
+    ensures { IfOk result (λ n. n ≡ capacity_needed plan.now object.0 feature.0) }
 {
     if !is_inserted_at(plan, object, feature) {
         return Ok(0);

@@ -7,15 +7,15 @@
 
 mod attribute_lists;
 mod counting;
-mod edit;
 mod list_edit;
 mod new_values;
 mod objects;
 mod plan;
 mod uris;
+mod value_edit;
 mod values;
 
-pub use edit::ValueEdit;
 pub use new_values::NewValues;
 pub use plan::ValuePlan;
+pub use value_edit::ValueEdit;
 pub use values::Values;

@@ -1,7 +1,7 @@
 //! Edits of one list.
 ghost use Rattle.std.specs.Prelude.{◌≡◌, ◌+◌, ◌≤◌, insert, remove};
-ghost use Rattle.mm_types.specs.Lists.{shifted};
-ghost use Rattle.mm_values.specs.ListEdits.{changed, taken};
+ghost use Rattle.mm_types.specs.Lists.{values_after_move};
+ghost use Rattle.mm_values.specs.ListEdits.{list_after_edit, list_edit_capacity};
 
 use mm_types::Value;
 use value_lists::ValueList;
@@ -20,9 +20,9 @@ pub(crate) enum ListEdit {
 impl ListEdit {
     /// Makes the edit. Takes no memory.
     pub fn make(self, list: &mut ValueList)
-        requires { taken self ≤ list.old.spare }
-        ensures items { list.new.items ≡ changed self list.old.items }
-        ensures spare { list.old.spare ≤ list.new.spare + taken self }
+        requires { list_edit_capacity self ≤ list.old.spare }
+        ensures items { list.new.items ≡ list_after_edit self list.old.items }
+        ensures spare { list.old.spare ≤ list.new.spare + list_edit_capacity self }
     {
         match self {
             ListEdit::Insert { index, value } => insert_in(list, index as usize, value),
@@ -50,7 +50,7 @@ fn remove_from(list: &mut ValueList, index: usize)
 }
 
 fn move_in(list: &mut ValueList, to: usize, from: usize)
-    ensures items { list.new.items ≡ shifted list.old.items to from }
+    ensures items { list.new.items ≡ values_after_move list.old.items to from }
     ensures spare { list.old.spare ≤ list.new.spare }
 {
     let len = list.len();

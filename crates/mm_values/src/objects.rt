@@ -1,7 +1,7 @@
 //! The objects of a repository, by number.
 ghost use Rattle.std.specs.Prelude.{◌≡◌, ◌+◌, ◌<◌, ◌≤◌, [], length, option_copied, OnOk, OnErr};
 ghost use Rattle.std.specs.Option.{option_map};
-ghost use Rattle.mm_values.specs.ListEdits.{changed, taken};
+ghost use Rattle.mm_values.specs.ListEdits.{list_after_edit, list_edit_capacity};
 ghost use Rattle.mm_values.specs.Attributes.{stored_in};
 ghost use Rattle.mm_values.specs.Slots.{objects_of, none_taken, taken_at, HasPlaceAt, IsReadyAt, KeepsPlaces};
 ghost use Rattle.mm_values.specs.Stored.{items_of};
@@ -230,9 +230,9 @@ impl Objects {
     /// Changes the list that a live object holds under an attribute; the flag stays. Takes no memory.
     pub fn change(&mut self, object: ObjectNo, feature: FeatureNo, edit: ListEdit)
         requires { IsReadyAt self.old object.0 feature.0 edit }
-        ensures objects { objects_of self.new ≡ with_changed (objects_of self.old) object feature (changed edit) }
+        ensures objects { objects_of self.new ≡ with_changed (objects_of self.old) object feature (list_after_edit edit) }
         ensures next { self.new.next ≡ self.old.next }
-        ensures kept { KeepsPlaces (taken_at object feature (taken edit)) self.old self.new }
+        ensures kept { KeepsPlaces (taken_at object feature (list_edit_capacity edit)) self.old self.new }
     {
         let index = object.0 as usize;
         if index < self.next && self.classes[index].is_some() {

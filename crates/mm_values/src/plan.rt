@@ -2,7 +2,7 @@
 ghost use Rattle.std.specs.Prelude.{◌≡◌, [], ◌∷◌};
 ghost use Rattle.mm_values.specs.Plan.{edits_of};
 
-use crate::edit::ValueEdit;
+use crate::value_edit::ValueEdit;
 use mm_types::Seq;
 use std::alloc::Global;
 use std::marker::Model;
@@ -10,7 +10,7 @@ use std::slice;
 
 /// How a plan keeps its edits. Most changes are one edit, which is in the plan itself.
 #[derive(Debug, Drop)]
-pub(crate) enum Edits {
+pub(crate) enum EditList {
     One(ValueEdit),
     Many(Seq<ValueEdit>),
 }
@@ -18,13 +18,13 @@ pub(crate) enum Edits {
 /// Edits, which are made in their order. Contracts see a plan as the list of its edits.
 #[derive(Debug, Drop)]
 pub struct ValuePlan {
-    edits: Edits,
+    edits: EditList,
 }
 
 impl Model for ValuePlan {
     ghost use Rattle.std.specs.Prelude.{List};
     ghost use Rattle.mm_values.specs.Plan.{edits_of};
-    ghost use Rattle.mm_values.specs.declared.edit.ValueEdit.{ValueEdit};
+    ghost use Rattle.mm_values.specs.declared.value_edit.ValueEdit.{ValueEdit};
 
     ghost Value = { List ValueEdit };
 
@@ -37,7 +37,7 @@ impl ValuePlan {
         ensures { result ≡ [] }
     {
         ValuePlan {
-            edits: Edits::Many(Seq::new(alloc)),
+            edits: EditList::Many(Seq::new(alloc)),
         }
     }
 
@@ -46,7 +46,7 @@ impl ValuePlan {
         ensures { result ≡ edit ∷ [] }
     {
         ValuePlan {
-            edits: Edits::One(edit),
+            edits: EditList::One(edit),
         }
     }
 
@@ -55,7 +55,7 @@ impl ValuePlan {
         ensures { result ≡ edits }
     {
         ValuePlan {
-            edits: Edits::Many(edits),
+            edits: EditList::Many(edits),
         }
     }
 
@@ -64,13 +64,13 @@ impl ValuePlan {
         ensures { result.now ≡ self.now }
     {
         match &self.edits {
-            Edits::One(edit) => slice::from_ref(edit),
-            Edits::Many(edits) => edits.as_slice(),
+            EditList::One(edit) => slice::from_ref(edit),
+            EditList::Many(edits) => edits.as_slice(),
         }
     }
 
     /// The edits, as they are kept.
-    pub(crate) fn into_edits(self) -> Edits
+    pub(crate) fn into_edits(self) -> EditList
         ensures { edits_of result ≡ self }
     {
         self.edits

@@ -2,15 +2,15 @@
 ghost use Rattle.std.specs.Prelude.{◌≡◌, List, [], ◌∷◌, length, option_and_then, option_copied, option_map, position, slice_get, All, OnErr, OnOk};
 ghost use Rattle.mm_types.specs.Same.{same_value};
 ghost use Rattle.std.specs.List.{list_any};
-ghost use Rattle.mm_values.specs.Room.{needed};
+ghost use Rattle.mm_values.specs.Room.{capacity_needed};
 
 use crate::counting::{counted, objects_made, places_needed, uris_added};
-use crate::edit::ValueEdit;
 use crate::list_edit::ListEdit;
 use crate::new_values::NewValues;
 use crate::objects::Objects;
-use crate::plan::{Edits, ValuePlan};
+use crate::plan::{EditList, ValuePlan};
 use crate::uris::Uris;
+use crate::value_edit::ValueEdit;
 use mm_types::{ClassNo, FeatureNo, ObjectNo, ResourceNo, Seq, Value};
 use std::alloc::{AllocError, Global};
 use std::slice;
@@ -23,11 +23,11 @@ pub struct Values {
 }
 
 impl Values {
-    ghost use Rattle.mm_values.specs.Values.{class_of, list_of, flag_of, uri_of, resource_of, edited, applied};
+    ghost use Rattle.mm_values.specs.Values.{class_of, list_of, flag_of, uri_of, resource_of, values_after_edit, values_after_edits};
     ghost use Rattle.mm_values.specs.Room.{values_of, HasRoom, HasPlaceFor};
     ghost use Rattle.mm_values.specs.Slots.{none_taken, HasPlaceAt, KeepsPlaces};
-    ghost use Rattle.mm_values.specs.declared.edit.ValueEdit.{ValueEdit};
-    ghost use Rattle.mm_values.specs.declared.edit.ValueEdit.TheVariants as edit;
+    ghost use Rattle.mm_values.specs.declared.value_edit.ValueEdit.{ValueEdit};
+    ghost use Rattle.mm_values.specs.declared.value_edit.ValueEdit.TheVariants as edit;
 
     /// No objects and no resources. Takes no memory.
     pub fn new(alloc: Global) -> Self
@@ -150,30 +150,30 @@ impl Values {
     /// Makes the edits of a plan, in their order. Takes no memory.
     pub fn apply(&mut self, plan: ValuePlan)
         requires { HasRoom self.old plan }
-        ensures { values_of self.new ≡ applied (values_of self.old) plan }
+        ensures { values_of self.new ≡ values_after_edits (values_of self.old) plan }
     {
         match plan.into_edits() {
-            Edits::One(edit) => self.apply_edit(edit),
-            Edits::Many(edits) => self.apply_all(edits),
+            EditList::One(edit) => self.apply_edit(edit),
+            EditList::Many(edits) => self.apply_all(edits),
         }
     }
 
     /// Takes the memory that a plan needs, and makes its edits. Errs only if memory is refused, or if there would be more than 2^32
     /// resources, and then nothing that contracts see has changed. For a plan of one edit this is faster than `reserve_for` and `apply`.
     pub fn try_apply(&mut self, plan: ValuePlan) -> Result<(), AllocError>
-        ensures ok { OnOk result (values_of self.new ≡ applied (values_of self.old) plan) }
+        ensures ok { OnOk result (values_of self.new ≡ values_after_edits (values_of self.old) plan) }
         ensures err { OnErr result (values_of self.new ≡ values_of self.old) }
     {
         match plan.into_edits() {
-            Edits::One(edit) => self.try_edit(edit),
-            Edits::Many(edits) => self.try_all(edits),
+            EditList::One(edit) => self.try_edit(edit),
+            EditList::Many(edits) => self.try_all(edits),
         }
     }
 
     /// Takes the memory that an edit needs, and makes the edit. Errs only if memory is refused, and then nothing that contracts see has
     /// changed.
     fn try_edit(&mut self, edit: ValueEdit) -> Result<(), AllocError>
-        ensures ok { OnOk result (values_of self.new ≡ edited (values_of self.old) edit) }
+        ensures ok { OnOk result (values_of self.new ≡ values_after_edit (values_of self.old) edit) }
         ensures err { OnErr result (values_of self.new ≡ values_of self.old) }
     {
         match edit {
@@ -191,7 +191,7 @@ impl Values {
     /// Makes an object of a class, as `ValueEdit::NewObject` does. Errs only if memory is refused, and then nothing that contracts see has
     /// changed.
     pub fn try_create(&mut self, class: ClassNo) -> Result<(), AllocError>
-        ensures ok { OnOk result (values_of self.new ≡ edited (values_of self.old) (edit.NewObject class)) }
+        ensures ok { OnOk result (values_of self.new ≡ values_after_edit (values_of self.old) (edit.NewObject class)) }
         ensures err { OnErr result (values_of self.new ≡ values_of self.old) }
     {
         self.objects.create(class)
@@ -203,18 +203,18 @@ impl Values {
         &mut self,
         object: ObjectNo,
         feature: FeatureNo,
-        list: NewValues,
+        values: NewValues,
         flag: bool,
     ) -> Result<(), AllocError>
-        ensures ok { OnOk result (values_of self.new ≡ edited (values_of self.old) (edit.PutList object feature list flag)) }
+        ensures ok { OnOk result (values_of self.new ≡ values_after_edit (values_of self.old) (edit.PutList object feature values flag)) }
         ensures err { OnErr result (values_of self.new ≡ values_of self.old) }
     {
-        self.objects.set(object, feature, list, flag)
+        self.objects.set(object, feature, values, flag)
     }
 
     /// Makes an edit like a plan with only this edit: first it reserves, and then it applies.
     fn try_any(&mut self, edit: ValueEdit) -> Result<(), AllocError>
-        ensures ok { OnOk result (values_of self.new ≡ edited (values_of self.old) edit) }
+        ensures ok { OnOk result (values_of self.new ≡ values_after_edit (values_of self.old) edit) }
         ensures err { OnErr result (values_of self.new ≡ values_of self.old) }
     {
         self.reserve_edits(slice::from_ref(&edit))?;
@@ -224,7 +224,7 @@ impl Values {
 
     /// Makes edits, in their order, once there is capacity for all of them.
     fn try_all(&mut self, edits: Seq<ValueEdit>) -> Result<(), AllocError>
-        ensures ok { OnOk result (values_of self.new ≡ applied (values_of self.old) edits) }
+        ensures ok { OnOk result (values_of self.new ≡ values_after_edits (values_of self.old) edits) }
         ensures err { OnErr result (values_of self.new ≡ values_of self.old) }
     {
         self.reserve_edits(edits.as_slice())?;
@@ -235,7 +235,7 @@ impl Values {
     /// Makes edits, in their order.
     fn apply_all(&mut self, edits: Seq<ValueEdit>)
         requires { HasRoom self.old edits }
-        ensures { values_of self.new ≡ applied (values_of self.old) edits }
+        ensures { values_of self.new ≡ values_after_edits (values_of self.old) edits }
     {
         for edit in edits.into_vec() {
             self.apply_edit(edit);
@@ -245,7 +245,7 @@ impl Values {
     /// Makes one edit, and keeps the capacity for the edits that follow.
     fn apply_edit(&mut self, edit: ValueEdit)
         requires { HasRoom self.old (edit ∷ []) }
-        ensures edited { values_of self.new ≡ edited (values_of self.old) edit }
+        ensures edited { values_of self.new ≡ values_after_edit (values_of self.old) edit }
         ensures room { (rest : List ValueEdit) → HasRoom self.old (edit ∷ rest) → HasRoom self.new rest }
     {
         match edit {
@@ -349,7 +349,7 @@ impl Values {
         ensures unchanged { values_of self.new ≡ values_of self.old }
         ensures next { self.new.objects.next ≡ self.old.objects.next }
         ensures kept { KeepsPlaces none_taken self.old.objects self.new.objects }
-        ensures ok { OnOk result (HasPlaceAt self.new.objects object.0 feature.0 (needed plan.now object.0 feature.0)) }
+        ensures ok { OnOk result (HasPlaceAt self.new.objects object.0 feature.0 (capacity_needed plan.now object.0 feature.0)) }
     {
         let places = places_needed(plan, object, feature)?;
         self.objects.make_place(object, feature, places, is_asked)

@@ -2,12 +2,9 @@
 use crate::asked::Asked;
 use crate::explained::{explained_fault, explained_open, explained_read};
 use crate::stop::Stop;
-use mm_check::check;
-use mm_load::load_meta;
+use mm_check::check_document;
 use mm_meta::Meta;
-use mm_types::MetaFault;
 use script_streams::read_all;
-use std::alloc::Global;
 use std::fs;
 
 /// The bytes of the file of the metamodel.
@@ -23,14 +20,9 @@ pub(crate) fn read_meta(rt: &HostRuntime, asked: &Asked) -> Result<Vec<u8>, Stop
     }
 }
 
-/// The metamodel of a document.
-fn meta_of(alloc: Global, bytes: &[u8]) -> Result<Meta, MetaFault> {
-    check(alloc, load_meta(alloc, bytes)?)
-}
-
 /// The metamodel of a document that was read.
 pub(crate) fn load(rt: &HostRuntime, asked: &Asked, bytes: &[u8]) -> Result<Box<Meta>, Stop> {
-    match meta_of(rt.alloc(), bytes) {
+    match check_document(rt.alloc(), bytes) {
         Ok(meta) => Ok(Box::new(rt.alloc(), meta)?),
         Err(fault) => Err(explained_fault(rt, asked.explain, bytes, fault)),
     }

@@ -9,7 +9,7 @@ use crate::saving::save_files;
 use crate::stop::Stop;
 use crate::watched::{Ear, Watched, Watching};
 use adapters::{Adapter, Counter, Recorder, Window};
-use explain_commands::{Talk, Watch};
+use explain_commands::{Commentary, Talk};
 use link_store::SlotStore;
 use mm_meta::Meta;
 use repository::Repository;
@@ -89,14 +89,9 @@ fn run_dialogue<A: Adapter>(
         return Err(Stop::Run(RunFault::Memory));
     };
     let mut writer = writer_of(rt, watch)?;
-    let outcome = live_over(
-        rt.alloc(),
-        &mut reader,
-        &mut writer,
-        repository,
-        boxes,
-        &mut Ear::new(watch),
-    );
+    let alloc = rt.alloc();
+    let mut ear = Ear::new(watch);
+    let outcome = live_over(alloc, &mut reader, &mut writer, repository, boxes, &mut ear);
     Ok(ended(&mut writer, outcome)?)
 }
 
@@ -231,7 +226,7 @@ pub(crate) fn run_asked(
     if !(talk.explains || talk.guides) && asked.save.is_empty() {
         return run_with_boxes(rt, asked, document, None);
     }
-    let watch = RefCell::new(Watch::new(rt.alloc(), talk, last_box(asked)));
+    let watch = RefCell::new(Commentary::new(rt.alloc(), talk, last_box(asked)));
     run_with_boxes(rt, asked, document, Some(&watch))
 }
 

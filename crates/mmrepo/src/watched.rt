@@ -1,6 +1,6 @@
 //! The listener of a run, and the stream that writes its comments.
 use adapters::Adapter;
-use explain_commands::Watch;
+use explain_commands::Commentary;
 use links::LinkStore;
 use repository::Repository;
 use script_program::Listener;
@@ -9,7 +9,7 @@ use std::io;
 use std::io::Write;
 
 /// The watch over a run; `None` if its lines are not commented on.
-pub(crate) type Watching<'w> = Option<&'w RefCell<Watch>>;
+pub(crate) type Watching<'w> = Option<&'w RefCell<Commentary>>;
 
 /// Calls a watch with the lines that were run.
 #[derive(Clone, Copy, Drop)]
@@ -65,7 +65,7 @@ impl<'w, S> Watched<'w, S> {
 }
 
 /// Writes the comments of a watch to standard error.
-fn say(rt: &HostRuntime, watch: &RefCell<Watch>) {
+fn say(rt: &HostRuntime, watch: &RefCell<Commentary>) {
     if let Ok(mut watch) = watch.try_borrow_mut() {
         let text = watch.take();
         let _ = eprint!(rt; "{text}");

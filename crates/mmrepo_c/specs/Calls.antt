@@ -1,37 +1,24 @@
 -- What the calls from C return, and what they leave in the handle.
 use Rattle.std.specs.Prelude.{◌≡◌, ◌<◌, ◌≤◌, ◌⊎◌, ℕ, Bool, true, false, IsUtf8, List, [], length, Option, Some, None, Result, Ok, Err}
-use Rattle.mm_types.specs.Raw.{RawMetamodel}
-use Rattle.mm_types.specs.Resolved.{Metamodel, resolved}
-use Rattle.mm_types.specs.WellFormed.{WellFormed}
+use Rattle.mm_types.specs.Resolved.{Metamodel}
 use Rattle.mm_types.specs.declared.limits.TheConstants.{INPUT_BYTES}
 use Rattle.mm_types.specs.declared.numbers.Node.{Node}
 use Rattle.mm_types.specs.declared.numbers.Node.TheVariants as node
 use Rattle.mm_types.specs.declared.numbers.ResourceNo.{ResourceNo}
 use Rattle.mm_types.specs.declared.meta_fault.MetaFault.{MetaFault}
-use Rattle.mm_types.specs.declared.meta_fault.MetaFault.TheVariants.{Memory}
-use Rattle.mm_load.specs.Loaded.{loaded}
-use Rattle.mm_check.specs.Checks.{Checks}
+use Rattle.mm_check.specs.Documents.{Gives, IsRefusedFor}
 use Rattle.script_lines.specs.Forms.{form}
 use Rattle.repository.specs.declared.command.Command.TheVariants.{Load}
 use Rattle.script_program.specs.Lists.{list_len_printed, list_value_printed}
 use Rattle.script_program.specs.Script.{RunsCommand, RunsLine}
 use Rattle.script_program.specs.Session.{Session}
-use Rattle.script_answers.specs.Turns.{Printed, printed}
+use Rattle.script_answers.specs.Turns.{Printed, printed_line}
 use Rattle.script_answers.specs.declared.turn.Turn.{Turn}
-use Rattle.mmrepo_c.specs.Filled.{filled}
-use Rattle.mmrepo_c.specs.Sessions.{Begins, Reads, answer, running}
+use Rattle.mmrepo_c.specs.Filled.{filled_buffer}
+use Rattle.mmrepo_c.specs.Sessions.{Begins, Reads, answer, running_session}
 use Rattle.mmrepo_c.specs.Statuses.{fault_status, line_status}
 use Rattle.mmrepo_c.specs.declared.session.Session.{Session as Held}
 use Rattle.mmrepo_c.specs.declared.status.TheConstants.{OK, BAD, CLOSED, TOO_LONG, MEMORY}
-
--- why a metamodel document is refused: its first fault, or `Memory`
-abbrev pub IsRefusedFor : List ℕ → MetaFault → Type 0
-IsRefusedFor bytes f = (f ≡ Memory) ⊎ ((loaded bytes ≡ Err f) ⊎ ((raw : RawMetamodel) × (loaded bytes ≡ Ok raw) × Checks raw (Err f)))
-
--- what a metamodel document gives: its well-formed metamodel, or why it is refused
-abbrev pub Gives : List ℕ → Result Metamodel MetaFault → Type 0
-Gives bytes (Ok m) = (raw : RawMetamodel) × (loaded bytes ≡ Ok raw) × WellFormed raw × (m ≡ resolved raw)
-Gives bytes (Err f) = IsRefusedFor bytes f
 
 -- a new session over the metamodel of an accepted document
 pub record Accepts (bytes : List ℕ) (h : Held) : Type 0 where
@@ -52,7 +39,7 @@ Opens bytes status new =
 -- a line was run: its text is the answer of the session after it; if memory was refused to the run, the handle is closed
 abbrev pub AnswersLine : Held → List ℕ → ℕ → Option Held → Type 0
 AnswersLine h line status None = status ≡ MEMORY
-AnswersLine h line status (Some t) = (turn : Turn) × (status ≡ line_status turn) × RunsLine (running h) (form line) (printed (answer t) turn) (running t)
+AnswersLine h line status (Some t) = (turn : Turn) × (status ≡ line_status turn) × RunsLine (running_session h) (form line) (printed_line (answer t) turn) (running_session t)
 
 -- the status of a line in a handle, and the handle after it
 abbrev pub Answers : Option Held → List ℕ → ℕ → Option Held → Type 0
@@ -63,7 +50,7 @@ Answers (Some h) line status new =
 -- a read was made: its text is the answer of the session after it; if memory was refused to the text, the handle is closed
 abbrev pub ReadsSession : Held → (Session → Printed) → ℕ → Option Held → Type 0
 ReadsSession h asked status None = status ≡ MEMORY
-ReadsSession h asked status (Some t) = (turn : Turn) × (status ≡ line_status turn) × Reads (running h) asked (printed (answer t) turn) (running t)
+ReadsSession h asked status (Some t) = (turn : Turn) × (status ≡ line_status turn) × Reads (running_session h) asked (printed_line (answer t) turn) (running_session t)
 
 -- the status of a read of a list in a handle, and the handle after it; `name` is the name of the feature
 abbrev pub ReadsList : Option Held → List ℕ → (Session → Printed) → ℕ → Option Held → Type 0
@@ -89,7 +76,7 @@ asked_value n name i s = list_value_printed s.state n name i
 -- a document was loaded as a command; if memory was refused to the call, the handle is closed
 abbrev pub LoadsDocument : Held → ResourceNo → List ℕ → ℕ → Option Held → Type 0
 LoadsDocument h k text status None = status ≡ MEMORY
-LoadsDocument h k text status (Some t) = (turn : Turn) × (status ≡ line_status turn) × RunsCommand (running h) (Load k text) (printed (answer t) turn) (running t)
+LoadsDocument h k text status (Some t) = (turn : Turn) × (status ≡ line_status turn) × RunsCommand (running_session h) (Load k text) (printed_line (answer t) turn) (running_session t)
 
 -- the status of a load in a handle, and the handle after it
 abbrev pub Loads : Option Held → ResourceNo → List ℕ → ℕ → Option Held → Type 0
@@ -104,5 +91,5 @@ text_of (Some h) = answer h
 -- the text of a handle was copied into a buffer, and the handle is as it was
 pub record Copies (held : Option Held) (room : List ℕ) (count : ℕ) (filled_room : List ℕ) (new : Option Held) : Type 0 where
   pub counted : count ≡ length (text_of held)
-  pub copied : filled_room ≡ filled (text_of held) room
+  pub copied : filled_room ≡ filled_buffer (text_of held) room
   pub kept : new ≡ held

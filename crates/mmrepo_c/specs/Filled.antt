@@ -2,5 +2,5 @@
 use Rattle.std.specs.Prelude.{ℕ, List, ◌++◌, length, min, take, drop}
 
 -- a buffer whose first bytes are those of a text, as many as both have
-abbrev pub filled : List ℕ → List ℕ → List ℕ
-filled text room = take (min (length text) (length room)) text ++ drop (min (length text) (length room)) room
+abbrev pub filled_buffer : List ℕ → List ℕ → List ℕ
+filled_buffer text room = take (min (length text) (length room)) text ++ drop (min (length text) (length room)) room

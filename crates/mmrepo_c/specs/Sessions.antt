@@ -9,24 +9,24 @@ use Rattle.mmrepo_c.specs.declared.session.Session.{Session as Held}
 use Rattle.mmrepo_c.specs.declared.session.TheConstants.{BOXES}
 
 -- the repository of a session, and its pool of adapters
-abbrev pub running : Held → Session
-running h = session h.interpreter.repository h.interpreter.pool
+abbrev pub running_session : Held → Session
+running_session h = session h.interpreter.repository h.interpreter.pool
 
 -- the text that the last line of a session printed
 abbrev pub answer : Held → List ℕ
 answer h = h.interpreter.output
 
 -- an adapter that was notified of nothing, and keeps no notification
-abbrev pub unheard : View
-unheard = record { told = 0; room = Some 0; kept = [] }
+abbrev pub new_view : View
+new_view = record { told = 0; room = Some 0; kept = [] }
 
 -- the adapters of a new session, none of which was notified of anything
 abbrev pub AreUnheard : {A : Type 0} → (A → View) → List A → Type 0
-AreUnheard heard boxes = map (λ a. Some (heard a)) boxes ≡ replicate BOXES (Some unheard)
+AreUnheard heard boxes = map (λ a. Some (heard a)) boxes ≡ replicate BOXES (Some new_view)
 
 -- a new session: an empty repository, all adapters in the pool, and no answer
 pub record Begins (m : Metamodel) (h : Held) : Type 0 where
-  pub runs : running h ≡ session (empty_state m) (replicate BOXES (Some unheard))
+  pub runs : running_session h ≡ session (empty_state m) (replicate BOXES (Some new_view))
   pub silent : answer h ≡ []
 
 -- the text that was asked of a session was printed, and the session is as it was

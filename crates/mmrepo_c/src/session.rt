@@ -4,8 +4,8 @@ ghost use Rattle.repository.specs.declared.command.Command.TheVariants.{Load};
 ghost use Rattle.script_lines.specs.Forms as forms;
 ghost use Rattle.script_program.specs.Lists.{list_len_printed, list_value_printed};
 ghost use Rattle.script_program.specs.Script.{RunsCommand, RunsLine};
-ghost use Rattle.script_answers.specs.Turns.{printed};
-ghost use Rattle.mmrepo_c.specs.Sessions.{AreUnheard, Begins, Reads, answer, running};
+ghost use Rattle.script_answers.specs.Turns.{printed_line};
+ghost use Rattle.mmrepo_c.specs.Sessions.{AreUnheard, Begins, Reads, answer, running_session};
 
 use adapters::{Adapter, Counter};
 use link_store::SlotStore;
@@ -49,14 +49,14 @@ impl Session {
 
     /// Runs a line, and returns how it is counted. Errs only if memory is refused to the run itself.
     pub(crate) fn answer(&mut self, line: &[u8]) -> Result<Turn, AllocError>
-        ensures { IfOk result (λ t. RunsLine (running self.old) (forms.form line.now) (printed (answer self.new) t) (running self.new)) }
+        ensures { IfOk result (λ t. RunsLine (running_session self.old) (forms.form line.now) (printed_line (answer self.new) t) (running_session self.new)) }
     {
         self.interpreter.answer(line)
     }
 
     /// Reads how many values a list has, and returns how the read is counted. Errs only if memory is refused for the text.
     pub(crate) fn list_len(&mut self, node: Node, feature: &str) -> Result<Turn, AllocError>
-        ensures { IfOk result (λ t. Reads (running self.old) (λ s. list_len_printed s.state node feature.now) (printed (answer self.new) t) (running self.new)) }
+        ensures { IfOk result (λ t. Reads (running_session self.old) (λ s. list_len_printed s.state node feature.now) (printed_line (answer self.new) t) (running_session self.new)) }
     {
         self.interpreter.list_len(node, feature)
     }
@@ -68,14 +68,14 @@ impl Session {
         feature: &str,
         index: u32,
     ) -> Result<Turn, AllocError>
-        ensures { IfOk result (λ t. Reads (running self.old) (λ s. list_value_printed s.state node feature.now index) (printed (answer self.new) t) (running self.new)) }
+        ensures { IfOk result (λ t. Reads (running_session self.old) (λ s. list_value_printed s.state node feature.now index) (printed_line (answer self.new) t) (running_session self.new)) }
     {
         self.interpreter.list_value(node, feature, index)
     }
 
     /// Loads a document, and returns how that is counted. Errs only if memory is refused to the call itself.
     pub(crate) fn load(&mut self, resource: ResourceNo, document: &[u8]) -> Result<Turn, AllocError>
-        ensures { IfOk result (λ t. RunsCommand (running self.old) (Load resource document.now) (printed (answer self.new) t) (running self.new)) }
+        ensures { IfOk result (λ t. RunsCommand (running_session self.old) (Load resource document.now) (printed_line (answer self.new) t) (running_session self.new)) }
     {
         self.interpreter.load(resource, document)
     }

@@ -7,7 +7,7 @@ use Rattle.mm_types.specs.declared.numbers.AdapterNo.{AdapterNo}
 use Rattle.mm_types.specs.declared.numbers.Node.{Node}
 use Rattle.mm_types.specs.declared.refused.Refused.{Refused}
 use Rattle.notice_chain.specs.Listed.{Listed, adapter, heard_of, tell_chain}
-use Rattle.notice_chain.specs.Released.{is_any, released, spots}
+use Rattle.notice_chain.specs.Released.{is_any, released_adapters, spots}
 use Rattle.notice_chain.specs.View.{View, hear_all}
 use Rattle.notice_chain.specs.declared.notice.Notice.{Notice}
 use Rattle.notice_chain.proofs.ViewLemmas.{hear_all-append, kept-hear_all_unbounded}
@@ -19,10 +19,10 @@ use Rattle.mmrepo_lib.specs.Heard.{handed_out, handed_out_by, told_by, told_by_a
 use Rattle.repository.specs.Refusals.{chain}
 use Rattle.repository.specs.Run.{run}
 use Rattle.repository.specs.State.{State, IsLegal, is_there, reads}
-use Rattle.repository.specs.Step.{adapters_after, going, model_after, refusal_of, releases, step, step_unless}
+use Rattle.repository.specs.Step.{adapters_after, going_spots, model_after, refusal_of, releases, step, step_unless}
 use Rattle.repository.specs.declared.command.Command.{Command}
 use Rattle.repository.specs.declared.command.Command.TheVariants.{Detach}
-use Rattle.mmrepo_lib.proofs.HeardLemmas.{AreOfNoFeature, handed-heard, handed-out-view, no-feature-released, stays-told, told-parts, told_to-append}
+use Rattle.mmrepo_lib.proofs.HeardLemmas.{AreOfNoFeature, handed-heard, handed-out-view, no-feature-released_adapters, stays-told, told-parts, told_to-append}
 use Rattle.repository.proofs.LegalLemmas.{step-legal}
 use Rattle.mmrepo_lib.proofs.ReplayLemmas.{command-replays, node-same, node-step}
 use Rattle.mmrepo_lib.proofs.ThereLemmas.{target-there, within-there}
@@ -191,7 +191,7 @@ detached-enough s cs number target a w n legal some deep below out unbounded =
       | None ↦ λ o.
           let lost = told_to number (releases r t.adapters c).told in
           kept-since s cs number target a n legal some deep below w lost
-          (no-feature-released (going r t.adapters c) (tell_chain r.above (chain r c) t.adapters) number)
+          (no-feature-released_adapters (going_spots r t.adapters c) (tell_chain r.above (chain r c) t.adapters) number)
           (handed-heard r t.adapters c number h.b (legal-after s cs number target a n legal some deep below).distinct h.attached w o
           ∙ ap (hear_all h.b.view) (told-parts r t.adapters c number h.b (legal-after s cs number target a n legal some deep below).distinct h.attached)
           ∙ ap (λ (v : View). hear_all v lost) h.view ∙ sym (hear_all-append a.view (told_to number (told_by_all (run s cs).outcomes)) lost)) unbounded
@@ -201,8 +201,8 @@ pub closed-enough : (s : State) (cs : List (Command View)) (number : AdapterNo) 
 closed-enough s cs number target a w n legal some deep below out unbounded =
     let h = all s cs number target a n legal some deep below in
     let rs = (run s cs).after.adapters in
-    let lost = told_to number (released (spots is_any rs) rs).told in
-    kept-since s cs number target a n legal some deep below w lost (no-feature-released (spots is_any rs) rs number)
+    let lost = told_to number (released_adapters (spots is_any rs) rs).told in
+    kept-since s cs number target a n legal some deep below w lost (no-feature-released_adapters (spots is_any rs) rs number)
     (handed-out-view (spots is_any rs) rs number h.b w (legal-after s cs number target a n legal some deep below).distinct h.attached out
     ∙ ap (λ (v : View). hear_all v lost) h.view ∙ sym (hear_all-append a.view (told_to number (told_by_all (run s cs).outcomes)) lost)) unbounded
 

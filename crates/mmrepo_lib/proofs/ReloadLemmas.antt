@@ -19,10 +19,10 @@ use Rattle.models.specs.Steady.{HasSteadyTexts}
 use Rattle.notice_chain.specs.View.{View}
 use Rattle.resource_docs.specs.Causes.{reads_bytes}
 use Rattle.doc_loader.proofs.SoundLemmas.{at-map}
-use Rattle.round_trip.specs.Copied.{copied}
+use Rattle.round_trip.specs.Copied.{copied_document}
 use Rattle.round_trip.proofs.BackLemmas.{text-back}
 use Rattle.round_trip.proofs.ValuesListLemmas.{stands}
-use Rattle.handshake.specs.Effects.{after}
+use Rattle.handshake.specs.Effects.{model_after}
 use Rattle.proxies.specs.Resolving.{proxy_at}
 use Rattle.handshake.specs.declared.change.Change.{Change}
 use Rattle.handshake.specs.declared.change.Change.TheVariants.{At, Load, NewResource}
@@ -48,20 +48,20 @@ use Rattle.reloading.proofs.SoFarLemmas.{HasSoFar, numbered}
 use Rattle.repository.specs.Loads.{reads_into, uri_at}
 use Rattle.repository.specs.Run.{run}
 use Rattle.repository.specs.State as legal_state
-use Rattle.repository.specs.State.{State, bare, reads}
+use Rattle.repository.specs.State.{State, reads, state_of_model}
 use Rattle.repository.specs.Step.{Stepped}
 use Rattle.repository.specs.declared.command.Command.{Command}
 use Rattle.repository.specs.Commands.{resolve}
 use Rattle.repository.specs.declared.command.Command.TheVariants as command
-use Rattle.mmrepo_lib.specs.Reload.{AllDone, AreLoads, AreResolves, AreTexts, IsAllResolved, IsDone, IsReloaded, LoadsGiveBetween, ReloadsInAnyOrder, ResolvesAll, ResolvesBetween, commands, reloaded}
+use Rattle.mmrepo_lib.specs.Reload.{AllDone, AreLoads, AreResolves, AreTexts, IsAllResolved, IsDone, IsReloaded, LoadsGiveBetween, ReloadsInAnyOrder, ResolvesAll, ResolvesBetween, commands, reloaded_state}
 use Rattle.mmrepo_lib.proofs.BareStepLemmas.{IsStep, filled, made, resolved}
 
 ---------------------------------------------------------------- runs
 
 -- commands succeed, and leave a model
 record IsRunOf (t : Model) (cs : List (Command View)) (u : Model) : Type 0 where
-  done : AllDone (run (bare t) cs).outcomes
-  after_them : (run (bare t) cs).after ≡ bare u
+  done : AllDone (run (state_of_model t) cs).outcomes
+  after_them : (run (state_of_model t) cs).after ≡ state_of_model u
 
 one-more : (t u v : Model) (c : Command View) (cs : List (Command View)) → IsStep t c u → IsRunOf u cs v → IsRunOf t (c ∷ cs) v
 one-more t u v c cs is rest = record {
@@ -79,14 +79,14 @@ module _ (s : Model) (legal : IsLegal s) (steady : HasSteadyTexts s) (saved : Is
     abbrev t : Model
     t = model_of s.metamodel w b
 
-    makes : IsMaking r done k → IsStep t (command.CreateResource (uri_of r k)) (after t (NewResource (uri_of r k)))
+    makes : IsMaking r done k → IsStep t (command.CreateResource (uri_of r k)) (model_after t (NewResource (uri_of r k)))
     makes making =
         made t (uri_of r k) (All-contains IsWebUri s.values.uris (uri_of r k) steady.uris (stands s.values.uris k.0 (uri_of r k) (uri-at s legal steady saved k making.there)))
         (uri-short s legal steady saved w b done filled_ones so_far k making) (room s legal steady saved w b done filled_ones so_far k making) (uri-new s legal steady saved w b done filled_ones so_far k making)
 
-    fills : IsFilling done filled_ones k → IsStep t (command.Load (number_of done k) (texts k)) (after t (Load (number_of done k) (copied r k)))
+    fills : IsFilling done filled_ones k → IsStep t (command.Load (number_of done k) (texts k)) (model_after t (Load (number_of done k) (copied_document r k)))
     fills filling =
-        filled t (number_of done k) (texts k) (copied r k) read (fill-allowed s legal steady saved w b done filled_ones so_far k filling)
+        filled t (number_of done k) (texts k) (copied_document r k) read (fill-allowed s legal steady saved w b done filled_ones so_far k filling)
       where
         there : has_resource r k ≡ true
         there = so_far.there k filling.there
@@ -96,7 +96,7 @@ module _ (s : Model) (legal : IsLegal s) (steady : HasSteadyTexts s) (saved : Is
             ap (λ (us : List (List ℕ)). unwrap_or (slice_get us (number_of done k).0) []) so_far.uris
             ∙ ap (λ (x : Option (List ℕ)). unwrap_or x []) (at-map (uri_of r) done (number_of done k).0 k (numbered done k filling.there).there)
 
-        read : reads_into (reading t) (number_of done k) (texts k) ≡ Ok (copied r k)
+        read : reads_into (reading t) (number_of done k) (texts k) ≡ Ok (copied_document r k)
         read = ap (λ (u : List ℕ). reads_bytes s.metamodel u (texts k)) same_uri ∙ text-back s legal steady k (uri_of r k) (readable s legal steady saved k there) (texts k) (are.reads k there) (are.utf8 k there)
 
   all-made : (ts : List Task) (w : ValuesState) (b : Links) (done filled_ones : List ResourceNo) → HasSoFar s w b done filled_ones → IsOrder r done filled_ones ts
@@ -104,12 +104,12 @@ module _ (s : Model) (legal : IsLegal s) (steady : HasSteadyTexts s) (saved : Is
   all-made [] w b done filled_ones so_far order = record { done = tt; after_them = refl }
   all-made (Make k ∷ ts) w b done filled_ones so_far order =
       let t = model_of s.metamodel w b in
-      let u = after t (NewResource (uri_of r k)) in
+      let u = model_after t (NewResource (uri_of r k)) in
       one-more t u (after_all u (changes r (done ++ k ∷ []) ts)) (command.CreateResource (uri_of r k)) (commands r texts (done ++ k ∷ []) ts) (makes w b done filled_ones so_far k order.0)
       (all-made ts u.values u.links (done ++ k ∷ []) filled_ones (made-so-far s legal steady saved w b done filled_ones so_far k order.0) order.1)
   all-made (Fill k ∷ ts) w b done filled_ones so_far order =
       let t = model_of s.metamodel w b in
-      let u = after t (Load (number_of done k) (copied r k)) in
+      let u = model_after t (Load (number_of done k) (copied_document r k)) in
       one-more t u (after_all u (changes r done ts)) (command.Load (number_of done k) (texts k)) (commands r texts done ts) (fills w b done filled_ones so_far k order.0)
       (all-made ts u.values u.links done (filled_ones ++ k ∷ []) (filled-so-far s legal steady saved w b done filled_ones so_far k order.0) order.1)
 
@@ -131,18 +131,18 @@ module _ (s : Model) (legal : IsLegal s) (none : HasNoProxy (reading s)) where
     abbrev change : Change
     change = At (at_end (node.Object o) f) (Resolve i)
 
-    then-legal : IsLegal (after before change)
+    then-legal : IsLegal (model_after before change)
     then-legal = now-legal (left-at s w b legal other none between o f i there)
 
-    stepped : IsStep before (resolve o f i) (after before change)
+    stepped : IsStep before (resolve o f i) (model_after before change)
     stepped = resolved before (at_end (node.Object o) f) i (record { early = one.early; late = one.late })
 
   -- a proxy of an object is resolved, and then the rest
   first-resolved : (n : Node) (f : FeatureNo) (i : ℕ) (cs : List (Command View))
-      → ((w : ValuesState) (b : Links) → IsLegal (model_of s.metamodel w b) → Between (reading s) (reading (model_of s.metamodel w b)) → AreResolves (bare (model_of s.metamodel w b)) cs → AreDone (bare (model_of s.metamodel w b)) cs)
-      → (w : ValuesState) (b : Links) → IsLegal (model_of s.metamodel w b) → Between (reading s) (reading (model_of s.metamodel w b)) → AreResolves (bare (model_of s.metamodel w b)) (command.At (at_end n f) (Resolve i) ∷ cs) → AreDone (bare (model_of s.metamodel w b)) (command.At (at_end n f) (Resolve i) ∷ cs)
+      → ((w : ValuesState) (b : Links) → IsLegal (model_of s.metamodel w b) → Between (reading s) (reading (model_of s.metamodel w b)) → AreResolves (state_of_model (model_of s.metamodel w b)) cs → AreDone (state_of_model (model_of s.metamodel w b)) cs)
+      → (w : ValuesState) (b : Links) → IsLegal (model_of s.metamodel w b) → Between (reading s) (reading (model_of s.metamodel w b)) → AreResolves (state_of_model (model_of s.metamodel w b)) (command.At (at_end n f) (Resolve i) ∷ cs) → AreDone (state_of_model (model_of s.metamodel w b)) (command.At (at_end n f) (Resolve i) ∷ cs)
   first-resolved (node.Object o) f i cs rest_of w b other between resolves =
-      let u = after (model_of s.metamodel w b) (At (at_end (node.Object o) f) (Resolve i)) in
+      let u = model_after (model_of s.metamodel w b) (At (at_end (node.Object o) f) (Resolve i)) in
       let is = stepped w b other between o f i resolves.0 in
       let rest = rest_of u.values u.links (then-legal w b other between o f i resolves.0) (one w b other between o f i resolves.0).between (subst (λ (y : Stepped). AreResolves y.after cs) is resolves.1) in
       record {
@@ -151,24 +151,24 @@ module _ (s : Model) (legal : IsLegal s) (none : HasNoProxy (reading s)) where
       }
   first-resolved (node.Resource k) f i cs rest_of w b other between resolves = absurd (none-at-root (model_of s.metamodel w b) other k f i resolves.0)
 
-  all-resolved : (cs : List (Command View)) (w : ValuesState) (b : Links) → IsLegal (model_of s.metamodel w b) → Between (reading s) (reading (model_of s.metamodel w b)) → AreResolves (bare (model_of s.metamodel w b)) cs → AreDone (bare (model_of s.metamodel w b)) cs
+  all-resolved : (cs : List (Command View)) (w : ValuesState) (b : Links) → IsLegal (model_of s.metamodel w b) → Between (reading s) (reading (model_of s.metamodel w b)) → AreResolves (state_of_model (model_of s.metamodel w b)) cs → AreDone (state_of_model (model_of s.metamodel w b)) cs
   all-resolved [] w b other between resolves = record { done = tt; alike = alike-of (reading s) (reading (model_of s.metamodel w b)) none resolves between }
   all-resolved (command.At e (Resolve i) ∷ cs) w b other between resolves = first-resolved e.node e.feature i cs (λ v c other between resolves. all-resolved cs v c other between resolves) w b other between resolves
   all-resolved (_ ∷ cs) w b other between resolves = absurd resolves
 
   -- resolves of a model are commands of this kind
   first-command : (n : Node) (f : FeatureNo) (i : ℕ) (cs : List Change)
-      → ((w : ValuesState) (b : Links) → IsLegal (model_of s.metamodel w b) → Between (reading s) (reading (model_of s.metamodel w b)) → models.AreResolves (model_of s.metamodel w b) cs → (rs : List (Command View)) × AreResolves (bare (model_of s.metamodel w b)) rs)
-      → (w : ValuesState) (b : Links) → IsLegal (model_of s.metamodel w b) → Between (reading s) (reading (model_of s.metamodel w b)) → models.AreResolves (model_of s.metamodel w b) (At (at_end n f) (Resolve i) ∷ cs) → (rs : List (Command View)) × AreResolves (bare (model_of s.metamodel w b)) rs
+      → ((w : ValuesState) (b : Links) → IsLegal (model_of s.metamodel w b) → Between (reading s) (reading (model_of s.metamodel w b)) → models.AreResolves (model_of s.metamodel w b) cs → (rs : List (Command View)) × AreResolves (state_of_model (model_of s.metamodel w b)) rs)
+      → (w : ValuesState) (b : Links) → IsLegal (model_of s.metamodel w b) → Between (reading s) (reading (model_of s.metamodel w b)) → models.AreResolves (model_of s.metamodel w b) (At (at_end n f) (Resolve i) ∷ cs) → (rs : List (Command View)) × AreResolves (state_of_model (model_of s.metamodel w b)) rs
   first-command (node.Object o) f i cs rest_of w b other between resolves =
-      let u = after (model_of s.metamodel w b) (At (at_end (node.Object o) f) (Resolve i)) in
+      let u = model_after (model_of s.metamodel w b) (At (at_end (node.Object o) f) (Resolve i)) in
       let is = stepped w b other between o f i resolves.0 in
       let rest = rest_of u.values u.links (then-legal w b other between o f i resolves.0) (one w b other between o f i resolves.0).between resolves.1 in
       (resolve o f i ∷ rest.0, (resolves.0, subst (λ (y : Stepped). AreResolves y.after rest.0) (sym is) rest.1))
   first-command (node.Resource k) f i cs rest_of w b other between resolves = absurd (none-at-root (model_of s.metamodel w b) other k f i resolves.0)
 
   as-commands : (cs : List Change) (w : ValuesState) (b : Links) → IsLegal (model_of s.metamodel w b) → Between (reading s) (reading (model_of s.metamodel w b)) → models.AreResolves (model_of s.metamodel w b) cs
-      → (rs : List (Command View)) × AreResolves (bare (model_of s.metamodel w b)) rs
+      → (rs : List (Command View)) × AreResolves (state_of_model (model_of s.metamodel w b)) rs
   as-commands [] w b other between resolves = ([], resolves)
   as-commands (At e (Resolve i) ∷ cs) w b other between resolves = first-command e.node e.feature i cs (λ v c other between resolves. as-commands cs v c other between resolves) w b other between resolves
   as-commands (_ ∷ cs) w b other between resolves = absurd resolves
@@ -192,9 +192,9 @@ all-at-once s w b legal other none between =
 ---------------------------------------------------------------- all of it
 
 -- a state without adapters is as legal as its model
-bare-legal : (t : Model) → IsLegal t → legal_state.IsLegal (bare t)
+state_of_model-legal : (t : Model) → IsLegal t → legal_state.IsLegal (state_of_model t)
 unfolding IsDistinct
-bare-legal t legal = record { model = legal; few = omega arith; distinct = tt; adapters = search rules }
+state_of_model-legal t legal = record { model = legal; few = omega arith; distinct = tt; adapters = search rules }
 
 module _ (state : State) (legal : legal_state.IsLegal state) (steady : HasSteadyTexts state.model) (saved : IsSaved (reads state)) (texts : ResourceNo → List ℕ) (are : AreTexts (reads state) texts)
     (ts : List Task) (order : IsOrder (reads state) [] [] ts) where
@@ -202,7 +202,7 @@ module _ (state : State) (legal : legal_state.IsLegal state) (steady : HasSteady
   s = state.model
 
   abbrev loaded : Model
-  loaded = models.reloaded s ts
+  loaded = models.reloaded_model s ts
 
   abbrev over : Model
   over = model_of s.metamodel loaded.values loaded.links
@@ -222,13 +222,13 @@ module _ (state : State) (legal : legal_state.IsLegal state) (steady : HasSteady
   ran : IsRunOf (empty_model s.metamodel) (commands (reading s) texts [] ts) loaded
   ran = all-made s legal.model steady saved texts are ts (record { objects = []; uris = [] }) no_links [] [] (at-first s legal.model steady saved) order
 
-  now : reloaded state texts ts ≡ bare over
-  now = ran.after_them ∙ ap bare same
+  now : reloaded_state state texts ts ≡ state_of_model over
+  now = ran.after_them ∙ ap state_of_model same
 
   loads : AreLoads state texts ts
   loads = record {
     done = ran.done;
-    legal = subst legal_state.IsLegal (sym now) (bare-legal over other);
+    legal = subst legal_state.IsLegal (sym now) (state_of_model-legal over other);
     between = subst (λ (y : State). Between (reading s) (reads y)) (sym now) between;
   }
 
@@ -237,7 +237,7 @@ module _ (state : State) (legal : legal_state.IsLegal state) (steady : HasSteady
       let some = (reloads_of.reloads s legal.model steady saved ts order).some in
       record {
         loads = ran.done;
-        all = subst (λ (y : State). IsAllResolved (reading s) y) (sym now) (all-at-once state loaded.values loaded.links legal (bare-legal over other) saved.resolved between);
+        all = subst (λ (y : State). IsAllResolved (reading s) y) (sym now) (all-at-once state loaded.values loaded.links legal (state_of_model-legal over other) saved.resolved between);
         some = subst (λ (y : State). (rs : List (Command View)) × AreResolves y rs) (sym now) (as-commands s legal.model saved.resolved some.0 loaded.values loaded.links other between (subst (λ (x : Model). models.AreResolves x some.0) same some.1));
         had = λ rs resolves.
             (let x = subst (λ (y : State). AreDone s legal.model saved.resolved y rs) (sym now) (all-resolved s legal.model saved.resolved rs loaded.values loaded.links other between (subst (λ (y : State). AreResolves y rs) now resolves)) in

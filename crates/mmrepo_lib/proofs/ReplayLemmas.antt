@@ -12,11 +12,11 @@ use Rattle.mm_types.specs.declared.end.End.{End}
 use Rattle.mm_types.specs.declared.numbers.FeatureNo.{FeatureNo}
 use Rattle.mm_types.specs.declared.numbers.Node.{Node}
 use Rattle.notice_chain.specs.Listed.{Above, Listed, brings_in, heard_of, hears}
-use Rattle.notice_chain.specs.Replay.{names, naming, replayed_all, replayed_each}
+use Rattle.notice_chain.specs.Replay.{end_after_notices, ends_after_notices, names, notices_naming}
 use Rattle.notice_chain.specs.View.{View}
 use Rattle.notice_chain.specs.declared.notice.Notice.{Notice}
 use Rattle.notice_chain.specs.declared.target.Target.{Target}
-use Rattle.notice_chain.proofs.ReplayLemmas.{replayed_all-at}
+use Rattle.notice_chain.proofs.ReplayLemmas.{ends_after_notices-at}
 use Rattle.models.specs.Legal as models
 use Rattle.models.specs.Model.{Model, reading}
 use Rattle.models.specs.Reading.{Reading, all_features_of, at_end, held_at, is_within}
@@ -42,7 +42,7 @@ use Rattle.snapshots.proofs.NodeLemmas.{feature_after, feature_after-flag, featu
 
 -- replaying the chain of a change, if there is one, gives the values of an end after it
 Replays : Model → Option Change → End → Type 0
-Replays s o d = replayed_all (has_flag s.metamodel) (held_at (reading s)) (option_map_or (planned_chain.chain (reading s)) o []) d ≡ held_at (reading (model_by s o)) d
+Replays s o d = ends_after_notices (has_flag s.metamodel) (held_at (reading s)) (option_map_or (planned_chain.chain (reading s)) o []) d ≡ held_at (reading (model_by s o)) d
 
 abbrev IsThere : Model → Node → Type 0
 IsThere s n = IsTrue (is_there (reading s) n)
@@ -58,7 +58,7 @@ change-replays s (Some x) legal allowed d before later =
 
 pub command-replays : (s : State) (c : Command View) → models.IsLegal s.model → early_refusal (reads s) s.adapters c ≡ None → late_refusal (reads s) s.adapters c ≡ None
     → (d : End) → IsThere s.model d.node → IsThere (model_after s.model c) d.node
-    → replayed_all (has_flag s.model.metamodel) (held_at (reads s)) (chain (reads s) c) d ≡ held_at (reading (model_after s.model c)) d
+    → ends_after_notices (has_flag s.model.metamodel) (held_at (reads s)) (chain (reads s) c) d ≡ held_at (reading (model_after s.model c)) d
 unfolding Replays
 command-replays s c legal early late d before later = change-replays s (change_of (reads s) c) legal (λ x is. change-allowed s c x is early late) d before later
 
@@ -89,24 +89,24 @@ hears-named r a target d deep within x named =
     by None h = absurd (cc)
     by (Some g) h = same_node-true x.notifier d.node (and_parts _ _ h).0
 
-pub heard-naming : (r : Reading) (a : Listed) (target : Node) (ns : List Notice) (d : End) → is_deep_of target a ≡ true → is_within r target d.node ≡ true → naming d (heard_of r.above ns a) ≡ naming d ns
-heard-naming r a target ns d deep within = filter-filter (names d) (λ n. hears r.above a n) ns (hears-named r a target d deep within)
+pub heard-notices_naming : (r : Reading) (a : Listed) (target : Node) (ns : List Notice) (d : End) → is_deep_of target a ≡ true → is_within r target d.node ≡ true → notices_naming d (heard_of r.above ns a) ≡ notices_naming d ns
+heard-notices_naming r a target ns d deep within = filter-filter (names d) (λ n. hears r.above a n) ns (hears-named r a target d deep within)
 
 -- a notification of no feature names no end
-unnamed : (d : End) (ns : List Notice) → AreOfNoFeature ns → naming d ns ≡ []
+unnamed : (d : End) (ns : List Notice) → AreOfNoFeature ns → notices_naming d ns ≡ []
 unnamed d [] h = refl
-unnamed d (n ∷ ns) h = ap (λ (o : Option FeatureNo). cond (option_map_or (λ y. same_end y d) (option_map (λ g. let e : End = record { node = n.notifier; feature = g } in e) o) false) (n ∷ naming d ns) (naming d ns)) h.0 ∙ unnamed d ns h.1
+unnamed d (n ∷ ns) h = ap (λ (o : Option FeatureNo). cond (option_map_or (λ y. same_end y d) (option_map (λ g. let e : End = record { node = n.notifier; feature = g } in e) o) false) (n ∷ notices_naming d ns) (notices_naming d ns)) h.0 ∙ unnamed d ns h.1
 
 ---------------------------------------------------------------- one node
 
 abbrev state_of : FeatureNo → Bool → Held → FeatureState
 state_of f u h = record { feature = f; values = h.values; flag = flag_of u h.flag }
 
-feature-step : (at : Node) (ns : List Notice) (f : FeatureNo) (u : Bool) (g h : Held) → replayed_each u (naming (end_of at f) ns) g ≡ h → feature_after at ns (state_of f u g) ≡ state_of f u h
+feature-step : (at : Node) (ns : List Notice) (f : FeatureNo) (u : Bool) (g h : Held) → end_after_notices u (notices_naming (end_of at f) ns) g ≡ h → feature_after at ns (state_of f u g) ≡ state_of f u h
 feature-step at ns f true g h e = feature_after-flag at ns f g.values g.flag ∙ ap (state_of f true) e
 feature-step at ns f false g h e =
     feature_after-plain at ns f g.values
-    ∙ ap (λ vs. let y : FeatureState = record { feature = f; values = vs; flag = None } in y) (same_values-each false (naming (end_of at f) ns) (record { values = g.values; flag = false }) g refl ∙ ap (λ (x : Held). x.values) e)
+    ∙ ap (λ vs. let y : FeatureState = record { feature = f; values = vs; flag = None } in y) (same_values-each false (notices_naming (end_of at f) ns) (record { values = g.values; flag = false }) g refl ∙ ap (λ (x : Held). x.values) e)
 
 map-step : (g : FeatureState → FeatureState) (a b : FeatureNo → FeatureState) (fs : List FeatureNo) → ((f : FeatureNo) → g (a f) ≡ b f) → map g (map a fs) ≡ map b fs
 map-step g a b [] h = refl
@@ -126,8 +126,8 @@ node-step s c a target n legal early late deep within before later =
     let ends : (f : FeatureNo) → feature_after n hs (feature_state r n f) ≡ feature_state (reading t) n f =
     λ (f : FeatureNo).
     let d = at_end n f in
-    let all : replayed_each (has_flag m f) (naming d ns) (held_at r d) ≡ held_at (reading t) d = sym (replayed_all-at (has_flag m) (held_at r) ns d) ∙ command-replays s c legal early late d before later in
-    let heard : replayed_each (has_flag m f) (naming d hs) (held_at r d) ≡ held_at (reading t) d = ap (λ xs. replayed_each (has_flag m f) xs (held_at r d)) (heard-naming r a target ns d deep within) ∙ all in
+    let all : end_after_notices (has_flag m f) (notices_naming d ns) (held_at r d) ≡ held_at (reading t) d = sym (ends_after_notices-at (has_flag m) (held_at r) ns d) ∙ command-replays s c legal early late d before later in
+    let heard : end_after_notices (has_flag m f) (notices_naming d hs) (held_at r d) ≡ held_at (reading t) d = ap (λ xs. end_after_notices (has_flag m f) xs (held_at r d)) (heard-notices_naming r a target ns d deep within) ∙ all in
     feature-step n hs f (has_flag m f) (held_at r d) (held_at (reading t) d) heard
     ∙ ap (λ (q : Metamodel). state_of f (shape q f).is_unsettable (held_at (reading t) d)) (sym (metamodel-by s.model o)) in
     let features : map (feature_after n hs) (map (feature_state r n) (all_features_of r n)) ≡ map (feature_state (reading t) n) (all_features_of (reading t) n) =
@@ -143,6 +143,6 @@ node-same r n ns none =
     let ends : (f : FeatureNo) → feature_after n ns (feature_state r n f) ≡ feature_state r n f =
     λ (f : FeatureNo).
     let d = at_end n f in
-    feature-step n ns f (shape r.metamodel f).is_unsettable (held_at r d) (held_at r d) (ap (λ xs. replayed_each (shape r.metamodel f).is_unsettable xs (held_at r d)) (unnamed d ns none)) in
+    feature-step n ns f (shape r.metamodel f).is_unsettable (held_at r d) (held_at r d) (ap (λ xs. end_after_notices (shape r.metamodel f).is_unsettable xs (held_at r d)) (unnamed d ns none)) in
     node_after-features ns (node_state r n)
     ∙ ap (λ (fs : List FeatureState). let y : NodeState = record { node = n; class = class_at r n; features = fs } in y) (map-step (feature_after n ns) (feature_state r n) (feature_state r n) (all_features_of r n) ends)

@@ -11,7 +11,7 @@ use Rattle.models.specs.Legal as models
 use Rattle.models.specs.Model.{Model, reading}
 use Rattle.models.specs.Reading.{held_at, is_within}
 use Rattle.notice_chain.specs.Listed.{Listed, adapter}
-use Rattle.notice_chain.specs.Replay.{replayed_all}
+use Rattle.notice_chain.specs.Replay.{ends_after_notices}
 use Rattle.notice_chain.specs.View.{View}
 use Rattle.handshake.specs.FeatureChange.{has_flag}
 use Rattle.notice_chain.specs.declared.notice.Notice.{Notice}
@@ -19,7 +19,7 @@ use Rattle.mmrepo_lib.specs.Heard.{handed_out, handed_out_by, told_by_all, told_
 use Rattle.repository.specs.Refusals.{chain}
 use Rattle.repository.specs.Run.{run}
 use Rattle.repository.specs.State.{State, IsLegal, is_there, reads}
-use Rattle.repository.specs.Step.{closed, refusal_of, step}
+use Rattle.repository.specs.Step.{adapters_at_close, refusal_of, step}
 use Rattle.repository.specs.declared.command.Command.{Command}
 use Rattle.repository.specs.declared.command.Command.TheVariants.{Detach}
 use Rattle.snapshots.specs.Replayed.{replayed_notices, state_at}
@@ -31,7 +31,7 @@ abbrev pub ChainReplays : State → Command View → Type 0
 ChainReplays s c =
     IsLegal s → refusal_of s c ≡ None
     → (d : End) → IsTrue (is_there (reads s) d.node) → IsTrue (is_there (reads (step s c).after) d.node)
-    → replayed_all (has_flag s.model.metamodel) (held_at (reads s)) (chain (reads s) c) d ≡ held_at (reads (step s c).after) d
+    → ends_after_notices (has_flag s.model.metamodel) (held_at (reads s)) (chain (reads s) c) d ≡ held_at (reads (step s c).after) d
 
 -- a snapshot has the state of each node that is its target or below it
 abbrev pub HasEachNode : Model → Node → Node → Type 0
@@ -89,4 +89,4 @@ DetachedKeepsEnough s cs number target a w n =
 
 -- .. and when the repository is closed
 abbrev pub ClosedKeepsEnough : State → List (Command View) → AdapterNo → Node → Listed → View → Node → Type 0
-ClosedKeepsEnough s cs number target a w n = OfWatched s cs number target a n (handed_out number (closed (run s cs).after) ≡ Some w → KeepsEnough s cs target n a.view w)
+ClosedKeepsEnough s cs number target a w n = OfWatched s cs number target a n (handed_out number (adapters_at_close (run s cs).after) ≡ Some w → KeepsEnough s cs target n a.view w)

@@ -21,7 +21,7 @@ use Rattle.reloading.specs.Between.{Between}
 use Rattle.reloading.specs.Orders.{Fill, IsOrder, IsSaved, Make, Task, number_of, uri_of}
 use Rattle.reloading.specs.Proxies.{HasNoProxy, proxies_len}
 use Rattle.repository.specs.Run.{run}
-use Rattle.repository.specs.State.{State, IsLegal, bare, empty_state, reads}
+use Rattle.repository.specs.State.{State, IsLegal, state_of_model, empty_state, reads}
 use Rattle.repository.specs.Step.{step}
 use Rattle.repository.specs.Views.{Outcome}
 use Rattle.repository.specs.declared.command.Command.{Command}
@@ -59,14 +59,14 @@ AllDone os = AllByRecursion IsDone os
 ---------------------------------------------------------------- loads
 
 -- a new repository over the metamodel of s after the tasks of an order
-abbrev pub reloaded : State → (ResourceNo → List ℕ) → List Task → State
-reloaded s texts ts = (run (empty_state s.model.metamodel) (commands (reads s) texts [] ts)).after
+abbrev pub reloaded_state : State → (ResourceNo → List ℕ) → List Task → State
+reloaded_state s texts ts = (run (empty_state s.model.metamodel) (commands (reads s) texts [] ts)).after
 
 -- the loads are not refused; the state that they leave is legal, and a partly resolved copy of the saved one
 pub record AreLoads (s : State) (texts : ResourceNo → List ℕ) (ts : List Task) : Type 0 where
   pub done : AllDone (run (empty_state s.model.metamodel) (commands (reads s) texts [] ts)).outcomes
-  pub legal : IsLegal (reloaded s texts ts)
-  pub between : Between (reads s) (reads (reloaded s texts ts))
+  pub legal : IsLegal (reloaded_state s texts ts)
+  pub between : Between (reads s) (reads (reloaded_state s texts ts))
 
 -- P is true for each legal state with normalised URIs and without proxies whose resources were saved as these texts, and for each order of
 -- tasks
@@ -106,7 +106,7 @@ pub record IsAllResolved (r : Reading) (t : State) : Type 0 where
 -- P is true of each state without adapters that is a partly resolved copy of a state without proxies
 abbrev pub OfBetween : (Reading → State → Type 0) → State → ValuesState → Links → Type 0
 OfBetween P s w b =
-    let t = bare (model_of s.model.metamodel w b) in
+    let t = state_of_model (model_of s.model.metamodel w b) in
     IsLegal s → IsLegal t → HasNoProxy (reads s) → Between (reads s) (reads t) → P (reads s) t
 
 abbrev pub ResolvesBetween : State → ValuesState → Links → Type 0
@@ -120,16 +120,16 @@ ResolvesAll s w b = OfBetween IsAllResolved s w b
 
 -- the resolves are not refused, and the state that they leave is isomorphic to the saved one
 pub record IsHadAgain (s : State) (texts : ResourceNo → List ℕ) (ts : List Task) (rs : List (Command View)) : Type 0 where
-  pub resolves : AllDone (run (reloaded s texts ts) rs).outcomes
-  pub alike : Alike (reads s) (reads (run (reloaded s texts ts) rs).after)
+  pub resolves : AllDone (run (reloaded_state s texts ts) rs).outcomes
+  pub alike : Alike (reads s) (reads (run (reloaded_state s texts ts) rs).after)
 
 -- after loads in an order: the loads are not refused; a resolve of all proxies at once brings the saved state back; there are single
 -- resolves that leave no proxy; and all resolves that leave no proxy bring the saved state back
 pub record IsReloaded (s : State) (texts : ResourceNo → List ℕ) (ts : List Task) : Type 0 where
   pub loads : AllDone (run (empty_state s.model.metamodel) (commands (reads s) texts [] ts)).outcomes
-  pub all : IsAllResolved (reads s) (reloaded s texts ts)
-  pub some : (rs : List (Command View)) × AreResolves (reloaded s texts ts) rs
-  pub had : (rs : List (Command View)) → AreResolves (reloaded s texts ts) rs → IsHadAgain s texts ts rs
+  pub all : IsAllResolved (reads s) (reloaded_state s texts ts)
+  pub some : (rs : List (Command View)) × AreResolves (reloaded_state s texts ts) rs
+  pub had : (rs : List (Command View)) → AreResolves (reloaded_state s texts ts) rs → IsHadAgain s texts ts rs
 
 abbrev pub ReloadsInAnyOrder : State → Type 0
 ReloadsInAnyOrder = OfSaved IsReloaded

@@ -18,7 +18,7 @@ ghost use Rattle.repository.specs.Laws.{KeepsLegal};
 ghost use Rattle.mmrepo_lib.specs.Reload.{LoadsGiveBetween, ReloadsInAnyOrder, ResolvesAll, ResolvesBetween};
 ghost use Rattle.repository.specs.Run.{Executed};
 ghost use Rattle.repository.specs.State.{State};
-ghost use Rattle.repository.specs.Views.{brought};
+ghost use Rattle.repository.specs.Views.{brought_adapter};
 ghost use Rattle.repository.specs.declared.command.Command.{Command};
 ghost use Rattle.repository.specs.declared.reply.Failure.{Failure};
 ghost use Rattle.repository.specs.declared.reply.Reply.{Reply};
@@ -31,7 +31,7 @@ pub fn keeps_legal()
 /// A command that is refused, also for lack of memory, changes nothing, and gives back the adapter that it was given.
 pub fn a_refusal_changes_nothing()
     ensures unchanged { (s t : State) (c : Command View) (f : Failure View) → Executed s c (Err f) t → t ≡ s }
-    ensures given_back { (s t : State) (c : Command View) (f : Failure View) → Executed s c (Err f) t → f.given_back ≡ brought c }
+    ensures given_back { (s t : State) (c : Command View) (f : Failure View) → Executed s c (Err f) t → f.given_back ≡ brought_adapter c }
 {}
 
 /// The notifications of a command, replayed in turn on the values of an end before it, give the values of the end after it. That is so for

@@ -1,6 +1,6 @@
 //! All that a program needs to keep models, under one name.
 //!
-//! A crate of yours names only `mmrepo_lib` in its line of `crates.txt`. `load_meta` reads a metamodel, `check` tests it, and a
+//! A crate of yours names only `mmrepo_lib` in its line of `crates.txt`. `check_document` reads a metamodel and tests it, and a
 //! `Repository` of it makes objects, links them, notifies adapters, saves and loads. `specs/Steps.antt` has the definitions that the
 //! contracts of a repository cite, for proofs about your own code. docs/LIBRARY.md begins with a program.
 #![tactic(auto)]
@@ -9,7 +9,7 @@ pub mod laws;
 
 pub use adapters::{Adapter, Counter, NoRoom, Recorder, Window};
 pub use link_store::{LinkStore, RowStore, SlotStore};
-pub use mm_check::check;
+pub use mm_check::{check, check_document};
 pub use mm_load::load_meta;
 pub use mm_meta::Meta;
 pub use mm_types::{

@@ -2,7 +2,7 @@
 use Rattle.std.proofs.Common.{◌≡◌, ◌≤◌, nat_le, arith, pos, option_to_list, ℕ, Bool, true, false, IsTrue, List, [], ◌∷◌, length, slice_get, Option, Some, None, unwrap_or, option_map, option_and_then, if◌then◌else◌, refl, sym, ◌∙◌, subst}
 use Rattle.std.specs.Prelude.{int_le}
 use Rattle.std.proofs.lemmas.Bool.{and_parts}
-use Rattle.mm_types.specs.Ends.{shown, value_in}
+use Rattle.mm_types.specs.Ends.{shown_values, value_in}
 use Rattle.std.proofs.lemmas.Bool.Decides.{Decides-int_eq, nat_tests}
 use Rattle.std.specs.Option.{option_map_or}
 use Rattle.mm_types.specs.Lookups as lookups
@@ -22,17 +22,17 @@ use Rattle.models.specs.Model.{Model, reading}
 use Rattle.models.specs.Reading.{Reading, shape_at, value_at}
 use Rattle.models.proofs.ReadLemmas.{value_in_shown}
 
-shown-none : (b : Bool) → value_in (shown b []) 0 ≡ value.Null
-shown-none true = refl
-shown-none false = refl
+shown_values-none : (b : Bool) → value_in (shown_values b []) 0 ≡ value.Null
+shown_values-none true = refl
+shown_values-none false = refl
 
 -- what a single end has is its first value, and else null
-first-shown : (b : Bool) (vs : List Value) → unwrap_or (slice_get vs 0) value.Null ≡ value_in (shown b vs) 0
-first-shown b [] = sym (shown-none b)
-first-shown b (v ∷ vs) = sym (value_in_shown b v vs)
+first-shown_values : (b : Bool) (vs : List Value) → unwrap_or (slice_get vs 0) value.Null ≡ value_in (shown_values b vs) 0
+first-shown_values b [] = sym (shown_values-none b)
+first-shown_values b (v ∷ vs) = sym (value_in_shown b v vs)
 
 pub value_at-first : (s : Model) (e : End) → unwrap_or (slice_get ((reading s).values e) 0) value.Null ≡ value_at (reading s) e
-value_at-first s e = first-shown (shape s.metamodel e.feature).is_single ((reading s).values e)
+value_at-first s e = first-shown_values (shape s.metamodel e.feature).is_single ((reading s).values e)
 
 ---------------------------------------------------------------- single ends
 

@@ -2,7 +2,7 @@
 use Rattle.std.proofs.Common.{◌≡◌, ◌&&◌, Bool, true, false, List, [], ◌∷◌, if◌then◌else◌, refl, ℕ, suc, ◌+◌, ◌||◌, not, cond, length, nat_lt, Some, None, option_map, is_some, ◌∙◌, arith}
 use Rattle.mm_types.specs.Shapes.{Shape}
 use Rattle.models.specs.Model.{attribute_values}
-use Rattle.mm_types.specs.Ends.{shown, value_in}
+use Rattle.mm_types.specs.Ends.{shown_values, value_in}
 use Rattle.mm_types.specs.Same.{is_nil}
 use Rattle.mm_types.specs.declared.value.Value.{Value}
 use Rattle.std.specs.List.{list_any, position_or_len}
@@ -11,11 +11,11 @@ use Rattle.models.specs.Reading.{Reading, has_uri, resource_named}
 use Rattle.models.proofs.PlaceLemmas.{zero-below}
 use Rattle.std.proofs.lemmas.Bool.Decides.{nat_tests}
 
-pub value_in_shown : (single : Bool) (v : Value) (vs : List Value) → value_in (shown single (v ∷ vs)) 0 ≡ v
+pub value_in_shown : (single : Bool) (v : Value) (vs : List Value) → value_in (shown_values single (v ∷ vs)) 0 ≡ v
 value_in_shown true v vs = refl
 value_in_shown false v vs = refl
 
-pub is_nil_shown : (vs : List Value) → is_nil (shown false vs) ≡ is_nil vs
+pub is_nil_shown : (vs : List Value) → is_nil (shown_values false vs) ≡ is_nil vs
 is_nil_shown vs = refl
 
 -- the values of an attribute, by whether it has its default

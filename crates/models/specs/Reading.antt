@@ -8,7 +8,7 @@ use Rattle.mm_types.specs.Lookups as lookups
 use Rattle.mm_types.specs.Resolved.{Metamodel}
 use Rattle.mm_types.specs.Same.{same_feature, same_node}
 use Rattle.mm_types.specs.Shapes.{Shape, shape}
-use Rattle.mm_types.specs.Ends.{Ends, first_in, has_value, shown}
+use Rattle.mm_types.specs.Ends.{Ends, first_in, has_value, shown_values}
 use Rattle.mm_types.specs.Ends as ends
 use Rattle.mm_types.specs.declared.numbers.ClassNo.{ClassNo}
 use Rattle.mm_types.specs.declared.numbers.FeatureNo.{FeatureNo}
@@ -49,7 +49,7 @@ shape_at r e = shape r.metamodel e.feature
 
 -- what ends hold, as notifications show it: an empty single end holds null
 abbrev pub held_at : Reading → Ends
-held_at r e = record { values = shown (shape_at r e).is_single (r.values e); flag = r.flag e }
+held_at r e = record { values = shown_values (shape_at r e).is_single (r.values e); flag = r.flag e }
 
 -- the value of a single end
 abbrev pub value_at : Reading → End → Value

@@ -4,5 +4,5 @@ pub mod RowLemmas
 pub mod TableLemmas
 pub mod CellLemmas
 pub mod KeyLemmas
-pub mod TargetLemmas
+pub mod EndValueLemmas
 pub mod TakesLemmas

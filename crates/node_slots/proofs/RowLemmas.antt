@@ -13,7 +13,7 @@ use Rattle.node_slots.specs.declared.slot.SlotEdit.{SlotEdit}
 use Rattle.node_slots.specs.declared.row.Row.{Row}
 use Rattle.node_slots.specs.declared.row.RowEdit.{RowEdit}
 use Rattle.node_slots.specs.declared.row.RowEdit.TheVariants.{Change, Hold, Enter, Leave, ForgetEntries}
-use Rattle.node_slots.specs.Slots.{AreSlotsEdited, mixed_of, pairing_after, pairing_of, places_of, slot_in, taken, unpaired, values_after, values_of}
+use Rattle.node_slots.specs.Slots.{AreSlotsEdited, mixed_of, no_pairing, pairing_after, pairing_of, places_of, slot_edit_capacity, slot_in, values_after, values_of}
 use Rattle.node_slots.specs.Rows.{IsRowEdited, IsRowGrown, IsRowReordered, RowFits, row_entered, entered_after, hold_after, told_after, vals_after}
 use Rattle.node_slots.proofs.SlotLemmas.{nothing_after, nothing_told, same_slot}
 
@@ -25,8 +25,8 @@ module _ (f : FeatureNo) (x : SlotEdit) (old new : List Slot) (h : AreSlotsEdite
     | false ↦ λ q. ap P (h.others g (λ e. false≢true (sym q ∙ eq-eqb f.0 g.0 e)))
   ] refl
 
-  places_if : (g : FeatureNo) → places_of (slot_in old g) ≤ places_of (slot_in new g) + (if same_feature f g then taken x else zero)
-  places_if g = elim (eqb f.0 g.0) as (λ b. eqb f.0 g.0 ≡ b → places_of (slot_in old g) ≤ places_of (slot_in new g) + (if b then taken x else zero)) [
+  places_if : (g : FeatureNo) → places_of (slot_in old g) ≤ places_of (slot_in new g) + (if same_feature f g then slot_edit_capacity x else zero)
+  places_if g = elim (eqb f.0 g.0) as (λ b. eqb f.0 g.0 ≡ b → places_of (slot_in old g) ≤ places_of (slot_in new g) + (if b then slot_edit_capacity x else zero)) [
     | true ↦ λ q. let e = same_slot new f g (eqb-true f.0 g.0 q) in let d = same_slot old f g (eqb-true f.0 g.0 q) in rw (e, d) h.here.places
     | false ↦ λ q. let e = ap places_of (h.others g (λ e. false≢true (sym q ∙ eq-eqb f.0 g.0 e))) in omega (arith, e)
   ] refl
@@ -52,7 +52,7 @@ changed f x r s e h is holder entered promised =
     })
 
 -- if there is no row, a change that adds nothing makes no row
-unmade : (x : RowEdit) → ((g : FeatureNo) → [] ≡ vals_after x g []) → ((g : FeatureNo) → unpaired ≡ told_after x g unpaired) → None ≡ hold_after x None → [] ≡ entered_after x [] → IsRowEdited x None None
+unmade : (x : RowEdit) → ((g : FeatureNo) → [] ≡ vals_after x g []) → ((g : FeatureNo) → no_pairing ≡ told_after x g no_pairing) → None ≡ hold_after x None → [] ≡ entered_after x [] → IsRowEdited x None None
 unmade x vals pairing hold entered = record {
   vals = vals;
   pairing = pairing;
@@ -67,7 +67,7 @@ unmade x vals pairing hold entered = record {
 pub unedited_row : (x : RowEdit) (o : Option Row) → o ≡ None → RowFits x o → IsRowEdited x o o
 unedited_row (Change f y) None is fits =
     unmade (Change f y) (λ g. elim (eqb f.0 g.0) as (λ b. [] ≡ (if b then values_after y [] else [])) [ true ↦ nothing_after y fits.0 | false ↦ refl ])
-    (λ g. elim (eqb f.0 g.0) as (λ b. unpaired ≡ (if b then pairing_after y unpaired else unpaired)) [ true ↦ nothing_told y fits.0 | false ↦ refl ]) refl refl
+    (λ g. elim (eqb f.0 g.0) as (λ b. no_pairing ≡ (if b then pairing_after y no_pairing else no_pairing)) [ true ↦ nothing_told y fits.0 | false ↦ refl ]) refl refl
 unedited_row (Hold (Some h)) None is fits = absurd (false≢true fits)
 unedited_row (Hold None) None is fits = unmade (Hold None) (λ g. refl) (λ g. refl) refl refl
 unedited_row (Enter d) None is fits = absurd (omega (arith, fits))

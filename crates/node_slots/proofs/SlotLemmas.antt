@@ -12,7 +12,7 @@ use Rattle.mm_types.specs.declared.numbers.FeatureNo.{FeatureNo}
 use Rattle.node_slots.specs.declared.slot.Slot.{Slot}
 use Rattle.node_slots.specs.declared.slot.SlotEdit.{SlotEdit}
 use Rattle.node_slots.specs.declared.slot.SlotEdit.TheVariants.{Insert, Push, Remove, Move, Forget}
-use Rattle.node_slots.specs.Slots.{AreSlotsEdited, AreSlotsGrown, IsFeatureEdited, IsFeatureGrown, IsSlotEdited, mixed_of, pairing_after, places_of, slot_in, slot_places, taken, unpaired, values_after}
+use Rattle.node_slots.specs.Slots.{AreSlotsEdited, AreSlotsGrown, IsFeatureEdited, IsFeatureGrown, IsSlotEdited, mixed_of, no_pairing, pairing_after, places_of, slot_edit_capacity, slot_in, slot_places, values_after}
 use Rattle.node_slots.proofs.ListLemmas.{shifted_past}
 
 abbrev pub is_of : FeatureNo → Slot → Bool
@@ -141,30 +141,30 @@ module _ (ss : List Slot) (f : FeatureNo) (i : ℕ) (s t : Slot) (at : IsFirst s
   mixed_now same = ap mixed_of (is_now same)
 
 -- without a slot only a put has an effect
-pub nothing_after : (x : SlotEdit) → taken x ≤ 0 → [] ≡ values_after x []
+pub nothing_after : (x : SlotEdit) → slot_edit_capacity x ≤ 0 → [] ≡ values_after x []
 nothing_after (Insert i v p) le = absurd (omega (arith, le))
 nothing_after (Push v p) le = absurd (omega (arith, le))
 nothing_after (Remove i) le = sym (remove_nothing i)
 nothing_after (Move to from) le = shifted_past [] to from (omega arith)
 nothing_after (Forget n) le = refl
 
-pub nothing_told : (x : SlotEdit) → taken x ≤ 0 → unpaired ≡ pairing_after x unpaired
+pub nothing_told : (x : SlotEdit) → slot_edit_capacity x ≤ 0 → no_pairing ≡ pairing_after x no_pairing
 nothing_told (Insert i v p) le = absurd (omega (arith, le))
 nothing_told (Push v p) le = absurd (omega (arith, le))
 nothing_told (Remove i) le = refl
 nothing_told (Move to from) le = refl
 nothing_told (Forget n) le = refl
 
-none_edited : (x : SlotEdit) (o : Option Slot) → o ≡ None → taken x ≤ places_of o → IsFeatureEdited x o o
+none_edited : (x : SlotEdit) (o : Option Slot) → o ≡ None → slot_edit_capacity x ≤ places_of o → IsFeatureEdited x o o
 none_edited x None is le = record { values = nothing_after x le; pairing = nothing_told x le; places = omega arith; mixed = refl }
 none_edited x (Some s) is le = cc
 
-pub unedited : (ss : List Slot) (f : FeatureNo) (x : SlotEdit) → slot_in ss f ≡ None → taken x ≤ places_of (slot_in ss f) → AreSlotsEdited f x ss ss
+pub unedited : (ss : List Slot) (f : FeatureNo) (x : SlotEdit) → slot_in ss f ≡ None → slot_edit_capacity x ≤ places_of (slot_in ss f) → AreSlotsEdited f x ss ss
 unedited ss f x none le = record { here = none_edited x (slot_in ss f) none le; others = λ g apart. refl }
 
 ---------------------------------------------------------------- one more slot
 
-module _ (s : Slot) (none : s.values.items ≡ []) (told : s.pairing ≡ unpaired) where
+module _ (s : Slot) (none : s.values.items ≡ []) (told : s.pairing ≡ no_pairing) where
   pub pushed : (ss : List Slot) → AreSlotsGrown ss (ss ++ s ∷ [])
   pushed [] g = elim (eqb s.feature.0 g.0) as (λ b. IsFeatureGrown None (if b then Some s else None)) [
     | true ↦ record { values = none; pairing = told; places = omega arith; mixed = λ h. absurd (false≢true h) }

@@ -12,7 +12,7 @@ use Rattle.node_slots.specs.declared.row.Row.{Row}
 use Rattle.node_slots.specs.declared.row.RowEdit.{RowEdit}
 use Rattle.node_slots.specs.declared.row.RowEdit.TheVariants.{Change, Hold, Enter, Leave, ForgetEntries}
 use Rattle.node_slots.specs.declared.node_slots.NodeSlots.{NodeSlots}
-use Rattle.node_slots.specs.Slots.{CanEdit, taken, unpaired}
+use Rattle.node_slots.specs.Slots.{CanEdit, no_pairing, slot_edit_capacity}
 use Rattle.node_slots.specs.Rows.{entered_after, entries_taken, hold_after, is_row, places_taken, row_entered, row_entries, row_hold, row_mixed, row_pairing, row_indexes, row_slots, row_vals, told_after, vals_after}
 use Rattle.node_slots.specs.Tables.{Table, place_at, row_index_at, row_from, row_in}
 
@@ -26,7 +26,7 @@ pub record Cells : Type 0 where
 
 -- no values anywhere, and no node is held
 abbrev pub no_cells : Cells
-no_cells = record { vals = λ e. []; pairing = λ e. unpaired; hold = λ n. None; entered = λ n. [] }
+no_cells = record { vals = λ e. []; pairing = λ e. no_pairing; hold = λ n. None; entered = λ n. [] }
 
 -- the capacity that is reserved: for each end, how many more values it can take, and whether they may be other values than objects; for
 -- each node, how many more ends that hold it can be kept; and which nodes have a row
@@ -111,7 +111,7 @@ cell_edit n x c =
 
 -- there is capacity for a change of the node n; a holder is given only to a node with a row
 abbrev pub Fits : Node → RowEdit → Room → Type 0
-Fits n (Change f x) r = (taken x ≤ r.places (record { node = n; feature = f })) × CanEdit (r.mixed (record { node = n; feature = f })) x
+Fits n (Change f x) r = (slot_edit_capacity x ≤ r.places (record { node = n; feature = f })) × CanEdit (r.mixed (record { node = n; feature = f })) x
 Fits n (Hold None) r = Unit {0}
 Fits n (Hold (Some d)) r = r.rows n ≡ true
 Fits n (Enter d) r = 1 ≤ r.entries n

@@ -4,5 +4,5 @@ pub mod Tables
 pub mod Cells
 pub mod Growth
 pub mod Order
-pub mod Targets
-pub mod TargetList
+pub mod EndValues
+pub mod EndValueList

@@ -9,7 +9,7 @@ use Rattle.node_slots.specs.declared.slot.Slot.{Slot}
 use Rattle.node_slots.specs.declared.row.Row.{Row}
 use Rattle.node_slots.specs.declared.row.RowEdit.{RowEdit}
 use Rattle.node_slots.specs.declared.row.RowEdit.TheVariants.{Change, Hold, Enter, Leave, ForgetEntries}
-use Rattle.node_slots.specs.Slots.{CanEdit, mixed_of, pairing_after, pairing_of, places_of, slot_in, taken, values_after, values_of}
+use Rattle.node_slots.specs.Slots.{CanEdit, mixed_of, pairing_after, pairing_of, places_of, slot_edit_capacity, slot_in, values_after, values_of}
 
 ---------------------------------------------------------------- what a row says
 
@@ -85,7 +85,7 @@ entered_after (ForgetEntries n) ds = ds
 
 -- how much capacity for values at g a change takes
 abbrev pub places_taken : RowEdit → FeatureNo → ℕ
-places_taken (Change f x) g = if same_feature f g then taken x else zero
+places_taken (Change f x) g = if same_feature f g then slot_edit_capacity x else zero
 places_taken (Hold h) g = zero
 places_taken (Enter d) g = zero
 places_taken (Leave i) g = zero
@@ -101,7 +101,7 @@ entries_taken (ForgetEntries n) = n
 
 -- there is capacity for the change; a holder is given only to a node with a row
 abbrev pub RowFits : RowEdit → Option Row → Type 0
-RowFits (Change f x) o = (taken x ≤ row_indexes o f) × CanEdit (row_mixed o f) x
+RowFits (Change f x) o = (slot_edit_capacity x ≤ row_indexes o f) × CanEdit (row_mixed o f) x
 RowFits (Hold None) o = Unit {0}
 RowFits (Hold (Some d)) o = is_row o ≡ true
 RowFits (Enter d) o = 1 ≤ row_entries o

@@ -1,18 +1,18 @@
 -- The values of a node's features, and these values after one change.
 use Rattle.std.specs.Prelude.{◌≡◌, ℕ, ◌+◌, ◌≤◌, Bool, true, false, List, [], ◌∷◌, ◌++◌, insert, min, remove, Option, Some, None, unwrap_or, if◌then◌else◌}
-use Rattle.mm_types.specs.Lists.{shifted}
+use Rattle.mm_types.specs.Lists.{values_after_move}
 use Rattle.mm_types.specs.Same.{same_feature}
 use Rattle.mm_types.specs.declared.numbers.FeatureNo.{FeatureNo}
 use Rattle.mm_types.specs.declared.value.Value.{Value}
-use Rattle.node_slots.specs.Targets.{CanHave}
+use Rattle.node_slots.specs.EndValues.{CanHave}
 use Rattle.node_slots.specs.declared.slot.Pairing.{Pairing}
 use Rattle.node_slots.specs.declared.slot.Slot.{Slot}
 use Rattle.node_slots.specs.declared.slot.SlotEdit.{SlotEdit}
 use Rattle.node_slots.specs.declared.slot.SlotEdit.TheVariants.{Insert, Push, Remove, Move, Forget}
 
 -- neither an opposite nor a container
-abbrev pub unpaired : Pairing
-unpaired = record { opposite = None; container = None }
+abbrev pub no_pairing : Pairing
+no_pairing = record { opposite = None; container = None }
 
 ---------------------------------------------------------------- one change
 
@@ -20,7 +20,7 @@ abbrev pub values_after : SlotEdit → List Value → List Value
 values_after (Insert i v p) vs = insert vs i v
 values_after (Push v p) vs = vs ++ v ∷ []
 values_after (Remove i) vs = remove vs i
-values_after (Move to from) vs = shifted vs to from
+values_after (Move to from) vs = values_after_move vs to from
 values_after (Forget n) vs = vs
 
 abbrev pub pairing_after : SlotEdit → Pairing → Pairing
@@ -31,12 +31,12 @@ pairing_after (Move to from) q = q
 pairing_after (Forget n) q = q
 
 -- how much capacity for values a change takes
-abbrev pub taken : SlotEdit → ℕ
-taken (Insert i v p) = 1
-taken (Push v p) = 1
-taken (Remove i) = 0
-taken (Move to from) = 0
-taken (Forget n) = n
+abbrev pub slot_edit_capacity : SlotEdit → ℕ
+slot_edit_capacity (Insert i v p) = 1
+slot_edit_capacity (Push v p) = 1
+slot_edit_capacity (Remove i) = 0
+slot_edit_capacity (Move to from) = 0
+slot_edit_capacity (Forget n) = n
 
 -- whether a change may be made of a list; `mixed` says whether the list may have other values than objects
 abbrev pub CanEdit : Bool → SlotEdit → Type 0
@@ -50,12 +50,12 @@ CanEdit mixed (Forget n) = Unit {0}
 abbrev pub slot_places : Slot → ℕ
 slot_places s = min s.promised s.values.spare
 
--- the change is made, and takes no more capacity than `taken` says
+-- the change is made, and takes no more capacity than `slot_edit_capacity` says
 pub record IsSlotEdited (x : SlotEdit) (old new : Slot) : Type 0 where
   pub feature : new.feature ≡ old.feature
   pub values : new.values.items ≡ values_after x old.values.items
   pub pairing : new.pairing ≡ pairing_after x old.pairing
-  pub places : slot_places old ≤ slot_places new + taken x
+  pub places : slot_places old ≤ slot_places new + slot_edit_capacity x
   pub mixed : new.values.mixed ≡ old.values.mixed
 
 ---------------------------------------------------------------- the slots of a node
@@ -70,7 +70,7 @@ values_of None = []
 values_of (Some s) = s.values.items
 
 abbrev pub pairing_of : Option Slot → Pairing
-pairing_of None = unpaired
+pairing_of None = no_pairing
 pairing_of (Some s) = s.pairing
 
 -- how many more values a feature can take without memory
@@ -87,7 +87,7 @@ mixed_of (Some s) = s.values.mixed
 pub record IsFeatureEdited (x : SlotEdit) (old new : Option Slot) : Type 0 where
   pub values : values_of new ≡ values_after x (values_of old)
   pub pairing : pairing_of new ≡ pairing_after x (pairing_of old)
-  pub places : places_of old ≤ places_of new + taken x
+  pub places : places_of old ≤ places_of new + slot_edit_capacity x
   pub mixed : mixed_of new ≡ mixed_of old
 
 -- the feature f is changed, and no other

@@ -4,7 +4,7 @@ ghost use Rattle.mm_types.specs.Same.{same_end, same_value};
 ghost use Rattle.mm_types.specs.declared.numbers.Node.{Node};
 ghost use Rattle.links.specs.Links.{object_of, text_of};
 ghost use Rattle.node_slots.specs.Rows.{row_slot, row_slots};
-ghost use Rattle.node_slots.specs.Targets.{is_value};
+ghost use Rattle.node_slots.specs.EndValues.{is_value};
 ghost use Rattle.node_slots.specs.Cells.{AreReordered, Fits, KeepsRoom, cell_edit, cells, ends_of, no_cells, room, row_at, row_index_of};
 
 mod growth;

@@ -2,7 +2,7 @@
 ghost use Rattle.std.specs.Prelude.{◌≡◌, true, ℕ, ◌+◌, ◌≤◌, ◌<◌, [], ◌∷◌, ◌++◌, is_ok, length, option_copied, position, if◌then◌else◌, IfOk, None, OnOk, Some};
 ghost use Rattle.std.specs.List.{remove};
 ghost use Rattle.mm_types.specs.Same.{same_feature};
-ghost use Rattle.node_slots.specs.Slots.{AreSlotsEdited, AreSlotsGrown, CanEdit, mixed_of, places_of, slot_in, taken};
+ghost use Rattle.node_slots.specs.Slots.{AreSlotsEdited, AreSlotsGrown, CanEdit, mixed_of, places_of, slot_edit_capacity, slot_in};
 ghost use Rattle.node_slots.specs.Rows.{IsRowEdited, IsRowGrown, IsRowReordered, RowFits, row_entries};
 
 use crate::order::put_in_order;
@@ -131,7 +131,7 @@ fn slot_index(slots: &[Slot], feature: FeatureNo) -> Option<usize>
 
 /// Changes the values of a feature.
 fn edit_slot(slots: &mut Vec<Slot>, feature: FeatureNo, edit: SlotEdit)
-    requires places { taken edit ≤ places_of (slot_in slots.old.items feature) }
+    requires places { slot_edit_capacity edit ≤ places_of (slot_in slots.old.items feature) }
     requires can { CanEdit (mixed_of (slot_in slots.old.items feature)) edit }
     ensures { AreSlotsEdited feature edit slots.old.items slots.new.items }
 {

@@ -1,11 +1,11 @@
 //! The values of one end.
 ghost use Rattle.std.specs.Prelude.{◌≡◌, true, ◌+◌, ◌≤◌, [], ◌∷◌, ◌++◌, OnOk};
 ghost use Rattle.std.specs.List.{insert, remove};
-ghost use Rattle.mm_types.specs.Lists.{shifted};
-ghost use Rattle.node_slots.specs.Targets.{CanHave};
-ghost use Rattle.node_slots.specs.Slots.{CanEdit, IsSlotEdited, slot_places, taken, unpaired};
+ghost use Rattle.mm_types.specs.Lists.{values_after_move};
+ghost use Rattle.node_slots.specs.EndValues.{CanHave};
+ghost use Rattle.node_slots.specs.Slots.{CanEdit, IsSlotEdited, no_pairing, slot_edit_capacity, slot_places};
 
-use crate::targets::TargetList;
+use crate::end_values::EndValueList;
 use mm_types::{FeatureNo, Value};
 use std::alloc::{AllocError, Global};
 
@@ -54,7 +54,7 @@ pub struct Slot {
     pub feature: FeatureNo,
     /// As the last put of an object said; neither opposite nor container if none was put.
     pub pairing: Pairing,
-    pub values: TargetList,
+    pub values: EndValueList,
     /// For how many more values capacity is reserved.
     pub promised: usize,
 }
@@ -64,7 +64,7 @@ impl Slot {
     pub fn new(feature: FeatureNo) -> Self
         ensures feature { result.feature ≡ feature }
         ensures values { result.values.items ≡ [] }
-        ensures pairing { result.pairing ≡ unpaired }
+        ensures pairing { result.pairing ≡ no_pairing }
     {
         Slot {
             feature,
@@ -72,7 +72,7 @@ impl Slot {
                 opposite: None,
                 container: None,
             },
-            values: TargetList::new(),
+            values: EndValueList::new(),
             promised: 0,
         }
     }
@@ -106,7 +106,7 @@ impl Slot {
     /// Makes one change, for which `promise` reserved capacity. Takes no memory. A value that is put in is an object, unless capacity was
     /// reserved for any value.
     pub fn edit(&mut self, edit: SlotEdit)
-        requires places { taken edit ≤ slot_places self.old }
+        requires places { slot_edit_capacity edit ≤ slot_places self.old }
         requires can { CanEdit self.old.values.mixed edit }
         ensures { IsSlotEdited edit self.old self.new }
     {
@@ -134,7 +134,7 @@ impl Slot {
 
 /// Reserves capacity for values, for objects or for any. Errs only if memory is refused; no value changes.
 fn make_places(
-    values: &mut TargetList,
+    values: &mut EndValueList,
     alloc: Global,
     places: usize,
     is_mixed: bool,
@@ -152,7 +152,7 @@ fn make_places(
 }
 
 /// Puts a value in, for which there is capacity.
-fn insert_in(values: &mut TargetList, index: usize, value: Value)
+fn insert_in(values: &mut EndValueList, index: usize, value: Value)
     requires room { 1 ≤ values.old.spare }
     requires can { CanHave values.old.mixed value }
     ensures items { values.new.items ≡ insert values.old.items index value }
@@ -163,7 +163,7 @@ fn insert_in(values: &mut TargetList, index: usize, value: Value)
 }
 
 /// Puts a value in last, for which there is capacity.
-fn push_in(values: &mut TargetList, value: Value)
+fn push_in(values: &mut EndValueList, value: Value)
     requires room { 1 ≤ values.old.spare }
     requires can { CanHave values.old.mixed value }
     ensures items { values.new.items ≡ values.old.items ++ value ∷ [] }
@@ -174,7 +174,7 @@ fn push_in(values: &mut TargetList, value: Value)
 }
 
 /// Takes a value out; past the end nothing changes.
-fn remove_value(values: &mut TargetList, index: usize)
+fn remove_value(values: &mut EndValueList, index: usize)
     ensures items { values.new.items ≡ remove values.old.items index }
     ensures places { values.old.spare ≤ values.new.spare }
     ensures mixed { values.new.mixed ≡ values.old.mixed }
@@ -184,8 +184,8 @@ fn remove_value(values: &mut TargetList, index: usize)
     }
 }
 
-fn move_in(values: &mut TargetList, to: usize, from: usize)
-    ensures items { values.new.items ≡ shifted values.old.items to from }
+fn move_in(values: &mut EndValueList, to: usize, from: usize)
+    ensures items { values.new.items ≡ values_after_move values.old.items to from }
     ensures places { values.old.spare ≤ values.new.spare }
     ensures mixed { values.new.mixed ≡ values.old.mixed }
 {

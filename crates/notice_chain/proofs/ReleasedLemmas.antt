@@ -10,43 +10,43 @@ use Rattle.mm_types.specs.declared.numbers.AdapterNo.{AdapterNo}
 use Rattle.mm_types.specs.declared.numbers.Node.{Node}
 use Rattle.notice_chain.specs.View.{View, hear, hear_all}
 use Rattle.notice_chain.specs.Listed.{HasDistinctNumbers, HasDistinctTargets, HaveTargets, Listed, has_no, has_target, is_at, is_target, same_no, with_changed}
-use Rattle.notice_chain.specs.Released.{Released, Spot, all_released, has_targets, having, index_at, is_any, last_notice, leaving, losing, released, released_where, removing, spots, staying, told_of_all, told_of_leaving, without, without_all}
+use Rattle.notice_chain.specs.Released.{Released, Spot, adapter_after_loss, adapters_with_target, adapters_without_target, adapters_without_targets, all_released, has_targets, index_at, is_any, last_notice, leaving_adapters, released_adapters, released_where, removing_notice, spots, staying_adapters, told_of_all, told_of_leaving}
 use Rattle.notice_chain.specs.declared.target.Target.{Target}
 
-pub without_all-append : (ss ts : List Spot) (rs : List Listed) → without_all (ss ++ ts) rs ≡ without_all ts (without_all ss rs)
-without_all-append [] ts rs = refl
-without_all-append (s ∷ ss) ts rs = without_all-append ss ts (without s rs)
+pub adapters_without_targets-append : (ss ts : List Spot) (rs : List Listed) → adapters_without_targets (ss ++ ts) rs ≡ adapters_without_targets ts (adapters_without_targets ss rs)
+adapters_without_targets-append [] ts rs = refl
+adapters_without_targets-append (s ∷ ss) ts rs = adapters_without_targets-append ss ts (adapters_without_target s rs)
 
-pub told_of_all-append : (ss ts : List Spot) (rs : List Listed) → told_of_all (ss ++ ts) rs ≡ told_of_all ss rs ++ told_of_all ts (without_all ss rs)
+pub told_of_all-append : (ss ts : List Spot) (rs : List Listed) → told_of_all (ss ++ ts) rs ≡ told_of_all ss rs ++ told_of_all ts (adapters_without_targets ss rs)
 told_of_all-append [] ts rs = refl
 told_of_all-append (s ∷ ss) ts rs =
-    ap (λ ns. told_of_leaving s rs ++ ns) (told_of_all-append ss ts (without s rs)) ∙ sym (append_assoc (told_of_leaving s rs) (told_of_all ss (without s rs)) (told_of_all ts (without_all ss (without s rs))))
+    ap (λ ns. told_of_leaving s rs ++ ns) (told_of_all-append ss ts (adapters_without_target s rs)) ∙ sym (append_assoc (told_of_leaving s rs) (told_of_all ss (adapters_without_target s rs)) (told_of_all ts (adapters_without_targets ss (adapters_without_target s rs))))
 
 ---------------------------------------------------------------- each has a target
 
-all-have : (rs : List Listed) → AllByRecursion (λ r. 0 < length r.targets) rs → (staying rs ≡ rs) × (leaving rs ≡ [])
+all-have : (rs : List Listed) → AllByRecursion (λ r. 0 < length r.targets) rs → (staying_adapters rs ≡ rs) × (leaving_adapters rs ≡ [])
 all-have [] h = (refl, refl)
 all-have (r ∷ rs) h =
     let rest = all-have rs h.1 in
     let has : has_targets r ≡ true = le-leb _ _ h.0 in (
-      ap (λ b. cond b (r ∷ staying rs) (staying rs)) has ∙ ap (λ (qs : List Listed). r ∷ qs) rest.0,
+      ap (λ b. cond b (r ∷ staying_adapters rs) (staying_adapters rs)) has ∙ ap (λ (qs : List Listed). r ∷ qs) rest.0,
       ap (λ b. map (λ (q : Listed). (q.no, q.view)) (cond (not b) (r ∷ filter (λ q. not (has_targets q)) rs) (filter (λ q. not (has_targets q)) rs))) has ∙ rest.1,
     )
 
 -- if each adapter has a target, all stay and none is released
-pub all-stay : (rs : List Listed) → HaveTargets rs → (staying rs ≡ rs) × (leaving rs ≡ [])
+pub all-stay : (rs : List Listed) → HaveTargets rs → (staying_adapters rs ≡ rs) × (leaving_adapters rs ≡ [])
 all-stay rs h = all-have rs (recursion_from_All (λ (r : Listed). 0 < length r.targets) rs h)
 
 -- releasing targets, in its parts
-pub released-parts : (ss : List Spot) (rs : List Listed) → HaveTargets rs → released ss rs ≡ record { told = told_of_all ss rs; views = leaving (without_all ss rs); others = staying (without_all ss rs) }
-released-parts [] rs some = let all = all-stay rs some in λ i. let x : Released = record { told = []; views = sym all.1 i; others = sym all.0 i } in x
-released-parts (s ∷ ss) rs some = refl
+pub released_adapters-parts : (ss : List Spot) (rs : List Listed) → HaveTargets rs → released_adapters ss rs ≡ record { told = told_of_all ss rs; views = leaving_adapters (adapters_without_targets ss rs); others = staying_adapters (adapters_without_targets ss rs) }
+released_adapters-parts [] rs some = let all = all-stay rs some in λ i. let x : Released = record { told = []; views = sym all.1 i; others = sym all.0 i } in x
+released_adapters-parts (s ∷ ss) rs some = refl
 
 ---------------------------------------------------------------- all targets of one adapter
 
 -- the adapter after all its targets were taken away, if no adapter before it has any of them
 abbrev finished : Listed → Listed
-finished r = record { no = r.no; targets = []; view = hear_all r.view (map (λ t. removing r.no t.node 0) r.targets) }
+finished r = record { no = r.no; targets = []; view = hear_all r.view (map (λ t. removing_notice r.no t.node 0) r.targets) }
 
 abbrev AreBare : List Listed → Type 0
 AreBare ds = AllByRecursion (λ d. d.targets ≡ []) ds
@@ -74,10 +74,10 @@ module _ (number : AdapterNo) where
   -- adapters without targets are not counted
   index-behind : (x : Node) (ds rs : List Listed) (r : Listed) → AreBare ds → has_no number r ≡ true → has_target x r ≡ true → index_at (number, x) (ds ++ r ∷ rs) ≡ 0
   index-behind x [] rs r bare has target =
-      ap (λ b. prefix_len (λ q. not (has_no number q)) (cond b (r ∷ having x rs) (having x rs))) target ∙ ap (λ b. cond (not b) (1 + prefix_len (λ q. not (has_no number q)) (having x rs)) 0) has
+      ap (λ b. prefix_len (λ q. not (has_no number q)) (cond b (r ∷ adapters_with_target x rs) (adapters_with_target x rs))) target ∙ ap (λ b. cond (not b) (1 + prefix_len (λ q. not (has_no number q)) (adapters_with_target x rs)) 0) has
   index-behind x (d ∷ ds) rs r bare has target =
       let other : has_target x d ≡ false = ap (λ (ts : List Target). list_any (is_at x) ts) bare.0 in
-      ap (λ b. prefix_len (λ q. not (has_no number q)) (cond b (d ∷ having x (ds ++ r ∷ rs)) (having x (ds ++ r ∷ rs)))) other ∙ index-behind x ds rs r bare.1 has target
+      ap (λ b. prefix_len (λ q. not (has_no number q)) (cond b (d ∷ adapters_with_target x (ds ++ r ∷ rs)) (adapters_with_target x (ds ++ r ∷ rs)))) other ∙ index-behind x ds rs r bare.1 has target
 
 -- two nodes are the same in either order
 pub same_node-turned : (x y : Node) → same_node x y ≡ false → same_node y x ≡ false
@@ -92,21 +92,21 @@ none-there x [] h = refl
 none-there x (t ∷ ts) h = ap (λ b. cond (not b) (t ∷ filter (λ q. not (is_at x q)) ts) (filter (λ q. not (is_at x q)) ts)) (same_node-turned x t.node h.0) ∙ ap (λ (qs : List Target). t ∷ qs) (none-there x ts h.1)
 
 all-gone : (number : AdapterNo) (ds rs : List Listed) (ts : List Target) (v : View) → AreBare ds → list_any (has_no number) ds ≡ false → IsDistinct same_node (map (λ t. t.node) ts)
-    → without_all (map (λ t. (number, t.node)) ts) (ds ++ record { no = number; targets = ts; view = v } ∷ rs) ≡ ds ++ record { no = number; targets = []; view = hear_all v (map (λ t. removing number t.node 0) ts) } ∷ rs
+    → adapters_without_targets (map (λ t. (number, t.node)) ts) (ds ++ record { no = number; targets = ts; view = v } ∷ rs) ≡ ds ++ record { no = number; targets = []; view = hear_all v (map (λ t. removing_notice number t.node 0) ts) } ∷ rs
 all-gone number ds rs [] v bare apart once = refl
 all-gone number ds rs (t ∷ ts) v bare apart once =
     let r : Listed = record { no = number; targets = t ∷ ts; view = v } in
     let all = ds ++ r ∷ rs in
     let has : has_no number r ≡ true = eq-eqb number.0 number.0 refl in
     let target : has_target t.node r ≡ true = ap (λ b. b || list_any (is_at t.node) ts) (same_node-self t.node) in
-    let index : last_notice (number, t.node) all ≡ removing number t.node 0 = ap (λ (k : ℕ). removing number t.node k) (index-behind number t.node ds rs r bare has target) in
+    let index : last_notice (number, t.node) all ≡ removing_notice number t.node 0 = ap (λ (k : ℕ). removing_notice number t.node k) (index-behind number t.node ds rs r bare has target) in
     let left : filter (λ q. not (is_at t.node q)) (t ∷ ts) ≡ ts = ap (λ b. cond (not b) (t ∷ filter (λ q. not (is_at t.node q)) ts) (filter (λ q. not (is_at t.node q)) ts)) (same_node-self t.node) ∙ none-there t.node ts (IsDistinct-head same_node t.node (map (λ q. q.node) ts) once) in
-    let lost : losing t.node (last_notice (number, t.node) all) r ≡ record { no = number; targets = ts; view = hear v (removing number t.node 0) } = λ i. let x : Listed = record { no = number; targets = left i; view = hear v (index i) } in x in
-    let next : without (number, t.node) all ≡ ds ++ record { no = number; targets = ts; view = hear v (removing number t.node 0) } ∷ rs =
-    ap (λ b. if b then with_changed number (losing t.node (last_notice (number, t.node) all)) all else all) (target-behind number t.node ds rs r has target)
-    ∙ changed-behind number (losing t.node (last_notice (number, t.node) all)) ds rs r apart has
+    let lost : adapter_after_loss t.node (last_notice (number, t.node) all) r ≡ record { no = number; targets = ts; view = hear v (removing_notice number t.node 0) } = λ i. let x : Listed = record { no = number; targets = left i; view = hear v (index i) } in x in
+    let next : adapters_without_target (number, t.node) all ≡ ds ++ record { no = number; targets = ts; view = hear v (removing_notice number t.node 0) } ∷ rs =
+    ap (λ b. if b then with_changed number (adapter_after_loss t.node (last_notice (number, t.node) all)) all else all) (target-behind number t.node ds rs r has target)
+    ∙ changed-behind number (adapter_after_loss t.node (last_notice (number, t.node) all)) ds rs r apart has
     ∙ ap (λ (q : Listed). ds ++ q ∷ rs) lost in
-    ap (without_all (map (λ q. (number, q.node)) ts)) next ∙ all-gone number ds rs ts (hear v (removing number t.node 0)) bare apart (IsDistinct-tail same_node t.node (map (λ q. q.node) ts) once)
+    ap (adapters_without_targets (map (λ q. (number, q.node)) ts)) next ∙ all-gone number ds rs ts (hear v (removing_notice number t.node 0)) bare apart (IsDistinct-tail same_node t.node (map (λ q. q.node) ts) once)
 
 ---------------------------------------------------------------- all targets of all
 
@@ -137,20 +137,20 @@ all-pass : (ts : List Target) → filter (λ t. true) ts ≡ ts
 all-pass [] = refl
 all-pass (t ∷ ts) = ap (λ (qs : List Target). t ∷ qs) (all-pass ts)
 
-all-finished : (ds rs : List Listed) → AreBare ds → AreApart ds rs → HasDistinctNumbers rs → AllByRecursion (λ r. IsDistinct same_node (map (λ t. t.node) r.targets)) rs → without_all (spots is_any rs) (ds ++ rs) ≡ ds ++ map finished rs
+all-finished : (ds rs : List Listed) → AreBare ds → AreApart ds rs → HasDistinctNumbers rs → AllByRecursion (λ r. IsDistinct same_node (map (λ t. t.node) r.targets)) rs → adapters_without_targets (spots is_any rs) (ds ++ rs) ≡ ds ++ map finished rs
 all-finished ds [] bare apart distinct once = refl
 all-finished ds (r ∷ rs) bare apart distinct once =
     let head = IsDistinct-head same_no r.no (map (λ q. q.no) rs) distinct in
     let more = ds ++ finished r ∷ [] in
-    without_all-append (map (λ t. (r.no, t.node)) (filter (λ t. true) r.targets)) (spots is_any rs) (ds ++ r ∷ rs)
-    ∙ ap (λ (ts : List Target). without_all (spots is_any rs) (without_all (map (λ t. (r.no, t.node)) ts) (ds ++ r ∷ rs))) (all-pass r.targets)
-    ∙ ap (without_all (spots is_any rs)) (all-gone r.no ds rs r.targets r.view bare apart.0 once.0 ∙ sym (append_assoc ds (finished r ∷ []) rs))
+    adapters_without_targets-append (map (λ t. (r.no, t.node)) (filter (λ t. true) r.targets)) (spots is_any rs) (ds ++ r ∷ rs)
+    ∙ ap (λ (ts : List Target). adapters_without_targets (spots is_any rs) (adapters_without_targets (map (λ t. (r.no, t.node)) ts) (ds ++ r ∷ rs))) (all-pass r.targets)
+    ∙ ap (adapters_without_targets (spots is_any rs)) (all-gone r.no ds rs r.targets r.view bare apart.0 once.0 ∙ sym (append_assoc ds (finished r ∷ []) rs))
     ∙ all-finished more rs (bare-last ds r bare) (apart-last ds r rs apart.1 head) (IsDistinct-tail same_no r.no (map (λ q. q.no) rs) distinct) once.1
     ∙ append_assoc ds (finished r ∷ []) (map finished rs)
 
-finished-leave : (rs : List Listed) → leaving (map finished rs) ≡ all_released rs
+finished-leave : (rs : List Listed) → leaving_adapters (map finished rs) ≡ all_released rs
 finished-leave [] = refl
-finished-leave (r ∷ rs) = ap (λ vs. (r.no, hear_all r.view (map (λ t. removing r.no t.node 0) r.targets)) ∷ vs) (finished-leave rs)
+finished-leave (r ∷ rs) = ap (λ vs. (r.no, hear_all r.view (map (λ t. removing_notice r.no t.node 0) r.targets)) ∷ vs) (finished-leave rs)
 
 none-apart : (rs : List Listed) → AreApart [] rs
 none-apart [] = tt
@@ -158,8 +158,8 @@ none-apart (r ∷ rs) = (refl, none-apart rs)
 
 pub released-all : (rs : List Listed) → HasDistinctNumbers rs → HasDistinctTargets rs → HaveTargets rs → (released_where is_any rs).views ≡ all_released rs
 released-all rs distinct once some =
-    ap (λ (x : Released). x.views) (released-parts (spots is_any rs) rs some)
-    ∙ ap leaving (all-finished [] rs tt (none-apart rs) distinct (recursion_from_All (λ (r : Listed). IsDistinct same_node (map (λ t. t.node) r.targets)) rs once))
+    ap (λ (x : Released). x.views) (released_adapters-parts (spots is_any rs) rs some)
+    ∙ ap leaving_adapters (all-finished [] rs tt (none-apart rs) distinct (recursion_from_All (λ (r : Listed). IsDistinct same_node (map (λ t. t.node) r.targets)) rs once))
     ∙ finished-leave rs
 
-pub ruleset releasing = (without_all-append, told_of_all-append, released-all)
+pub ruleset releasing = (adapters_without_targets-append, told_of_all-append, released-all)

@@ -61,8 +61,8 @@ abbrev pub with_target : Target → Listed → Listed
 with_target t r = record { no = r.no; targets = r.targets ++ t ∷ []; view = r.view }
 
 -- the adapters after the adapter of a number got one more target
-abbrev pub watched : AdapterNo → Target → List Listed → List Listed
-watched number t rs = with_changed number (with_target t) rs
+abbrev pub adapters_after_watch : AdapterNo → Target → List Listed → List Listed
+adapters_after_watch number t rs = with_changed number (with_target t) rs
 
 ----------------------------------------------------------------- notifying
 
@@ -91,12 +91,12 @@ abbrev pub audience_numbers : Above → Notice → List Listed → List AdapterN
 audience_numbers up n rs = map (λ r. r.no) (audience up n rs)
 
 -- the adapter after some notifications
-abbrev pub told_all : Listed → List Notice → Listed
-told_all r ns = record { no = r.no; targets = r.targets; view = hear_all r.view ns }
+abbrev pub adapter_after_notices : Listed → List Notice → Listed
+adapter_after_notices r ns = record { no = r.no; targets = r.targets; view = hear_all r.view ns }
 
 -- the adapters after a chain: each got the notifications of the chain that are for it, whatever the others get
 abbrev pub tell_chain : Above → List Notice → List Listed → List Listed
-tell_chain up ns rs = map (λ r. told_all r (heard_of up ns r)) rs
+tell_chain up ns rs = map (λ r. adapter_after_notices r (heard_of up ns r)) rs
 
 -- the number of each adapter that gets a notification, with the notification
 abbrev pub told_of : Above → Notice → List Listed → List (AdapterNo × Notice)

@@ -20,8 +20,8 @@ use Rattle.links.specs.Links.{far_end, text_of}
 use Rattle.models.specs.Reading.{Reading}
 use Rattle.fragment_paths.specs.Finding.{at}
 use Rattle.proxies.specs.Resolving.{counterpart, first_to, is_unmatched, leads_to, proxy_at, target, target_at}
-use Rattle.proxies.specs.declared.target.Counterpart.{Counterpart}
-use Rattle.proxies.specs.declared.target.Target.{Target}
+use Rattle.proxies.specs.declared.resolved_proxy.Counterpart.{Counterpart}
+use Rattle.proxies.specs.declared.resolved_proxy.ResolvedProxy.{ResolvedProxy}
 use Rattle.proxies.proofs.PositionLemmas.{NonePass, position-first, position-none, position-passes}
 
 pub leads-proxy : (r : Reading) (n : Node) (v : Value) → leads_to r n v ≡ true → (t : List ℕ) × (v ≡ value.Proxy t)
@@ -81,13 +81,13 @@ match-apart r e o g d opposite =
     ] refl
 
 -- a proxy is at an index, and finds an object
-pub record IsFound (r : Reading) (e : End) (i : ℕ) (x : Target) : Type 0 where
+pub record IsFound (r : Reading) (e : End) (i : ℕ) (x : ResolvedProxy) : Type 0 where
   pub text : List ℕ
   pub proxy : slice_get (r.values e) i ≡ Some (value.Proxy text)
   pub matched : x.counterpart ≡ counterpart r e x.object
   pub leads : at r text ≡ Some x.object
 
-pub found-is : (r : Reading) (e : End) (i : ℕ) (x : Target) → target_at r e i ≡ Some x → IsFound r e i x
+pub found-is : (r : Reading) (e : End) (i : ℕ) (x : ResolvedProxy) → target_at r e i ≡ Some x → IsFound r e i x
 found-is r e i x h = by (slice_get (r.values e) i) refl h
   where
     led : (t : List ℕ) → slice_get (r.values e) i ≡ Some (value.Proxy t) → (q : Option ObjectNo) → at r t ≡ q → option_map (target r e) q ≡ Some x → IsFound r e i x
@@ -103,7 +103,7 @@ found-is r e i x h = by (slice_get (r.values e) i) refl h
     by (Some v) is found = of v is found
 
 -- without a proxy at the opposite end there is no opposite
-pub alone-of : (r : Reading) (e : End) (x : Target) → is_unmatched r e x ≡ false → x.counterpart ≡ None → (shape r.metamodel e.feature).opposite ≡ None
+pub alone-of : (r : Reading) (e : End) (x : ResolvedProxy) → is_unmatched r e x ≡ false → x.counterpart ≡ None → (shape r.metamodel e.feature).opposite ≡ None
 alone-of r e x matched none = by (shape r.metamodel e.feature).opposite (subst (λ (q : Option Counterpart). (is_some (shape r.metamodel e.feature).opposite && not (is_some q)) ≡ false) none matched)
   where
     by : (q : Option FeatureNo) → (is_some q && true) ≡ false → q ≡ None

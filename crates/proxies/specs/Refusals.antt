@@ -10,18 +10,18 @@ use Rattle.mm_types.specs.declared.value.Value.TheVariants as value
 use Rattle.web_uris.specs.Addresses.{uri_part}
 use Rattle.models.specs.Reading.{Reading, has_uri, shape_at, takes}
 use Rattle.proxies.specs.Resolving.{is_unmatched, proxy_at, target_at}
-use Rattle.proxies.specs.declared.target.Target.{Target}
+use Rattle.proxies.specs.declared.resolved_proxy.ResolvedProxy.{ResolvedProxy}
 
 -- whether the feature is an attribute, or the object at a proxy's address is not of the feature's type
-abbrev pub is_mistyped : Reading → End → Option Target → Bool
+abbrev pub is_mistyped : Reading → End → Option ResolvedProxy → Bool
 is_mistyped r e q = not (shape_at r e).is_reference || option_map_or (λ x. not (takes r e.feature (value.Object x.object))) q false
 
 -- whether the object at a proxy's address is in the list already
-abbrev pub is_there_already : Reading → End → Option Target → Bool
+abbrev pub is_there_already : Reading → End → Option ResolvedProxy → Bool
 is_there_already r e q = option_map_or (λ x. has_value (r.values e) (value.Object x.object)) q false
 
 -- why the proxy at an index can't be resolved to the target that it finds
-abbrev pub target_refusal : Reading → End → ℕ → Option Target → Option Refused
+abbrev pub target_refusal : Reading → End → ℕ → Option ResolvedProxy → Option Refused
 target_refusal r e i q =
     WrongType where_so is_mistyped r e q else_by
     Index unless nat_lt i (length (r.values e)) else_by

@@ -10,8 +10,8 @@ use Rattle.mm_types.specs.declared.value.Value.{Value}
 use Rattle.links.specs.Links.{far_end, text_of}
 use Rattle.models.specs.Reading.{Reading, shape_at}
 use Rattle.fragment_paths.specs.Finding.{at}
-use Rattle.proxies.specs.declared.target.Counterpart.{Counterpart}
-use Rattle.proxies.specs.declared.target.Target.{Target}
+use Rattle.proxies.specs.declared.resolved_proxy.Counterpart.{Counterpart}
+use Rattle.proxies.specs.declared.resolved_proxy.ResolvedProxy.{ResolvedProxy}
 
 -- the opposite end of a link between e and an object
 abbrev pub opposite_end : Reading → End → ObjectNo → Option End
@@ -33,13 +33,13 @@ first_to r n d = option_map (λ j. record { end = d; index = j }) (position (lea
 abbrev pub counterpart : Reading → End → ObjectNo → Option Counterpart
 counterpart r e o = option_and_then (first_to r e.node) (opposite_end r e o)
 
-abbrev pub target : Reading → End → ObjectNo → Target
+abbrev pub target : Reading → End → ObjectNo → ResolvedProxy
 target r e o = record { object = o; counterpart = counterpart r e o }
 
 -- the target of the proxy at an index; none without a proxy, or without an object at its address
-abbrev pub target_at : Reading → End → ℕ → Option Target
+abbrev pub target_at : Reading → End → ℕ → Option ResolvedProxy
 target_at r e i = option_map (target r e) (option_and_then (at r) (proxy_at r e i))
 
 -- whether the reference has an opposite, and the opposite end has no proxy with the address of the referring object
-abbrev pub is_unmatched : Reading → End → Target → Bool
+abbrev pub is_unmatched : Reading → End → ResolvedProxy → Bool
 is_unmatched r e x = is_some (shape_at r e).opposite && not (is_some x.counterpart)

@@ -11,31 +11,31 @@ use Rattle.proxies.specs.Proxies.{end_of, sites}
 use Rattle.proxies.specs.Refusals.{resolve_refusal}
 use Rattle.proxies.specs.Resolving.{target_at}
 use Rattle.proxies.specs.declared.site.ProxySite.{ProxySite}
-use Rattle.proxies.specs.declared.target.Target.{Target}
+use Rattle.proxies.specs.declared.resolved_proxy.ResolvedProxy.{ResolvedProxy}
 
 -- what ends hold after the value at an index of end e is replaced
-abbrev pub replaced : (End → List Value) → End → ℕ → Value → End → List Value
-replaced ends e i v d = if same_end e d then slice_set (ends d) i v else ends d
+abbrev pub ends_after_replace : (End → List Value) → End → ℕ → Value → End → List Value
+ends_after_replace ends e i v d = if same_end e d then slice_set (ends d) i v else ends d
 
 -- what ends hold after a proxy is resolved: the object at its address replaces it, and the referring object replaces its counterpart at the
 -- opposite end, if there is one
-abbrev pub values_with : Reading → End → ℕ → Target → End → List Value
+abbrev pub values_with : Reading → End → ℕ → ResolvedProxy → End → List Value
 values_with r e i x =
-    replaced (option_map_or (λ c. replaced r.values c.end c.index (node_value e.node)) x.counterpart r.values) e i (value.Object x.object)
+    ends_after_replace (option_map_or (λ c. ends_after_replace r.values c.end c.index (node_value e.node)) x.counterpart r.values) e i (value.Object x.object)
 
 -- the reading after a proxy is resolved; only the values of ends change
-abbrev pub with_resolved : Reading → ProxySite → Target → Reading
+abbrev pub with_resolved : Reading → ProxySite → ResolvedProxy → Reading
 with_resolved r p x = record r { values = values_with r (end_of p) p.index x }
 
 -- the target to which the proxy at a location is resolved; none if it is refused
-abbrev pub resolved_to : Reading → ProxySite → Option Target
+abbrev pub resolved_to : Reading → ProxySite → Option ResolvedProxy
 resolved_to r p = if is_some (resolve_refusal r (end_of p) p.index) then None else target_at r (end_of p) p.index
 
 -- a proxy that is resolved: the model in which it is, where it is, and what it finds
 pub record Resolution : Type 0 where
   pub reads : Reading
   pub site : ProxySite
-  pub target : Target
+  pub target : ResolvedProxy
 
 -- the resolutions of the proxies at some locations, in this order; a proxy that is refused has none
 abbrev pub resolutions : Reading → List ProxySite → List Resolution
@@ -56,9 +56,9 @@ left_by r ps = record r { values = values_left r ps }
 abbrev pub all_resolved : Reading → Reading
 all_resolved r = left_by r (sites r)
 
--- how many proxies are resolved, two proxies of one link counted once; and `left`, how many proxies remain
-abbrev pub done : Reading → ℕ
-done r = length (resolutions r (sites r))
+-- how many proxies are resolved, two proxies of one link counted once; and `unresolved_count`, how many proxies remain
+abbrev pub resolved_count : Reading → ℕ
+resolved_count r = length (resolutions r (sites r))
 
-abbrev pub left : Reading → ℕ
-left r = length (sites (all_resolved r))
+abbrev pub unresolved_count : Reading → ℕ
+unresolved_count r = length (sites (all_resolved r))

@@ -9,16 +9,16 @@ mod ends;
 mod keys;
 mod lead;
 mod resolved;
+mod resolved_proxy;
 mod resolving;
 mod site;
-mod target;
 
 pub use ends::{far_end, opposite_end};
 pub use keys::{Key, Keys};
 pub use lead::{FirstLeads, Lead, leads};
 pub use resolved::Resolved;
+pub use resolved_proxy::{Counterpart, ResolvedProxy};
 pub use resolving::{
     is_mistyped, is_there_already, is_unmatched, proxy_at, resolve_refusal, target_at,
 };
 pub use site::ProxySite;
-pub use target::{Counterpart, Target};

@@ -13,7 +13,7 @@ ghost use Rattle.proxies.specs.Refusals as refusals;
 ghost use Rattle.proxies.specs.Resolving as resolving;
 
 use crate::ends::opposite_end;
-use crate::target::{Counterpart, Target};
+use crate::resolved_proxy::{Counterpart, ResolvedProxy};
 use fragment_paths::object_at;
 use links::LinkStore;
 use mm_types::{End, Node, ObjectNo, Refused, Value};
@@ -27,7 +27,7 @@ pub fn target_at<L: LinkStore>(
     model: &ModelRef<L>,
     end: End,
     index: u32,
-) -> Result<Option<Target>, AllocError>
+) -> Result<Option<ResolvedProxy>, AllocError>
     ensures { IfOk result (λ q. q ≡ resolving.target_at (reading model.now) end index) }
 {
     let Some(address) = proxy_at(model, end, index) else {
@@ -37,7 +37,7 @@ pub fn target_at<L: LinkStore>(
         return Ok(None);
     };
     let counterpart = counterpart(alloc, model, end, object)?;
-    Ok(Some(Target {
+    Ok(Some(ResolvedProxy {
         object,
         counterpart,
     }))
@@ -101,7 +101,7 @@ pub fn resolve_refusal<L: LinkStore>(
     model: &ModelRef<L>,
     end: End,
     index: u32,
-    target: Option<Target>,
+    target: Option<ResolvedProxy>,
 ) -> Option<Refused>
     ensures { result ≡ refusals.target_refusal (reading model.now) end index target }
 {
@@ -121,7 +121,11 @@ pub fn resolve_refusal<L: LinkStore>(
 }
 
 /// Whether the feature is an attribute, or the object at a proxy's address is not of the feature's type.
-pub fn is_mistyped<L: LinkStore>(model: &ModelRef<L>, end: End, target: Option<Target>) -> bool
+pub fn is_mistyped<L: LinkStore>(
+    model: &ModelRef<L>,
+    end: End,
+    target: Option<ResolvedProxy>,
+) -> bool
     ensures { result ≡ refusals.is_mistyped (reading model.now) end target }
 {
     if !model.meta().is_reference(end.feature) {
@@ -134,7 +138,11 @@ pub fn is_mistyped<L: LinkStore>(model: &ModelRef<L>, end: End, target: Option<T
 }
 
 /// Whether the object at a proxy's address is in the list already.
-pub fn is_there_already<L: LinkStore>(model: &ModelRef<L>, end: End, target: Option<Target>) -> bool
+pub fn is_there_already<L: LinkStore>(
+    model: &ModelRef<L>,
+    end: End,
+    target: Option<ResolvedProxy>,
+) -> bool
     ensures { result ≡ refusals.is_there_already (reading model.now) end target }
 {
     match target {
@@ -168,7 +176,7 @@ fn lost_refusal<L: LinkStore>(
     model: &ModelRef<L>,
     end: End,
     text: &str,
-    target: Option<Target>,
+    target: Option<ResolvedProxy>,
 ) -> Option<Refused>
     ensures { result ≡ (Unloaded where_so not (has_uri (reading model.now) (uri_part text.now)) else_by Unresolved unless is_some target else_by Unmatched where_so option_map_or (resolving.is_unmatched (reading model.now) end) target false) }
 {
@@ -183,7 +191,7 @@ fn lost_refusal<L: LinkStore>(
 }
 
 /// Whether a reference has an opposite, and no proxy there leads back.
-pub fn is_unmatched<L: LinkStore>(model: &ModelRef<L>, end: End, target: Target) -> bool
+pub fn is_unmatched<L: LinkStore>(model: &ModelRef<L>, end: End, target: ResolvedProxy) -> bool
     ensures { result ≡ resolving.is_unmatched (reading model.now) end target }
 {
     model.meta().opposite(end.feature).is_some() && target.counterpart.is_none()

@@ -26,7 +26,7 @@ use Rattle.fragment_paths.specs.Fragments.{address, position_in}
 use Rattle.resource_docs.specs.declared.doc.Doc.{Doc}
 use Rattle.round_trip.proofs.ShapeLemmas.{live-inside}
 use Rattle.doc_loader.specs.Loading.{is_empty_resource}
-use Rattle.handshake.specs.Effects.{after}
+use Rattle.handshake.specs.Effects.{model_after}
 use Rattle.handshake.specs.Laws.{comes_with}
 use Rattle.handshake.specs.Loaded.{IsLoaded}
 use Rattle.handshake.specs.Changes.{IsDocument}
@@ -49,11 +49,11 @@ address-inside s o a is = by (resource_of (above s.links) o) refl
     by (Some k) inside = (k, inside)
 
 module _ (s : Model) (k : ResourceNo) (doc : Doc) (legal : IsLegal s) (early : early_refusal (reading s) (Load k doc) ≡ None) (late : late_refusal (reading s) (Load k doc) ≡ None) (read : IsDocument s.metamodel doc)
-    (now : IsLoaded (reading s) k doc (reading (after s (Load k doc)))) where
+    (now : IsLoaded (reading s) k doc (reading (model_after s (Load k doc)))) where
   abbrev t : Model
-  t = after s (Load k doc)
+  t = model_after s (Load k doc)
 
-  pub loaded-legal : IsLegal (after s (Load k doc))
+  pub loaded-legal : IsLegal (model_after s (Load k doc))
   loaded-legal = change-keeps-legal s (Load k doc) legal early late read tt
 
   -- the resource was empty

@@ -27,13 +27,13 @@ use Rattle.containment.specs.Forest.{object_node}
 use Rattle.fragment_paths.proofs.StayLemmas.{one-address}
 use Rattle.fragment_paths.specs.Fragments.{address}
 use Rattle.round_trip.proofs.ListLemmas.{each-of, map-each}
-use Rattle.handshake.specs.Effects.{after}
+use Rattle.handshake.specs.Effects.{model_after}
 use Rattle.handshake.specs.Refusals.{early_refusal, late_refusal}
 use Rattle.proxies.specs.Resolving.{counterpart, first_to, target, target_at}
 use Rattle.handshake.specs.declared.change.Change.TheVariants.{At}
 use Rattle.handshake.specs.declared.act.Act.TheVariants.{Resolve}
-use Rattle.proxies.specs.declared.target.Counterpart.{Counterpart}
-use Rattle.reloading.specs.Addressed.{By, meant}
+use Rattle.proxies.specs.declared.resolved_proxy.Counterpart.{Counterpart}
+use Rattle.reloading.specs.Addressed.{By, meant_value}
 use Rattle.reloading.specs.Alike.{HasSame, HaveSame, IsThere}
 use Rattle.reloading.specs.Between.{AreBothOrNone, Between, has_proxy}
 use Rattle.reloading.specs.Proxies.{proxies_len}
@@ -63,7 +63,7 @@ module _ (left : LeftProxy) where
   aim-at = goal-at left
 
   abbrev u : Model
-  u = after (model_of s.metamodel w c) (At (at_end (node.Object p) f) (Resolve i))
+  u = model_after (model_of s.metamodel w c) (At (at_end (node.Object p) f) (Resolve i))
 
   early : early_refusal (reading t) (At (at_end (node.Object p) f) (Resolve i)) ≡ None
   early = early-none left
@@ -183,25 +183,25 @@ module _ (left : LeftProxy) where
 
   ---------------------------------------------------------------- what all means
 
-  meant-kept : (x : Value) → meant (reading u) x ≡ meant (reading t) x
-  meant-kept (value.Object o) = ap By (kept o)
-  meant-kept _ = refl
+  meant_value-kept : (x : Value) → meant_value (reading u) x ≡ meant_value (reading t) x
+  meant_value-kept (value.Object o) = ap By (kept o)
+  meant_value-kept _ = refl
 
-  names-kept : (d : End) → map (meant (reading u)) (values_at u d) ≡ map (meant (reading t)) (values_at t d)
-  names-kept d = map-each (meant (reading u)) (meant (reading t)) (values_at u d) (each-of _ (values_at u d) (λ x there. meant-kept x)) ∙ by (end-after d)
+  names-kept : (d : End) → map (meant_value (reading u)) (values_at u d) ≡ map (meant_value (reading t)) (values_at t d)
+  names-kept d = map-each (meant_value (reading u)) (meant_value (reading t)) (values_at u d) (each-of _ (values_at u d) (λ x there. meant_value-kept x)) ∙ by (end-after d)
     where
-      by : IsEnd d → map (meant (reading t)) (values_at u d) ≡ map (meant (reading t)) (values_at t d)
-      by (Own is now was) = ap (map (meant (reading t))) now ∙ set-name (meant (reading t)) (values_at t d) i (value.Proxy text) (value.Object aim) was (ap By aim-at)
-      by (Far g j pair is now was) = ap (map (meant (reading t))) now ∙ set-name (meant (reading t)) (values_at t d) j (value.Proxy own_text) (value.Object p) was (ap By own-at)
-      by (Else own far now) = ap (map (meant (reading t))) now
+      by : IsEnd d → map (meant_value (reading t)) (values_at u d) ≡ map (meant_value (reading t)) (values_at t d)
+      by (Own is now was) = ap (map (meant_value (reading t))) now ∙ set-name (meant_value (reading t)) (values_at t d) i (value.Proxy text) (value.Object aim) was (ap By aim-at)
+      by (Far g j pair is now was) = ap (map (meant_value (reading t))) now ∙ set-name (meant_value (reading t)) (values_at t d) j (value.Proxy own_text) (value.Object p) was (ap By own-at)
+      by (Else own far now) = ap (map (meant_value (reading t))) now
 
-  same-still : (o q : ObjectNo) → HasSame meant (reading s) (reading t) o q → HasSame meant (reading s) (reading u) o q
+  same-still : (o q : ObjectNo) → HasSame meant_value (reading s) (reading t) o q → HasSame meant_value (reading s) (reading u) o q
   same-still o q h = record { class = h.class; values = λ g. names-kept (at_end (node.Object q) g) ∙ h.values g; flags = h.flags }
 
-  there-still : (o : ObjectNo) (x : List ℕ) → IsThere meant (reading s) (reading t) o x → IsThere meant (reading s) (reading u) o x
+  there-still : (o : ObjectNo) (x : List ℕ) → IsThere meant_value (reading s) (reading t) o x → IsThere meant_value (reading s) (reading u) o x
   there-still o x h = record { object = h.object; at = kept h.object ∙ h.at; same = same-still o h.object h.same }
 
-  all-still : HaveSame meant (reading s) (reading u)
+  all-still : HaveSame meant_value (reading s) (reading u)
   all-still = record {
     uris = between.same.uris;
     roots = λ x k j first second. names-kept (roots_end (reading t) j) ∙ between.same.roots x k j first second;

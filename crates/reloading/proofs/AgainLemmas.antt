@@ -2,12 +2,12 @@
 use Rattle.std.proofs.Common.{◌≡◌, suc, List, [], ◌∷◌, arith, refl, sym, subst}
 use Rattle.models.specs.Legal.{IsLegal}
 use Rattle.models.specs.Model.{Model, empty_model, model_of, reading}
-use Rattle.handshake.specs.Effects.{after}
+use Rattle.handshake.specs.Effects.{model_after}
 use Rattle.handshake.specs.declared.change.Change.{Change}
 use Rattle.reloading.specs.Between.{Between}
 use Rattle.reloading.specs.Orders.{after_all, changes}
 use Rattle.reloading.specs.Proxies.{proxies_len}
-use Rattle.reloading.specs.Reload.{AreResolves, ReloadsInAnyOrder, reloaded}
+use Rattle.reloading.specs.Reload.{AreResolves, ReloadsInAnyOrder, reloaded_model}
 use Rattle.reloading.proofs.OrdersLemmas.{loads-give-between}
 use Rattle.reloading.specs.Laws.{IsAllResolved}
 use Rattle.reloading.proofs.ReloadLemmas.{AreDone, all-resolved, some-resolves}
@@ -16,12 +16,12 @@ use Rattle.reloading.proofs.ResolveAllLemmas.{resolves-all}
 -- no change edits the metamodel
 pub same-metamodel : (t : Model) (cs : List Change) → (after_all t cs).metamodel ≡ t.metamodel
 same-metamodel t [] = refl
-same-metamodel t (c ∷ cs) = same-metamodel (after t c) cs
+same-metamodel t (c ∷ cs) = same-metamodel (model_after t c) cs
 
 pub reloads : (s : Model) → ReloadsInAnyOrder s
 reloads s legal steady saved ts order =
     let l = loads-give-between s legal steady saved ts order in
-    let t = reloaded s ts in
+    let t = reloaded_model s ts in
     let u = model_of s.metamodel t.values t.links in
     let same : t ≡ u = λ i. record { metamodel = same-metamodel (empty_model s.metamodel) (changes (reading s) [] ts) i; values = t.values; links = t.links } in
     let other = subst IsLegal same l.legal in

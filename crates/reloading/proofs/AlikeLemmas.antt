@@ -8,13 +8,13 @@ use Rattle.mm_types.specs.declared.value.Value.{Value}
 use Rattle.mm_types.specs.declared.value.Value.TheVariants as value
 use Rattle.models.specs.Reading.{Reading, at_end, roots_end}
 use Rattle.round_trip.proofs.ListLemmas.{each-of, map-each}
-use Rattle.reloading.specs.Addressed.{meant, named}
+use Rattle.reloading.specs.Addressed.{meant_value, named_value}
 use Rattle.reloading.specs.Alike.{Alike, IsThere}
 use Rattle.reloading.specs.Between.{Between}
 use Rattle.reloading.specs.Proxies.{HasNoProxy}
 
 -- the two names differ only for proxies
-name-same : (r : Reading) (v : Value) → ((t : List ℕ) → v ≡ value.Proxy t → ⊥) → named r v ≡ meant r v
+name-same : (r : Reading) (v : Value) → ((t : List ℕ) → v ≡ value.Proxy t → ⊥) → named_value r v ≡ meant_value r v
 name-same r (value.Proxy t) other = absurd (other t refl)
 name-same r (value.Object o) other = refl
 name-same r value.Null other = refl
@@ -24,9 +24,9 @@ name-same r (value.Text x) other = refl
 name-same r (value.Literal x) other = refl
 name-same r (value.Adapter x) other = refl
 
-names-same : (r : Reading) → HasNoProxy r → (e : End) → map (named r) (r.values e) ≡ map (meant r) (r.values e)
+names-same : (r : Reading) → HasNoProxy r → (e : End) → map (named_value r) (r.values e) ≡ map (meant_value r) (r.values e)
 names-same r none e =
-    map-each (named r) (meant r) (r.values e) (each-of _ (r.values e) (λ v there. name-same r v (λ t is. none e t (subst (Contains (r.values e)) is there))))
+    map-each (named_value r) (meant_value r) (r.values e) (each-of _ (r.values e) (λ v there. name-same r v (λ t is. none e t (subst (Contains (r.values e)) is there))))
 
 pub alike-of : (s t : Reading) → HasNoProxy s → HasNoProxy t → Between s t → Alike s t
 alike-of s t first second b = record {
@@ -36,7 +36,7 @@ alike-of s t first second b = record {
   back = b.same.back;
 }
   where
-    by : (o : ObjectNo) (a : List ℕ) → IsThere meant s t o a → IsThere named s t o a
+    by : (o : ObjectNo) (a : List ℕ) → IsThere meant_value s t o a → IsThere named_value s t o a
     by o a h = record {
       object = h.object;
       at = h.at;

@@ -5,7 +5,7 @@ use Rattle.std.specs.List.{AllByRecursion, IsDistinct, list_all, list_any}
 use Rattle.std.specs.Option.{option_map_or}
 use Rattle.std.proofs.lemmas.Bool.{and_parts, false≢true, true≢false}
 use Rattle.std.proofs.lemmas.Option.{none-some}
-use Rattle.mm_types.specs.Ends.{shown}
+use Rattle.mm_types.specs.Ends.{shown_values}
 use Rattle.mm_types.specs.Ends as ends
 use Rattle.mm_types.specs.Lookups as lookups
 use Rattle.mm_types.specs.Same.{is_nil, same_feature}
@@ -23,7 +23,8 @@ use Rattle.models.specs.Legal.{IsLegal}
 use Rattle.models.specs.Model.{Model, attribute_values, kept_flag, kept_values, reading, values_at}
 use Rattle.models.specs.Reading.{Reading, all_features_of, at_end, has_feature, is_set}
 use Rattle.models.proofs.PlaceLemmas.{target-legal}
-use Rattle.containment.proofs.DistinctLemmas.{distinct-filter, features-distinct}
+use Rattle.containment.proofs.DistinctLemmas.{features-distinct}
+use Rattle.mm_meta.proofs.FeatureListLemmas.{distinct-filter}
 use Rattle.containment.proofs.PartLemmas.{legal-at, values-linked}
 use Rattle.doc_writer.specs.Written.{is_written, objects_in, written_features}
 use Rattle.resource_docs.specs.Read.{values_in, values_under}
@@ -31,7 +32,7 @@ use Rattle.resource_docs.specs.declared.doc.Content.{Content}
 use Rattle.resource_docs.specs.declared.doc.DocObject.{DocObject}
 use Rattle.doc_loader.proofs.SideLemmas.{opposite-reference}
 use Rattle.doc_loader.proofs.SoundLemmas.{at-map}
-use Rattle.round_trip.specs.Copied.{copied, object_copied, renamed}
+use Rattle.round_trip.specs.Copied.{copied_document, object_copied, renamed_value}
 use Rattle.round_trip.proofs.ContainLemmas.{reference-plain}
 use Rattle.round_trip.proofs.EndLemmas.{written-of}
 use Rattle.round_trip.proofs.ListLemmas.{any-in, any-none}
@@ -83,21 +84,21 @@ reference-written s legal o f i x reference plain at = by (values_at s e) refl a
         let two = legal-at r d (end s.links d) 0 y (legal.links.ends d) (ap (λ (vs : List Value). slice_get vs 0) (sym (values-linked s d reference) ∙ is)) in
         let like = reference-plain s.metamodel f reference in
         let set : is_set r d ≡ true =
-        ap (λ (zs : List Value). ends.is_set (shape s.metamodel f) (record { values = shown (shape s.metamodel f).is_single zs; flag = r.flag d })) is
+        ap (λ (zs : List Value). ends.is_set (shape s.metamodel f) (record { values = shown_values (shape s.metamodel f).is_single zs; flag = r.flag d })) is
         ∙ first-set (shape s.metamodel f) y ys (r.flag d) like.0 like.1 (target-legal r f y two.1) in
         is-kept (is_written r o) (all_features_of r (node.Object o)) f (among-class r o f two.0) (λ j. set j && not (plain j))
 
 ---------------------------------------------------------------- what is no proxy
 
-plain-renamed : (r : Reading) (os : List ObjectNo) (vs : List Value) → list_all is_plain vs ≡ true → map (renamed r os) vs ≡ vs
-plain-renamed r os [] all = refl
-plain-renamed r os (v ∷ vs) all =
+plain-renamed_value : (r : Reading) (os : List ObjectNo) (vs : List Value) → list_all is_plain vs ≡ true → map (renamed_value r os) vs ≡ vs
+plain-renamed_value r os [] all = refl
+plain-renamed_value r os (v ∷ vs) all =
     let both = and_parts _ _ all in
     let one = plain-one v both.0 in
-    let rest = plain-renamed r os vs both.1 in
+    let rest = plain-renamed_value r os vs both.1 in
     λ i. one i ∷ rest i
   where
-    plain-one : (x : Value) → is_plain x ≡ true → renamed r os x ≡ x
+    plain-one : (x : Value) → is_plain x ≡ true → renamed_value r os x ≡ x
     plain-one (value.Object o) h = absurd (false≢true h)
     plain-one _ h = refl
 
@@ -107,8 +108,8 @@ attribute-some a (v ∷ vs) some = refl
 
 ---------------------------------------------------------------- a document
 
-pub object-in : (r : Reading) (k : ResourceNo) (o : ObjectNo) (i : ℕ) → slice_get (objects_in r k) i ≡ Some o → slice_get (copied r k).objects i ≡ Some (object_copied r (objects_in r k) o)
-unfolding copied
+pub object-in : (r : Reading) (k : ResourceNo) (o : ObjectNo) (i : ℕ) → slice_get (objects_in r k) i ≡ Some o → slice_get (copied_document r k).objects i ≡ Some (object_copied r (objects_in r k) o)
+unfolding copied_document
 object-in r k o i at = at-map (object_copied r (objects_in r k)) (objects_in r k) i o at
 
 module _ (s : Model) (legal : IsLegal s) (k : ResourceNo) where
@@ -124,25 +125,25 @@ module _ (s : Model) (legal : IsLegal s) (k : ResourceNo) where
 
     -- the values that the document has there
     abbrev copy : List Value
-    copy = values_in (copied (reading s) k) (record { 0 = i }) f
+    copy = values_in (copied_document (reading s) k) (record { 0 = i }) f
 
     -- a feature that is written has its values in the document
-    values-written : copy ≡ (if list_any (same_feature f) (written_features r o) then map (renamed r os) (values_at s e) else [])
+    values-written : copy ≡ (if list_any (same_feature f) (written_features r o) then map (renamed_value r os) (values_at s e) else [])
     values-written =
         ap (λ (x : Option DocObject). option_map_or (λ y. values_under y f) x []) (object-in r k o i at)
-        ∙ under (λ g. map (renamed r os) (values_at s (at_end (node.Object o) g))) (written_features r o) f (distinct-filter (is_written r o) (all_features_of r (node.Object o)) (features-distinct s legal (node.Object o)))
+        ∙ under (λ g. map (renamed_value r os) (values_at s (at_end (node.Object o) g))) (written_features r o) f (distinct-filter (is_written r o) (all_features_of r (node.Object o)) (features-distinct s legal (node.Object o)))
 
     is-written : has_feature r (node.Object o) f ≡ true → is_set r e ≡ true → lookups.is_container s.metamodel f ≡ false → list_any (same_feature f) (written_features r o) ≡ true
     is-written has set plain =
         any-in (same_feature f) (written_features r o) f (is-kept (is_written r o) (all_features_of r (node.Object o)) f (among-class r o f has) (λ j. set j && not (plain j))) (eq-eqb f.0 f.0 refl)
 
     -- a reference that is no container reference has its values in the document
-    pub reference-values : (shape s.metamodel f).is_reference ≡ true → lookups.is_container s.metamodel f ≡ false → copy ≡ map (renamed r os) (values_at s e)
+    pub reference-values : (shape s.metamodel f).is_reference ≡ true → lookups.is_container s.metamodel f ≡ false → copy ≡ map (renamed_value r os) (values_at s e)
     reference-values reference plain =
         values-written
-        ∙ elim (list_any (same_feature f) (written_features r o)) as (λ b. list_any (same_feature f) (written_features r o) ≡ b → (if b then map (renamed r os) (values_at s e) else []) ≡ map (renamed r os) (values_at s e)) [
+        ∙ elim (list_any (same_feature f) (written_features r o)) as (λ b. list_any (same_feature f) (written_features r o) ≡ b → (if b then map (renamed_value r os) (values_at s e) else []) ≡ map (renamed_value r os) (values_at s e)) [
           | true ↦ λ _. refl
-          | false ↦ λ none. sym (ap (map (renamed r os)) (empty (values_at s e) refl none))
+          | false ↦ λ none. sym (ap (map (renamed_value r os)) (empty (values_at s e) refl none))
         ] refl
       where
         empty : (vs : List Value) → values_at s e ≡ vs → list_any (same_feature f) (written_features r o) ≡ false → values_at s e ≡ []
@@ -169,8 +170,8 @@ module _ (s : Model) (legal : IsLegal s) (k : ResourceNo) where
       shows : values_at s e ≡ attribute_values a kept
       shows = ap (λ (b : Bool). if b then end s.links e else attribute_values a kept) attribute
 
-      set-is : ends.is_set a (record { values = shown a.is_single (attribute_values a kept); flag = flag }) ≡ is_set r e
-      set-is = sym (ap (λ (vs : List Value). ends.is_set a (record { values = shown a.is_single vs; flag = flag })) shows)
+      set-is : ends.is_set a (record { values = shown_values a.is_single (attribute_values a kept); flag = flag }) ≡ is_set r e
+      set-is = sym (ap (λ (vs : List Value). ends.is_set a (record { values = shown_values a.is_single vs; flag = flag })) shows)
 
       when-written : list_any (same_feature f) (written_features r o) ≡ true → IsAttribute
       when-written h =
@@ -179,7 +180,7 @@ module _ (s : Model) (legal : IsLegal s) (k : ResourceNo) where
           let some = set-some a kept flag (set-is ∙ set) stored.flagged in
           let vs = values_at s e in
           let own : vs ≡ kept = shows ∙ some.shows in
-          let written : copy ≡ vs = values-written ∙ ap (λ (b : Bool). if b then map (renamed r os) vs else []) h ∙ plain-renamed r os vs (attribute-plain s legal e attribute) in
+          let written : copy ≡ vs = values-written ∙ ap (λ (b : Bool). if b then map (renamed_value r os) vs else []) h ∙ plain-renamed_value r os vs (attribute-plain s legal e attribute) in
           record {
             values = ap (attribute_values a) written ∙ attribute-some a vs (ap is_nil own ∙ some.some);
             flag = ap (λ (xs : List Value). a.is_unsettable && (a.is_single && not (is_nil xs))) (written ∙ own) ∙ ap (λ (b : Bool). a.is_unsettable && (a.is_single && not b)) some.some ∙ sym some.flag;
@@ -188,7 +189,7 @@ module _ (s : Model) (legal : IsLegal s) (k : ResourceNo) where
       when-not : list_any (same_feature f) (written_features r o) ≡ false → IsAttribute
       when-not h =
           let stored = stored-of s legal o f in
-          let nothing : copy ≡ [] = values-written ∙ ap (λ (b : Bool). if b then map (renamed r os) (values_at s e) else []) h in
+          let nothing : copy ≡ [] = values-written ∙ ap (λ (b : Bool). if b then map (renamed_value r os) (values_at s e) else []) h in
           let off : is_set r e ≡ false =
           elim (is_set r e) as (λ b. is_set r e ≡ b → b ≡ false) [
             | true ↦ λ set.

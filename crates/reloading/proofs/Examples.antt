@@ -7,10 +7,10 @@ use Rattle.mm_types.specs.declared.numbers.ResourceNo.{ResourceNo}
 use Rattle.mm_types.specs.declared.value.Value.TheVariants as value
 use Rattle.models.specs.Reading.{Reading}
 use Rattle.round_trip.proofs.Examples.{end_of, fid, o, two_resources, v, whole}
-use Rattle.round_trip.specs.Copied.{copied}
+use Rattle.round_trip.specs.Copied.{copied_document}
 use Rattle.proxies.specs.Proxies.{sites}
 use Rattle.handshake.specs.declared.change.Change.TheVariants.{Load, NewResource}
-use Rattle.reloading.specs.Addressed.{By, Plain, meant, named}
+use Rattle.reloading.specs.Addressed.{By, Plain, meant_value, named_value}
 use Rattle.reloading.specs.Images.{image, value_image}
 use Rattle.reloading.specs.Orders.{Fill, Make, changes}
 use Rattle.reloading.specs.Proxies.{proxies_len}
@@ -25,16 +25,16 @@ halfway = two_resources (v 1 ∷ value.Proxy (codes "http://m.example/b#/") ∷ 
 ---------------------------------------------------------------- names
 
 -- a proxy means the object at its address
-same-meaning : map (meant halfway) (halfway.values (end_of (o 2) 2)) ≡ By (Some (codes "http://m.example/a#/")) ∷ By (Some (codes "http://m.example/b#/")) ∷ []
+same-meaning : map (meant_value halfway) (halfway.values (end_of (o 2) 2)) ≡ By (Some (codes "http://m.example/a#/")) ∷ By (Some (codes "http://m.example/b#/")) ∷ []
 unfolding digits
 same-meaning = refl
 
-meaning-of-objects : map (meant whole) (whole.values (end_of (o 2) 2)) ≡ map (meant halfway) (halfway.values (end_of (o 2) 2))
+meaning-of-objects : map (meant_value whole) (whole.values (end_of (o 2) 2)) ≡ map (meant_value halfway) (halfway.values (end_of (o 2) 2))
 unfolding digits
 meaning-of-objects = refl
 
 -- the name of a proxy is not that of its object
-other-name : map (named halfway) (halfway.values (end_of (o 2) 2)) ≡ By (Some (codes "http://m.example/a#/")) ∷ Plain (value.Proxy (codes "http://m.example/b#/")) ∷ []
+other-name : map (named_value halfway) (halfway.values (end_of (o 2) 2)) ≡ By (Some (codes "http://m.example/a#/")) ∷ Plain (value.Proxy (codes "http://m.example/b#/")) ∷ []
 unfolding digits
 other-name = refl
 
@@ -63,5 +63,5 @@ values-loaded = refl
 
 -- the resources get their numbers in the order in which they are made
 by-turns : changes whole [] (Make (rid 1) ∷ Make (rid 0) ∷ Fill (rid 0) ∷ Fill (rid 1) ∷ [])
-    ≡ NewResource (codes "http://m.example/b") ∷ NewResource (codes "http://m.example/a") ∷ Load (rid 1) (copied whole (rid 0)) ∷ Load (rid 0) (copied whole (rid 1)) ∷ []
+    ≡ NewResource (codes "http://m.example/b") ∷ NewResource (codes "http://m.example/a") ∷ Load (rid 1) (copied_document whole (rid 0)) ∷ Load (rid 0) (copied_document whole (rid 1)) ∷ []
 by-turns = refl

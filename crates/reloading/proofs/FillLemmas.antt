@@ -25,9 +25,9 @@ use Rattle.containment.proofs.PartLemmas.{live-made}
 use Rattle.containment.specs.Above.{resource_node, resource_of}
 use Rattle.doc_writer.specs.Written.{objects_in}
 use Rattle.resource_docs.specs.declared.doc.Doc.{Doc}
-use Rattle.round_trip.specs.Copied.{copied, object_copied}
+use Rattle.round_trip.specs.Copied.{copied_document, object_copied}
 use Rattle.round_trip.proofs.ShapeLemmas.{live-inside}
-use Rattle.handshake.specs.Effects.{after}
+use Rattle.handshake.specs.Effects.{model_after}
 use Rattle.handshake.specs.Loaded.{IsLoaded}
 use Rattle.handshake.specs.Changes.{IsDocument}
 use Rattle.handshake.specs.declared.change.Change.TheVariants.{Load}
@@ -53,10 +53,10 @@ module _ (s : Model) (legal : IsLegal s) (steady : HasSteadyTexts s) (saved : Is
   j = number_of made k
 
   abbrev doc : Doc
-  doc = copied (reading s) k
+  doc = copied_document (reading s) k
 
   abbrev u : Model
-  u = after (model_of s.metamodel w b) (Load (number_of made k) (copied (reading s) k))
+  u = model_after (model_of s.metamodel w b) (Load (number_of made k) (copied_document (reading s) k))
 
   abbrev more : List ResourceNo
   more = filled ++ k ∷ []
@@ -79,7 +79,7 @@ module _ (s : Model) (legal : IsLegal s) (steady : HasSteadyTexts s) (saved : Is
       grind (arith, nat_tests)
 
   doc-length : length doc.objects ≡ length (objects_in r k)
-  unfolding copied
+  unfolding copied_document
   doc-length = length-map (objects_in r k) (object_copied r (objects_in r k))
 
   -- the number of all objects so far and of the objects of the document

@@ -36,16 +36,16 @@ use Rattle.doc_writer.specs.Written.{objects_in}
 use Rattle.resource_docs.specs.Read.{values_in, values_under}
 use Rattle.resource_docs.specs.declared.doc.Doc.{Doc}
 use Rattle.resource_docs.specs.declared.doc.DocObject.{DocObject}
-use Rattle.doc_loader.specs.Loading.{loaded, loaded_value}
+use Rattle.doc_loader.specs.Loading.{loaded_number, loaded_value}
 use Rattle.doc_loader.proofs.SoundLemmas.{at-map}
-use Rattle.round_trip.specs.Copied.{copied, object_copied, renamed, root_copied}
+use Rattle.round_trip.specs.Copied.{copied_document, object_copied, renamed_value, root_copied}
 use Rattle.round_trip.proofs.ContainLemmas.{reference-plain, plain-containment}
 use Rattle.round_trip.proofs.InsideLemmas.{written-inside}
 use Rattle.round_trip.proofs.ListLemmas.{map-twice, mapped-at}
 use Rattle.round_trip.proofs.OrderLemmas.{objects-apart, position-there, there-position}
 use Rattle.round_trip.proofs.ShapeLemmas.{live-inside}
 use Rattle.round_trip.proofs.ValuesListLemmas.{IsAt, stands}
-use Rattle.handshake.specs.Effects.{after}
+use Rattle.handshake.specs.Effects.{model_after}
 use Rattle.handshake.specs.Loaded.{IsContainer, IsLoaded, IsWrittenWith}
 use Rattle.handshake.specs.Changes.{IsDocument}
 use Rattle.handshake.specs.Refusals.{early_refusal, late_refusal}
@@ -55,7 +55,7 @@ use Rattle.reloading.proofs.AddressLemmas.{loaded-legal}
 use Rattle.reloading.proofs.ContainerLemmas.{Held, IsContainerReference, IsHeldBy, Nobody, container-reference, held-by, who-holds}
 use Rattle.reloading.proofs.DocumentLemmas.{attribute-as, object-in, reference-values}
 use Rattle.reloading.proofs.MeaningLemmas.{map-get}
-use Rattle.reloading.proofs.NumberLemmas.{image-is, place-in, renamed-inside, value-inside}
+use Rattle.reloading.proofs.NumberLemmas.{image-is, place-in, renamed_value-inside, value-inside}
 use Rattle.doc_writer.proofs.PlainLemmas.{attribute-plain, is_plain}
 use Rattle.reloading.proofs.StoredLemmas.{stored-of}
 
@@ -63,8 +63,8 @@ not-nil : (v : Value) (vs : List Value) → v ∷ vs ≡ [] → ⊥
 not-nil v vs same = false≢true (ap is_nil same)
 
 module _ (s : Model) (w : ValuesState) (c : Links) (legal : IsLegal s) (other : IsLegal (model_of s.metamodel w c)) (k j : ResourceNo)
-    (early : early_refusal (reading (model_of s.metamodel w c)) (Load j (copied (reading s) k)) ≡ None) (late : late_refusal (reading (model_of s.metamodel w c)) (Load j (copied (reading s) k)) ≡ None)
-    (read : IsDocument s.metamodel (copied (reading s) k)) (now : IsLoaded (reading (model_of s.metamodel w c)) j (copied (reading s) k) (reading (after (model_of s.metamodel w c) (Load j (copied (reading s) k))))) where
+    (early : early_refusal (reading (model_of s.metamodel w c)) (Load j (copied_document (reading s) k)) ≡ None) (late : late_refusal (reading (model_of s.metamodel w c)) (Load j (copied_document (reading s) k)) ≡ None)
+    (read : IsDocument s.metamodel (copied_document (reading s) k)) (now : IsLoaded (reading (model_of s.metamodel w c)) j (copied_document (reading s) k) (reading (model_after (model_of s.metamodel w c) (Load j (copied_document (reading s) k))))) where
   abbrev m : Metamodel
   m = s.metamodel
 
@@ -75,7 +75,7 @@ module _ (s : Model) (w : ValuesState) (c : Links) (legal : IsLegal s) (other : 
   os = objects_in (reading s) k
 
   abbrev doc : Doc
-  doc = copied (reading s) k
+  doc = copied_document (reading s) k
 
   abbrev n : ℕ
   n = length w.objects
@@ -84,7 +84,7 @@ module _ (s : Model) (w : ValuesState) (c : Links) (legal : IsLegal s) (other : 
   t = model_of s.metamodel w c
 
   abbrev u : Model
-  u = after (model_of s.metamodel w c) (Load j (copied (reading s) k))
+  u = model_after (model_of s.metamodel w c) (Load j (copied_document (reading s) k))
 
   abbrev new : ObjectNo → ObjectNo
   new = image (reading s) k (length w.objects)
@@ -103,17 +103,17 @@ module _ (s : Model) (w : ValuesState) (c : Links) (legal : IsLegal s) (other : 
   place : (o : ObjectNo) → IsInside o → IsAt os o
   place o inside = place-in s legal k o inside
 
-  new-is : (o : ObjectNo) (at : IsAt os o) → new o ≡ loaded n (record { 0 = at.number })
+  new-is : (o : ObjectNo) (at : IsAt os o) → new o ≡ loaded_number n (record { 0 = at.number })
   new-is o at = image-is s legal k n o at
 
-  renamed-is : (o : ObjectNo) (at : IsAt os o) → renamed r os (value.Object o) ≡ value.Object (record { 0 = at.number })
-  renamed-is o at = renamed-inside s legal k o at
+  renamed_value-is : (o : ObjectNo) (at : IsAt os o) → renamed_value r os (value.Object o) ≡ value.Object (record { 0 = at.number })
+  renamed_value-is o at = renamed_value-inside s legal k o at
 
   seen-object : (o : ObjectNo) → IsInside o → as_new (value.Object o) ≡ value.Object (new o)
   seen-object o inside = value-inside s legal k n o inside
 
   doc-length : length doc.objects ≡ length os
-  unfolding copied
+  unfolding copied_document
   doc-length = length-map os (object_copied r os)
 
   ---------------------------------------------------------------- classes
@@ -177,7 +177,7 @@ module _ (s : Model) (w : ValuesState) (c : Links) (legal : IsLegal s) (other : 
       ap (λ (x : ObjectNo). values_at u (at_end (node.Object x) f)) (new-is o at)
       ∙ now.objects.references (record { 0 = at.number }) f reference plain
       ∙ ap (map (loaded_value n)) (reference-values s legal k o at.number f at.there reference plain)
-      ∙ map-twice (renamed r os) (loaded_value n) (values_at s (at_end (node.Object o) f))
+      ∙ map-twice (renamed_value r os) (loaded_value n) (values_at s (at_end (node.Object o) f))
 
   -- the container of an object of the resource is in the resource
   up-inside : (o b : ObjectNo) (f : FeatureNo) → IsInside o → holder s.links (node.Object o) ≡ Some (at_end (node.Object b) f) → IsInside b
@@ -206,13 +206,13 @@ module _ (s : Model) (w : ValuesState) (c : Links) (legal : IsLegal s) (other : 
         let q = position_in (reading s) e o in
         let above = place h (up-inside o h f inside up) in
         let written : IsWrittenWith doc (record { 0 = above.number }) f number =
-        (q, ap (λ (vs : List Value). slice_get vs q) (reference-values s legal k h above.number f above.there refers (plain-containment m legal.metamodel f is.contains)) ∙ at-map (renamed r os) (values_at s e) q (value.Object o) there.here ∙ ap (λ (x : Value). Some x) (renamed-is o at)) in
+        (q, ap (λ (vs : List Value). slice_get vs q) (reference-values s legal k h above.number f above.there refers (plain-containment m legal.metamodel f is.contains)) ∙ at-map (renamed_value r os) (values_at s e) q (value.Object o) there.here ∙ ap (λ (x : Value). Some x) (renamed_value-is o at)) in
         ap (λ (x : ObjectNo). values_at u (at_end (node.Object x) g)) (new-is o at)
         ∙ now.objects.containers number (record { 0 = above.number }) g f own written
         ∙ ap (λ (x : ObjectNo). value.Object x ∷ []) (sym (new-is h above))
 
     -- a value with the name of an object is this object
-    named-only : (x : Value) → renamed r os x ≡ value.Object number → x ≡ value.Object o
+    named-only : (x : Value) → renamed_value r os x ≡ value.Object number → x ≡ value.Object o
     named-only (value.Object y) same = by (position (same_object y) os) refl same
       where
         by : (q : Option ℕ) → position (same_object y) os ≡ q → option_map_or (λ i. value.Object (record { 0 = i })) q (value.Proxy (unwrap_or (address r y) [])) ≡ value.Object number → value.Object y ≡ value.Object o
@@ -229,7 +229,7 @@ module _ (s : Model) (w : ValuesState) (c : Links) (legal : IsLegal s) (other : 
     named-only (value.Adapter y) same = absurd (false≢true (ap lookups.is_object same))
 
     no-holder : values_at s (at_end (node.Object o) g) ≡ [] → (b : ObjectNo) → IsWrittenWith doc b f number → ⊥
-    unfolding copied
+    unfolding copied_document
     no-holder nothing b (i, there) = by (slice_get os b.0) refl
       where
         by : (x : Option ObjectNo) → slice_get os b.0 ≡ x → ⊥
@@ -238,7 +238,7 @@ module _ (s : Model) (w : ValuesState) (c : Links) (legal : IsLegal s) (other : 
             none-some (value.Object number) (sym (ap (λ (x : Option DocObject). slice_get (option_map_or (λ y. values_under y f) x []) i) none_in) ∙ there)
         by (Some h) is_some =
             let e = at_end (node.Object h) f in
-            let x = mapped-at (renamed r os) (values_at s e) i (value.Object number) (ap (λ (vs : List Value). slice_get vs i) (sym (reference-values s legal k h b.0 f is_some refers (plain-containment m legal.metamodel f is.contains))) ∙ there) in
+            let x = mapped-at (renamed_value r os) (values_at s e) i (value.Object number) (ap (λ (vs : List Value). slice_get vs i) (sym (reference-values s legal k h b.0 f is_some refers (plain-containment m legal.metamodel f is.contains))) ∙ there) in
             let here = x.1 ∙ ap (λ (y : Value). Some y) (named-only x.0 x.2) in
             let up = holder-at s legal (node.Object h) f is.contains i o here in
             not-nil (value.Object h) [] (sym (held-by s legal g is o h up) ∙ nothing)
@@ -281,9 +281,9 @@ module _ (s : Model) (w : ValuesState) (c : Links) (legal : IsLegal s) (other : 
   all-seen (_ ∷ vs) all inside = absurd (false≢true all)
 
   pub image-roots : values_at u (contents_end m j) ≡ map as_new (values_at s (contents_end m k))
-  unfolding copied
+  unfolding copied_document
   image-roots =
-      now.roots.contents ∙ map-twice (root_copied os) (λ o. value.Object (loaded n o)) (roots r k)
+      now.roots.contents ∙ map-twice (root_copied os) (λ o. value.Object (loaded_number n o)) (roots r k)
       ∙ all-seen (values_at s (contents_end m k)) (all-objects s (contents_end m k) legal (contents-contains m)) root-inside
 
   ---------------------------------------------------------------- containment and addresses
@@ -329,7 +329,7 @@ module _ (s : Model) (w : ValuesState) (c : Links) (legal : IsLegal s) (other : 
       let there : slice_get os i ≡ Some o = slice_some os i p within in
       let at = there-position os o i (objects-apart s legal k) there in
       let sum : n + i ≡ p.0 = omega (arith, high) in
-      (o, written-inside s legal k o (stands os i o there), (λ x. record { 0 = sym sum x }) ∙ ap (λ (x : Option ℕ). loaded n (record { 0 = unwrap_or x 0 })) (sym at))
+      (o, written-inside s legal k o (stands os i o there), (λ x. record { 0 = sym sum x }) ∙ ap (λ (x : Option ℕ). loaded_number n (record { 0 = unwrap_or x 0 })) (sym at))
     where
       slice_some : (xs : List ObjectNo) (i : ℕ) (d : ObjectNo) → i < length xs → slice_get xs i ≡ Some (unwrap_or (slice_get xs i) d)
       slice_some [] i d below = absurd (omega (arith, below))

@@ -48,7 +48,7 @@ use Rattle.round_trip.proofs.OrderLemmas.{position-there}
 use Rattle.round_trip.proofs.ReadAsLemmas.{all-read}
 use Rattle.round_trip.proofs.ShapeLemmas.{live-inside}
 use Rattle.round_trip.proofs.ValuesListLemmas.{place-of, stands}
-use Rattle.reloading.specs.Addressed.{By, meant}
+use Rattle.reloading.specs.Addressed.{By, meant_value}
 use Rattle.reloading.specs.Alike.{HasSame, HaveSame, IsThere}
 use Rattle.reloading.specs.Between.{AreBothOrNone, Between, has_proxy}
 use Rattle.reloading.specs.Images.{image, value_image}
@@ -178,19 +178,19 @@ module _ (s : Model) (legal : IsLegal s) (steady : HasSteadyTexts s) (saved : Is
 
     ---------------------------------------------------------------- what values mean
 
-    object-means : (k : ResourceNo) (c : ObjectNo) (a : List ℕ) → has filled k ≡ true → address r c ≡ Some a → meant (reading t) (as_new k (value.Object c)) ≡ By (address r c)
+    object-means : (k : ResourceNo) (c : ObjectNo) (a : List ℕ) → has filled k ≡ true → address r c ≡ Some a → meant_value (reading t) (as_new k (value.Object c)) ≡ By (address r c)
     object-means k c a loaded is = by (position (same_object c) (objects_in r k)) refl
       where
-        by : (q : Option ℕ) → position (same_object c) (objects_in r k) ≡ q → meant (reading t) (as_new k (value.Object c)) ≡ By (address r c)
+        by : (q : Option ℕ) → position (same_object c) (objects_in r k) ≡ q → meant_value (reading t) (as_new k (value.Object c)) ≡ By (address r c)
         by (Some n) at_n =
             let inside = written-inside s legal k c (stands (objects_in r k) n c (position-there (objects_in r k) c n at_n)) in
-            ap (meant (reading t)) (value-inside s legal k (base k) c inside) ∙ ap By ((so_far.copies k loaded).addresses c inside)
+            ap (meant_value (reading t)) (value-inside s legal k (base k) c inside) ∙ ap By ((so_far.copies k loaded).addresses c inside)
         by None nowhere =
-            ap (λ (x : Option ℕ). meant (reading t) (loaded_value (base k) (option_map_or (λ i. value.Object (record { 0 = i })) x (value.Proxy (unwrap_or (address r c) []))))) nowhere
+            ap (λ (x : Option ℕ). meant_value (reading t) (loaded_value (base k) (option_map_or (λ i. value.Object (record { 0 = i })) x (value.Proxy (unwrap_or (address r c) []))))) nowhere
             ∙ ap (λ (x : Option (List ℕ)). By (Some (unwrap_or x []))) is ∙ ap By (sym is)
 
     -- a value of an object means the same as before
-    value-means : (k : ResourceNo) (v : Value) → has filled k ≡ true → ((c : ObjectNo) → v ≡ value.Object c → (a : List ℕ) × (address r c ≡ Some a)) → meant (reading t) (as_new k v) ≡ meant r v
+    value-means : (k : ResourceNo) (v : Value) → has filled k ≡ true → ((c : ObjectNo) → v ≡ value.Object c → (a : List ℕ) × (address r c ≡ Some a)) → meant_value (reading t) (as_new k v) ≡ meant_value r v
     value-means k (value.Object c) loaded known = let a = known c refl in object-means k c a.0 loaded a.1
     value-means k (value.Proxy u) loaded known = refl
     value-means k value.Null loaded known = refl
@@ -201,25 +201,25 @@ module _ (s : Model) (legal : IsLegal s) (steady : HasSteadyTexts s) (saved : Is
     value-means k (value.Adapter x) loaded known = refl
 
     values-mean : (k : ResourceNo) (o : ObjectNo) (f : FeatureNo) → has filled k ≡ true → resource_of (above s.links) o ≡ Some k
-        → map (meant (reading t)) (values_at t (at_end (node.Object (new k o)) f)) ≡ map (meant r) (values_at s (at_end (node.Object o) f))
+        → map (meant_value (reading t)) (values_at t (at_end (node.Object (new k o)) f)) ≡ map (meant_value r) (values_at s (at_end (node.Object o) f))
     values-mean k o f loaded inside =
         let vs = values_at s (at_end (node.Object o) f) in
-        ap (map (meant (reading t))) ((so_far.copies k loaded).values o f inside)
-        ∙ map-twice (as_new k) (meant (reading t)) vs
-        ∙ map-each (λ v. meant (reading t) (as_new k v)) (meant r) vs (each-at _ vs (λ i v here. value-means k v loaded (λ c is. value-address k o f i c inside (here ∙ ap (λ (x : Value). Some x) is))))
+        ap (map (meant_value (reading t))) ((so_far.copies k loaded).values o f inside)
+        ∙ map-twice (as_new k) (meant_value (reading t)) vs
+        ∙ map-each (λ v. meant_value (reading t) (as_new k v)) (meant_value r) vs (each-at _ vs (λ i v here. value-means k v loaded (λ c is. value-address k o f i c inside (here ∙ ap (λ (x : Value). Some x) is))))
 
-    roots-mean : (k : ResourceNo) → has filled k ≡ true → map (meant (reading t)) (values_at t (roots_end r (number k))) ≡ map (meant r) (values_at s (roots_end r k))
+    roots-mean : (k : ResourceNo) → has filled k ≡ true → map (meant_value (reading t)) (values_at t (roots_end r (number k))) ≡ map (meant_value r) (values_at s (roots_end r k))
     roots-mean k loaded =
         let e = roots_end r k in
         let vs = values_at s e in
-        ap (map (meant (reading t))) (so_far.copies k loaded).roots
-        ∙ map-twice (as_new k) (meant (reading t)) vs
-        ∙ map-each (λ v. meant (reading t) (as_new k v)) (meant r) vs (each-at _ vs (λ i v here. value-means k v loaded (λ c is.
+        ap (map (meant_value (reading t))) (so_far.copies k loaded).roots
+        ∙ map-twice (as_new k) (meant_value (reading t)) vs
+        ∙ map-each (λ v. meant_value (reading t) (as_new k v)) (meant_value r) vs (each-at _ vs (λ i v here. value-means k v loaded (λ c is.
         has-address k c (resource-root s legal c e k (holder-at s legal (node.Resource k) (lookups.contents s.metamodel) (contents-contains s.metamodel) i c (here ∙ ap (λ (x : Value). Some x) is)) refl))))
 
     ---------------------------------------------------------------- what is where
 
-    same-at : (k : ResourceNo) (o : ObjectNo) → has filled k ≡ true → resource_of (above s.links) o ≡ Some k → HasSame meant r (reading t) o (new k o)
+    same-at : (k : ResourceNo) (o : ObjectNo) → has filled k ≡ true → resource_of (above s.links) o ≡ Some k → HasSame meant_value r (reading t) o (new k o)
     same-at k o loaded inside = record {
       class = (so_far.copies k loaded).classes o inside;
       values = λ f. values-mean k o f loaded inside;
@@ -229,7 +229,7 @@ module _ (s : Model) (legal : IsLegal s) (steady : HasSteadyTexts s) (saved : Is
     filled-of : (k : ResourceNo) (o : ObjectNo) → resource_of (above s.links) o ≡ Some k → has filled k ≡ true
     filled-of k o inside = all k (inside-there k o inside)
 
-    there-now : (o : ObjectNo) (a : List ℕ) → address r o ≡ Some a → IsThere meant r (reading t) o a
+    there-now : (o : ObjectNo) (a : List ℕ) → address r o ≡ Some a → IsThere meant_value r (reading t) o a
     there-now o a is =
         let in_it = address-inside s o a is in
         let loaded = filled-of in_it.0 o in_it.1 in
@@ -251,7 +251,7 @@ module _ (s : Model) (legal : IsLegal s) (steady : HasSteadyTexts s) (saved : Is
     inside-now : (p : ObjectNo) → is_live (reading t) p ≡ true → is_some (address (reading t) p) ≡ true
     inside-now p live = let x = from-live p live in ap (λ (y : Option (List ℕ)). is_some y) (x.1 ∙ x.3)
 
-    roots-now : (u : List ℕ) (k j : ResourceNo) → slice_get s.values.uris k.0 ≡ Some u → slice_get w.uris j.0 ≡ Some u → map (meant (reading t)) (values_at t (roots_end r j)) ≡ map (meant r) (values_at s (roots_end r k))
+    roots-now : (u : List ℕ) (k j : ResourceNo) → slice_get s.values.uris k.0 ≡ Some u → slice_get w.uris j.0 ≡ Some u → map (meant_value (reading t)) (values_at t (roots_end r j)) ≡ map (meant_value r) (values_at s (roots_end r k))
     roots-now u k j first second =
         let there : has_resource r k ≡ true = (let low = slice_get_within s.values.uris k.0 u first in grind (arith, nat_tests)) in
         let loaded = all k there in
@@ -259,9 +259,9 @@ module _ (s : Model) (legal : IsLegal s) (steady : HasSteadyTexts s) (saved : Is
         let one = named-at (reading t) (number k) u so_far.legal.uris.distinct (at-uri k (so_far.filled_made k loaded) ∙ ap (λ (x : List ℕ). Some x) own) in
         let two = named-at (reading t) j u so_far.legal.uris.distinct second in
         let same : j ≡ number k = same_Some j (number k) (sym two ∙ one) in
-        ap (λ (x : ResourceNo). map (meant (reading t)) (values_at t (roots_end r x))) same ∙ roots-mean k loaded
+        ap (λ (x : ResourceNo). map (meant_value (reading t)) (values_at t (roots_end r x))) same ∙ roots-mean k loaded
 
-    all-same : HaveSame meant r (reading t)
+    all-same : HaveSame meant_value r (reading t)
     all-same = record { uris = uris-same; roots = roots-now; there = there-now; back = back-now }
 
     ---------------------------------------------------------------- pairs

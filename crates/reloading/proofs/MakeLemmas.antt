@@ -34,7 +34,7 @@ use Rattle.fragment_paths.specs.Fragments.{address}
 use Rattle.doc_loader.proofs.SoundLemmas.{any-at, map-at}
 use Rattle.round_trip.proofs.ValuesListLemmas.{stands}
 use Rattle.mm_meta.proofs.OwnerLemmas.{get_left}
-use Rattle.handshake.specs.Effects.{after}
+use Rattle.handshake.specs.Effects.{model_after}
 use Rattle.handshake.specs.declared.change.Change.TheVariants.{NewResource}
 use Rattle.handshake.proofs.AllLemmas.{change-keeps-legal}
 use Rattle.reloading.specs.Orders.{IsAllowed, IsMaking, IsSaved, has, is_same, number_of, uri_of}
@@ -54,7 +54,7 @@ module _ (s : Model) (legal : IsLegal s) (steady : HasSteadyTexts s) (saved : Is
   uri = uri_of (reading s) k
 
   abbrev u : Model
-  u = after (model_of s.metamodel w b) (NewResource (uri_of (reading s) k))
+  u = model_after (model_of s.metamodel w b) (NewResource (uri_of (reading s) k))
 
   abbrev more : List ResourceNo
   more = made ++ k ∷ []

@@ -39,9 +39,9 @@ use Rattle.proxies.specs.Refusals.{is_mistyped, target_refusal}
 use Rattle.proxies.specs.Resolving.{counterpart, first_to, is_unmatched, leads_to, proxy_at, target, target_at}
 use Rattle.handshake.specs.declared.change.Change.TheVariants.{At}
 use Rattle.handshake.specs.declared.act.Act.TheVariants.{Resolve}
-use Rattle.proxies.specs.declared.target.Counterpart.{Counterpart}
+use Rattle.proxies.specs.declared.resolved_proxy.Counterpart.{Counterpart}
 use Rattle.proxies.proofs.TargetLemmas.{leads-proxy}
-use Rattle.reloading.specs.Addressed.{By, meant}
+use Rattle.reloading.specs.Addressed.{By, meant_value}
 use Rattle.reloading.specs.Alike.{HasSame}
 use Rattle.reloading.specs.Between.{Between}
 use Rattle.reloading.specs.Proxies.{HasNoProxy}
@@ -107,7 +107,7 @@ module _ (left : LeftProxy) where
   aim-at = was.2
 
   -- the object at its address
-  abbrev met : (q : ObjectNo) × (address (reading (model_of s.metamodel w c)) q ≡ Some text) × (at (reading (model_of s.metamodel w c)) text ≡ Some q) × HasSame meant (reading s) (reading (model_of s.metamodel w c)) aim q
+  abbrev met : (q : ObjectNo) × (address (reading (model_of s.metamodel w c)) q ≡ Some text) × (at (reading (model_of s.metamodel w c)) text ≡ Some q) × HasSame meant_value (reading s) (reading (model_of s.metamodel w c)) aim q
   met = found-of s w c legal other none between aim text aim-at
 
   pub goal : ObjectNo
@@ -121,7 +121,7 @@ module _ (left : LeftProxy) where
   unfolding goal
   goal-found = met.2
 
-  pub goal-same : HasSame meant (reading s) (reading t) aim goal
+  pub goal-same : HasSame meant_value (reading s) (reading t) aim goal
   unfolding goal
   goal-same = met.3
 

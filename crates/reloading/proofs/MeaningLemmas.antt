@@ -23,7 +23,7 @@ use Rattle.fragment_paths.specs.Finding.{at}
 use Rattle.fragment_paths.specs.Fragments.{address}
 use Rattle.round_trip.proofs.ListLemmas.{mapped-at}
 use Rattle.round_trip.proofs.ValuesListLemmas.{stands}
-use Rattle.reloading.specs.Addressed.{By, Named, Plain, meant}
+use Rattle.reloading.specs.Addressed.{By, Named, Plain, meant_value}
 use Rattle.reloading.specs.Alike.{HasSame}
 use Rattle.reloading.specs.Between.{Between}
 use Rattle.reloading.specs.Proxies.{HasNoProxy}
@@ -46,7 +46,7 @@ by_of (By t) = t
 by_of (Plain v) = None
 
 -- without proxies a text means an object
-means-object : (r : Reading) (v : Value) (t : List ℕ) → meant r v ≡ By (Some t) → ((u : List ℕ) → v ≡ value.Proxy u → ⊥) → (b : ObjectNo) × (v ≡ value.Object b) × (address r b ≡ Some t)
+means-object : (r : Reading) (v : Value) (t : List ℕ) → meant_value r v ≡ By (Some t) → ((u : List ℕ) → v ≡ value.Proxy u → ⊥) → (b : ObjectNo) × (v ≡ value.Object b) × (address r b ≡ Some t)
 unfolding by_of
 means-object r (value.Object b) t h other = (b, refl, ap by_of h)
 means-object r (value.Proxy u) t h other = absurd (other u refl)
@@ -62,27 +62,27 @@ module _ (s : Model) (w : ValuesState) (c : Links) (legal : IsLegal s) (other : 
   abbrev t : Model
   t = model_of s.metamodel w c
 
-  module _ (o p : ObjectNo) (same : HasSame meant (reading s) (reading (model_of s.metamodel w c)) o p) where
-    pub back-at : (f : FeatureNo) (k : ℕ) (x : Value) (y : List ℕ) → slice_get (values_at t (at_end (node.Object p) f)) k ≡ Some x → meant (reading t) x ≡ By (Some y)
+  module _ (o p : ObjectNo) (same : HasSame meant_value (reading s) (reading (model_of s.metamodel w c)) o p) where
+    pub back-at : (f : FeatureNo) (k : ℕ) (x : Value) (y : List ℕ) → slice_get (values_at t (at_end (node.Object p) f)) k ≡ Some x → meant_value (reading t) x ≡ By (Some y)
         → (b : ObjectNo) × (slice_get (values_at s (at_end (node.Object o) f)) k ≡ Some (value.Object b)) × (address (reading s) b ≡ Some y)
     back-at f k x y here means =
         let vs = values_at s (at_end (node.Object o) f) in
-        let name : slice_get (map (meant (reading s)) vs) k ≡ Some (By (Some y)) =
-        ap (λ (xs : List Named). slice_get xs k) (sym (same.values f)) ∙ map-get (meant (reading t)) (values_at t (at_end (node.Object p) f)) k ∙ ap (option_map (meant (reading t))) here ∙ ap (λ (z : Named). Some z) means in
-        let found = mapped-at (meant (reading s)) vs k (By (Some y)) name in
+        let name : slice_get (map (meant_value (reading s)) vs) k ≡ Some (By (Some y)) =
+        ap (λ (xs : List Named). slice_get xs k) (sym (same.values f)) ∙ map-get (meant_value (reading t)) (values_at t (at_end (node.Object p) f)) k ∙ ap (option_map (meant_value (reading t))) here ∙ ap (λ (z : Named). Some z) means in
+        let found = mapped-at (meant_value (reading s)) vs k (By (Some y)) name in
         let object = means-object (reading s) found.0 y found.2 (λ u is. none (at_end (node.Object o) f) u (stands vs k (value.Proxy u) (found.1 ∙ ap (λ (z : Value). Some z) is))) in
         (object.0, found.1 ∙ ap (λ (z : Value). Some z) object.1, object.2)
 
     pub forth-at : (f : FeatureNo) (k : ℕ) (b : ObjectNo) (y : List ℕ) → slice_get (values_at s (at_end (node.Object o) f)) k ≡ Some (value.Object b) → address (reading s) b ≡ Some y
-        → (x : Value) × (slice_get (values_at t (at_end (node.Object p) f)) k ≡ Some x) × (meant (reading t) x ≡ By (Some y))
+        → (x : Value) × (slice_get (values_at t (at_end (node.Object p) f)) k ≡ Some x) × (meant_value (reading t) x ≡ By (Some y))
     forth-at f k b y here at =
         let vs = values_at t (at_end (node.Object p) f) in
-        let name : slice_get (map (meant (reading t)) vs) k ≡ Some (By (Some y)) =
-        ap (λ (xs : List Named). slice_get xs k) (same.values f) ∙ map-get (meant (reading s)) (values_at s (at_end (node.Object o) f)) k ∙ ap (option_map (meant (reading s))) here ∙ ap (λ (z : Option (List ℕ)). Some (By z)) at in
-        mapped-at (meant (reading t)) vs k (By (Some y)) name
+        let name : slice_get (map (meant_value (reading t)) vs) k ≡ Some (By (Some y)) =
+        ap (λ (xs : List Named). slice_get xs k) (same.values f) ∙ map-get (meant_value (reading s)) (values_at s (at_end (node.Object o) f)) k ∙ ap (option_map (meant_value (reading s))) here ∙ ap (λ (z : Option (List ℕ)). Some (By z)) at in
+        mapped-at (meant_value (reading t)) vs k (By (Some y)) name
 
-    pub one-place : (f : FeatureNo) (j k : ℕ) (x z : Value) (y : List ℕ) → (shape s.metamodel f).is_reference ≡ true → slice_get (values_at t (at_end (node.Object p) f)) j ≡ Some x → meant (reading t) x ≡ By (Some y)
-        → slice_get (values_at t (at_end (node.Object p) f)) k ≡ Some z → meant (reading t) z ≡ By (Some y) → j ≡ k
+    pub one-place : (f : FeatureNo) (j k : ℕ) (x z : Value) (y : List ℕ) → (shape s.metamodel f).is_reference ≡ true → slice_get (values_at t (at_end (node.Object p) f)) j ≡ Some x → meant_value (reading t) x ≡ By (Some y)
+        → slice_get (values_at t (at_end (node.Object p) f)) k ≡ Some z → meant_value (reading t) z ≡ By (Some y) → j ≡ k
     one-place f j k x z y reference first means second means_too =
         let d = at_end (node.Object o) f in
         let a = back-at f j x y first means in
@@ -99,7 +99,7 @@ module _ (s : Model) (w : ValuesState) (c : Links) (legal : IsLegal s) (other : 
       pub text : List ℕ
       pub was : address (reading s) object ≡ Some text
       pub now : address (reading t) p ≡ Some text
-      pub same : HasSame meant (reading s) (reading t) object p
+      pub same : HasSame meant_value (reading s) (reading t) object p
 
     pub from-of : (p : ObjectNo) → is_live (reading t) p ≡ true → IsFrom p
     from-of p live =
@@ -107,10 +107,10 @@ module _ (s : Model) (w : ValuesState) (c : Links) (legal : IsLegal s) (other : 
         let o = between.same.back p x.0 x.1 in
         let met = between.same.there o.0 x.0 o.1 in
         let own : met.object ≡ p = one-address t other met.object p x.0 met.at x.1 in
-        record { object = o.0; text = x.0; was = o.1; now = x.1; same = subst (λ (y : ObjectNo). HasSame meant (reading s) (reading t) o.0 y) own met.same }
+        record { object = o.0; text = x.0; was = o.1; now = x.1; same = subst (λ (y : ObjectNo). HasSame meant_value (reading s) (reading t) o.0 y) own met.same }
 
     -- the object at a text that is the address of an object of s
-    pub found-of : (b : ObjectNo) (y : List ℕ) → address (reading s) b ≡ Some y → (q : ObjectNo) × (address (reading t) q ≡ Some y) × (at (reading t) y ≡ Some q) × HasSame meant (reading s) (reading t) b q
+    pub found-of : (b : ObjectNo) (y : List ℕ) → address (reading s) b ≡ Some y → (q : ObjectNo) × (address (reading t) q ≡ Some y) × (at (reading t) y ≡ Some q) × HasSame meant_value (reading s) (reading t) b q
     found-of b y at =
         let met = between.same.there b y at in
         (met.object, met.at, address-finds t other met.object y met.at, met.same)

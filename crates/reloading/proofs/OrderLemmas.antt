@@ -15,7 +15,8 @@ use Rattle.models.specs.Legal.{IsLegal}
 use Rattle.models.specs.Model.{Model, reading}
 use Rattle.models.specs.Reading.{has_resource}
 use Rattle.containment.proofs.DistinctLemmas.{distinct-++}
-use Rattle.containment.proofs.PartLemmas.{all-append, live-made}
+use Rattle.mm_meta.proofs.FeatureListLemmas.{all-append}
+use Rattle.containment.proofs.PartLemmas.{live-made}
 use Rattle.doc_writer.specs.Written.{objects_in}
 use Rattle.doc_parts.proofs.WayLemmas.{position_cons}
 use Rattle.round_trip.proofs.InsideLemmas.{written-inside}

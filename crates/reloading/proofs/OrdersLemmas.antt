@@ -9,8 +9,8 @@ use Rattle.models.specs.Legal.{IsLegal}
 use Rattle.models.specs.Model.{Model, empty_model, model_of, reading}
 use Rattle.models.specs.Steady.{HasSteadyTexts}
 use Rattle.models.proofs.EmptyLemmas.{empty-legal}
-use Rattle.round_trip.specs.Copied.{copied}
-use Rattle.handshake.specs.Effects.{after}
+use Rattle.round_trip.specs.Copied.{copied_document}
+use Rattle.handshake.specs.Effects.{model_after}
 use Rattle.handshake.specs.declared.change.Change.TheVariants.{Load, NewResource}
 use Rattle.reloading.specs.Between.{Between}
 use Rattle.reloading.specs.Orders.{AreAllowed, Fill, IsOrder, IsSaved, LoadsGiveBetween, Make, Task, after_all, changes, is_same, number_of, uri_of}
@@ -30,12 +30,12 @@ module _ (s : Model) (legal : IsLegal s) (steady : HasSteadyTexts s) (saved : Is
   done [] w b made filled so_far order = record { allowed = tt; legal_then = so_far.legal; between = loaded-between s legal steady saved w b made filled so_far order }
   done (Make k ∷ ts) w b made filled so_far order =
       let t = model_of s.metamodel w b in
-      let u = after t (NewResource (uri_of (reading s) k)) in
+      let u = model_after t (NewResource (uri_of (reading s) k)) in
       let rest = done ts u.values u.links (made ++ k ∷ []) filled (made-so-far s legal steady saved w b made filled so_far k order.0) order.1 in
       record { allowed = (make-allowed s legal steady saved w b made filled so_far k order.0, rest.allowed); legal_then = rest.legal_then; between = rest.between }
   done (Fill k ∷ ts) w b made filled so_far order =
       let t = model_of s.metamodel w b in
-      let u = after t (Load (number_of made k) (copied (reading s) k)) in
+      let u = model_after t (Load (number_of made k) (copied_document (reading s) k)) in
       let rest = done ts u.values u.links made (filled ++ k ∷ []) (filled-so-far s legal steady saved w b made filled so_far k order.0) order.1 in
       record { allowed = (fill-allowed s legal steady saved w b made filled so_far k order.0, rest.allowed); legal_then = rest.legal_then; between = rest.between }
 

@@ -15,7 +15,7 @@ use Rattle.models.specs.Model.{Model, model_of, reading}
 use Rattle.models.specs.Reading.{Reading, all_features_of, at_end}
 use Rattle.doc_loader.proofs.SoundLemmas.{flat_map-at}
 use Rattle.round_trip.proofs.ValuesListLemmas.{passes-kept, stands}
-use Rattle.handshake.specs.Effects.{after}
+use Rattle.handshake.specs.Effects.{model_after}
 use Rattle.proxies.specs.Proxies.{is_proxy_site, site, sites, sites_of, sites_under}
 use Rattle.handshake.specs.declared.change.Change.{Change}
 use Rattle.handshake.specs.declared.change.Change.TheVariants.{At}
@@ -61,7 +61,7 @@ module _ (s : Model) (legal : IsLegal s) (none : HasNoProxy (reading s)) where
   first-resolved : (n : Node) (f : FeatureNo) (i : ℕ) (cs : List Change) → ((w : ValuesState) (b : Links) → IsLegal (model_of s.metamodel w b) → Between (reading s) (reading (model_of s.metamodel w b)) → AreResolves (model_of s.metamodel w b) cs → AreDone (model_of s.metamodel w b) cs)
       → (w : ValuesState) (b : Links) → IsLegal (model_of s.metamodel w b) → Between (reading s) (reading (model_of s.metamodel w b)) → AreResolves (model_of s.metamodel w b) (At (at_end n f) (Resolve i) ∷ cs) → AreDone (model_of s.metamodel w b) (At (at_end n f) (Resolve i) ∷ cs)
   first-resolved (node.Object o) f i cs rest_of w b other between resolves =
-      let u = after (model_of s.metamodel w b) (At (at_end (node.Object o) f) (Resolve i)) in
+      let u = model_after (model_of s.metamodel w b) (At (at_end (node.Object o) f) (Resolve i)) in
       let one = resolves-between s w b legal other none between o f i resolves.0 in
       let rest = rest_of u.values u.links (now-legal (left-at s w b legal other none between o f i resolves.0)) one.between resolves.1 in
       record { allowed = (record { early = one.early; late = one.late }, rest.allowed); alike = rest.alike }
@@ -83,7 +83,7 @@ module _ (s : Model) (legal : IsLegal s) (none : HasNoProxy (reading s)) where
       let some = some-proxy (reading t) more in
       let p = some.0 in
       let one = resolves-between s w b legal other none between p.object p.feature p.index some.1 in
-      let u = after t (At (at_end (node.Object p.object) p.feature) (Resolve p.index)) in
+      let u = model_after t (At (at_end (node.Object p.object) p.feature) (Resolve p.index)) in
       let fewer = one.fewer in
       let less = fell (is_some (shape s.metamodel p.feature).opposite) (proxies_len (reading t)) (proxies_len (reading u)) fewer in
       let rest = some-resolves n u.values u.links (now-legal (left-at s w b legal other none between p.object p.feature p.index some.1)) one.between (omega (arith, low, less)) in

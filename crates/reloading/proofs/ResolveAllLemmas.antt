@@ -18,7 +18,7 @@ use Rattle.models.specs.Model.{Model, model_of, reading, values_at}
 use Rattle.models.specs.Reading.{Reading, all_features_of, at_end}
 use Rattle.doc_loader.proofs.SoundLemmas.{at-map}
 use Rattle.round_trip.proofs.ValuesListLemmas.{in-all, is-kept, stands}
-use Rattle.handshake.specs.Effects.{after}
+use Rattle.handshake.specs.Effects.{model_after}
 use Rattle.handshake.specs.OneByOne.{after_each, is_refused, resolve}
 use Rattle.proxies.specs.Proxies.{end_of, is_proxy_site, site, sites, sites_of, sites_under}
 use Rattle.handshake.specs.Refusals.{early_refusal, late_refusal}
@@ -88,7 +88,7 @@ module _ (s : Model) (legal : IsLegal s) (none : HasNoProxy (reading s)) where
     t = model_of s.metamodel w b
 
     abbrev u : Model
-    u = after t (resolve p)
+    u = model_after t (resolve p)
 
     moved-on : (refused : Bool) → is_refused t (resolve p) ≡ refused → IsSolved (if refused then t else u) ps → IsSolved t (p ∷ ps)
     moved-on true is so = record {
@@ -157,7 +157,7 @@ none-counted r none = by (proxies_len r) refl
 pub resolves-all : (s : Model) (w : ValuesState) (b : Links) → ResolvesAll s w b
 resolves-all s w b legal other none between =
     let t = model_of s.metamodel w b in
-    let u = after t ResolveAll in
+    let u = model_after t ResolveAll in
     let each = resolves-each t other in
     let x = all-solved s legal none (sites (reading t)) w b other between (all-places t other) in
     let no_proxy = subst (λ (y : Model). HasNoProxy (reading y)) (sym each.leaves) x.no_proxy in

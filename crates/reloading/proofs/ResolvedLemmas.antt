@@ -8,7 +8,7 @@ use Rattle.std.proofs.lemmas.Bool.{and_parts, false≢true}
 use Rattle.std.proofs.lemmas.Bool.Decides.{nat_tests}
 use Rattle.std.proofs.lemmas.Option.{none-some, same_Some, slice_get_within}
 use Rattle.mm_types.proofs.SameLemmas.{same_end-self, same_end-true}
-use Rattle.mm_types.specs.Ends.{Ends, Held, shown}
+use Rattle.mm_types.specs.Ends.{Ends, Held, shown_values}
 use Rattle.mm_types.specs.Same.{is_feature, same_end}
 use Rattle.mm_types.specs.Shapes.{Shape, is_containment, shape}
 use Rattle.mm_types.specs.declared.end.End.{End}
@@ -27,22 +27,22 @@ use Rattle.containment.proofs.PartLemmas.{kinds-are, legal-at, values-linked}
 use Rattle.fragment_paths.proofs.StayLemmas.{address-stays}
 use Rattle.fragment_paths.specs.Finding.{at}
 use Rattle.fragment_paths.specs.Fragments.{address}
-use Rattle.handshake.specs.Effects.{after}
+use Rattle.handshake.specs.Effects.{model_after}
 use Rattle.handshake.specs.Refusals.{early_refusal, late_refusal}
 use Rattle.proxies.specs.Resolving.{counterpart, first_to, leads_to, target, target_at}
-use Rattle.handshake.specs.FeatureChange.{changed, happened_all, feature_change}
-use Rattle.handshake.specs.FeatureChanges.{resolved, feature_changes}
+use Rattle.handshake.specs.FeatureChange.{values_after_change, ends_after_changes, feature_change}
+use Rattle.handshake.specs.FeatureChanges.{changes_of_resolve, feature_changes}
 use Rattle.handshake.specs.declared.change.Change.TheVariants.{At}
 use Rattle.handshake.specs.declared.act.Act.TheVariants.{Resolve}
 use Rattle.handshake.specs.declared.change_kind.ChangeKind.TheVariants.{Resolves}
 use Rattle.handshake.specs.declared.change_kind.FeatureChange.{FeatureChange}
-use Rattle.proxies.specs.declared.target.Counterpart.{Counterpart}
-use Rattle.proxies.specs.declared.target.Target.{Target}
+use Rattle.proxies.specs.declared.resolved_proxy.Counterpart.{Counterpart}
+use Rattle.proxies.specs.declared.resolved_proxy.ResolvedProxy.{ResolvedProxy}
 use Rattle.handshake.proofs.AllLemmas.{chain-replays}
-use Rattle.handshake.proofs.HappenedLemmas.{done, done_at, done-here, done-other, happened_all-at, happened_at}
+use Rattle.handshake.proofs.HappenedLemmas.{done, done_at, done-here, done-other, ends_after_changes-at, happened_at}
 use Rattle.handshake.proofs.KnownLemmas.{resolvable}
 use Rattle.handshake.proofs.AllLemmas.{change-keeps-legal}
-use Rattle.handshake.proofs.ReplayLemmas.{replayed_all-told}
+use Rattle.handshake.proofs.ReplayLemmas.{ends_after_notices-change_notices}
 use Rattle.doc_writer.proofs.PlainLemmas.{reference-of}
 
 ---------------------------------------------------------------- what is shown
@@ -87,24 +87,24 @@ set-some [] i v all some = tt
 set-some (w ∷ ws) zero v all some = (some, all.1)
 set-some (w ∷ ws) (suc i) v all some = (all.0, set-some ws i v all.1 some)
 
-unshown-shown : (b : Bool) (vs : List Value) → AreSome vs → unshown (shown b vs) ≡ vs
-unshown-shown true [] all = refl
-unshown-shown false [] all = refl
-unshown-shown true (v ∷ vs) all = unshown-some (v ∷ vs) all
-unshown-shown false (v ∷ vs) all = unshown-some (v ∷ vs) all
+unshown-shown_values : (b : Bool) (vs : List Value) → AreSome vs → unshown (shown_values b vs) ≡ vs
+unshown-shown_values true [] all = refl
+unshown-shown_values false [] all = refl
+unshown-shown_values true (v ∷ vs) all = unshown-some (v ∷ vs) all
+unshown-shown_values false (v ∷ vs) all = unshown-some (v ∷ vs) all
 
 values-some : (s : Model) → IsLegal s → (e : End) → (shape s.metamodel e.feature).is_reference ≡ true → AreSome (values_at s e)
 values-some s legal e reference = subst AreSome (sym (values-linked s e reference)) (end-some (reading s) e (end s.links e) (legal.links.ends e))
 
 -- the values of a reference are those that it shows, without null
 from-shown : (s : Model) → IsLegal s → (e : End) → (shape s.metamodel e.feature).is_reference ≡ true → (vs : List Value) → (held_at (reading s) e).values ≡ vs → values_at s e ≡ unshown vs
-from-shown s legal e reference vs is = sym (unshown-shown (shape s.metamodel e.feature).is_single (values_at s e) (values-some s legal e reference)) ∙ ap unshown is
+from-shown s legal e reference vs is = sym (unshown-shown_values (shape s.metamodel e.feature).is_single (values_at s e) (values-some s legal e reference)) ∙ ap unshown is
 
 -- the shown values after resolving
-resolved-shown : (a : Shape) (vs : List Value) (i : ℕ) (p v : Value) → slice_get vs i ≡ Some p → (a.is_single ≡ true → vs ≡ option_to_list (slice_get vs 0)) → changed a (Resolves i v) (shown a.is_single vs) ≡ slice_set vs i v
-resolved-shown a [] i p v here one = absurd (none-some p here)
-resolved-shown a (w ∷ ws) i p v here one =
-    elim a.is_single as (λ b. a.is_single ≡ b → (if b then v ∷ [] else (if nat_lt i (length (shown b (w ∷ ws))) then slice_set (shown b (w ∷ ws)) i v else shown b (w ∷ ws))) ≡ slice_set (w ∷ ws) i v) [
+resolved-shown_values : (a : Shape) (vs : List Value) (i : ℕ) (p v : Value) → slice_get vs i ≡ Some p → (a.is_single ≡ true → vs ≡ option_to_list (slice_get vs 0)) → values_after_change a (Resolves i v) (shown_values a.is_single vs) ≡ slice_set vs i v
+resolved-shown_values a [] i p v here one = absurd (none-some p here)
+resolved-shown_values a (w ∷ ws) i p v here one =
+    elim a.is_single as (λ b. a.is_single ≡ b → (if b then v ∷ [] else (if nat_lt i (length (shown_values b (w ∷ ws))) then slice_set (shown_values b (w ∷ ws)) i v else shown_values b (w ∷ ws))) ≡ slice_set (w ∷ ws) i v) [
       | true ↦ λ single. alone i ws here (one single)
       | false ↦ λ _.
           let within = slice_get_within (w ∷ ws) i p here in
@@ -132,12 +132,12 @@ counterpart-at r e o c h = by (shape r.metamodel e.feature).opposite refl h
     by (Some g) is found = (g, is, first g (position (leads_to r e.node) (r.values (far_end o g))) found)
 
 -- a target is found for a proxy, with the counterpart of its object
-pub record IsTargetOf (r : Reading) (e : End) (i : ℕ) (x : Target) : Type 0 where
+pub record IsTargetOf (r : Reading) (e : End) (i : ℕ) (x : ResolvedProxy) : Type 0 where
   pub text : List ℕ
   pub proxy : slice_get (r.values e) i ≡ Some (value.Proxy text)
   pub matched : x.counterpart ≡ counterpart r e x.object
 
-pub target-is : (r : Reading) (e : End) (i : ℕ) (x : Target) → target_at r e i ≡ Some x → IsTargetOf r e i x
+pub target-is : (r : Reading) (e : End) (i : ℕ) (x : ResolvedProxy) → target_at r e i ≡ Some x → IsTargetOf r e i x
 target-is r e i x h = by (slice_get (r.values e) i) refl h
   where
     led : (t : List ℕ) → slice_get (r.values e) i ≡ Some (value.Proxy t) → (q : Option ObjectNo) → option_map (target r e) q ≡ Some x → IsTargetOf r e i x
@@ -159,18 +159,18 @@ module _ (s : Model) (legal : IsLegal s) (o : ObjectNo) (f : FeatureNo) (i : ℕ
   e = at_end (node.Object o) f
 
   abbrev t : Model
-  t = after s (At (at_end (node.Object o) f) (Resolve i))
+  t = model_after s (At (at_end (node.Object o) f) (Resolve i))
 
-  pub resolved-legal : IsLegal (after s (At (at_end (node.Object o) f) (Resolve i)))
+  pub resolved-legal : IsLegal (model_after s (At (at_end (node.Object o) f) (Resolve i)))
   resolved-legal = change-keeps-legal s (At (at_end (node.Object o) f) (Resolve i)) legal early late tt tt
 
-  module _ (x : Target) (is : target_at (reading s) (at_end (node.Object o) f) i ≡ Some x) where
-    now-held : (d : End) → held_at (reading t) d ≡ happened_at s.metamodel (resolved e i x) d (held_at (reading s) d)
+  module _ (x : ResolvedProxy) (is : target_at (reading s) (at_end (node.Object o) f) i ≡ Some x) where
+    now-held : (d : End) → held_at (reading t) d ≡ happened_at s.metamodel (changes_of_resolve e i x) d (held_at (reading s) d)
     now-held d =
         sym (chain-replays s (At (at_end (node.Object o) f) (Resolve i)) legal early late tt d refl refl)
-        ∙ ap (λ (q : Ends). q d) (replayed_all-told s.metamodel (held_at (reading s)) (feature_changes (reading s) (At (at_end (node.Object o) f) (Resolve i))))
-        ∙ ap (λ (q : Option Target). happened_all s.metamodel (held_at (reading s)) (option_map_or (resolved e i) q []) d) is
-        ∙ happened_all-at s.metamodel (held_at (reading s)) (resolved e i x) d
+        ∙ ap (λ (q : Ends). q d) (ends_after_notices-change_notices s.metamodel (held_at (reading s)) (feature_changes (reading s) (At (at_end (node.Object o) f) (Resolve i))))
+        ∙ ap (λ (q : Option ResolvedProxy). ends_after_changes s.metamodel (held_at (reading s)) (option_map_or (changes_of_resolve e i) q []) d) is
+        ∙ ends_after_changes-at s.metamodel (held_at (reading s)) (changes_of_resolve e i x) d
 
     -- the counterpart is at an end
     abbrev pub is_far : End → Bool
@@ -203,7 +203,7 @@ module _ (s : Model) (legal : IsLegal s) (o : ObjectNo) (f : FeatureNo) (i : ℕ
         → held_at (reading t) d ≡ done (shape s.metamodel d.feature) (Resolves k (value.Object b)) (held_at (reading s) d) → values_at t d ≡ slice_set (values_at s d) k (value.Object b)
     written d k b p reference here now =
         from-shown t resolved-legal d reference (slice_set (values_at s d) k (value.Object b))
-        (ap (λ (h : Held). h.values) now ∙ resolved-shown (shape s.metamodel d.feature) (values_at s d) k p (value.Object b) here (λ single. values-single s d legal reference single))
+        (ap (λ (h : Held). h.values) now ∙ resolved-shown_values (shape s.metamodel d.feature) (values_at s d) k p (value.Object b) here (λ single. values-single s d legal reference single))
         ∙ unshown-some (slice_set (values_at s d) k (value.Object b)) (set-some (values_at s d) k (value.Object b) (values-some s legal d reference) refl)
 
     -- the object is at the position of the proxy

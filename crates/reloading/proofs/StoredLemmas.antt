@@ -4,7 +4,7 @@ use Rattle.std.proofs.Common.{◌≡◌, ◌∙◌, ℕ, ◌≤◌, pos, int_le,
 use Rattle.std.specs.Option.{option_map_or}
 use Rattle.std.proofs.lemmas.Bool.{and_parts, false≢true, true≢false}
 use Rattle.std.proofs.lemmas.Bool.Decides.{nat_tests}
-use Rattle.mm_types.specs.Ends.{shown, value_in}
+use Rattle.mm_types.specs.Ends.{shown_values, value_in}
 use Rattle.mm_types.specs.Ends as ends
 use Rattle.mm_types.specs.Lookups as lookups
 use Rattle.mm_types.specs.Resolved.{Metamodel}
@@ -63,7 +63,7 @@ pub stored-of : (s : Model) → IsLegal s → (o : ObjectNo) (f : FeatureNo)
 stored-of s legal o f = object-stored s.metamodel f (object_at s.values.objects o) (object-legal s.metamodel s.values.objects o.0 legal.objects)
 
 -- an attribute that is not set shows the same as one without stored values, and its flag is off
-pub not-set : (a : Shape) (vs : List Value) (b : Bool) → ends.is_set a (record { values = shown a.is_single (attribute_values a vs); flag = b }) ≡ false → b ≡ (a.is_unsettable && (a.is_single && not (is_nil vs))) → (a.is_single ≡ true → length vs ≤ 1)
+pub not-set : (a : Shape) (vs : List Value) (b : Bool) → ends.is_set a (record { values = shown_values a.is_single (attribute_values a vs); flag = b }) ≡ false → b ≡ (a.is_unsettable && (a.is_single && not (is_nil vs))) → (a.is_single ≡ true → length vs ≤ 1)
     → (attribute_values a vs ≡ attribute_values a []) × (b ≡ false)
 not-set a [] b set flagged one = (refl, flagged ∙ sym (never a.is_unsettable a.is_single))
 not-set a (x ∷ []) b set flagged one = by a.is_single a.is_unsettable set flagged
@@ -72,13 +72,13 @@ not-set a (x ∷ []) b set flagged one = by a.is_single a.is_unsettable set flag
     not-not true h = refl
     not-not false h = sym h
 
-    by : (s u : Bool) → (if s then (if u then b else not (same_value (value_in (shown s (x ∷ [])) 0) a.default)) else not (is_nil (shown s (x ∷ [])))) ≡ false → b ≡ (u && (s && true))
+    by : (s u : Bool) → (if s then (if u then b else not (same_value (value_in (shown_values s (x ∷ [])) 0) a.default)) else not (is_nil (shown_values s (x ∷ [])))) ≡ false → b ≡ (u && (s && true))
         → (x ∷ [] ≡ (if s then a.default ∷ [] else [])) × (b ≡ false)
     by true true set flagged = absurd (true≢false (sym flagged ∙ set))
     by true false set flagged = (let same = same_value-true x a.default (not-not (same_value x a.default) set) in λ i. same i ∷ [], flagged)
     by false u set flagged = absurd (true≢false set)
 not-set a (x ∷ y ∷ ys) b set flagged one =
-    elim a.is_single as (λ s. a.is_single ≡ s → (if s then (if a.is_unsettable then b else not (same_value (value_in (shown s (x ∷ y ∷ ys)) 0) a.default)) else not (is_nil (shown s (x ∷ y ∷ ys)))) ≡ false → (x ∷ y ∷ ys ≡ (if s then a.default ∷ [] else [])) × (b ≡ false)) [
+    elim a.is_single as (λ s. a.is_single ≡ s → (if s then (if a.is_unsettable then b else not (same_value (value_in (shown_values s (x ∷ y ∷ ys)) 0) a.default)) else not (is_nil (shown_values s (x ∷ y ∷ ys)))) ≡ false → (x ∷ y ∷ ys ≡ (if s then a.default ∷ [] else [])) × (b ≡ false)) [
       | true ↦ λ single _. (let few = one single in absurd (omega (arith, few)))
       | false ↦ λ _ h. absurd (true≢false h)
     ] refl set
@@ -89,11 +89,11 @@ pub record IsSome (a : Shape) (vs : List Value) (b : Bool) : Type 0 where
   pub shows : attribute_values a vs ≡ vs
   pub flag : b ≡ (a.is_unsettable && (a.is_single && true))
 
-pub set-some : (a : Shape) (vs : List Value) (b : Bool) → ends.is_set a (record { values = shown a.is_single (attribute_values a vs); flag = b }) ≡ true → b ≡ (a.is_unsettable && (a.is_single && not (is_nil vs))) → IsSome a vs b
+pub set-some : (a : Shape) (vs : List Value) (b : Bool) → ends.is_set a (record { values = shown_values a.is_single (attribute_values a vs); flag = b }) ≡ true → b ≡ (a.is_unsettable && (a.is_single && not (is_nil vs))) → IsSome a vs b
 set-some a (x ∷ xs) b set flagged = record { some = refl; shows = refl; flag = flagged }
 set-some a [] b set flagged = absurd (by a.is_single a.is_unsettable set flagged)
   where
-    by : (s u : Bool) → (if s then (if u then b else not (same_value (value_in (shown s (if s then a.default ∷ [] else [])) 0) a.default)) else not (is_nil (shown s (if s then a.default ∷ [] else [])))) ≡ true → b ≡ (u && (s && false)) → ⊥
+    by : (s u : Bool) → (if s then (if u then b else not (same_value (value_in (shown_values s (if s then a.default ∷ [] else [])) 0) a.default)) else not (is_nil (shown_values s (if s then a.default ∷ [] else [])))) ≡ true → b ≡ (u && (s && false)) → ⊥
     by true true set flagged = true≢false (sym set ∙ flagged)
     by true false set flagged = true≢false (sym set ∙ ap not (same_value-self a.default))
     by false u set flagged = false≢true set

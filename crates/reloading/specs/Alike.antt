@@ -7,7 +7,7 @@ use Rattle.mm_types.specs.declared.numbers.Node.TheVariants as node
 use Rattle.mm_types.specs.declared.value.Value.{Value}
 use Rattle.models.specs.Reading.{Reading, at_end, has_uri, roots_end}
 use Rattle.fragment_paths.specs.Fragments.{address}
-use Rattle.reloading.specs.Addressed.{Named, named}
+use Rattle.reloading.specs.Addressed.{Named, named_value}
 
 -- the object p of t has the class, the values and the set flags of the object o of s; values are compared by name
 pub record HasSame (name : Reading → Value → Named) (s t : Reading) (o p : ObjectNo) : Type 0 where
@@ -30,4 +30,4 @@ pub record HaveSame (name : Reading → Value → Named) (s t : Reading) : Type 
 
 -- two models are isomorphic: numbers may differ, and objects in no resource are not compared
 abbrev pub Alike : Reading → Reading → Type 0
-Alike = HaveSame named
+Alike = HaveSame named_value

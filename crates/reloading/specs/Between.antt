@@ -9,7 +9,7 @@ use Rattle.mm_types.specs.declared.numbers.Node.TheVariants as node
 use Rattle.mm_types.specs.declared.value.Value.TheVariants as value
 use Rattle.models.specs.Reading.{Reading, at_end, is_live}
 use Rattle.fragment_paths.specs.Fragments.{address}
-use Rattle.reloading.specs.Addressed.{meant}
+use Rattle.reloading.specs.Addressed.{meant_value}
 use Rattle.reloading.specs.Alike.{HaveSame}
 
 -- whether a proxy of an address is under a feature of an object
@@ -24,6 +24,6 @@ AreBothOrNone s t =
 
 -- t has the same contents as s, if a proxy counts as the object at its address; and each object of t is in a resource
 pub record Between (s t : Reading) : Type 0 where
-  pub same : HaveSame meant s t
+  pub same : HaveSame meant_value s t
   pub pairs : AreBothOrNone s t
   pub inside : (p : ObjectNo) → is_live t p ≡ true → is_some (address t p) ≡ true

@@ -10,16 +10,16 @@ use Rattle.models.specs.Reading.{Reading, at_end, roots_end}
 use Rattle.containment.specs.Above.{resource_of}
 use Rattle.fragment_paths.specs.Fragments.{address}
 use Rattle.doc_writer.specs.Written.{objects_in}
-use Rattle.doc_loader.specs.Loading.{loaded, loaded_value}
-use Rattle.round_trip.specs.Copied.{renamed, root_copied}
+use Rattle.doc_loader.specs.Loading.{loaded_number, loaded_value}
+use Rattle.round_trip.specs.Copied.{renamed_value, root_copied}
 
 -- the image of an object of resource k, if the first object gets the number n
 abbrev pub image : Reading → ResourceNo → ℕ → ObjectNo → ObjectNo
-image r k n o = loaded n (root_copied (objects_in r k) o)
+image r k n o = loaded_number n (root_copied (objects_in r k) o)
 
 -- the image of a value: for an object of the resource its image, for an object of another resource a proxy with its address
 abbrev pub value_image : Reading → ResourceNo → ℕ → Value → Value
-value_image r k n v = loaded_value n (renamed r (objects_in r k) v)
+value_image r k n v = loaded_value n (renamed_value r (objects_in r k) v)
 
 -- the objects of resource k of r have images in resource j of t, in their order, with the numbers from n on
 pub record HasImages (r : Reading) (k : ResourceNo) (n : ℕ) (j : ResourceNo) (t : Reading) : Type 0 where

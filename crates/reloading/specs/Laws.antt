@@ -14,9 +14,9 @@ use Rattle.models.specs.Steady.{HasSteadyTexts}
 use Rattle.fragment_paths.specs.Finding.{at}
 use Rattle.fragment_paths.specs.Fragments.{address}
 use Rattle.resource_docs.specs.declared.doc.Doc.{Doc}
-use Rattle.round_trip.specs.Copied.{copied}
+use Rattle.round_trip.specs.Copied.{copied_document}
 use Rattle.round_trip.specs.Readable.{IsReadable}
-use Rattle.handshake.specs.Effects.{after}
+use Rattle.handshake.specs.Effects.{model_after}
 use Rattle.handshake.specs.Laws.{OfAllowed}
 use Rattle.handshake.specs.Changes.{HasReadDocument}
 use Rattle.handshake.specs.Refusals.{early_refusal, late_refusal}
@@ -38,12 +38,12 @@ pub record HasOwnAddresses (r : Reading) : Type 0 where
 
 -- resolving a proxy changes no object's address
 abbrev pub ResolvesKeepAddresses : Model → ObjectNo → FeatureNo → ℕ → Type 0
-ResolvesKeepAddresses s o f i = OfAllowed (λ s c. (x : ObjectNo) → address (reading (after s c)) x ≡ address (reading s) x) s (At (at_end (node.Object o) f) (Resolve i))
+ResolvesKeepAddresses s o f i = OfAllowed (λ s c. (x : ObjectNo) → address (reading (model_after s c)) x ≡ address (reading s) x) s (At (at_end (node.Object o) f) (Resolve i))
 
 -- a load changes the address of no object that has one
 abbrev pub LoadsKeepAddresses : Model → ResourceNo → Doc → Type 0
 LoadsKeepAddresses s k doc =
-    OfAllowed (λ s c. HasReadDocument s.metamodel c → (o : ObjectNo) (a : List ℕ) → address (reading s) o ≡ Some a → address (reading (after s c)) o ≡ Some a) s (Load k doc)
+    OfAllowed (λ s c. HasReadDocument s.metamodel c → (o : ObjectNo) (a : List ℕ) → address (reading s) o ≡ Some a → address (reading (model_after s c)) o ≡ Some a) s (Load k doc)
 
 ---------------------------------------------------------------- loads
 
@@ -51,7 +51,7 @@ LoadsKeepAddresses s k doc =
 abbrev pub LoadsSaved : Model → ValuesState → Links → Type 0
 LoadsSaved s w b =
     IsLegal s → HasSteadyTexts s → (k j : ResourceNo) (uri : List ℕ) → IsReadable (reading s) k uri
-    → OfAllowed (λ t c. HasImages (reading s) k (reading t).next j (reading (after t c))) (model_of s.metamodel w b) (Load j (copied (reading s) k))
+    → OfAllowed (λ t c. HasImages (reading s) k (reading t).next j (reading (model_after t c))) (model_of s.metamodel w b) (Load j (copied_document (reading s) k))
 
 ---------------------------------------------------------------- resolves
 
@@ -60,8 +60,8 @@ LoadsSaved s w b =
 pub record IsResolvedBetween (r : Reading) (t : Model) (o : ObjectNo) (f : FeatureNo) (i : ℕ) : Type 0 where
   pub early : early_refusal (reading t) (At (at_end (node.Object o) f) (Resolve i)) ≡ None
   pub late : late_refusal (reading t) (At (at_end (node.Object o) f) (Resolve i)) ≡ None
-  pub between : Between r (reading (after t (At (at_end (node.Object o) f) (Resolve i))))
-  pub fewer : proxies_len (reading t) ≡ (if is_some (shape t.metamodel f).opposite then 2 else 1) + proxies_len (reading (after t (At (at_end (node.Object o) f) (Resolve i))))
+  pub between : Between r (reading (model_after t (At (at_end (node.Object o) f) (Resolve i))))
+  pub fewer : proxies_len (reading t) ≡ (if is_some (shape t.metamodel f).opposite then 2 else 1) + proxies_len (reading (model_after t (At (at_end (node.Object o) f) (Resolve i))))
 
 -- the same for each proxy of a partly resolved copy of a model that has no proxies
 abbrev pub ResolvesBetween : Model → ValuesState → Links → Type 0
@@ -72,9 +72,9 @@ ResolvesBetween s w b =
 
 -- after all proxies of a partly resolved copy are resolved, no proxy is left, and the model is isomorphic to the saved one
 pub record IsAllResolved (r : Reading) (t : Model) : Type 0 where
-  pub none : HasNoProxy (reading (after t ResolveAll))
-  pub left : all.left (reading t) ≡ 0
-  pub alike : Alike r (reading (after t ResolveAll))
+  pub none : HasNoProxy (reading (model_after t ResolveAll))
+  pub left : all.unresolved_count (reading t) ≡ 0
+  pub alike : Alike r (reading (model_after t ResolveAll))
 
 abbrev pub ResolvesAll : Model → ValuesState → Links → Type 0
 ResolvesAll s w b =

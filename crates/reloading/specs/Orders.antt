@@ -10,9 +10,9 @@ use Rattle.models.specs.Reading.{Reading, has_resource}
 use Rattle.models.specs.Steady.{HasSteadyTexts}
 use Rattle.doc_writer.specs.Document.{reference_text}
 use Rattle.doc_writer.specs.Saved.{save_refusal}
-use Rattle.round_trip.specs.Copied.{copied}
+use Rattle.round_trip.specs.Copied.{copied_document}
 use Rattle.round_trip.specs.Readable.{Refers}
-use Rattle.handshake.specs.Effects.{after}
+use Rattle.handshake.specs.Effects.{model_after}
 use Rattle.handshake.specs.Refusals.{early_refusal, late_refusal}
 use Rattle.handshake.specs.declared.change.Change.{Change}
 use Rattle.handshake.specs.declared.change.Change.TheVariants.{Load, NewResource}
@@ -56,12 +56,12 @@ uri_of r k = unwrap_or (slice_get r.uris k.0) []
 abbrev pub changes : Reading → List ResourceNo → List Task → List Change
 changes r made [] = []
 changes r made (Make k ∷ ts) = NewResource (uri_of r k) ∷ changes r (made ++ k ∷ []) ts
-changes r made (Fill k ∷ ts) = Load (number_of made k) (copied r k) ∷ changes r made ts
+changes r made (Fill k ∷ ts) = Load (number_of made k) (copied_document r k) ∷ changes r made ts
 
 -- the model after changes
 abbrev pub after_all : Model → List Change → Model
 after_all t [] = t
-after_all t (c ∷ cs) = after_all (after t c) cs
+after_all t (c ∷ cs) = after_all (model_after t c) cs
 
 -- a change is not refused; and `AreAllowed`, no change of a list is, in its turn
 pub record IsAllowed (t : Model) (c : Change) : Type 0 where
@@ -70,7 +70,7 @@ pub record IsAllowed (t : Model) (c : Change) : Type 0 where
 
 abbrev pub AreAllowed : Model → List Change → Type 0
 AreAllowed t [] = Unit {0}
-AreAllowed t (c ∷ cs) = IsAllowed t c × AreAllowed (after t c) cs
+AreAllowed t (c ∷ cs) = IsAllowed t c × AreAllowed (model_after t c) cs
 
 -- each resource can be saved, no text of a reference is too long, and no proxy is left
 pub record IsSaved (r : Reading) : Type 0 where

@@ -5,7 +5,7 @@ use Rattle.models.specs.Legal.{IsLegal}
 use Rattle.models.specs.Model.{Model, empty_model, reading}
 use Rattle.models.specs.Reading.{at_end}
 use Rattle.models.specs.Steady.{HasSteadyTexts}
-use Rattle.handshake.specs.Effects.{after}
+use Rattle.handshake.specs.Effects.{model_after}
 use Rattle.proxies.specs.Resolving.{proxy_at}
 use Rattle.handshake.specs.declared.change.Change.{Change}
 use Rattle.handshake.specs.declared.change.Change.TheVariants.{At}
@@ -18,25 +18,25 @@ use Rattle.reloading.specs.Proxies.{HasNoProxy}
 -- each change resolves a proxy that is there in its turn, and no proxy is left after the last change
 abbrev pub AreResolves : Model → List Change → Type 0
 AreResolves t [] = HasNoProxy (reading t)
-AreResolves t (At e (Resolve i) ∷ cs) = (is_some (proxy_at (reading t) e i) ≡ true) × AreResolves (after t (At e (Resolve i))) cs
+AreResolves t (At e (Resolve i) ∷ cs) = (is_some (proxy_at (reading t) e i) ≡ true) × AreResolves (model_after t (At e (Resolve i))) cs
 AreResolves t (c ∷ cs) = ⊥
 
 -- an empty model after the loads of what was saved
-abbrev pub reloaded : Model → List Task → Model
-reloaded s ts = after_all (empty_model s.metamodel) (changes (reading s) [] ts)
+abbrev pub reloaded_model : Model → List Task → Model
+reloaded_model s ts = after_all (empty_model s.metamodel) (changes (reading s) [] ts)
 
 -- neither the loads nor the resolves are refused, and the model that they leave is isomorphic to the saved one
 pub record IsHadAgain (s : Model) (ts : List Task) (cs : List Change) : Type 0 where
   pub loads : AreAllowed (empty_model s.metamodel) (changes (reading s) [] ts)
-  pub resolves : AreAllowed (reloaded s ts) cs
-  pub alike : Alike (reading s) (reading (after_all (reloaded s ts) cs))
+  pub resolves : AreAllowed (reloaded_model s ts) cs
+  pub alike : Alike (reading s) (reading (after_all (reloaded_model s ts) cs))
 
 -- after loads in an order: there are resolves that leave no proxy; all resolves that leave no proxy bring the saved model back; and so does
 -- a resolve of all proxies at once
 pub record IsReloaded (s : Model) (ts : List Task) : Type 0 where
-  pub some : (cs : List Change) × AreResolves (reloaded s ts) cs
-  pub had : (cs : List Change) → AreResolves (reloaded s ts) cs → IsHadAgain s ts cs
-  pub all : IsAllResolved (reading s) (reloaded s ts)
+  pub some : (cs : List Change) × AreResolves (reloaded_model s ts) cs
+  pub had : (cs : List Change) → AreResolves (reloaded_model s ts) cs → IsHadAgain s ts cs
+  pub all : IsAllResolved (reading s) (reloaded_model s ts)
 
 abbrev pub ReloadsInAnyOrder : Model → Type 0
 ReloadsInAnyOrder s = IsLegal s → HasSteadyTexts s → IsSaved (reading s) → (ts : List Task) → IsOrder (reading s) [] [] ts → IsReloaded s ts

@@ -32,8 +32,8 @@ use Rattle.links.proofs.OrderLemmas.{strict-of_order}
 use Rattle.links.proofs.RankLemmas.{rank_cmp-total, same-tests, ties-same}
 use Rattle.removal.proofs.ListLemmas.{any-at, passes-at}
 use Rattle.removal.proofs.OuterLemmas.{has_end-append, has_end-filter, touched-all, touched-in_order}
-use Rattle.removal.specs.Outer.{gone, holds_some, touched_ends}
-use Rattle.removal.specs.Ranks.{HasGone, holds, is_in, staying}
+use Rattle.removal.specs.Outer.{holds_some, is_in_subtree, touched_ends}
+use Rattle.removal.specs.Ranks.{HasGone, holds, is_in, staying_ends}
 use Rattle.removal.specs.declared.numbers.Numbers.{Numbers}
 use Rattle.mm_meta.proofs.OwnerLemmas.{nat_eq-turned}
 
@@ -52,11 +52,11 @@ incoming-hold s x ds are e =
     (are e).1 (at.0, at.2 ∙ ap Some (sym (same_value-true (value.Object x) at.1 at.3))))
 
 -- the ends that one object adds
-pub holding-step : (s : Links) (x : ObjectNo) (ds : List End) (numbers : Numbers) (old new : List End) → AreIncoming s x ds → new ≡ old ++ staying numbers ds
+pub holding-step : (s : Links) (x : ObjectNo) (ds : List End) (numbers : Numbers) (old new : List End) → AreIncoming s x ds → new ≡ old ++ staying_ends numbers ds
     → (e : End) → has_end new e ≡ (has_end old e || (not (is_in numbers e.node) && holds s e x))
 holding-step s x ds numbers old new are made e =
     ap (λ (es : List End). has_end es e) made
-    ∙ has_end-append old (staying numbers ds) e
+    ∙ has_end-append old (staying_ends numbers ds) e
     ∙ ap (λ (b : Bool). has_end old e || b) (has_end-filter (λ (d : End). not (is_in numbers d.node)) ds e ∙ ap (λ (b : Bool). not (is_in numbers e.node) && b) (incoming-hold s x ds are e))
 
 -- one object further
@@ -143,7 +143,7 @@ pub touched-found : (s : Model) → IsLegal s → (o : ObjectNo) → is_live (re
     → AreInOrder es → ((e : End) → has_end es e ≡ has_end found e) → es ≡ touched_ends (reading s) o
 touched-found s legal o live os numbers found es all has held sorted same =
     let r = reading s in
-    let g = gone r o in
+    let g = is_in_subtree r o in
     same-ends es (touched_ends r o) (strict-of_order es sorted) (strict-of_order (touched_ends r o) (touched-in_order s o)) (λ e.
     let some : list_any (holds s.links e) os ≡ holds_some r g e = ap (list_any (holds s.links e)) all ∙ sym (any-turn (subtree r o) (end s.links e)) ∙ sym (linked-some s legal g e) in
     same e ∙ held e ∙ (λ i. not (has e.node i) && some i) ∙ sym (touched-all s legal o live e))

@@ -25,9 +25,10 @@ use Rattle.models.specs.Legal.{IsLegal, kinds_of}
 use Rattle.models.specs.Model.{Model, reading}
 use Rattle.models.specs.Reading.{all_features_of, at_end}
 use Rattle.containment.proofs.DistinctLemmas.{features-distinct, subtree-distinct}
-use Rattle.containment.proofs.PartLemmas.{all-append, kinds-are, values-linked}
+use Rattle.mm_meta.proofs.FeatureListLemmas.{all-append}
+use Rattle.containment.proofs.PartLemmas.{kinds-are, values-linked}
 use Rattle.containment.specs.Forest.{subtree}
-use Rattle.removal.specs.Outer.{gone, holds_some, touched_ends}
+use Rattle.removal.specs.Outer.{holds_some, is_in_subtree, touched_ends}
 use Rattle.removal.proofs.EndLemmas.{values-distinct}
 use Rattle.removal.proofs.ListLemmas.{all-among, all-at, all-filter, all-flat_map, all-map, all-weaker, distinct-append, distinct-filter, distinct-flat_map, distinct-map}
 use Rattle.links.proofs.OrderLemmas.{ordered-distinct}
@@ -38,7 +39,7 @@ use Rattle.removal.specs.declared.link_end.LinkEnd.{LinkEnd}
 -- the ends of other nodes that have an object that is destroyed, in the order of their notifications
 pub record AreTouched (s : Model) (o : ObjectNo) : Type 0 where
   pub order : AreInOrder (touched_ends (reading s) o)
-  pub all : (e : End) → has_end (touched_ends (reading s) o) e ≡ (not (gone (reading s) o e.node) && holds_some (reading s) (gone (reading s) o) e)
+  pub all : (e : End) → has_end (touched_ends (reading s) o) e ≡ (not (is_in_subtree (reading s) o e.node) && holds_some (reading s) (is_in_subtree (reading s) o) e)
 
 -- one name names the link of another
 abbrev pub names_link_end : Model → LinkEnd → LinkEnd → Bool
@@ -46,26 +47,26 @@ names_link_end s t u = names (kinds_of s.metamodel) t.end t.value u.end u.value
 
 -- the link of a destroyed object, named by its end
 pub record IsInner (s : Model) (o : ObjectNo) (t : LinkEnd) : Type 0 where
-  pub node : gone (reading s) o t.end.node ≡ true
-  pub here : is_named_here (reading s) (gone (reading s) o) t.end.feature t.value ≡ true
+  pub node : is_in_subtree (reading s) o t.end.node ≡ true
+  pub here : is_named_here (reading s) (is_in_subtree (reading s) o) t.end.feature t.value ≡ true
 
 -- a link from a remaining node to a destroyed object, which no other end can name
 pub record IsOuter (s : Model) (o : ObjectNo) (t : LinkEnd) : Type 0 where
-  pub node : gone (reading s) o t.end.node ≡ false
-  pub value : goes (gone (reading s) o) t.value ≡ true
+  pub node : is_in_subtree (reading s) o t.end.node ≡ false
+  pub value : goes (is_in_subtree (reading s) o) t.value ≡ true
   pub alone : (shape s.metamodel t.end.feature).opposite ≡ None
 
 abbrev pub IsLinkEnd : Model → ObjectNo → LinkEnd → Type 0
 IsLinkEnd s o t = Has s.links t.end t.value × (IsInner s o t ⊎ IsOuter s o t)
 
 -- a node that is destroyed is an object of the subtree
-pub goes-node : (s : Model) (o : ObjectNo) (n : Node) → gone (reading s) o n ≡ true → goes (gone (reading s) o) (node_value n) ≡ true
+pub goes-node : (s : Model) (o : ObjectNo) (n : Node) → is_in_subtree (reading s) o n ≡ true → goes (is_in_subtree (reading s) o) (node_value n) ≡ true
 goes-node s o (node.Object x) h = h
 goes-node s o (node.Resource k) h = absurd (false≢true h)
 
 -- if both objects are destroyed, the end of the lower feature names the link
-pub lower-named : (s : Model) (o : ObjectNo) (f g : FeatureNo) (v : Value) → (shape s.metamodel f).opposite ≡ Some g → goes (gone (reading s) o) v ≡ true
-    → is_named_here (reading s) (gone (reading s) o) f v ≡ nat_lt f.0 g.0
+pub lower-named : (s : Model) (o : ObjectNo) (f g : FeatureNo) (v : Value) → (shape s.metamodel f).opposite ≡ Some g → goes (is_in_subtree (reading s) o) v ≡ true
+    → is_named_here (reading s) (is_in_subtree (reading s) o) f v ≡ nat_lt f.0 g.0
 lower-named s o f g v opposite far =
     ap (λ (b : Bool). not b || option_map_or (λ (h : FeatureNo). nat_lt f.0 h.0) (shape s.metamodel f).opposite true) far
     ∙ ap (λ (q : Option FeatureNo). option_map_or (λ (h : FeatureNo). nat_lt f.0 h.0) q true) opposite
@@ -80,7 +81,7 @@ module _ (s : Model) (legal : IsLegal s) (o : ObjectNo) where
   not-both : (t u : LinkEnd) (x : ObjectNo) (g : FeatureNo) → IsInner s o t → IsInner s o u → t.value ≡ value.Object x → (shape s.metamodel t.end.feature).opposite ≡ Some g
       → far_end x g ≡ u.end → node_value t.end.node ≡ u.value → ⊥
   not-both t u x g a b is_v opposite is_d is_w =
-      let is_gone : Node → Bool = gone (reading s) o in
+      let is_gone : Node → Bool = is_in_subtree (reading s) o in
       let far : goes is_gone t.value ≡ true = ap (goes is_gone) is_v ∙ ap (λ (d : End). is_gone d.node) is_d ∙ b.node in
       let near : goes is_gone u.value ≡ true = ap (goes is_gone) (sym is_w) ∙ goes-node s o t.end.node a.node in
       let back : (shape s.metamodel u.end.feature).opposite ≡ Some t.end.feature = ap (λ (d : End). (shape s.metamodel d.feature).opposite) (sym is_d) ∙ m-kinds.inverse t.end.feature g opposite in
@@ -142,14 +143,14 @@ module _ (s : Model) (legal : IsLegal s) (o : ObjectNo) where
     abbrev own : FeatureNo → End
     own f = at_end (node.Object x) f
 
-    inner-here : (f : FeatureNo) (v : Value) → Has s.links (own f) v → is_named_here (reading s) (gone (reading s) o) f v ≡ true → IsInner s o (link_end (own f) v) ⊎ IsOuter s o (link_end (own f) v)
+    inner-here : (f : FeatureNo) (v : Value) → Has s.links (own f) v → is_named_here (reading s) (is_in_subtree (reading s) o) f v ≡ true → IsInner s o (link_end (own f) v) ⊎ IsOuter s o (link_end (own f) v)
     inner-here f v at h = inl (record { node = among; here = h })
 
-    inner-known : (f : FeatureNo) → IsReference f → AllByRecursion (IsOfEnd (own f)) (end_link_ends (reading s) (gone (reading s) o) (own f))
-    inner-known f reference = end-known (own f) (is_named_here (reading s) (gone (reading s) o) f) reference (inner-here f)
+    inner-known : (f : FeatureNo) → IsReference f → AllByRecursion (IsOfEnd (own f)) (end_link_ends (reading s) (is_in_subtree (reading s) o) (own f))
+    inner-known f reference = end-known (own f) (is_named_here (reading s) (is_in_subtree (reading s) o) f) reference (inner-here f)
 
-    inner-distinct : (f : FeatureNo) → IsReference f → IsDistinct (names_link_end s) (end_link_ends (reading s) (gone (reading s) o) (own f))
-    inner-distinct f reference = end-distinct (own f) (is_named_here (reading s) (gone (reading s) o) f) reference (inner-here f)
+    inner-distinct : (f : FeatureNo) → IsReference f → IsDistinct (names_link_end s) (end_link_ends (reading s) (is_in_subtree (reading s) o) (own f))
+    inner-distinct f reference = end-distinct (own f) (is_named_here (reading s) (is_in_subtree (reading s) o) f) reference (inner-here f)
 
     features-apart : (f g : FeatureNo) (t u : LinkEnd) → same_feature f g ≡ false → IsOfEnd (own f) t → IsOfEnd (own g) u → names_link_end s t u ≡ false
     features-apart f g t u other a b = ends-apart t u a.0 b.0 (λ same. true≢false (sym (eq-eqb f.0 g.0 (ap (λ (d : End). d.feature.0) (sym a.1 ∙ same ∙ b.1))) ∙ other))
@@ -159,15 +160,15 @@ module _ (s : Model) (legal : IsLegal s) (o : ObjectNo) where
         let refers = λ (f : FeatureNo). (shape s.metamodel f).is_reference in
         all-weaker _ IsReference (references_of (reading s) (node.Object x)) (λ f h. h.1) (all-filter (λ f. Unit {0}) refers (all_features_of (reading s) (node.Object x)) (all-at (λ f. Unit {0}) _ (λ k f at. tt)))
 
-    node-known : AllByRecursion (IsOfNode x) (node_link_ends (reading s) (gone (reading s) o) x)
+    node-known : AllByRecursion (IsOfNode x) (node_link_ends (reading s) (is_in_subtree (reading s) o) x)
     node-known =
-        all-flat_map IsReference (IsOfNode x) (λ f. end_link_ends (reading s) (gone (reading s) o) (own f))
+        all-flat_map IsReference (IsOfNode x) (λ f. end_link_ends (reading s) (is_in_subtree (reading s) o) (own f))
         (λ f reference. all-weaker (IsOfEnd (own f)) (IsOfNode x) _ (λ t h. (h.0, ap (λ (d : End). d.node) h.1)) (inner-known f reference)) (references_of (reading s) (node.Object x)) references-are
 
-    node-distinct : IsDistinct (names_link_end s) (node_link_ends (reading s) (gone (reading s) o) x)
+    node-distinct : IsDistinct (names_link_end s) (node_link_ends (reading s) (is_in_subtree (reading s) o) x)
     node-distinct =
         let refers = λ (f : FeatureNo). (shape s.metamodel f).is_reference in
-        distinct-flat_map same_feature (names_link_end s) IsReference (λ f t. IsOfEnd (own f) t) (λ f. end_link_ends (reading s) (gone (reading s) o) (own f)) inner-distinct inner-known features-apart
+        distinct-flat_map same_feature (names_link_end s) IsReference (λ f t. IsOfEnd (own f) t) (λ f. end_link_ends (reading s) (is_in_subtree (reading s) o) (own f)) inner-distinct inner-known features-apart
         (references_of (reading s) (node.Object x)) references-are (distinct-filter same_feature refers (all_features_of (reading s) (node.Object x)) (features-distinct s legal (node.Object x)))
 
   abbrev IsAmong : ObjectNo → Type 0
@@ -187,28 +188,28 @@ module _ (s : Model) (legal : IsLegal s) (o : ObjectNo) where
       same-number x y h = eq-eqb x.0 y.0 (ap number h)
 
   abbrev IsGone : LinkEnd → Type 0
-  IsGone t = IsLinkEnd s o t × (gone (reading s) o t.end.node ≡ true)
+  IsGone t = IsLinkEnd s o t × (is_in_subtree (reading s) o t.end.node ≡ true)
 
-  inner-gone : AllByRecursion IsGone (flat_map (node_link_ends (reading s) (gone (reading s) o)) (subtree (reading s) o))
-  inner-gone =
-      all-flat_map IsAmong IsGone (node_link_ends (reading s) (gone (reading s) o))
-      (λ x among. all-weaker (IsOfNode x) IsGone _ (λ t h. (h.0, ap (gone (reading s) o) h.1 ∙ among)) (node-known x among)) (subtree (reading s) o) all-members
+  inner-is_in_subtree : AllByRecursion IsGone (flat_map (node_link_ends (reading s) (is_in_subtree (reading s) o)) (subtree (reading s) o))
+  inner-is_in_subtree =
+      all-flat_map IsAmong IsGone (node_link_ends (reading s) (is_in_subtree (reading s) o))
+      (λ x among. all-weaker (IsOfNode x) IsGone _ (λ t h. (h.0, ap (is_in_subtree (reading s) o) h.1 ∙ among)) (node-known x among)) (subtree (reading s) o) all-members
 
-  inner-once : IsDistinct (names_link_end s) (flat_map (node_link_ends (reading s) (gone (reading s) o)) (subtree (reading s) o))
-  inner-once = distinct-flat_map same_object (names_link_end s) IsAmong (λ x t. IsOfNode x t) (node_link_ends (reading s) (gone (reading s) o)) node-distinct node-known nodes-apart (subtree (reading s) o) all-members (subtree-distinct s legal o)
+  inner-once : IsDistinct (names_link_end s) (flat_map (node_link_ends (reading s) (is_in_subtree (reading s) o)) (subtree (reading s) o))
+  inner-once = distinct-flat_map same_object (names_link_end s) IsAmong (λ x t. IsOfNode x t) (node_link_ends (reading s) (is_in_subtree (reading s) o)) node-distinct node-known nodes-apart (subtree (reading s) o) all-members (subtree-distinct s legal o)
 
   ---------------------------------------------------------------- the links of nodes that stay
 
   module _ (touched : AreTouched s o) where
     -- facts about an end that loses something
     record IsTouched (e : End) : Type 0 where
-      stays : gone (reading s) o e.node ≡ false
+      stays : is_in_subtree (reading s) o e.node ≡ false
       reference : (shape s.metamodel e.feature).is_reference ≡ true
 
     touched-known : (e : End) → has_end (touched_ends (reading s) o) e ≡ true → IsTouched e
     touched-known e h =
-        let both = and_parts (not (gone (reading s) o e.node)) (holds_some (reading s) (gone (reading s) o) e) (sym (touched.all e) ∙ h) in
-        record { stays = not-true (gone (reading s) o e.node) both.0; reference = (and_parts (shape s.metamodel e.feature).is_reference _ both.1).0 }
+        let both = and_parts (not (is_in_subtree (reading s) o e.node)) (holds_some (reading s) (is_in_subtree (reading s) o) e) (sym (touched.all e) ∙ h) in
+        record { stays = not-true (is_in_subtree (reading s) o e.node) both.0; reference = (and_parts (shape s.metamodel e.feature).is_reference _ both.1).0 }
 
     all-touched : AllByRecursion IsTouched (touched_ends (reading s) o)
     all-touched = by (touched_ends (reading s) o) touched-known
@@ -217,51 +218,51 @@ module _ (s : Model) (legal : IsLegal s) (o : ObjectNo) where
         by [] h = tt
         by (e ∷ es) h = (h e (ap (λ b. b || has_end es e) (same_end-self e)), by es (λ d q. h d (or_right (same_end e d) (has_end es d) q)))
 
-    outer-cases : (P : List LinkEnd → Type 0) (e : End) → P [] → ((shape s.metamodel e.feature).opposite ≡ None → P (passing e (goes (gone (reading s) o)))) → P (outer_link_ends (reading s) (gone (reading s) o) e)
+    outer-cases : (P : List LinkEnd → Type 0) (e : End) → P [] → ((shape s.metamodel e.feature).opposite ≡ None → P (passing e (goes (is_in_subtree (reading s) o)))) → P (outer_link_ends (reading s) (is_in_subtree (reading s) o) e)
     outer-cases P e none some =
-        elim (shape s.metamodel e.feature).opposite as (λ q. (shape s.metamodel e.feature).opposite ≡ q → P (if is_some q then [] else passing e (goes (gone (reading s) o)))) [
+        elim (shape s.metamodel e.feature).opposite as (λ q. (shape s.metamodel e.feature).opposite ≡ q → P (if is_some q then [] else passing e (goes (is_in_subtree (reading s) o)))) [
           | None ↦ some
           | Some g ↦ λ _. none
         ] refl
 
-    outer-here : (e : End) → IsTouched e → (shape s.metamodel e.feature).opposite ≡ None → (v : Value) → Has s.links e v → goes (gone (reading s) o) v ≡ true → IsInner s o (link_end e v) ⊎ IsOuter s o (link_end e v)
+    outer-here : (e : End) → IsTouched e → (shape s.metamodel e.feature).opposite ≡ None → (v : Value) → Has s.links e v → goes (is_in_subtree (reading s) o) v ≡ true → IsInner s o (link_end e v) ⊎ IsOuter s o (link_end e v)
     outer-here e t alone v at h = inr (record { node = t.stays; value = h; alone = alone })
 
-    outer-known : (e : End) → IsTouched e → AllByRecursion (λ t. IsOfEnd e t × (gone (reading s) o t.end.node ≡ false)) (outer_link_ends (reading s) (gone (reading s) o) e)
+    outer-known : (e : End) → IsTouched e → AllByRecursion (λ t. IsOfEnd e t × (is_in_subtree (reading s) o t.end.node ≡ false)) (outer_link_ends (reading s) (is_in_subtree (reading s) o) e)
     outer-known e t =
-        outer-cases (AllByRecursion (λ u. IsOfEnd e u × (gone (reading s) o u.end.node ≡ false))) e tt (λ alone.
-        all-weaker (IsOfEnd e) _ _ (λ u h. (h, ap (λ (d : End). gone (reading s) o d.node) h.1 ∙ t.stays)) (end-known e (goes (gone (reading s) o)) t.reference (outer-here e t alone)))
+        outer-cases (AllByRecursion (λ u. IsOfEnd e u × (is_in_subtree (reading s) o u.end.node ≡ false))) e tt (λ alone.
+        all-weaker (IsOfEnd e) _ _ (λ u h. (h, ap (λ (d : End). is_in_subtree (reading s) o d.node) h.1 ∙ t.stays)) (end-known e (goes (is_in_subtree (reading s) o)) t.reference (outer-here e t alone)))
 
-    outer-distinct : (e : End) → IsTouched e → IsDistinct (names_link_end s) (outer_link_ends (reading s) (gone (reading s) o) e)
+    outer-distinct : (e : End) → IsTouched e → IsDistinct (names_link_end s) (outer_link_ends (reading s) (is_in_subtree (reading s) o) e)
     unfolding IsDistinct
-    outer-distinct e t = outer-cases (IsDistinct (names_link_end s)) e tt (λ alone. end-distinct e (goes (gone (reading s) o)) t.reference (outer-here e t alone))
+    outer-distinct e t = outer-cases (IsDistinct (names_link_end s)) e tt (λ alone. end-distinct e (goes (is_in_subtree (reading s) o)) t.reference (outer-here e t alone))
 
-    outer-apart : (d e : End) (t u : LinkEnd) → same_end d e ≡ false → (IsOfEnd d t × (gone (reading s) o t.end.node ≡ false)) → (IsOfEnd e u × (gone (reading s) o u.end.node ≡ false)) → names_link_end s t u ≡ false
+    outer-apart : (d e : End) (t u : LinkEnd) → same_end d e ≡ false → (IsOfEnd d t × (is_in_subtree (reading s) o t.end.node ≡ false)) → (IsOfEnd e u × (is_in_subtree (reading s) o u.end.node ≡ false)) → names_link_end s t u ≡ false
     outer-apart d e t u other a b = ends-apart t u a.0.0 b.0.0 (λ same. true≢false (sym (subst (λ (x : End). same_end d x ≡ true) (sym a.0.1 ∙ same ∙ b.0.1) (same_end-self d)) ∙ other))
 
     abbrev IsKept : LinkEnd → Type 0
-    IsKept t = IsLinkEnd s o t × (gone (reading s) o t.end.node ≡ false)
+    IsKept t = IsLinkEnd s o t × (is_in_subtree (reading s) o t.end.node ≡ false)
 
-    outer-kept : AllByRecursion IsKept (flat_map (outer_link_ends (reading s) (gone (reading s) o)) (touched_ends (reading s) o))
+    outer-kept : AllByRecursion IsKept (flat_map (outer_link_ends (reading s) (is_in_subtree (reading s) o)) (touched_ends (reading s) o))
     outer-kept =
-        all-flat_map IsTouched IsKept (outer_link_ends (reading s) (gone (reading s) o)) (λ e t. all-weaker (λ u. IsOfEnd e u × (gone (reading s) o u.end.node ≡ false)) IsKept _ (λ u h. (h.0.0, h.1)) (outer-known e t))
+        all-flat_map IsTouched IsKept (outer_link_ends (reading s) (is_in_subtree (reading s) o)) (λ e t. all-weaker (λ u. IsOfEnd e u × (is_in_subtree (reading s) o u.end.node ≡ false)) IsKept _ (λ u h. (h.0.0, h.1)) (outer-known e t))
         (touched_ends (reading s) o) all-touched
 
-    outer-once : IsDistinct (names_link_end s) (flat_map (outer_link_ends (reading s) (gone (reading s) o)) (touched_ends (reading s) o))
+    outer-once : IsDistinct (names_link_end s) (flat_map (outer_link_ends (reading s) (is_in_subtree (reading s) o)) (touched_ends (reading s) o))
     outer-once =
-        distinct-flat_map same_end (names_link_end s) IsTouched (λ e t. IsOfEnd e t × (gone (reading s) o t.end.node ≡ false)) (outer_link_ends (reading s) (gone (reading s) o)) outer-distinct outer-known outer-apart
+        distinct-flat_map same_end (names_link_end s) IsTouched (λ e t. IsOfEnd e t × (is_in_subtree (reading s) o t.end.node ≡ false)) (outer_link_ends (reading s) (is_in_subtree (reading s) o)) outer-distinct outer-known outer-apart
         (touched_ends (reading s) o) all-touched (ordered-distinct (touched_ends (reading s) o) touched.order)
 
     ---------------------------------------------------------------- all links
 
     pub all-link_ends : AllByRecursion (IsLinkEnd s o) (tree_link_ends (reading s) o)
-    all-link_ends = all-append (IsLinkEnd s o) _ _ (all-weaker IsGone (IsLinkEnd s o) _ (λ t h. h.0) inner-gone) (all-weaker IsKept (IsLinkEnd s o) _ (λ t h. h.0) outer-kept)
+    all-link_ends = all-append (IsLinkEnd s o) _ _ (all-weaker IsGone (IsLinkEnd s o) _ (λ t h. h.0) inner-is_in_subtree) (all-weaker IsKept (IsLinkEnd s o) _ (λ t h. h.0) outer-kept)
 
     sides-apart : (t u : LinkEnd) → IsGone t → IsKept u → names_link_end s t u ≡ false
-    sides-apart t u a b = ends-apart t u a.0 b.0 (λ same. true≢false (sym (ap (λ (d : End). gone (reading s) o d.node) (sym same) ∙ a.1) ∙ b.1))
+    sides-apart t u a b = ends-apart t u a.0 b.0 (λ same. true≢false (sym (ap (λ (d : End). is_in_subtree (reading s) o d.node) (sym same) ∙ a.1) ∙ b.1))
 
     link_ends-distinct : IsDistinct (names_link_end s) (tree_link_ends (reading s) o)
-    link_ends-distinct = distinct-append (names_link_end s) IsGone IsKept sides-apart _ _ inner-gone outer-kept inner-once outer-once
+    link_ends-distinct = distinct-append (names_link_end s) IsGone IsKept sides-apart _ _ inner-is_in_subtree outer-kept inner-once outer-once
 
     pub link_ends-once : AreOnce (kinds_of s.metamodel) (names_of (tree_link_ends (reading s) o))
     unfolding IsDistinct

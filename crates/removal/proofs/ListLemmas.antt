@@ -4,7 +4,7 @@ use Rattle.std.specs.List.{AllByRecursion, IsDistinct, list_any}
 use Rattle.std.proofs.lemmas.Bool.{false≢true, or_cases, or_left, or_right}
 use Rattle.std.proofs.lemmas.List.Folds.{list_any-append}
 use Rattle.std.proofs.lemmas.Option.{none-some, same_Some}
-use Rattle.containment.proofs.PartLemmas.{all-append}
+use Rattle.mm_meta.proofs.FeatureListLemmas.{all-append}
 
 ---------------------------------------------------------------- all
 

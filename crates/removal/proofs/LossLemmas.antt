@@ -21,8 +21,8 @@ use Rattle.models.specs.Legal.{IsLegal}
 use Rattle.models.specs.Model.{Model, reading}
 use Rattle.models.specs.Reading.{Reading, object_of}
 use Rattle.containment.proofs.PartLemmas.{legal-at, legal-reference}
-use Rattle.removal.specs.Losses.{is_held_by, is_lost, loss, lost_from}
-use Rattle.removal.specs.Outer.{gone}
+use Rattle.removal.specs.Losses.{is_held_by, is_lost, loss, losses_from}
+use Rattle.removal.specs.Outer.{is_in_subtree}
 use Rattle.removal.specs.Ranks.{HasGone, is_in}
 use Rattle.removal.specs.declared.loss.Loss.{Loss}
 use Rattle.removal.specs.declared.numbers.Numbers.{Numbers}
@@ -83,36 +83,36 @@ added-is r o e v k q read lost = ap (λ (x : Option ObjectNo). option_to_list (o
     by _ h = absurd (false≢true h)
 
 module _ (e : End) (p : Value → Bool) where
-  lost-yes : (v : Value) (vs : List Value) (k : ℕ) → p v ≡ true → lost_from p e (v ∷ vs) k ≡ loss e v k ∷ lost_from p e vs k
-  lost-yes v vs k h = ap (λ (b : Bool). cond b (loss e v k ∷ lost_from p e vs k) (lost_from p e vs (suc k))) h
+  lost-yes : (v : Value) (vs : List Value) (k : ℕ) → p v ≡ true → losses_from p e (v ∷ vs) k ≡ loss e v k ∷ losses_from p e vs k
+  lost-yes v vs k h = ap (λ (b : Bool). cond b (loss e v k ∷ losses_from p e vs k) (losses_from p e vs (suc k))) h
 
-  lost-no : (v : Value) (vs : List Value) (k : ℕ) → p v ≡ false → lost_from p e (v ∷ vs) k ≡ lost_from p e vs (suc k)
-  lost-no v vs k h = ap (λ (b : Bool). cond b (loss e v k ∷ lost_from p e vs k) (lost_from p e vs (suc k))) h
+  lost-no : (v : Value) (vs : List Value) (k : ℕ) → p v ≡ false → losses_from p e (v ∷ vs) k ≡ losses_from p e vs (suc k)
+  lost-no v vs k h = ap (λ (b : Bool). cond b (loss e v k ∷ losses_from p e vs k) (losses_from p e vs (suc k))) h
 
   -- one position further, if the value is lost
   pub lost-step : (vs : List Value) (i k : ℕ) (v : Value) (out new all : List Loss) → slice_get vs i ≡ Some v → p v ≡ true
-      → new ≡ out ++ loss e v k ∷ [] → out ++ lost_from p e (drop i vs) k ≡ all → new ++ lost_from p e (drop (i + 1) vs) k ≡ all
+      → new ≡ out ++ loss e v k ∷ [] → out ++ losses_from p e (drop i vs) k ≡ all → new ++ losses_from p e (drop (i + 1) vs) k ≡ all
   lost-step vs i k v out new all at h made whole =
       let rest = drop (i + 1) vs in
-      ap (λ (ls : List Loss). ls ++ lost_from p e rest k) made
-      ∙ append_assoc out (loss e v k ∷ []) (lost_from p e rest k)
-      ∙ ap (λ (ls : List Loss). out ++ ls) (sym (lost-yes v rest k h) ∙ ap (λ (ws : List Value). lost_from p e ws k) (sym (drop-at vs i v at)))
+      ap (λ (ls : List Loss). ls ++ losses_from p e rest k) made
+      ∙ append_assoc out (loss e v k ∷ []) (losses_from p e rest k)
+      ∙ ap (λ (ls : List Loss). out ++ ls) (sym (lost-yes v rest k h) ∙ ap (λ (ws : List Value). losses_from p e ws k) (sym (drop-at vs i v at)))
       ∙ whole
 
   -- one position further, if the value stays
   pub kept-step : (vs : List Value) (i k : ℕ) (v : Value) (out all : List Loss) → slice_get vs i ≡ Some v → p v ≡ false
-      → out ++ lost_from p e (drop i vs) k ≡ all → out ++ lost_from p e (drop (i + 1) vs) (k + 1) ≡ all
+      → out ++ losses_from p e (drop i vs) k ≡ all → out ++ losses_from p e (drop (i + 1) vs) (k + 1) ≡ all
   kept-step vs i k v out all at h whole =
       let rest = drop (i + 1) vs in
-      ap (λ (n : ℕ). out ++ lost_from p e rest n) (add-one k)
-      ∙ ap (λ (ls : List Loss). out ++ ls) (sym (lost-no v rest k h) ∙ ap (λ (ws : List Value). lost_from p e ws k) (sym (drop-at vs i v at)))
+      ap (λ (n : ℕ). out ++ losses_from p e rest n) (add-one k)
+      ∙ ap (λ (ls : List Loss). out ++ ls) (sym (lost-no v rest k h) ∙ ap (λ (ws : List Value). losses_from p e ws k) (sym (drop-at vs i v at)))
       ∙ whole
 
-  lost-done : (ws : List Value) (k : ℕ) (out all : List Loss) → ws ≡ [] → out ++ lost_from p e ws k ≡ all → out ≡ all
-  lost-done ws k out all none whole = sym (ap (λ (vs : List Value). out ++ lost_from p e vs k) none ∙ append-nil out) ∙ whole
+  lost-done : (ws : List Value) (k : ℕ) (out all : List Loss) → ws ≡ [] → out ++ losses_from p e ws k ≡ all → out ≡ all
+  lost-done ws k out all none whole = sym (ap (λ (vs : List Value). out ++ losses_from p e vs k) none ∙ append-nil out) ∙ whole
 
   -- past the last position
-  pub lost-end : (vs : List Value) (i k : ℕ) (out all : List Loss) → length vs ≤ i → out ++ lost_from p e (drop i vs) k ≡ all → out ≡ all
+  pub lost-end : (vs : List Value) (i k : ℕ) (out all : List Loss) → length vs ≤ i → out ++ losses_from p e (drop i vs) k ≡ all → out ≡ all
   lost-end vs i k out all past = lost-done (drop i vs) k out all (drop_all i vs past)
 
 ---------------------------------------------------------------- the object itself
@@ -169,8 +169,8 @@ held-by r o e held = sym (ap (λ (h : Option End). option_map_or (same_end e) h 
 
 pub itself-stays : (r : Reading) (o : ObjectNo) (e : End) → r.holder (node.Object o) ≡ Some e → is_lost r o e (value.Object o) ≡ false
 itself-stays r o e held =
-    ap (λ (b : Bool). goes (gone r o) (value.Object o) && not (b && same_value (value.Object o) (value.Object o))) (sym (held-by r o e held))
-    ∙ ap (λ (b : Bool). goes (gone r o) (value.Object o) && not b) (eq-eqb o.0 o.0 refl) ∙ and-false (goes (gone r o) (value.Object o))
+    ap (λ (b : Bool). goes (is_in_subtree r o) (value.Object o) && not (b && same_value (value.Object o) (value.Object o))) (sym (held-by r o e held))
+    ∙ ap (λ (b : Bool). goes (is_in_subtree r o) (value.Object o) && not b) (eq-eqb o.0 o.0 refl) ∙ and-false (goes (is_in_subtree r o) (value.Object o))
 
 -- the end that contains the object is one of a reference
 pub holder-reference : (s : Model) → IsLegal s → (o : ObjectNo) (e : End) → (reading s).holder (node.Object o) ≡ Some e → (shape s.metamodel e.feature).is_reference ≡ true

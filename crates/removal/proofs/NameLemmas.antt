@@ -29,7 +29,7 @@ use Rattle.models.specs.Reading.{all_features_of, at_end}
 use Rattle.containment.proofs.MemberLemmas.{same-object}
 use Rattle.containment.proofs.PartLemmas.{kinds-are, values-linked}
 use Rattle.containment.specs.Forest.{subtree}
-use Rattle.removal.specs.Outer.{gone, holds_some, touched_ends}
+use Rattle.removal.specs.Outer.{holds_some, is_in_subtree, touched_ends}
 use Rattle.removal.proofs.EndLemmas.{object-node, open-end}
 use Rattle.removal.proofs.ListLemmas.{any-all, any-at, any-filter, any-flat_map, any-left, any-map, any-right}
 use Rattle.links.proofs.OrderLemmas.{has_end-any}
@@ -57,11 +57,11 @@ any-values q e p vs k v at passes h =
 
 module _ (s : Model) (legal : IsLegal s) (o : ObjectNo) (touched : AreTouched s o) (q : LinkEnd → Bool) where
   -- a link of a destroyed object, if its end names it
-  named-inner : (x : ObjectNo) (f : FeatureNo) (v : Value) → list_any (same_object x) (subtree (reading s) o) ≡ true → Has s.links (far_end x f) v → is_named_here (reading s) (gone (reading s) o) f v ≡ true
+  named-inner : (x : ObjectNo) (f : FeatureNo) (v : Value) → list_any (same_object x) (subtree (reading s) o) ≡ true → Has s.links (far_end x f) v → is_named_here (reading s) (is_in_subtree (reading s) o) f v ≡ true
       → q (link_end (far_end x f) v) ≡ true → list_any q (tree_link_ends (reading s) o) ≡ true
   named-inner x f v among at here h =
       let r = reading s in
-      let is_gone : Node → Bool = gone r o in
+      let is_gone : Node → Bool = is_in_subtree r o in
       let n = node.Object x in
       let e : End = far_end x f in
       let known = open-end s e v legal at in
@@ -72,11 +72,11 @@ module _ (s : Model) (legal : IsLegal s) (o : ObjectNo) (touched : AreTouched s 
       any-left q (flat_map (node_link_ends r is_gone) (subtree r o)) (flat_map (outer_link_ends r is_gone) (touched_ends r o)) (any-flat_map (same_object x) q (node_link_ends r is_gone) x (same-object x) of_node (subtree r o) among)
 
   -- a link of a remaining node, if no other end can name it
-  named-outer : (e : End) (v : Value) → gone (reading s) o e.node ≡ false → Has s.links e v → goes (gone (reading s) o) v ≡ true → (shape s.metamodel e.feature).opposite ≡ None
+  named-outer : (e : End) (v : Value) → is_in_subtree (reading s) o e.node ≡ false → Has s.links e v → goes (is_in_subtree (reading s) o) v ≡ true → (shape s.metamodel e.feature).opposite ≡ None
       → q (link_end e v) ≡ true → list_any q (tree_link_ends (reading s) o) ≡ true
   named-outer e v stays at lost alone h =
       let r = reading s in
-      let is_gone : Node → Bool = gone r o in
+      let is_gone : Node → Bool = is_in_subtree r o in
       let reference = (open-end s e v legal at).reference in
       let there : slice_get (r.values e) at.0 ≡ Some v = ap (λ (vs : List Value). slice_get vs at.0) (values-linked s e reference) ∙ at.1 in
       let some : holds_some r is_gone e ≡ true = and_from (shape s.metamodel e.feature).is_reference (list_any (goes is_gone) (r.values e)) reference (any-at (goes is_gone) (r.values e) at.0 v there lost) in
@@ -89,7 +89,7 @@ module _ (s : Model) (legal : IsLegal s) (o : ObjectNo) (touched : AreTouched s 
 
 module _ (s : Model) (legal : IsLegal s) (o : ObjectNo) (touched : AreTouched s o) where
   abbrev is_gone : Node → Bool
-  is_gone = gone (reading s) o
+  is_gone = is_in_subtree (reading s) o
 
   -- the names name the link
   abbrev IsNamed : End → Value → Type 0

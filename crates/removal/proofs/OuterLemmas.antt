@@ -22,12 +22,13 @@ use Rattle.mm_meta.proofs.OwnerLemmas.{has_none}
 use Rattle.links.specs.Laws.{goes}
 use Rattle.links.specs.Links.{end}
 use Rattle.links.specs.Plans.{AreInOrder, has_end, is_before, node_before}
-use Rattle.containment.proofs.PartLemmas.{all-append, legal-at, live-made, values-linked}
+use Rattle.mm_meta.proofs.FeatureListLemmas.{all-append}
+use Rattle.containment.proofs.PartLemmas.{legal-at, live-made, values-linked}
 use Rattle.models.specs.Legal.{IsLegal}
 use Rattle.models.specs.Model.{Model, reading}
 use Rattle.models.specs.Reading.{Reading, at_end, has_feature, is_live}
 use Rattle.removal.proofs.ListLemmas.{all-filter, all-map, all-weaker, passes-at}
-use Rattle.removal.specs.Outer.{ends_of, gone, holds_some, object_node, others_with, outer_ends, resource_node, touched_ends}
+use Rattle.removal.specs.Outer.{ends_of, holds_some, is_in_subtree, object_node, others_with, outer_ends, resource_node, touched_ends}
 
 ---------------------------------------------------------------- lists in order
 
@@ -112,7 +113,7 @@ in_order (e ∷ d ∷ ds) sorted = (sorted.0.0, in_order (d ∷ ds) sorted.1)
 pub touched-sorted : (s : Model) (o : ObjectNo) → IsSorted is_before (touched_ends (reading s) o)
 touched-sorted s o =
     let r = reading s in
-    let g = gone r o in
+    let g = is_in_subtree r o in
     sorted-filter is_before (holds_some r g) (outer_ends r g) (blocks-sorted r g 0 (suc (length r.metamodel.features)))
 
 pub touched-in_order : (s : Model) (o : ObjectNo) → AreInOrder (touched_ends (reading s) o)
@@ -248,31 +249,31 @@ module _ (s : Model) (legal : IsLegal s) (o : ObjectNo) (e : End) (has : has_fea
   of-object x None is h = absurd (false≢true h)
   of-object x (Some c) is h = (ap is_some is, of-class c h)
 
-  among : has_node (others_with read (gone read o) e.feature) e.node ≡ not (gone read o e.node) × (e.feature.0 < suc (length s.metamodel.features))
+  among : has_node (others_with read (is_in_subtree read o) e.feature) e.node ≡ not (is_in_subtree read o e.node) × (e.feature.0 < suc (length s.metamodel.features))
   among = by e.node has
     where
-      by : (n : Node) → has_feature read n e.feature ≡ true → (has_node (others_with read (gone read o) e.feature) n ≡ not (gone read o n)) × (e.feature.0 < suc (length s.metamodel.features))
+      by : (n : Node) → has_feature read n e.feature ≡ true → (has_node (others_with read (is_in_subtree read o) e.feature) n ≡ not (is_in_subtree read o n)) × (e.feature.0 < suc (length s.metamodel.features))
       by (node.Object x) h =
           let at = of-object x (read.class x) refl h in
           let low = at.1 in
           let made = live-made s x at.0 in
           let other : nat_eq e.feature.0 (length s.metamodel.features) ≡ false = grind (arith, nat_tests) in (
-            ap (λ (b : Bool). has_node (if b then map resource_node (range_with_len 0 (length read.uris)) else filter (λ n. not (gone read o n)) (map object_node (range_with_len 0 read.next))) (node.Object x)) other
-                ∙ object-there (gone read o) 0 read.next x.0 (omega arith) (omega (arith, made)),
+            ap (λ (b : Bool). has_node (if b then map resource_node (range_with_len 0 (length read.uris)) else filter (λ n. not (is_in_subtree read o n)) (map object_node (range_with_len 0 read.next))) (node.Object x)) other
+                ∙ object-there (is_in_subtree read o) 0 read.next x.0 (omega arith) (omega (arith, made)),
             omega (arith, low),
           )
       by (node.Resource k) h =
           let both = and_parts (nat_lt k.0 (length read.uris)) (same_feature e.feature (lookups.contents s.metamodel)) h in
           let is : e.feature.0 ≡ length s.metamodel.features = eqb-true e.feature.0 (length s.metamodel.features) both.1 in (
-            ap (λ (b : Bool). has_node (if b then map resource_node (range_with_len 0 (length read.uris)) else filter (λ n. not (gone read o n)) (map object_node (range_with_len 0 read.next))) (node.Resource k)) both.1
+            ap (λ (b : Bool). has_node (if b then map resource_node (range_with_len 0 (length read.uris)) else filter (λ n. not (is_in_subtree read o n)) (map object_node (range_with_len 0 read.next))) (node.Resource k)) both.1
                 ∙ resource-there 0 (length read.uris) k.0 (omega arith) (grind (arith, nat_tests)),
             omega (arith, is),
           )
 
-pub touched-all : (s : Model) → IsLegal s → (o : ObjectNo) → is_live (reading s) o ≡ true → (e : End) → has_end (touched_ends (reading s) o) e ≡ (not (gone (reading s) o e.node) && holds_some (reading s) (gone (reading s) o) e)
+pub touched-all : (s : Model) → IsLegal s → (o : ObjectNo) → is_live (reading s) o ≡ true → (e : End) → has_end (touched_ends (reading s) o) e ≡ (not (is_in_subtree (reading s) o e.node) && holds_some (reading s) (is_in_subtree (reading s) o) e)
 touched-all s legal o live e =
     let r = reading s in
-    let g = gone r o in
+    let g = is_in_subtree r o in
     has_end-filter (holds_some r g) (outer_ends r g) e
     ∙ elim (holds_some r g e) as (λ b. holds_some r g e ≡ b → (b && has_end (outer_ends r g) e) ≡ (not (g e.node) && b)) [
       | false ↦ λ _. sym (and-false (not (g e.node)))
@@ -291,7 +292,7 @@ touched-all s legal o live e =
 -- an end that loses something is the end of a reference
 pub touched-reference : (r : Reading) (o : ObjectNo) (es : List End) (k : ℕ) (d : End) → es ≡ touched_ends r o → k < length es → (shape r.metamodel (slice_index_or es k d).feature).is_reference ≡ true
 touched-reference r o es k d is low =
-    let some : End → Bool = holds_some r (gone r o) in
+    let some : End → Bool = holds_some r (is_in_subtree r o) in
     let lower : k < length (touched_ends r o) = omega (arith, low, ap length is) in
     ap (λ (xs : List End). (shape r.metamodel (slice_index_or xs k d).feature).is_reference) is
-    ∙ (and_parts _ _ (All-get_or (λ e. some e ≡ true) (touched_ends r o) k d lower (filter_passes some (outer_ends r (gone r o))))).0
+    ∙ (and_parts _ _ (All-get_or (λ e. some e ≡ true) (touched_ends r o) k d lower (filter_passes some (outer_ends r (is_in_subtree r o))))).0

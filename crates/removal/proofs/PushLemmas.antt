@@ -13,7 +13,7 @@ use Rattle.mm_types.specs.declared.value.Value.TheVariants as value
 use Rattle.links.specs.Laws.{goes}
 use Rattle.models.specs.Reading.{Reading, all_features_of, at_end, object_of}
 use Rattle.containment.specs.Forest.{subtree}
-use Rattle.removal.specs.Outer.{gone, touched_ends}
+use Rattle.removal.specs.Outer.{is_in_subtree, touched_ends}
 use Rattle.removal.specs.Ranks.{HasGone, is_in}
 use Rattle.removal.specs.TreeLinkEnds.{end_link_ends, node_link_ends, outer_link_ends, link_end, tree_link_ends}
 use Rattle.removal.specs.declared.link_end.LinkEnd.{LinkEnd}
@@ -85,7 +85,7 @@ goes-read g x q read = ap (λ (o : Option ObjectNo). filter (goes g) (option_to_
 pub tree-gone : (r : Reading) (o : ObjectNo) (s : Numbers) (os : List ObjectNo) (es : List End) → HasGone r o s → os ≡ subtree r o → es ≡ touched_ends r o
     → flat_map (node_link_ends r (is_in s)) os ++ flat_map (outer_link_ends r (is_in s)) es ≡ tree_link_ends r o
 tree-gone r o s os es has objects ends =
-    let same : is_in s ≡ gone r o = λ i n. has n i in
+    let same : is_in s ≡ is_in_subtree r o = λ i n. has n i in
     ap (λ (xs : List ObjectNo). flat_map (node_link_ends r (is_in s)) xs ++ flat_map (outer_link_ends r (is_in s)) es) objects
     ∙ ap (λ (ds : List End). flat_map (node_link_ends r (is_in s)) (subtree r o) ++ flat_map (outer_link_ends r (is_in s)) ds) ends
     ∙ ap (λ (p : Node → Bool). flat_map (node_link_ends r p) (subtree r o) ++ flat_map (outer_link_ends r p) (touched_ends r o)) same

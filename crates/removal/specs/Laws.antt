@@ -6,7 +6,7 @@ use Rattle.mm_types.specs.declared.numbers.ObjectNo.{ObjectNo}
 use Rattle.links.specs.Laws.{AreOnce, AreThere, NameLinksOf}
 use Rattle.models.specs.Legal.{kinds_of}
 use Rattle.models.specs.Model.{Model, reading}
-use Rattle.removal.specs.Outer.{gone}
+use Rattle.removal.specs.Outer.{is_in_subtree}
 use Rattle.removal.specs.TreeLinkEnds.{tree_link_ends}
 use Rattle.removal.specs.declared.link_end.LinkEnd.{LinkEnd}
 
@@ -18,4 +18,4 @@ names_of ts = map (λ t. (t.end, t.value)) ts
 pub record NameTreeLinks (s : Model) (o : ObjectNo) : Type 0 where
   pub there : AreThere s.links (names_of (tree_link_ends (reading s) o))
   pub once : AreOnce (kinds_of s.metamodel) (names_of (tree_link_ends (reading s) o))
-  pub all : NameLinksOf (kinds_of s.metamodel) s.links (gone (reading s) o) (names_of (tree_link_ends (reading s) o))
+  pub all : NameLinksOf (kinds_of s.metamodel) s.links (is_in_subtree (reading s) o) (names_of (tree_link_ends (reading s) o))

@@ -10,7 +10,7 @@ use Rattle.mm_types.specs.declared.value.Value.{Value}
 use Rattle.mm_types.specs.declared.value.Value.TheVariants as value
 use Rattle.links.specs.Laws.{goes}
 use Rattle.models.specs.Reading.{Reading}
-use Rattle.removal.specs.Outer.{gone, touched_ends}
+use Rattle.removal.specs.Outer.{is_in_subtree, touched_ends}
 use Rattle.removal.specs.declared.loss.Loss.{Loss}
 
 -- whether an end contains an object
@@ -19,28 +19,28 @@ is_held_by r o e = option_map_or (same_end e) (r.holder (node.Object o)) false
 
 -- whether an end loses a value before the last step, which takes the object itself out of the end that contains it
 abbrev pub is_lost : Reading → ObjectNo → End → Value → Bool
-is_lost r o e v = goes (gone r o) v && not (is_held_by r o e && same_value v (value.Object o))
+is_lost r o e v = goes (is_in_subtree r o) v && not (is_held_by r o e && same_value v (value.Object o))
 
 abbrev pub loss : End → Value → ℕ → Loss
 loss e v k = record { end = e; value = v; position = k }
 
 -- the losses of an end, for its values from some position on. Each lost value is taken out before the next loss, so its position is the
 -- number of earlier values that stay; k is that number for the first of these values
-abbrev pub lost_from : (Value → Bool) → End → List Value → ℕ → List Loss
-lost_from lost e [] k = []
-lost_from lost e (v ∷ vs) k = if lost v then loss e v k ∷ lost_from lost e vs k else lost_from lost e vs (suc k)
+abbrev pub losses_from : (Value → Bool) → End → List Value → ℕ → List Loss
+losses_from lost e [] k = []
+losses_from lost e (v ∷ vs) k = if lost v then loss e v k ∷ losses_from lost e vs k else losses_from lost e vs (suc k)
 
-abbrev pub lost_at : Reading → ObjectNo → End → List Loss
-lost_at r o e = lost_from (is_lost r o e) e (r.values e) 0
+abbrev pub losses_at : Reading → ObjectNo → End → List Loss
+losses_at r o e = losses_from (is_lost r o e) e (r.values e) 0
 
 -- the values that an end keeps until the object itself is taken out
-abbrev pub kept_at : Reading → ObjectNo → End → List Value
-kept_at r o e = filter (λ v. not (is_lost r o e v)) (r.values e)
+abbrev pub values_kept : Reading → ObjectNo → End → List Value
+values_kept r o e = filter (λ v. not (is_lost r o e v)) (r.values e)
 
 -- the loss of the object itself, at the end that contains it
 abbrev pub last_loss : Reading → ObjectNo → List Loss
-last_loss r o = option_map_or (λ e. loss e (value.Object o) (index_in (kept_at r o e) (value.Object o)) ∷ []) (r.holder (node.Object o)) []
+last_loss r o = option_map_or (λ e. loss e (value.Object o) (index_in (values_kept r o e) (value.Object o)) ∷ []) (r.holder (node.Object o)) []
 
 -- the losses in order: by feature number, by the number of the end's node, by position; the object itself last
 abbrev pub losses : Reading → ObjectNo → List Loss
-losses r o = flat_map (lost_at r o) (touched_ends r o) ++ last_loss r o
+losses r o = flat_map (losses_at r o) (touched_ends r o) ++ last_loss r o

@@ -13,8 +13,8 @@ use Rattle.models.specs.Reading.{Reading, at_end, shape_at}
 use Rattle.containment.specs.Forest.{is_node_among, subtree}
 
 -- whether a node is destroyed with an object: it is that object, or is below it
-abbrev pub gone : Reading → ObjectNo → Node → Bool
-gone r o = is_node_among (subtree r o)
+abbrev pub is_in_subtree : Reading → ObjectNo → Node → Bool
+is_in_subtree r o = is_node_among (subtree r o)
 
 abbrev pub object_node : ℕ → Node
 object_node k = node.Object (record { 0 = k })
@@ -43,4 +43,4 @@ holds_some r is_gone e = (shape_at r e).is_reference && list_any (goes is_gone) 
 
 -- the ends of other nodes that have an object that is destroyed with o
 abbrev pub touched_ends : Reading → ObjectNo → List End
-touched_ends r o = filter (holds_some r (gone r o)) (outer_ends r (gone r o))
+touched_ends r o = filter (holds_some r (is_in_subtree r o)) (outer_ends r (is_in_subtree r o))

@@ -10,7 +10,7 @@ use Rattle.mm_types.specs.declared.numbers.ObjectNo.{ObjectNo}
 use Rattle.mm_types.specs.declared.value.Value.TheVariants as value
 use Rattle.links.specs.Links.{Links, end}
 use Rattle.models.specs.Reading.{Reading}
-use Rattle.removal.specs.Outer.{gone}
+use Rattle.removal.specs.Outer.{is_in_subtree}
 use Rattle.removal.specs.declared.numbers.Numbers.{Numbers}
 
 -- whether a node is an object whose number is in a set
@@ -20,12 +20,12 @@ is_in s (node.Resource k) = false
 
 -- the numbers are those of the objects that are destroyed with an object
 abbrev pub HasGone : Reading → ObjectNo → Numbers → Type 0
-HasGone r o s = (n : Node) → is_in s n ≡ gone r o n
+HasGone r o s = (n : Node) → is_in s n ≡ is_in_subtree r o n
 
 -- whether an end holds an object
 abbrev pub holds : Links → End → ObjectNo → Bool
 holds s e x = has_value (end s e) (value.Object x)
 
 -- the ends whose nodes are not in a set of numbers
-abbrev pub staying : Numbers → List End → List End
-staying s es = filter (λ e. not (is_in s e.node)) es
+abbrev pub staying_ends : Numbers → List End → List End
+staying_ends s es = filter (λ e. not (is_in s e.node)) es

@@ -11,7 +11,7 @@ use Rattle.mm_types.specs.declared.value.Value.{Value}
 use Rattle.links.specs.Laws.{goes}
 use Rattle.models.specs.Reading.{Reading, all_features_of, at_end, shape_at}
 use Rattle.containment.specs.Forest.{subtree}
-use Rattle.removal.specs.Outer.{gone, touched_ends}
+use Rattle.removal.specs.Outer.{is_in_subtree, touched_ends}
 use Rattle.removal.specs.declared.link_end.LinkEnd.{LinkEnd}
 
 abbrev pub link_end : End → Value → LinkEnd
@@ -38,4 +38,4 @@ outer_link_ends r is_gone e = if is_some (shape_at r e).opposite then [] else ma
 
 -- all links that name an object or an object below it
 abbrev pub tree_link_ends : Reading → ObjectNo → List LinkEnd
-tree_link_ends r o = flat_map (node_link_ends r (gone r o)) (subtree r o) ++ flat_map (outer_link_ends r (gone r o)) (touched_ends r o)
+tree_link_ends r o = flat_map (node_link_ends r (is_in_subtree r o)) (subtree r o) ++ flat_map (outer_link_ends r (is_in_subtree r o)) (touched_ends r o)

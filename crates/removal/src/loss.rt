@@ -53,7 +53,7 @@ fn push_lost<L: LinkStore>(
 ) -> Result<(), AllocError>
     requires reference { (shape model.now.metamodel end.feature).is_reference ≡ true }
     requires removal { IsRemoval (reading model.now) removal.now }
-    ensures { OnOk result (out.new.items ≡ out.old.items ++ l.lost_at (reading model.now) removal.now.object end) }
+    ensures { OnOk result (out.new.items ≡ out.old.items ++ l.losses_at (reading model.now) removal.now.object end) }
 {
     let is_holder = is_held_by(model, removal.object, end);
     let mut kept = 0;
@@ -108,7 +108,7 @@ fn push_last<L: LinkStore>(
 fn last_position<L: LinkStore>(model: &ModelRef<L>, removal: &Removal, end: End) -> u32
     requires held { (reading model.now).holder (node.Object removal.now.object) ≡ Some end }
     requires removal { IsRemoval (reading model.now) removal.now }
-    ensures { result ≡ index_in (l.kept_at (reading model.now) removal.now.object end) (value.Object removal.now.object) }
+    ensures { result ≡ index_in (l.values_kept (reading model.now) removal.now.object end) (value.Object removal.now.object) }
 {
     model.lemma_is_legal();
     let mut kept = 0;

@@ -1,7 +1,7 @@
 -- The adapters after a chain.
 use Rattle.std.proofs.Common.{◌≡◌, ◌∙◌, ◌||◌, ◌++◌, Bool, true, false, List, [], ◌∷◌, length, map, nat_lt, if◌then◌else◌, refl, sym, ap, subst, arith, le-leb}
 use Rattle.std.proofs.lemmas.Bool.{or_parts}
-use Rattle.notice_chain.specs.Listed.{Above, Listed, audience, heard_of, hears, is_chain_full, is_full, tell_chain, told_all, told_list}
+use Rattle.notice_chain.specs.Listed.{Above, Listed, adapter_after_notices, audience, heard_of, hears, is_chain_full, is_full, tell_chain, told_list}
 use Rattle.notice_chain.specs.declared.notice.Notice.{Notice}
 use Rattle.adapter_list.specs.Hearing.{IsUnheard, is_heard}
 use Rattle.repository.specs.Prepared.{TellsAll}
@@ -62,7 +62,7 @@ tell_chain-unheard : (up : Above) (ns : List Notice) (rs : List Listed) → IsUn
 tell_chain-unheard up ns [] h = refl
 tell_chain-unheard up ns (r ∷ rs) h =
     let here = heard_of-unheard up ns r rs h in
-    λ i. told_all r (sym here.0 i) ∷ tell_chain-unheard up ns rs here.1 i
+    λ i. adapter_after_notices r (sym here.0 i) ∷ tell_chain-unheard up ns rs here.1 i
 
 is_chain_full-unheard : (up : Above) (ns : List Notice) (rs : List Listed) → IsUnheard up ns rs → is_chain_full up ns rs ≡ false
 is_chain_full-unheard up ns [] h = refl

@@ -13,7 +13,7 @@ use Rattle.handshake.specs.Laws.{IsBrought}
 use Rattle.handshake.specs.Refusals as planned
 use Rattle.handshake.specs.declared.change.Change.{Change}
 use Rattle.handshake.specs.declared.change.Change.TheVariants as change
-use Rattle.web_uris.specs.Joined.{joined}
+use Rattle.web_uris.specs.Joined.{joined_uri}
 use Rattle.repository.specs.Loads.{load_of, load_refusal, reads_into}
 use Rattle.repository.specs.Refusals.{change_of, early_refusal, late_refusal, resource_refusal}
 use Rattle.repository.specs.State.{State, reads}
@@ -32,7 +32,7 @@ pub record IsAllowed (s : State) (x : Change) : Type 0 where
 same-allowed : (s : State) (y x : Change) → Some y ≡ Some x → IsAllowed s y → IsAllowed s x
 same-allowed s y x is allowed = subst (IsAllowed s) (same_Some y x is) allowed
 
-resource-allowed : (s : State) (t : List ℕ) (uri : Option (List ℕ)) (x : Change) → joined [] t ≡ uri → option_map change.NewResource uri ≡ Some x → resource_refusal (reads s) t uri ≡ None → IsAllowed s x
+resource-allowed : (s : State) (t : List ℕ) (uri : Option (List ℕ)) (x : Change) → joined_uri [] t ≡ uri → option_map change.NewResource uri ≡ Some x → resource_refusal (reads s) t uri ≡ None → IsAllowed s x
 resource-allowed s t None x is made late = absurd (none-some x made)
 resource-allowed s t (Some u) x is made late = same-allowed s (change.NewResource u) x made (record { early = refl; late = uri-allowed (reads s) t u late; read = tt; brought = record { base = []; reference = t; gives = is } })
 
@@ -45,7 +45,7 @@ pub change-allowed : (s : State) (c : Command View) (x : Change) → change_of (
 change-allowed s (At e a) x is early late = same-allowed s (change.At e a) x is (record { early = early; late = late; read = tt; brought = tt })
 change-allowed s (Create c) x is early late = same-allowed s (change.Create c) x is (record { early = early; late = late; read = tt; brought = tt })
 change-allowed s (Delete o) x is early late = same-allowed s (change.Delete o) x is (record { early = early; late = late; read = tt; brought = tt })
-change-allowed s (CreateResource t) x is early late = resource-allowed s t (joined [] t) x refl is late
+change-allowed s (CreateResource t) x is early late = resource-allowed s t (joined_uri [] t) x refl is late
 change-allowed s (Load k text) x is early late = load-allowed s k text (reads_into (reads s) k text) x refl is early late
 change-allowed s ResolveAll x is early late = same-allowed s change.ResolveAll x is (record { early = early; late = late; read = tt; brought = tt })
 change-allowed s _ x is early late = absurd (none-some x is)

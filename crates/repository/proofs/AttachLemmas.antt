@@ -13,7 +13,7 @@ use Rattle.mm_types.specs.declared.refused.Refused.{Refused}
 use Rattle.mm_types.specs.declared.refused.Refused.TheVariants.{AdapterFull, Memory, NoAdapter, NoObject, NoResource}
 use Rattle.notice_chain.specs.View.{View}
 use Rattle.notice_chain.specs.Listed.{HasDistinctNumbers, Listed, adapter, has_no, is_chain_full, is_target, same_no, tell_chain}
-use Rattle.notice_chain.specs.Released.{Spot, is_of, released, spots}
+use Rattle.notice_chain.specs.Released.{Spot, is_of, released_adapters, spots}
 use Rattle.notice_chain.specs.declared.target.Target.{Target}
 use Rattle.adapter_list.specs.Refusals.{attach_refusal, but_memory, watch_refusal}
 use Rattle.models.specs.Model.{Model, reading}
@@ -29,8 +29,8 @@ use Rattle.repository.specs.Leaving.{LetsGo, released_reply}
 use Rattle.repository.specs.Refusals.{adapter_refusal}
 use Rattle.repository.specs.Run.{Executed, change_outcome, is_plain, may_want_memory}
 use Rattle.repository.specs.State.{State, reads}
-use Rattle.repository.specs.Step.{Stepped, done, joined_by, joins, refusal_of, step_unless}
-use Rattle.repository.specs.Views.{Outcome, brought}
+use Rattle.repository.specs.Step.{Stepped, adapters_after_attach, attached_adapters, done_step, refusal_of, step_unless}
+use Rattle.repository.specs.Views.{Outcome, brought_adapter}
 use Rattle.repository.specs.declared.reply.Failure.{Failure}
 use Rattle.repository.proofs.AdapterLemmas.{tell_chain-nil}
 use Rattle.repository.proofs.QuietLemmas.{done_quiet, refusal_quiet}
@@ -56,8 +56,8 @@ module _ (s : State) (number : AdapterNo) (target : Node) (deep : Bool) (view : 
   pub nowhere_to_attach : (r : Refused) → node_refusal (reads s) target ≡ Some r → Executed s (Attach number target deep view) (Err (record { refused = r; given_back = Some view })) s
   nowhere_to_attach r e = rw (node-refused s target r e) (ap (step_unless s (Attach number target deep view)) (ap (λ (o : Option Refused). o else_by (attach_refusal s.adapters number view else_by (AdapterFull where_so is_chain_full (reads s).above [] s.adapters))) e))
 
-  pub attached : node_refusal (reads s) target ≡ None → attach_refusal s.adapters number view ≡ None → Executed s (Attach number target deep view) (Ok (record { answer = answer.Done; told = []; released = [] })) (record { model = s.model; adapters = s.adapters ++ joins (Attach number target deep view) })
-  attached there free = ap (step_unless s (Attach number target deep view)) (attach-refusal there ∙ free) ∙ done_quiet (reads s).above s.model s.adapters (joined_by (Attach number target deep view)) answer.Done
+  pub attached : node_refusal (reads s) target ≡ None → attach_refusal s.adapters number view ≡ None → Executed s (Attach number target deep view) (Ok (record { answer = answer.Done; told = []; released = [] })) (record { model = s.model; adapters = s.adapters ++ attached_adapters (Attach number target deep view) })
+  attached there free = ap (step_unless s (Attach number target deep view)) (attach-refusal there ∙ free) ∙ done_quiet (reads s).above s.model s.adapters (adapters_after_attach (Attach number target deep view)) answer.Done
 
   pub not_attached : (r : Refused) → node_refusal (reads s) target ≡ None → but_memory r ≡ attach_refusal s.adapters number view → Executed s (Attach number target deep view) (Err (record { refused = r; given_back = Some view })) s
   not_attached Memory there e = record {
@@ -76,11 +76,11 @@ module _ (s : State) (number : AdapterNo) (target : Node) (deep : Bool) where
   pub nowhere_to_watch : (r : Refused) → node_refusal (reads s) target ≡ Some r → Executed s (Watch number target deep) (Err (record { refused = r; given_back = None })) s
   nowhere_to_watch r e = rw (node-refused s target r e) (ap (step_unless s (Watch number target deep)) (ap (λ (o : Option Refused). o else_by (watch_refusal s.adapters number target else_by (AdapterFull where_so is_chain_full (reads s).above [] s.adapters))) e))
 
-  pub watched : (b : Bool) → b ≡ not (is_target number target s.adapters) → node_refusal (reads s) target ≡ None → watch_refusal s.adapters number target ≡ None → Executed s (Watch number target deep) (Ok (record { answer = answer.Flag b; told = []; released = [] })) (record { model = s.model; adapters = joined_by (Watch number target deep) s.adapters })
+  pub watched : (b : Bool) → b ≡ not (is_target number target s.adapters) → node_refusal (reads s) target ≡ None → watch_refusal s.adapters number target ≡ None → Executed s (Watch number target deep) (Ok (record { answer = answer.Flag b; told = []; released = [] })) (record { model = s.model; adapters = adapters_after_attach (Watch number target deep) s.adapters })
   watched b is there free =
       ap (step_unless s (Watch number target deep)) (watch-refusal there ∙ free)
-      ∙ done_quiet (reads s).above s.model s.adapters (joined_by (Watch number target deep)) (answer.Flag (not (is_target number target s.adapters)))
-      ∙ ap (λ (c : Bool). let x : Stepped = record { outcome = Ok (record { answer = answer.Flag c; told = []; released = [] }); after = record { model = s.model; adapters = joined_by (Watch number target deep) s.adapters } } in x) (sym is)
+      ∙ done_quiet (reads s).above s.model s.adapters (adapters_after_attach (Watch number target deep)) (answer.Flag (not (is_target number target s.adapters)))
+      ∙ ap (λ (c : Bool). let x : Stepped = record { outcome = Ok (record { answer = answer.Flag c; told = []; released = [] }); after = record { model = s.model; adapters = adapters_after_attach (Watch number target deep) s.adapters } } in x) (sym is)
 
   pub not_watched : (r : Refused) → node_refusal (reads s) target ≡ None → but_memory r ≡ watch_refusal s.adapters number target → Executed s (Watch number target deep) (Err (record { refused = r; given_back = None })) s
   not_watched Memory there e = record {
@@ -95,11 +95,11 @@ module _ (s : State) (number : AdapterNo) (target : Node) (deep : Bool) where
 -- the step if these targets are removed, and this is the answer
 let_go-done : Answer → List Spot → State → List Listed → Stepped
 let_go-done a ss s rs = record {
-  outcome = Ok (released_reply a (released ss rs));
-  after = record { model = s.model; adapters = (released ss rs).others };
+  outcome = Ok (released_reply a (released_adapters ss rs));
+  after = record { model = s.model; adapters = (released_adapters ss rs).others };
 }
 
-module _ (s : State) (c : Command View) (ss : List Spot) (a : Answer) (given : brought c ≡ None) (may : IsTrue (may_want_memory s c)) (free : refusal_of s c ≡ None) (does : done s c ≡ let_go-done a ss s (tell_chain (reads s).above [] s.adapters)) where
+module _ (s : State) (c : Command View) (ss : List Spot) (a : Answer) (given : brought_adapter c ≡ None) (may : IsTrue (may_want_memory s c)) (free : refusal_of s c ≡ None) (does : done_step s c ≡ let_go-done a ss s (tell_chain (reads s).above [] s.adapters)) where
   wanting : Executed s c (Err (record { refused = Memory; given_back = None })) s
   wanting = record { may = may; outcome = ap (λ (g : Option View). let f : Failure View = record { refused = Memory; given_back = g } in let o : Outcome = Err f in o) (sym given); state = refl }
 

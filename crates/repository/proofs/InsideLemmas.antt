@@ -4,15 +4,15 @@ use Rattle.links.specs.Holders.{above}
 use Rattle.links.specs.LegalSets.{Kinds}
 use Rattle.links.specs.Links.{Links}
 use Rattle.mm_values.specs.Room.{values_of}
-use Rattle.mm_values.specs.Values.{applied}
-use Rattle.mm_values.specs.declared.edit.ValueEdit.{ValueEdit}
+use Rattle.mm_values.specs.Values.{values_after_edits}
+use Rattle.mm_values.specs.declared.value_edit.ValueEdit.{ValueEdit}
 use Rattle.mm_values.specs.declared.values.Values.{Values}
 use Rattle.models.specs.Model.{Model, model_of, reading}
 use Rattle.models.specs.Steady.{HasSteadyTexts}
 use Rattle.notice_chain.specs.Listed.{Listed}
 use Rattle.notice_chain.specs.declared.notice.Notice.{Notice}
 use Rattle.adapter_list.specs.Hearing.{AreKnown}
-use Rattle.adapter_list.specs.Rounds.{delivered}
+use Rattle.adapter_list.specs.Rounds.{adapters_after_copies}
 use Rattle.adapter_list.specs.declared.hearers.Hearers.{Hearers}
 use Rattle.handshake.specs.Laws.{BringsSteadyTexts}
 use Rattle.change_plans.specs.Plans.{IsPlanOf, of_values}
@@ -24,7 +24,7 @@ use Rattle.repository.specs.State.{IsLegal, reads}
 use Rattle.repository.specs.declared.reply.Answer.{Answer}
 use Rattle.repository.specs.declared.repository.Repository.TheInside.{Inside}
 use Rattle.repository.proofs.LoadLemmas.{proper-steady}
-use Rattle.repository.proofs.RememberedLemmas.{kept-after, known-delivered}
+use Rattle.repository.proofs.RememberedLemmas.{kept-after, known-adapters_after_copies}
 
 module _ {L A : Type 0} (links : L → Links) (kinds : L → Kinds → Type 0) (r : Inside L A) (w : Values) where
   -- the repository with other values
@@ -44,7 +44,7 @@ module _ {L A : Type 0} (links : L → Links) (kinds : L → Kinds → Type 0) (
       }
 
   -- the edits of a change that edits no link
-  pub made : (is_heard : Bool) (c : Change) (vs : List ValueEdit) (ns : List Notice) → IsPlanOf is_heard (state links r).model c (of_values vs ns) → values_of w ≡ applied (values_of r.values) vs → BringsSteadyTexts c → IsLegal (state links with_values) → IsLegalInside links kinds r → IsLegalInside links kinds with_values
+  pub made : (is_heard : Bool) (c : Change) (vs : List ValueEdit) (ns : List Notice) → IsPlanOf is_heard (state links r).model c (of_values vs ns) → values_of w ≡ values_after_edits (values_of r.values) vs → BringsSteadyTexts c → IsLegal (state links with_values) → IsLegalInside links kinds r → IsLegalInside links kinds with_values
   made is_heard c vs ns plan edited brings legal holds =
       record {
         legal = legal;
@@ -72,7 +72,7 @@ module _ {L A : Type 0} (links : L → Links) (kinds : L → Kinds → Type 0) (
       }
 
   -- the edits of a change that edits no link, and the adapters that were notified of it
-  pub made-told : (c : Change) (a : Answer) (vs : List ValueEdit) (ns : List Notice) (cs : List (ℕ × Notice)) → IsReady (state links r) [] c a [] [] vs ns → values_of w ≡ applied (values_of r.values) vs → IsLegal (state links with_told) → qs.0 ≡ delivered cs r.adapters.0 → AreKnown (above (links r.store)) r.adapters.0 h
+  pub made-told : (c : Change) (a : Answer) (vs : List ValueEdit) (ns : List Notice) (cs : List (ℕ × Notice)) → IsReady (state links r) [] c a [] [] vs ns → values_of w ≡ values_after_edits (values_of r.values) vs → IsLegal (state links with_told) → qs.0 ≡ adapters_after_copies cs r.adapters.0 → AreKnown (above (links r.store)) r.adapters.0 h
       → IsLegalInside links kinds r → IsLegalInside links kinds with_told
   made-told c a vs ns cs ready edited legal told known holds =
       record {
@@ -80,5 +80,5 @@ module _ {L A : Type 0} (links : L → Links) (kinds : L → Kinds → Type 0) (
         steady = subst HasSteadyTexts (sym (λ i. model_of r.meta ((edited ∙ ready.values_made) i) (ready.links_made i))) (change-keeps-steady (state links r).model c holds.steady (proper-steady (reads (state links r)) [] c ready.proper));
         kinds_are = holds.kinds_are;
         paths = kept-after r.meta (values_of r.values) (values_of w) (links r.store) [] holds.legal.model legal.model ready.fits ready.of_kind r.paths holds.paths;
-        hearers = subst (λ (rs : List Listed). AreKnown (above (links r.store)) rs h) (sym told) (known-delivered (above (links r.store)) cs r.adapters.0 h known);
+        hearers = subst (λ (rs : List Listed). AreKnown (above (links r.store)) rs h) (sym told) (known-adapters_after_copies (above (links r.store)) cs r.adapters.0 h known);
       }

@@ -7,21 +7,21 @@ use Rattle.std.specs.Option.{option_map_or}
 use Rattle.std.proofs.lemmas.Bool.{and_parts, eqb-true}
 use Rattle.std.proofs.lemmas.Bool.Decides.{nat_tests}
 use Rattle.std.proofs.Math.ListN.{length-set}
-use Rattle.mm_types.specs.Lists.{shifted}
+use Rattle.mm_types.specs.Lists.{values_after_move}
 use Rattle.mm_types.specs.Lookups as lookups
 use Rattle.mm_types.specs.Same.{same_object}
 use Rattle.mm_types.specs.declared.numbers.ClassNo.{ClassNo}
 use Rattle.mm_types.specs.declared.numbers.ObjectNo.{ObjectNo}
 use Rattle.mm_types.specs.declared.numbers.Node.{Node}
 use Rattle.mm_types.specs.declared.numbers.Node.TheVariants as node
-use Rattle.mm_values.specs.Values.{ObjectState, Objects, ValuesState, applied, change_list, edited, put_stored, without_object}
-use Rattle.mm_values.specs.declared.edit.ValueEdit.{ValueEdit}
-use Rattle.mm_values.specs.declared.edit.ValueEdit.TheVariants.{NewObject, DropObject, PutList, InsertValue, RemoveValue, MoveValue, NewUri}
+use Rattle.mm_values.specs.Values.{ObjectState, Objects, ValuesState, change_list, put_stored, values_after_edit, values_after_edits, without_object}
+use Rattle.mm_values.specs.declared.value_edit.ValueEdit.{ValueEdit}
+use Rattle.mm_values.specs.declared.value_edit.ValueEdit.TheVariants.{NewObject, DropObject, PutList, InsertValue, RemoveValue, MoveValue, NewUri}
 use Rattle.models.specs.Model.{Model, reading}
 use Rattle.models.specs.Reading.{Reading, all_features_of, is_live}
 use Rattle.containment.proofs.PartLemmas.{live-made}
 use Rattle.containment.specs.Forest.{subtree}
-use Rattle.handshake.specs.Effects.{after, value_edits}
+use Rattle.handshake.specs.Effects.{model_after, value_edits}
 use Rattle.handshake.specs.Laws.{comes_with, goes_with}
 use Rattle.handshake.specs.declared.change.Change.{Change}
 use Rattle.handshake.specs.declared.change.Change.TheVariants as change
@@ -70,20 +70,20 @@ change-class (o ∷ os) g h zero (suc i) = refl
 change-class (o ∷ os) g h (suc k) zero = refl
 change-class (o ∷ os) g h (suc k) (suc i) = change-class os g h k i
 
-edit-class : (v : ValuesState) (e : ValueEdit) (i : ℕ) → i < length v.objects → Keeps (class_in v.objects i) (class_in (edited v e).objects i)
+edit-class : (v : ValuesState) (e : ValueEdit) (i : ℕ) → i < length v.objects → Keeps (class_in v.objects i) (class_in (values_after_edit v e).objects i)
 unfolding Keeps
 edit-class v (NewObject c) i h = inl (push-class v.objects _ i h)
 edit-class v (DropObject o) i h = drop-class v.objects o.0 i
 edit-class v (PutList o f list flag) i h = inl (change-class v.objects (put_stored f (record { list = list; flag = flag })) (λ x. refl) o.0 i)
 edit-class v (InsertValue o f j w u) i h = inl (change-class v.objects (change_list f (λ vs. insert vs j w)) (λ x. refl) o.0 i)
 edit-class v (RemoveValue o f j) i h = inl (change-class v.objects (change_list f (λ vs. remove vs j)) (λ x. refl) o.0 i)
-edit-class v (MoveValue o f to from) i h = inl (change-class v.objects (change_list f (λ vs. shifted vs to from)) (λ x. refl) o.0 i)
+edit-class v (MoveValue o f to from) i h = inl (change-class v.objects (change_list f (λ vs. values_after_move vs to from)) (λ x. refl) o.0 i)
 edit-class v (NewUri u) i h = inl refl
 
 push-length : (os : Objects) (x : Option ObjectState) → length os ≤ length (os ++ x ∷ [])
 push-length os x = omega (arith, length-append os (x ∷ []))
 
-edit-length : (v : ValuesState) (e : ValueEdit) → length v.objects ≤ length (edited v e).objects
+edit-length : (v : ValuesState) (e : ValueEdit) → length v.objects ≤ length (values_after_edit v e).objects
 edit-length v (NewObject c) = push-length v.objects _
 edit-length v (DropObject o) = omega (arith, length-set {A = Option ObjectState})
 edit-length v (PutList o f list flag) = omega (arith, length-set {A = Option ObjectState})
@@ -93,15 +93,15 @@ edit-length v (MoveValue o f to from) = omega (arith, length-set {A = Option Obj
 edit-length v (NewUri u) = omega arith
 
 -- the same for any edits
-edits-class : (es : List ValueEdit) (v : ValuesState) (i : ℕ) → i < length v.objects → Keeps (class_in v.objects i) (class_in (applied v es).objects i)
+edits-class : (es : List ValueEdit) (v : ValuesState) (i : ℕ) → i < length v.objects → Keeps (class_in v.objects i) (class_in (values_after_edits v es).objects i)
 unfolding Keeps
 edits-class [] v i h = inl refl
-edits-class (e ∷ es) v i h = keeps-twice _ _ _ (edit-class v e i h) (edits-class es (edited v e) i (omega (arith, edit-length v e)))
+edits-class (e ∷ es) v i h = keeps-twice _ _ _ (edit-class v e i h) (edits-class es (values_after_edit v e) i (omega (arith, edit-length v e)))
 
 ---------------------------------------------------------------- a change, or none
 
 abbrev pub model_by : Model → Option Change → Model
-model_by s o = option_map_or (after s) o s
+model_by s o = option_map_or (model_after s) o s
 
 pub metamodel-by : (s : Model) (o : Option Change) → (model_by s o).metamodel ≡ s.metamodel
 metamodel-by s None = refl
@@ -117,7 +117,7 @@ class-by s (Some c) (node.Resource k) before later = refl
 class-by s (Some c) (node.Object o) before later =
     elim (edits-class (value_edits (reading s) c) s.values o.0 (live-made s o (there-live (reading s) o before))) [
       | inl same ↦ same
-      | inr none ↦ absurd (let no : false ≡ true = sym (ap is_some none) ∙ there-live (reading (after s c)) o later in cc)
+      | inr none ↦ absurd (let no : false ≡ true = sym (ap is_some none) ∙ there-live (reading (model_after s c)) o later in cc)
     ]
 
 pub features-by : (s : Model) (c : Option Change) (n : Node) → IsTrue (is_there (reading s) n) → IsTrue (is_there (reading (model_by s c)) n) → all_features_of (reading (model_by s c)) n ≡ all_features_of (reading s) n
@@ -139,24 +139,24 @@ drop-none (o ∷ os) zero (suc i) h = h
 drop-none (o ∷ os) (suc k) zero h = h
 drop-none (o ∷ os) (suc k) (suc i) h = drop-none os k i h
 
-dropped-none : (os : List ObjectNo) (v : ValuesState) (i : ℕ) → class_in v.objects i ≡ None → class_in (applied v (map DropObject os)).objects i ≡ None
+dropped-none : (os : List ObjectNo) (v : ValuesState) (i : ℕ) → class_in v.objects i ≡ None → class_in (values_after_edits v (map DropObject os)).objects i ≡ None
 dropped-none [] v i h = h
 dropped-none (o ∷ os) v i h = dropped-none os (record v { objects = without_object v.objects o }) i (drop-none v.objects o.0 i h)
 
-dropped : (os : List ObjectNo) (v : ValuesState) (p : ObjectNo) → list_any (same_object p) os ≡ true → class_in (applied v (map DropObject os)).objects p.0 ≡ None
+dropped : (os : List ObjectNo) (v : ValuesState) (p : ObjectNo) → list_any (same_object p) os ≡ true → class_in (values_after_edits v (map DropObject os)).objects p.0 ≡ None
 dropped [] v p h = absurd (cc)
 dropped (o ∷ os) v p h =
     let w : ValuesState = record v { objects = without_object v.objects o } in
-    elim (same_object p o) as (λ b. same_object p o ≡ b → (b || list_any (same_object p) os) ≡ true → class_in (applied w (map DropObject os)).objects p.0 ≡ None) [
+    elim (same_object p o) as (λ b. same_object p o ≡ b → (b || list_any (same_object p) os) ≡ true → class_in (values_after_edits w (map DropObject os)).objects p.0 ≡ None) [
       | true ↦ λ e _. dropped-none os w p.0 (ap (λ (k : ℕ). class_in (slice_set v.objects k None) p.0) (sym (eqb-true p.0 o.0 e)) ∙ drop-here v.objects p.0)
       | false ↦ λ _ more. dropped os w p more
     ] refl h
 
-goes-none : (s : Model) (o : ObjectNo) (n : Node) → IsTrue (is_there (reading (after s (change.Delete o))) n) → goes_with (reading s) (change.Delete o) n ≡ false
+goes-none : (s : Model) (o : ObjectNo) (n : Node) → IsTrue (is_there (reading (model_after s (change.Delete o))) n) → goes_with (reading s) (change.Delete o) n ≡ false
 goes-none s o (node.Resource k) later = refl
 goes-none s o (node.Object p) later =
     elim (list_any (same_object p) (subtree (reading s) o)) as (λ b. list_any (same_object p) (subtree (reading s) o) ≡ b → b ≡ false) [
-      | true ↦ λ e. absurd (let no : false ≡ true = sym (ap is_some (dropped (subtree (reading s) o) s.values p e)) ∙ there-live (reading (after s (change.Delete o))) p later in cc)
+      | true ↦ λ e. absurd (let no : false ≡ true = sym (ap is_some (dropped (subtree (reading s) o) s.values p e)) ∙ there-live (reading (model_after s (change.Delete o))) p later in cc)
       | false ↦ λ e. refl
     ] refl
 
@@ -168,7 +168,7 @@ comes-none s k doc (node.Object o) before = not-behind (length s.values.objects)
 comes-none s k doc (node.Resource j) before = refl
 
 -- of any change
-pub goes-by : (s : Model) (x : Change) (n : Node) → IsTrue (is_there (reading (after s x)) n) → goes_with (reading s) x n ≡ false
+pub goes-by : (s : Model) (x : Change) (n : Node) → IsTrue (is_there (reading (model_after s x)) n) → goes_with (reading s) x n ≡ false
 goes-by s (change.Delete o) n later = goes-none s o n later
 goes-by s _ n later = refl
 

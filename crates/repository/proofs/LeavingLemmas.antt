@@ -12,14 +12,14 @@ use Rattle.mm_types.specs.declared.numbers.Node.{Node}
 use Rattle.mm_types.specs.declared.numbers.Node.TheVariants as node
 use Rattle.mm_types.specs.declared.numbers.ObjectNo.{ObjectNo}
 use Rattle.notice_chain.specs.Listed.{Listed, is_at, is_target}
-use Rattle.notice_chain.specs.Released.{Spot, is_gone_at, last_notice, released, spots, spots_of, told_of_all, told_of_leaving, without}
+use Rattle.notice_chain.specs.Released.{Spot, adapters_without_target, is_gone_at, last_notice, released_adapters, spots, spots_of, told_of_all, told_of_leaving}
 use Rattle.notice_chain.specs.declared.notice.Notice.{Notice}
 use Rattle.notice_chain.specs.declared.target.Target.{Target}
-use Rattle.adapter_list.specs.Hearing.{is_touched, ordinals_from, touched}
-use Rattle.adapter_list.specs.Rounds.{delivered_from}
+use Rattle.adapter_list.specs.Hearing.{is_touched, ordinals_from, touched_indexes}
+use Rattle.adapter_list.specs.Rounds.{adapters_after_copies_from}
 use Rattle.containment.specs.Forest.{is_node_among}
 use Rattle.models.specs.Reading.{Reading}
-use Rattle.removal.specs.Outer.{gone}
+use Rattle.removal.specs.Outer.{is_in_subtree}
 use Rattle.removal.specs.Ranks.{is_in}
 use Rattle.removal.specs.Removals.{IsRemoval}
 use Rattle.removal.specs.declared.gone.Removal.{Removal}
@@ -30,7 +30,7 @@ use Rattle.handshake.specs.declared.change.Change.{Change}
 use Rattle.handshake.specs.declared.change.Change.TheVariants.{At, Delete, ResolveAll}
 use Rattle.handshake.specs.declared.act.Act.TheVariants.{Resolve}
 use Rattle.proxies.specs.declared.resolved.Resolved.{Resolved}
-use Rattle.proxies.specs.declared.target.Target.{Target as Found}
+use Rattle.proxies.specs.declared.resolved_proxy.ResolvedProxy.{ResolvedProxy as Found}
 use Rattle.handshake.proofs.KnownLemmas.{resolvable}
 use Rattle.handshake.proofs.RemovalLemmas.{of-objects}
 use Rattle.repository.specs.Answers.{IsEarlyAnswer, answer_of, is_answered_late, planned_answer}
@@ -40,7 +40,7 @@ use Rattle.repository.specs.declared.reply.Answer.{Answer}
 use Rattle.repository.specs.declared.reply.Answer.TheVariants as answer
 
 -- a delivery changes no target
-spots-from : (goes : AdapterNo → Node → Bool) (k : ℕ) (cs : List (ℕ × Notice)) (rs : List Listed) → spots goes (delivered_from k cs rs) ≡ spots goes rs
+spots-from : (goes : AdapterNo → Node → Bool) (k : ℕ) (cs : List (ℕ × Notice)) (rs : List Listed) → spots goes (adapters_after_copies_from k cs rs) ≡ spots goes rs
 spots-from goes k cs [] = refl
 spots-from goes k cs (r ∷ rs) = ap (λ (ss : List Spot). spots_of goes r ++ ss) (spots-from goes (suc k) cs rs)
 
@@ -50,9 +50,9 @@ told_all-few [] rs = omega arith
 told_all-few (s ∷ ss) rs =
     let last : AdapterNo × Notice = (s.0, last_notice s rs) in
     let one : length (told_of_leaving s rs) ≤ 1 = elim (is_target s.0 s.1 rs) as (λ b. length (if b then last ∷ [] else []) ≤ 1) [ true ↦ omega arith | false ↦ omega arith ] in
-    omega (arith, one, told_all-few ss (without s rs), length-append (told_of_leaving s rs) (told_of_all ss (without s rs)))
+    omega (arith, one, told_all-few ss (adapters_without_target s rs), length-append (told_of_leaving s rs) (told_of_all ss (adapters_without_target s rs)))
 
-pub told-few : (ss : List Spot) (rs : List Listed) → length (released ss rs).told ≤ length ss
+pub told-few : (ss : List Spot) (rs : List Listed) → length (released_adapters ss rs).told ≤ length ss
 told-few [] rs = omega arith
 told-few (s ∷ ss) rs = told_all-few (s ∷ ss) rs
 
@@ -100,14 +100,14 @@ module _ (os : List ObjectNo) (all : List Listed) where
         | false ↦ λ none. rest ∙ sym (ap (λ (ss : List Spot). ss ++ spots (λ j n. is_node_among os n) rs) (untouched os r.no r.targets none))
       ] refl
 
-  pub at-places : flat_map at_place (touched os all) ≡ spots (λ j n. is_node_among os n) all
+  pub at-places : flat_map at_place (touched_indexes os all) ≡ spots (λ j n. is_node_among os n) all
   at-places = by-places 0 all (λ i. let e : 0 + i ≡ i = omega arith in ap (slice_get all) e)
 
 -- the targets at the nodes of a removal are the targets at its objects
-pub gone-spots : (r : Reading) (x : Removal) (rs : List Listed) → IsRemoval r x → flat_map (λ k. option_map_or (spots_of (is_gone_at (is_in x.numbers))) (slice_get rs k) []) (touched x.objects.items rs) ≡ spots (is_gone_at (is_in x.numbers)) rs
+pub gone-spots : (r : Reading) (x : Removal) (rs : List Listed) → IsRemoval r x → flat_map (λ k. option_map_or (spots_of (is_gone_at (is_in x.numbers))) (slice_get rs k) []) (touched_indexes x.objects.items rs) ≡ spots (is_gone_at (is_in x.numbers)) rs
 gone-spots r x rs is =
     let same : (n : Node) → is_in x.numbers n ≡ is_node_among x.objects.items n = λ n. is.numbers n ∙ ap (λ (os : List ObjectNo). is_node_among os n) (sym is.objects) in
-    subst (λ (g : Node → Bool). flat_map (λ k. option_map_or (spots_of (is_gone_at g)) (slice_get rs k) []) (touched x.objects.items rs) ≡ spots (is_gone_at g) rs) (λ i n. sym (same n) i) (at-places x.objects.items rs)
+    subst (λ (g : Node → Bool). flat_map (λ k. option_map_or (spots_of (is_gone_at g)) (slice_get rs k) []) (touched_indexes x.objects.items rs) ≡ spots (is_gone_at g) rs) (λ i n. sym (same n) i) (at-places x.objects.items rs)
 
 -- the adapter at an index, as it was read
 pub spots-there : (g : Node → Bool) (k : AdapterNo) (ts : List Target) (q : Option Listed) → Some (k, ts) ≡ option_map (λ (r : Listed). let p : AdapterNo × List Target = (r.no, r.targets) in p) q → option_map_or (spots_of (is_gone_at g)) q [] ≡ map (λ t. (k, t.node)) (filter (λ t. g t.node) ts)
@@ -133,12 +133,12 @@ spots-end f ks i out all past whole = sym (append-nil out) ∙ ap (λ (js : List
 pub spots-found : (r : Reading) (c : Change) (q : Option Removal) (rs : List Listed) → IsRemovalOf r c q → option_map_or (λ x. spots (is_gone_at (is_in x.numbers)) rs) q [] ≡ going_with r rs c
 spots-found r c q rs of = by q (destroyed_by c) of.whose of.found
   where
-    by : (q : Option Removal) (o : Option ObjectNo) → option_map (λ (x : Removal). x.object) q ≡ o → IfSome q (IsRemoval r) → option_map_or (λ x. spots (is_gone_at (is_in x.numbers)) rs) q [] ≡ option_map_or (λ k. spots (is_gone_at (gone r k)) rs) o []
+    by : (q : Option Removal) (o : Option ObjectNo) → option_map (λ (x : Removal). x.object) q ≡ o → IfSome q (IsRemoval r) → option_map_or (λ x. spots (is_gone_at (is_in x.numbers)) rs) q [] ≡ option_map_or (λ k. spots (is_gone_at (is_in_subtree r k)) rs) o []
     by None None is found = refl
     by None (Some o) is found = absurd (none-some o is)
     by (Some x) None is found = absurd (none-some x.object (sym is))
     by (Some x) (Some o) is found =
-        let goes : is_in x.numbers ≡ gone r o = (λ i n. found.numbers n i) ∙ ap (gone r) (same_Some x.object o is) in
+        let goes : is_in x.numbers ≡ is_in_subtree r o = (λ i n. found.numbers n i) ∙ ap (is_in_subtree r) (same_Some x.object o is) in
         ap (λ (g : Node → Bool). spots (is_gone_at g) rs) goes
 
 -- the whole answer is the answer from before planning, or is computed from the objects that the plan destroys, finds or resolves

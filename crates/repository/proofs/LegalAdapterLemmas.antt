@@ -11,7 +11,7 @@ use Rattle.mm_types.specs.declared.numbers.Node.{Node}
 use Rattle.mm_types.specs.declared.refused.Refused.{Refused}
 use Rattle.mm_types.specs.declared.refused.Refused.TheVariants.{NoObject, NoResource, AdapterFull, AdapterTaken, Limit}
 use Rattle.notice_chain.specs.View.{View}
-use Rattle.notice_chain.specs.Listed.{Above, HasDistinctNumbers, HaveTargets, Listed, adapter, has_no, has_target, heard_of, is_at, is_chain_full, is_full, is_target, same_no, targets_len, tell_chain, told_all, watched, with_target}
+use Rattle.notice_chain.specs.Listed.{Above, HasDistinctNumbers, HaveTargets, Listed, adapter, adapter_after_notices, adapters_after_watch, has_no, has_target, heard_of, is_at, is_chain_full, is_full, is_target, same_no, targets_len, tell_chain, with_target}
 use Rattle.notice_chain.specs.declared.notice.Notice.{Notice}
 use Rattle.notice_chain.specs.declared.target.Target.{Target}
 use Rattle.notice_chain.proofs.ViewLemmas.{told-hear_all}
@@ -24,9 +24,9 @@ use Rattle.models.specs.Existence.{node_refusal}
 use Rattle.handshake.proofs.KnownLemmas.{none-else_by, none-unless, none-where_so}
 use Rattle.repository.specs.declared.command.Command.TheVariants.{Attach, Watch}
 use Rattle.repository.specs.State.{State, IsLegal, IsLegalAdapter, is_there, reads}
-use Rattle.repository.specs.Step.{closed, joined_by, joins}
+use Rattle.repository.specs.Step.{adapters_after_attach, adapters_at_close, attached_adapters}
 use Rattle.mm_types.specs.Same.{same_node}
-use Rattle.notice_chain.specs.Released.{Spot, all_released, is_gone_at, released, spots, spots_of}
+use Rattle.notice_chain.specs.Released.{Spot, all_released, is_gone_at, released_adapters, spots, spots_of}
 use Rattle.notice_chain.proofs.ReleasedLemmas.{released-all}
 use Rattle.repository.proofs.OthersLemmas.{distinct-push}
 use Rattle.adapter_list.proofs.SomeLemmas.{others-some}
@@ -51,7 +51,7 @@ pub len-told : (up : Above) (ns : List Notice) (rs : List Listed) → targets_le
 len-told up ns [] = refl
 len-told up ns (r ∷ rs) =
     let many : Listed → ℕ = λ q. length q.targets in
-    sum_by-cons many (told_all r (heard_of up ns r)) (tell_chain up ns rs) ∙ ap (λ (n : ℕ). many r + n) (len-told up ns rs) ∙ sym (sum_by-cons many r rs)
+    sum_by-cons many (adapter_after_notices r (heard_of up ns r)) (tell_chain up ns rs) ∙ ap (λ (n : ℕ). many r + n) (len-told up ns rs) ∙ sym (sum_by-cons many r rs)
 
 -- notifying changes no target
 pub spots-told : (goes : AdapterNo → Node → Bool) (up : Above) (ns : List Notice) (rs : List Listed) → spots goes (tell_chain up ns rs) ≡ spots goes rs
@@ -148,13 +148,13 @@ pub record AreLegal (r : Reading) (rs : List Listed) : Type 0 where
   pub adapters : All (IsLegalAdapter r) rs
 
 -- the adapters are legal whichever targets are removed
-pub released-legal : (r : Reading) (ss : List Spot) (rs : List Listed) → AreLegal r rs → AreLegal r (released ss rs).others
-released-legal r ss rs legal =
+pub released_adapters-legal : (r : Reading) (ss : List Spot) (rs : List Listed) → AreLegal r rs → AreLegal r (released_adapters ss rs).others
+released_adapters-legal r ss rs legal =
     let p = parts-of r rs legal.adapters in
     record {
       few = omega (arith, legal.few, others-len ss rs);
       distinct = others-distinct ss rs legal.distinct;
-      adapters = of-parts r (released ss rs).others (record {
+      adapters = of-parts r (released_adapters ss rs).others (record {
         some = others-some ss rs p.some;
         countable = others-each IsCountable losing-countable ss rs legal.distinct p.countable;
         there = others-each (HasThere r) (losing-there r) ss rs legal.distinct p.there;
@@ -162,12 +162,12 @@ released-legal r ss rs legal =
     }
 
 -- the adapters are legal if the targets that no longer exist are removed
-pub gone-legal : (r t : Reading) (gone : Node → Bool) (rs : List Listed) → ((x : Node) → gone x ≡ false → IsTrue (is_there r x) → IsTrue (is_there t x)) → AreLegal r rs → AreLegal t (released (spots (is_gone_at gone) rs) rs).others
+pub gone-legal : (r t : Reading) (gone : Node → Bool) (rs : List Listed) → ((x : Node) → gone x ≡ false → IsTrue (is_there r x) → IsTrue (is_there t x)) → AreLegal r rs → AreLegal t (released_adapters (spots (is_gone_at gone) rs) rs).others
 unfolding HasThere
 gone-legal r t gone rs keeps legal =
     let ss = spots (is_gone_at gone) rs in
-    let qs = (released ss rs).others in
-    let after = released-legal r ss rs legal in
+    let qs = (released_adapters ss rs).others in
+    let after = released_adapters-legal r ss rs legal in
     let p = parts-of r qs after.adapters in
     record {
       few = after.few;
@@ -176,9 +176,9 @@ gone-legal r t gone rs keeps legal =
     }
 
 -- a state in which targets were removed is legal
-pub let_go-legal : (s : State) (ss : List Spot) → IsLegal s → IsLegal (record { model = s.model; adapters = (released ss s.adapters).others })
+pub let_go-legal : (s : State) (ss : List Spot) → IsLegal s → IsLegal (record { model = s.model; adapters = (released_adapters ss s.adapters).others })
 let_go-legal s ss legal =
-    let after = released-legal (reads s) ss s.adapters (record { few = legal.few; distinct = legal.distinct; adapters = legal.adapters }) in
+    let after = released_adapters-legal (reads s) ss s.adapters (record { few = legal.few; distinct = legal.distinct; adapters = legal.adapters }) in
     record { model = legal.model; few = after.few; distinct = after.distinct; adapters = after.adapters }
 
 pub stays-legal : (r t : Reading) (rs : List Listed) → ((x : Node) → IsTrue (is_there r x) → IsTrue (is_there t x)) → AreLegal r rs → AreLegal t rs
@@ -204,7 +204,7 @@ view-countable v n none = leb-false _ _ (none-where_so AdapterFull _ none)
 node-there : (r : Reading) (n : Node) → node_refusal r n ≡ None → IsTrue (is_there r n)
 node-there r n none = let both = none-else_by _ _ none in both-true _ _ (none-unless NoObject _ both.0) (none-unless NoResource _ both.1)
 
-pub attach-legal : (r : Reading) (rs : List Listed) (number : AdapterNo) (target : Node) (deep : Bool) (view : View) → node_refusal r target ≡ None → attach_refusal rs number view ≡ None → AreLegal r rs → AreLegal r (rs ++ joins (Attach number target deep view))
+pub attach-legal : (r : Reading) (rs : List Listed) (number : AdapterNo) (target : Node) (deep : Bool) (view : View) → node_refusal r target ≡ None → attach_refusal rs number view ≡ None → AreLegal r rs → AreLegal r (rs ++ attached_adapters (Attach number target deep view))
 unfolding IsDistinct
 attach-legal r rs number target deep view early late legal =
     let one : Listed = record { no = number; targets = record { node = target; deep = deep } ∷ []; view = view } in
@@ -217,30 +217,30 @@ attach-legal r rs number target deep view early late legal =
           (All-cons (IsLegalAdapter r) one [] (record { some = omega arith; once = (tt, tt); targets = All-cons (λ t. IsTrue (is_there r t.node)) _ [] (node-there r target early) (All-nil (λ t. IsTrue (is_there r t.node))); countable = view-countable view 0 free.1 }) (All-nil (IsLegalAdapter r)));
     }
 
-numbers-watched : (k : AdapterNo) (t : Target) (rs : List Listed) → map (λ r. r.no) (watched k t rs) ≡ map (λ r. r.no) rs
-numbers-watched k t [] = refl
-numbers-watched k t (r ∷ rs) =
-    elim (has_no k r) as (λ b. map (λ q. q.no) (if b then (with_target t r ∷ rs) else r ∷ watched k t rs) ≡ r.no ∷ map (λ q. q.no) rs) [
+numbers-adapters_after_watch : (k : AdapterNo) (t : Target) (rs : List Listed) → map (λ r. r.no) (adapters_after_watch k t rs) ≡ map (λ r. r.no) rs
+numbers-adapters_after_watch k t [] = refl
+numbers-adapters_after_watch k t (r ∷ rs) =
+    elim (has_no k r) as (λ b. map (λ q. q.no) (if b then (with_target t r ∷ rs) else r ∷ adapters_after_watch k t rs) ≡ r.no ∷ map (λ q. q.no) rs) [
       | true ↦ refl
-      | false ↦ ap (λ (ns : List AdapterNo). r.no ∷ ns) (numbers-watched k t rs)
+      | false ↦ ap (λ (ns : List AdapterNo). r.no ∷ ns) (numbers-adapters_after_watch k t rs)
     ]
 
-len-watched : (k : AdapterNo) (t : Target) (rs : List Listed) → targets_len (watched k t rs) ≤ suc (targets_len rs)
-len-watched k t [] = omega arith
-len-watched k t (r ∷ rs) =
+len-adapters_after_watch : (k : AdapterNo) (t : Target) (rs : List Listed) → targets_len (adapters_after_watch k t rs) ≤ suc (targets_len rs)
+len-adapters_after_watch k t [] = omega arith
+len-adapters_after_watch k t (r ∷ rs) =
     let many : Listed → ℕ = λ q. length q.targets in
-    elim (has_no k r) as (λ b. sum_by many (if b then (with_target t r ∷ rs) else r ∷ watched k t rs) ≤ suc (sum_by many (r ∷ rs))) [
+    elim (has_no k r) as (λ b. sum_by many (if b then (with_target t r ∷ rs) else r ∷ adapters_after_watch k t rs) ≤ suc (sum_by many (r ∷ rs))) [
       | true ↦ omega (arith, sum_by-cons many (with_target t r) rs, sum_by-cons many r rs, length-append r.targets (t ∷ []))
-      | false ↦ omega (arith, sum_by-cons many r (watched k t rs), sum_by-cons many r rs, len-watched k t rs)
+      | false ↦ omega (arith, sum_by-cons many r (adapters_after_watch k t rs), sum_by-cons many r rs, len-adapters_after_watch k t rs)
     ]
 
-watched-each : (r : Reading) (k : AdapterNo) (t : Target) (rs : List Listed) → IsTrue (is_there r t.node) → is_target k t.node rs ≡ false → target_refusal (adapter k rs) ≡ None → All (IsLegalAdapter r) rs → All (IsLegalAdapter r) (watched k t rs)
-watched-each r k t [] there none free legal = All-nil (IsLegalAdapter r)
-watched-each r k t (a ∷ rs) there none free legal =
+adapters_after_watch-each : (r : Reading) (k : AdapterNo) (t : Target) (rs : List Listed) → IsTrue (is_there r t.node) → is_target k t.node rs ≡ false → target_refusal (adapter k rs) ≡ None → All (IsLegalAdapter r) rs → All (IsLegalAdapter r) (adapters_after_watch k t rs)
+adapters_after_watch-each r k t [] there none free legal = All-nil (IsLegalAdapter r)
+adapters_after_watch-each r k t (a ∷ rs) there none free legal =
     let parts = or_parts (has_no k a && has_target t.node a) (is_target k t.node rs) none in
     let one = All-head (IsLegalAdapter r) a rs legal in
     let rest = All-tail (IsLegalAdapter r) a rs legal in
-    elim (has_no k a) as (λ b. has_no k a ≡ b → (b && has_target t.node a) ≡ false → target_refusal (cond b (Some a) (adapter k rs)) ≡ None → All (IsLegalAdapter r) (if b then (with_target t a ∷ rs) else a ∷ watched k t rs)) [
+    elim (has_no k a) as (λ b. has_no k a ≡ b → (b && has_target t.node a) ≡ false → target_refusal (cond b (Some a) (adapter k rs)) ≡ None → All (IsLegalAdapter r) (if b then (with_target t a ∷ rs) else a ∷ adapters_after_watch k t rs)) [
       | true ↦ λ _ apart room.
           let long = length-append a.targets (t ∷ []) in
           All-cons (IsLegalAdapter r) (with_target t a) rs
@@ -251,20 +251,20 @@ watched-each r k t (a ∷ rs) there none free legal =
             countable = omega (arith, long, view-countable a.view (length a.targets) room);
           })
           rest
-      | false ↦ λ _ _ later. All-cons (IsLegalAdapter r) a (watched k t rs) one (watched-each r k t rs there parts.1 later rest)
+      | false ↦ λ _ _ later. All-cons (IsLegalAdapter r) a (adapters_after_watch k t rs) one (adapters_after_watch-each r k t rs there parts.1 later rest)
     ] refl parts.0 free
 
-pub watch-legal : (r : Reading) (rs : List Listed) (number : AdapterNo) (target : Node) (deep : Bool) → node_refusal r target ≡ None → watch_refusal rs number target ≡ None → AreLegal r rs → AreLegal r (joined_by (Watch number target deep) rs)
+pub watch-legal : (r : Reading) (rs : List Listed) (number : AdapterNo) (target : Node) (deep : Bool) → node_refusal r target ≡ None → watch_refusal rs number target ≡ None → AreLegal r rs → AreLegal r (adapters_after_attach (Watch number target deep) rs)
 watch-legal r rs number target deep early late legal =
     let t : Target = record { node = target; deep = deep } in
-    elim (is_target number target rs) as (λ b. is_target number target rs ≡ b → (if b then None else if is_at_limit rs then Some Limit else target_refusal (adapter number rs)) ≡ None → AreLegal r (if b then rs else watched number t rs)) [
+    elim (is_target number target rs) as (λ b. is_target number target rs ≡ b → (if b then None else if is_at_limit rs then Some Limit else target_refusal (adapter number rs)) ≡ None → AreLegal r (if b then rs else adapters_after_watch number t rs)) [
       | true ↦ λ _ _. legal
       | false ↦ λ apart free.
           let room : (targets_len rs < TARGETS) × (target_refusal (adapter number rs) ≡ None) = below free in
           record {
-            few = omega (arith, len-watched number t rs, room.0);
-            distinct = subst (IsDistinct same_no) (sym (numbers-watched number t rs)) legal.distinct;
-            adapters = watched-each r number t rs (node-there r target early) apart room.1 legal.adapters;
+            few = omega (arith, len-adapters_after_watch number t rs, room.0);
+            distinct = subst (IsDistinct same_no) (sym (numbers-adapters_after_watch number t rs)) legal.distinct;
+            adapters = adapters_after_watch-each r number t rs (node-there r target early) apart room.1 legal.adapters;
           }
     ] refl late
   where
@@ -277,8 +277,8 @@ watch-legal r rs number target deep early late legal =
 
 ---------------------------------------------------------------- all of them leave
 
-pub all-closed : (s : State) → IsLegal s → all_released s.adapters ≡ closed s
-all-closed s legal =
+pub all-adapters_at_close : (s : State) → IsLegal s → all_released s.adapters ≡ adapters_at_close s
+all-adapters_at_close s legal =
     let once = All-weaker (IsLegalAdapter (reads s)) (λ (a : Listed). IsDistinct same_node (map (λ t. t.node) a.targets)) (λ a h. h.once) s.adapters legal.adapters in
     let some = All-weaker (IsLegalAdapter (reads s)) (λ (a : Listed). 0 < length a.targets) (λ a h. h.some) s.adapters legal.adapters in
     sym (released-all s.adapters legal.distinct once some)

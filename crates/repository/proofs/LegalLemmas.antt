@@ -6,7 +6,7 @@ use Rattle.std.specs.Option.{option_map_or}
 use Rattle.mm_types.specs.declared.numbers.Node.{Node}
 use Rattle.mm_types.specs.declared.numbers.Node.TheVariants as node
 use Rattle.mm_types.specs.declared.refused.Refused.TheVariants.{AdapterFull}
-use Rattle.mm_values.specs.declared.edit.ValueEdit.{ValueEdit}
+use Rattle.mm_values.specs.declared.value_edit.ValueEdit.{ValueEdit}
 use Rattle.notice_chain.specs.View.{View}
 use Rattle.notice_chain.specs.Listed.{Listed, tell_chain}
 use Rattle.adapter_list.specs.Refusals.{attach_refusal, watch_refusal}
@@ -25,14 +25,14 @@ use Rattle.repository.specs.declared.command.Command.TheVariants.{Delete, Create
 use Rattle.repository.specs.State.{State, IsLegal, is_there, reads}
 use Rattle.repository.specs.Refusals.{chain, change_of, early_refusal, late_refusal}
 use Rattle.repository.specs.Run.{Executed, IsWanting, is_memory}
-use Rattle.repository.specs.Step.{Stepped, done, going, joined_by, model_after, refusal_of, step, step_unless}
+use Rattle.repository.specs.Step.{Stepped, adapters_after_attach, done_step, going_spots, model_after, refusal_of, step, step_unless}
 use Rattle.repository.specs.Views.{Outcome}
 use Rattle.repository.specs.declared.reply.Reply.{Reply}
 use Rattle.repository.specs.Laws.{KeepsLegal}
-use Rattle.notice_chain.specs.Released.{Spot, is_gone_at, is_of, released, spots}
+use Rattle.notice_chain.specs.Released.{Spot, is_gone_at, is_of, released_adapters, spots}
 use Rattle.repository.proofs.AdapterLemmas.{tell_chain-nil}
-use Rattle.removal.specs.Outer.{gone}
-use Rattle.web_uris.specs.Joined.{joined}
+use Rattle.removal.specs.Outer.{is_in_subtree}
+use Rattle.web_uris.specs.Joined.{joined_uri}
 use Rattle.repository.proofs.AllowedLemmas.{change-allowed}
 use Rattle.handshake.specs.Laws.{goes_with}
 use Rattle.repository.specs.Loads.{load_of, reads_into}
@@ -41,7 +41,7 @@ use Rattle.mm_types.specs.declared.document_fault.DocFault.{DocFault}
 use Rattle.mm_types.specs.declared.numbers.ResourceNo.{ResourceNo}
 use Rattle.resource_docs.specs.declared.doc.Doc.{Doc}
 use Rattle.containment.specs.Forest.{subtree}
-use Rattle.repository.proofs.LegalAdapterLemmas.{numbers-tell_chain, len-told, spots-told, told-legal, AreLegal, released-legal, gone-legal, stays-legal, attach-legal, watch-legal}
+use Rattle.repository.proofs.LegalAdapterLemmas.{numbers-tell_chain, len-told, spots-told, told-legal, AreLegal, released_adapters-legal, gone-legal, stays-legal, attach-legal, watch-legal}
 
 ---------------------------------------------------------------- no node goes
 
@@ -50,12 +50,12 @@ seen-there s (node.Object o) = refl
 seen-there s (node.Resource k) = refl
 
 -- a node that exists still exists after every change that does not destroy it
-change-keeps-node : (s : Model) (c : Change) (n : Node) → goes_with (reading s) c n ≡ false → IsTrue (is_there (reading s) n) → IsTrue (is_there (reading (effects.after s c)) n)
+change-keeps-node : (s : Model) (c : Change) (n : Node) → goes_with (reading s) c n ≡ false → IsTrue (is_there (reading s) n) → IsTrue (is_there (reading (effects.model_after s c)) n)
 change-keeps-node s c n stays h =
     let r = reading s in
     let spared : AllByRecursion (λ (x : ValueEdit). Spares x n) (value_edits r c) =
     edits-all (λ (x : ValueEdit). Spares x n) (plain-spares n) r c (λ o is. others-spare n (subtree r o) (subst (λ (d : Change). goes_with r d n ≡ false) is stays)) (λ u is. tt) in
-    seen-there (effects.after s c) n ∙ edits-keep (value_edits r c) s.values n spared (sym (seen-there s n) ∙ h)
+    seen-there (effects.model_after s c) n ∙ edits-keep (value_edits r c) s.values n spared (sym (seen-there s n) ∙ h)
 
 -- the change of a command destroys a node
 abbrev is_gone_with : Reading → Command View → Node → Bool
@@ -64,7 +64,7 @@ is_gone_with r c n = option_map_or (λ (x : Change). goes_with r x n) (change_of
 keeps-node : (s : State) (c : Command View) (n : Node) → is_gone_with (reads s) c n ≡ false → IsTrue (is_there (reads s) n) → IsTrue (is_there (reading (model_after s.model c)) n)
 keeps-node s c n stays h = by (change_of (reads s) c) stays
   where
-    by : (o : Option Change) → option_map_or (λ (x : Change). goes_with (reads s) x n) o false ≡ false → IsTrue (is_there (reading (option_map_or (effects.after s.model) o s.model)) n)
+    by : (o : Option Change) → option_map_or (λ (x : Change). goes_with (reads s) x n) o false ≡ false → IsTrue (is_there (reading (option_map_or (effects.model_after s.model) o s.model)) n)
     by None stays = h
     by (Some x) stays = change-keeps-node s.model x n stays h
 
@@ -82,7 +82,7 @@ load-stays r k (Err f) n = refl
 model-legal : (s : State) (c : Command View) → models.IsLegal s.model → early_refusal (reads s) s.adapters c ≡ None → late_refusal (reads s) s.adapters c ≡ None → models.IsLegal (model_after s.model c)
 model-legal s c legal early late = by (change_of (reads s) c) refl
   where
-    by : (o : Option Change) → change_of (reads s) c ≡ o → models.IsLegal (option_map_or (effects.after s.model) o s.model)
+    by : (o : Option Change) → change_of (reads s) c ≡ o → models.IsLegal (option_map_or (effects.model_after s.model) o s.model)
     by None is = legal
     by (Some x) is =
         let a = change-allowed s c x is early late in
@@ -92,22 +92,22 @@ model-legal s c legal early late = by (change_of (reads s) c) refl
 
 -- the adapters are legal after the chain is delivered
 adapters-legal : (s : State) (c : Command View) (told : List Listed) → told ≡ tell_chain (reads s).above (chain (reads s) c) s.adapters → (r t : Reading) → r ≡ reads s → early_refusal r s.adapters c ≡ None → late_refusal r s.adapters c ≡ None
-    → ((x : Node) → is_gone_with r c x ≡ false → IsTrue (is_there r x) → IsTrue (is_there t x)) → AreLegal r told → AreLegal t (joined_by c (released (going r s.adapters c) told).others)
-adapters-legal s (Delete o) told is r t same early late keeps legal = subst (λ (ss : List Spot). AreLegal t (released ss told).others) (ap (spots (is_gone_at (gone r o))) is ∙ spots-told (is_gone_at (gone r o)) (reads s).above (chain (reads s) (Delete o)) s.adapters) (gone-legal r t (gone r o) told keeps legal)
+    → ((x : Node) → is_gone_with r c x ≡ false → IsTrue (is_there r x) → IsTrue (is_there t x)) → AreLegal r told → AreLegal t (adapters_after_attach c (released_adapters (going_spots r s.adapters c) told).others)
+adapters-legal s (Delete o) told is r t same early late keeps legal = subst (λ (ss : List Spot). AreLegal t (released_adapters ss told).others) (ap (spots (is_gone_at (is_in_subtree r o))) is ∙ spots-told (is_gone_at (is_in_subtree r o)) (reads s).above (chain (reads s) (Delete o)) s.adapters) (gone-legal r t (is_in_subtree r o) told keeps legal)
 adapters-legal s (Attach number target deep view) told is r t same early late keeps legal =
     let quiet : told ≡ s.adapters = is ∙ tell_chain-nil (reads s).above s.adapters in
     stays-legal r t _ (λ x. keeps x refl) (attach-legal r told number target deep view early (ap (λ (rs : List Listed). attach_refusal rs number view) quiet ∙ late) legal)
 adapters-legal s (Watch number target deep) told is r t same early late keeps legal =
     let quiet : told ≡ s.adapters = is ∙ tell_chain-nil (reads s).above s.adapters in
     stays-legal r t _ (λ x. keeps x refl) (watch-legal r told number target deep early (ap (λ (rs : List Listed). watch_refusal rs number target) quiet ∙ late) legal)
-adapters-legal s (Unwatch number target) told is r t same early late keeps legal = stays-legal r t _ (λ x. keeps x refl) (released-legal r ((number, target) ∷ []) told legal)
-adapters-legal s (Detach number) told is r t same early late keeps legal = stays-legal r t _ (λ x. keeps x refl) (released-legal r (spots (is_of number) s.adapters) told legal)
-adapters-legal s (CreateResource u) told is r t same early late keeps legal = stays-legal r t told (λ x. keeps x (resource-stays r (joined [] u) x)) legal
+adapters-legal s (Unwatch number target) told is r t same early late keeps legal = stays-legal r t _ (λ x. keeps x refl) (released_adapters-legal r ((number, target) ∷ []) told legal)
+adapters-legal s (Detach number) told is r t same early late keeps legal = stays-legal r t _ (λ x. keeps x refl) (released_adapters-legal r (spots (is_of number) s.adapters) told legal)
+adapters-legal s (CreateResource u) told is r t same early late keeps legal = stays-legal r t told (λ x. keeps x (resource-stays r (joined_uri [] u) x)) legal
 adapters-legal s (Load k text) told is r t same early late keeps legal = stays-legal r t told (λ x. keeps x (load-stays r k (reads_into r k text) x)) legal
 adapters-legal s _ told is r t same early late keeps legal = stays-legal r t told (λ x. keeps x refl) legal
 
-done-legal : (s : State) (c : Command View) → IsLegal s → refusal_of s c ≡ None → IsLegal (done s c).after
-done-legal s c legal free =
+done_step-legal : (s : State) (c : Command View) → IsLegal s → refusal_of s c ≡ None → IsLegal (done_step s c).after
+done_step-legal s c legal free =
     let r = reads s in
     let t = reading (model_after s.model c) in
     let rs = s.adapters in
@@ -125,7 +125,7 @@ done-legal s c legal free =
 
 pub step-legal : (s : State) (c : Command View) → KeepsLegal s c
 step-legal s c legal =
-    elim (refusal_of s c) as (λ r. refusal_of s c ≡ r → IsLegal (step_unless s c r).after) [ Some r ↦ λ e. legal | None ↦ λ e. done-legal s c legal e ] refl
+    elim (refusal_of s c) as (λ r. refusal_of s c ≡ r → IsLegal (step_unless s c r).after) [ Some r ↦ λ e. legal | None ↦ λ e. done_step-legal s c legal e ] refl
 
 -- an executed command leaves a legal state, even if memory may be refused
 pub executed-legal : (s t : State) (c : Command View) (o : Outcome) → Executed s c o t → IsLegal s → IsLegal t

@@ -4,14 +4,14 @@ use Rattle.std.specs.List.{AllByRecursion, list_any}
 use Rattle.std.specs.Str.{bytes_eq}
 use Rattle.std.proofs.lemmas.Bool.{and_parts, false≢true}
 use Rattle.std.proofs.lemmas.Bool.Decides.{nat_tests}
-use Rattle.mm_types.specs.Lists.{shifted}
+use Rattle.mm_types.specs.Lists.{values_after_move}
 use Rattle.mm_types.specs.Same.{same_object}
 use Rattle.mm_types.specs.declared.numbers.Node.{Node}
 use Rattle.mm_types.specs.declared.numbers.Node.TheVariants as node
 use Rattle.mm_types.specs.declared.numbers.ObjectNo.{ObjectNo}
-use Rattle.mm_values.specs.Values.{ObjectState, Objects, ValuesState, applied, change_list, edited, put_stored, with_uri}
-use Rattle.mm_values.specs.declared.edit.ValueEdit.{ValueEdit}
-use Rattle.mm_values.specs.declared.edit.ValueEdit.TheVariants.{NewObject, DropObject, PutList, InsertValue, RemoveValue, MoveValue, NewUri}
+use Rattle.mm_values.specs.Values.{ObjectState, Objects, ValuesState, change_list, put_stored, values_after_edit, values_after_edits, with_uri}
+use Rattle.mm_values.specs.declared.value_edit.ValueEdit.{ValueEdit}
+use Rattle.mm_values.specs.declared.value_edit.ValueEdit.TheVariants.{NewObject, DropObject, PutList, InsertValue, RemoveValue, MoveValue, NewUri}
 use Rattle.containment.specs.Forest.{is_node_among}
 use Rattle.handshake.proofs.ActLemmas.{is_plain_edit}
 use Rattle.handshake.proofs.LegalLemmas.{left-object}
@@ -79,18 +79,18 @@ more-resources us u k h =
       | false ↦ rw (length-append us (u ∷ [])) (grind (arith, nat_tests))
     ]
 
-edit-keeps : (v : ValuesState) (x : ValueEdit) (n : Node) → Spares x n → IsTrue (is_there_in v n) → IsTrue (is_there_in (edited v x) n)
+edit-keeps : (v : ValuesState) (x : ValueEdit) (n : Node) → Spares x n → IsTrue (is_there_in v n) → IsTrue (is_there_in (values_after_edit v x) n)
 edit-keeps v (NewObject c) (node.Object p) spares h = ap (λ (b : Bool). b && true) (push-live v.objects _ p.0 (and_parts _ true h).0)
 edit-keeps v (DropObject o) (node.Object p) spares h = ap (λ (q : Option ObjectState). is_object q && true) (left-object v (o ∷ []) p (ap (λ (b : Bool). b || false) spares)) ∙ h
 edit-keeps v (PutList o f vs flag) (node.Object p) spares h = change-there v (put_stored f (record { list = vs; flag = flag })) o p h
 edit-keeps v (InsertValue o f i w u) (node.Object p) spares h = change-there v (change_list f (λ vs. insert vs i w)) o p h
 edit-keeps v (RemoveValue o f i) (node.Object p) spares h = change-there v (change_list f (λ vs. remove vs i)) o p h
-edit-keeps v (MoveValue o f to from) (node.Object p) spares h = change-there v (change_list f (λ vs. shifted vs to from)) o p h
+edit-keeps v (MoveValue o f to from) (node.Object p) spares h = change-there v (change_list f (λ vs. values_after_move vs to from)) o p h
 edit-keeps v (NewUri u) (node.Resource k) spares h = more-resources v.uris u k.0 h
 edit-keeps v _ n spares h = h
 
 ---------------------------------------------------------------- several edits
 
-pub edits-keep : (xs : List ValueEdit) (v : ValuesState) (n : Node) → AllByRecursion (λ (x : ValueEdit). Spares x n) xs → IsTrue (is_there_in v n) → IsTrue (is_there_in (applied v xs) n)
+pub edits-keep : (xs : List ValueEdit) (v : ValuesState) (n : Node) → AllByRecursion (λ (x : ValueEdit). Spares x n) xs → IsTrue (is_there_in v n) → IsTrue (is_there_in (values_after_edits v xs) n)
 edits-keep [] v n all h = h
-edits-keep (x ∷ xs) v n all h = edits-keep xs (edited v x) n all.1 (edit-keeps v x n all.0 h)
+edits-keep (x ∷ xs) v n all h = edits-keep xs (values_after_edit v x) n all.1 (edit-keeps v x n all.0 h)

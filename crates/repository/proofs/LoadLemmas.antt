@@ -12,7 +12,7 @@ use Rattle.mm_types.specs.declared.numbers.ResourceNo.{ResourceNo}
 use Rattle.mm_types.specs.declared.refused.Refused.{Refused}
 use Rattle.mm_types.specs.declared.refused.Refused.TheVariants.{AdapterFull, Document, Memory, NotEmpty}
 use Rattle.models.specs.Reading.{Reading}
-use Rattle.resource_docs.specs.Causes.{IsRead, parsed, reads_bytes, reads_if}
+use Rattle.resource_docs.specs.Causes.{IsRead, parsed_json, reads_bytes, reads_if}
 use Rattle.resource_docs.specs.Texts.{base_of}
 use Rattle.resource_docs.specs.declared.doc.Doc.{Doc}
 use Rattle.doc_loader.specs.Loading.{is_empty_resource}
@@ -34,7 +34,7 @@ use Rattle.repository.proofs.PlanLemmas.{late-not-plain, loaded_as}
 -- bytes that are read as a document are bytes of a JSON value that is read as the document
 bytes-read : (m : Metamodel) (uri bytes : List ℕ) (doc : Doc) → reads_bytes m uri bytes ≡ Ok doc → IsRead m uri doc
 unfolding reads_bytes
-bytes-read m uri bytes doc is = by (parsed bytes) is
+bytes-read m uri bytes doc is = by (parsed_json bytes) is
   where
     by : (o : Option Data) → reads_if m (base_of uri) o ≡ Ok doc → IsRead m uri doc
     by None h = absurd (cc)

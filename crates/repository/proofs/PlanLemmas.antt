@@ -15,7 +15,7 @@ use Rattle.mm_types.specs.Lookups as lookups
 use Rattle.mm_types.specs.Resolved.{Metamodel}
 use Rattle.mm_types.specs.Shapes.{shape}
 use Rattle.notice_chain.specs.Listed.{is_chain_full, tell_chain, told_list}
-use Rattle.notice_chain.specs.Released.{Released, released}
+use Rattle.notice_chain.specs.Released.{Released, released_adapters}
 use Rattle.notice_chain.specs.View.{View}
 use Rattle.notice_chain.specs.declared.notice.Notice.{Notice}
 use Rattle.adapter_list.specs.Refusals.{IsChainRefusal}
@@ -41,11 +41,11 @@ use Rattle.repository.specs.declared.reply.Answer.{Answer}
 use Rattle.repository.specs.declared.reply.Answer.TheVariants as answer
 use Rattle.repository.specs.Run.{Executed, is_plain}
 use Rattle.repository.specs.State.{State, reads}
-use Rattle.repository.specs.Step.{Stepped, done, refusal_of, step, step_unless}
+use Rattle.repository.specs.Step.{Stepped, done_step, refusal_of, step, step_unless}
 use Rattle.repository.specs.Views.{command_of}
 use Rattle.repository.specs.Prepared.{TellsAll}
 use Rattle.std.proofs.lemmas.Option.{none-some}
-use Rattle.web_uris.proofs.JoinFacts.{joined-web}
+use Rattle.web_uris.proofs.JoinFacts.{joined_uri-web}
 use Rattle.repository.specs.Leaving.{going_with}
 use Rattle.repository.specs.Loads.{load_of, load_refusal, objects_of}
 use Rattle.repository.specs.Proper.{IsProper}
@@ -99,7 +99,7 @@ module _ (s : State) (k : ResourceNo) where
 refusal-planned : (s : State) (text : List ℕ) (c : Change) → IsProper (reads s) text c → early_refusal (reads s) c ≡ None → refusal_of s (command_of text c) ≡ (late_refusal (reads s) c else_by full s c)
 unfolding full asked_of loaded_as
 refusal-planned s text (NewResource u) web early =
-    ap (asked_of s u) (joined-web [] u web) ∙ ap (λ (o : Option Refused). o else_by full s (NewResource u)) (uri-refused (reads s) u)
+    ap (asked_of s u) (joined_uri-web [] u web) ∙ ap (λ (o : Option Refused). o else_by full s (NewResource u)) (uri-refused (reads s) u)
 refusal-planned s text (Load k doc) proper early = ap (loaded_as s k) proper.0 ∙ rw early refl
 refusal-planned s text c brought early = ap (λ (o : Option Refused). o else_by late_refusal (reads s) c else_by full s c) early
 
@@ -222,38 +222,38 @@ replied s c ns m a x = record {
 done_of : (s : State) (u : List ℕ) → Option Change → Stepped
 done_of s u made =
     let ns = option_map_or (chain (reads s)) made [] in
-    let x : Released = released [] (tell_chain (reads s).above ns s.adapters) in
+    let x : Released = released_adapters [] (tell_chain (reads s).above ns s.adapters) in
     record {
       outcome = Ok (record { answer = answer_of (reads s) s.adapters (command.CreateResource u); told = told_list (reads s).above ns s.adapters ++ x.told; released = x.views });
-      after = record { model = option_map_or (effects.after s.model) made s.model; adapters = x.others };
+      after = record { model = option_map_or (effects.model_after s.model) made s.model; adapters = x.others };
     }
 
 -- the step of a load, by the result of reading its text
 done_loaded : (s : State) (k : ResourceNo) → Result Doc DocFault → Stepped
 done_loaded s k read =
     let ns = option_map_or (chain (reads s)) (load_of k read) [] in
-    let x : Released = released [] (tell_chain (reads s).above ns s.adapters) in
+    let x : Released = released_adapters [] (tell_chain (reads s).above ns s.adapters) in
     record {
       outcome = Ok (record { answer = answer.Loaded (objects_of read); told = told_list (reads s).above ns s.adapters ++ x.told; released = x.views });
-      after = record { model = option_map_or (effects.after s.model) (load_of k read) s.model; adapters = x.others };
+      after = record { model = option_map_or (effects.model_after s.model) (load_of k read) s.model; adapters = x.others };
     }
 
 -- the adapters that a change with these notifications releases
 abbrev pub releases_of : State → Change → List Notice → Released
-releases_of s c ns = released (going_with (reads s) s.adapters c) (tell_chain (reads s).above ns s.adapters)
+releases_of s c ns = released_adapters (going_with (reads s) s.adapters c) (tell_chain (reads s).above ns s.adapters)
 
-done_change : (s : State) (text : List ℕ) (c : Change) → IsProper (reads s) text c → done s (command_of text c) ≡ replied s c (chain (reads s) c) (effects.after s.model c) (answer_of (reads s) s.adapters (command_of text c)) (releases_of s c (chain (reads s) c))
+done_change : (s : State) (text : List ℕ) (c : Change) → IsProper (reads s) text c → done_step s (command_of text c) ≡ replied s c (chain (reads s) c) (effects.model_after s.model c) (answer_of (reads s) s.adapters (command_of text c)) (releases_of s c (chain (reads s) c))
 unfolding done_of done_loaded
-done_change s text (NewResource u) web = ap (λ (o : Option (List ℕ)). done_of s u (option_map NewResource o)) (joined-web [] u web)
+done_change s text (NewResource u) web = ap (λ (o : Option (List ℕ)). done_of s u (option_map NewResource o)) (joined_uri-web [] u web)
 done_change s text (Load k doc) proper =
     let c = Load k doc in
     ap (done_loaded s k) proper.0
-    ∙ ap (λ (a : Answer). replied s c (chain (reads s) c) (effects.after s.model c) a (releases_of s c (chain (reads s) c))) (sym (ap (λ (x : Result Doc DocFault). answer.Loaded (objects_of x)) proper.0))
+    ∙ ap (λ (a : Answer). replied s c (chain (reads s) c) (effects.model_after s.model c) a (releases_of s c (chain (reads s) c))) (sym (ap (λ (x : Result Doc DocFault). answer.Loaded (objects_of x)) proper.0))
 done_change s text _ brought = refl
 
 -- a change that was made, with the notifications that an adapter may have to get
 pub changed : (s : State) (text : List ℕ) (c : Change) (made : List Notice) → IsProper (reads s) text c → early_refusal (reads s) c ≡ None → late_refusal (reads s) c ≡ None → TellsAll (reads s).above made (chain (reads s) c) s.adapters → is_chain_full (reads s).above made s.adapters ≡ false
-    → step s (command_of text c) ≡ replied s c made (effects.after s.model c) (answer_of (reads s) s.adapters (command_of text c)) (releases_of s c made)
+    → step s (command_of text c) ≡ replied s c made (effects.model_after s.model c) (answer_of (reads s) s.adapters (command_of text c)) (releases_of s c made)
 unfolding full
 changed s text c made brought early late heard free =
     let found : refusal_of s (command_of text c) ≡ None = refusal-planned s text c brought early ∙ ap (λ (o : Option Refused). o else_by full s c) late ∙ ap (λ b. AdapterFull where_so b) (sym heard.full ∙ free) in
@@ -261,7 +261,7 @@ changed s text c made brought early late heard free =
 
 -- the same, for a reply and a state that are known by their parts
 pub changed_to : (s t : State) (text : List ℕ) (c : Change) (made : List Notice) (a : Answer) (told : List (AdapterNo × Notice)) (views : List (AdapterNo × View)) → IsProper (reads s) text c → early_refusal (reads s) c ≡ None → late_refusal (reads s) c ≡ None → TellsAll (reads s).above made (chain (reads s) c) s.adapters → is_chain_full (reads s).above made s.adapters ≡ false
-    → a ≡ answer_of (reads s) s.adapters (command_of text c) → told ≡ told_list (reads s).above made s.adapters ++ (releases_of s c made).told → views ≡ (releases_of s c made).views → t.model ≡ effects.after s.model c → t.adapters ≡ (releases_of s c made).others
+    → a ≡ answer_of (reads s) s.adapters (command_of text c) → told ≡ told_list (reads s).above made s.adapters ++ (releases_of s c made).told → views ≡ (releases_of s c made).views → t.model ≡ effects.model_after s.model c → t.adapters ≡ (releases_of s c made).others
     → step s (command_of text c) ≡ record { outcome = Ok (record { answer = a; told = told; released = views }); after = t }
 changed_to s t text c made a told views brought early late heard free answered told_is views_are model adapters =
     changed s text c made brought early late heard free

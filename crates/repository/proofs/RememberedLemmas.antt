@@ -18,7 +18,7 @@ use Rattle.links.proofs.AboveLemmas.{above_falls, above_held}
 use Rattle.links.proofs.TouchLemmas.{plan-leaves}
 use Rattle.links.specs.Laws.{touches_containment}
 use Rattle.links.specs.Links.{Links}
-use Rattle.links.specs.Plans.{IsPlanOfKind, PlanFits, applied}
+use Rattle.links.specs.Plans.{IsPlanOfKind, PlanFits, links_after_edits}
 use Rattle.links.specs.declared.plan.Edit.{Edit}
 use Rattle.links.specs.declared.plan.Edit.TheVariants as edit
 use Rattle.models.specs.Legal.{IsLegal, kinds_of}
@@ -36,7 +36,7 @@ use Rattle.repository.specs.Remembered.{is_move, may_change_containers}
 use Rattle.notice_chain.specs.Listed.{Above, Listed}
 use Rattle.notice_chain.specs.declared.notice.Notice.{Notice}
 use Rattle.adapter_list.specs.Hearing.{AreKnown, hearers, hears_node, ordinals_from}
-use Rattle.adapter_list.specs.Rounds.{delivered, delivered_from}
+use Rattle.adapter_list.specs.Rounds.{adapters_after_copies, adapters_after_copies_from}
 use Rattle.adapter_list.specs.declared.hearers.Hearers.{Hearers}
 use Rattle.repository.specs.Repository.{KeepsFragments}
 
@@ -52,13 +52,13 @@ some-feature : (f : FeatureNo) (x : Option FeatureNo) → is_feature f x ≡ tru
 some-feature f (Some g) h = refl
 some-feature f None h = h
 
-module _ (m : Metamodel) (v w : ValuesState) (a : Links) (plan : List Edit) (legal : IsLegal (model_of m v a)) (after : IsLegal (model_of m w (applied a plan)))
+module _ (m : Metamodel) (v w : ValuesState) (a : Links) (plan : List Edit) (legal : IsLegal (model_of m v a)) (after : IsLegal (model_of m w (links_after_edits a plan)))
     (fits : PlanFits a plan) (kind : IsPlanOfKind (kinds_of m) plan) where
-  parts-stay : touches_containment (kinds_of m) plan ≡ false → HaveSameParts m v w a (applied a plan)
+  parts-stay : touches_containment (kinds_of m) plan ≡ false → HaveSameParts m v w a (links_after_edits a plan)
   parts-stay out n f contains =
       let e = at_end n f in
       let refers = contains-reference m f f (is-own (shape m f).containing contains) in
-      values-linked (model_of m w (applied a plan)) e refers
+      values-linked (model_of m w (links_after_edits a plan)) e refers
       ∙ plan-leaves (kinds_of m) (kinds-are m legal.metamodel) a plan legal.links.set legal.links.kinds fits kind out e (some-feature f (shape m f).containing contains)
       ∙ sym (values-linked (model_of m v a) e refers)
     where
@@ -66,16 +66,16 @@ module _ (m : Metamodel) (v w : ValuesState) (a : Links) (plan : List Edit) (leg
       is-own (Some g) h = λ i. Some (record { 0 = sym (eqb-true f.0 g.0 h) i })
       is-own None h = absurd (none-some f (subst (λ (b : Bool). (if b then None else Some f) ≡ Some f) h refl))
 
-  pub kept-after : (kept : Kept) → KeepsFragments (reading (model_of m v a)) kept → KeepsFragments (reading (model_of m w (applied a plan))) (if touches_containment (kinds_of m) plan then map.empty else kept)
+  pub kept-after : (kept : Kept) → KeepsFragments (reading (model_of m v a)) kept → KeepsFragments (reading (model_of m w (links_after_edits a plan))) (if touches_containment (kinds_of m) plan then map.empty else kept)
   kept-after kept keeps =
-      elim (touches_containment (kinds_of m) plan) as (λ b. touches_containment (kinds_of m) plan ≡ b → KeepsFragments (reading (model_of m w (applied a plan))) (if b then map.empty else kept)) [
-        | true ↦ λ h. none-kept (reading (model_of m w (applied a plan)))
-        | false ↦ λ h o t there. fragment-stays m v w a (applied a plan) legal after (parts-stay h) o ∙ keeps o t there
+      elim (touches_containment (kinds_of m) plan) as (λ b. touches_containment (kinds_of m) plan ≡ b → KeepsFragments (reading (model_of m w (links_after_edits a plan))) (if b then map.empty else kept)) [
+        | true ↦ λ h. none-kept (reading (model_of m w (links_after_edits a plan)))
+        | false ↦ λ h o t there. fragment-stays m v w a (links_after_edits a plan) legal after (parts-stay h) o ∙ keeps o t there
       ] refl
 
   -- the adapters that are notified at a node are as before
-  pub hearers-after : (rs : List Listed) (h : Hearers) → AreKnown (above a) rs h → touches_containment (kinds_of m) plan ≡ false → AreKnown (above (applied a plan)) rs h
-  hearers-after rs h known out = subst (λ (up : Above). AreKnown up rs h) (λ i n. sym (above-stays m v w a (applied a plan) legal after (parts-stay out) n) i) known
+  pub hearers-after : (rs : List Listed) (h : Hearers) → AreKnown (above a) rs h → touches_containment (kinds_of m) plan ≡ false → AreKnown (above (links_after_edits a plan)) rs h
+  hearers-after rs h known out = subst (λ (up : Above). AreKnown up rs h) (λ i n. sym (above-stays m v w a (links_after_edits a plan) legal after (parts-stay out) n) i) known
 
 ---------------------------------------------------------------- a value that is moved within its list
 
@@ -94,18 +94,18 @@ module _ (a b : Links) (legal : IsLegalSet a) (free : HasNoCycle a) (legal_b : I
   above-held : (n : Node) → above b n ≡ above a n
   above-held n = above-from (suc (length (above a n))) n (omega arith)
 
-moved-holders : (a : Links) (plan : List Edit) → IsLegalSet a → is_move plan ≡ true → (n : Node) → holder (applied a plan) n ≡ holder a n
+moved-holders : (a : Links) (plan : List Edit) → IsLegalSet a → is_move plan ≡ true → (n : Node) → holder (links_after_edits a plan) n ≡ holder a n
 moved-holders a (edit.Shift e to from ∷ []) legal h n = holder-shift a e to from legal.held n
 moved-holders a _ legal h n = absurd (false≢true h)
 
 -- the adapters that are notified at a node are as before, if no node gets another container
-pub hearers-kept : (m : Metamodel) (v w : ValuesState) (a : Links) (plan : List Edit) → IsLegal (model_of m v a) → IsLegal (model_of m w (applied a plan)) → PlanFits a plan → IsPlanOfKind (kinds_of m) plan
-    → (rs : List Listed) (h : Hearers) → AreKnown (above a) rs h → may_change_containers (kinds_of m) plan ≡ false → AreKnown (above (applied a plan)) rs h
+pub hearers-kept : (m : Metamodel) (v w : ValuesState) (a : Links) (plan : List Edit) → IsLegal (model_of m v a) → IsLegal (model_of m w (links_after_edits a plan)) → PlanFits a plan → IsPlanOfKind (kinds_of m) plan
+    → (rs : List Listed) (h : Hearers) → AreKnown (above a) rs h → may_change_containers (kinds_of m) plan ≡ false → AreKnown (above (links_after_edits a plan)) rs h
 hearers-kept m v w a plan legal after fits kind rs h known out =
-    elim (touches_containment (kinds_of m) plan) as (λ b. touches_containment (kinds_of m) plan ≡ b → (b && not (is_move plan)) ≡ false → AreKnown (above (applied a plan)) rs h) [
+    elim (touches_containment (kinds_of m) plan) as (λ b. touches_containment (kinds_of m) plan ≡ b → (b && not (is_move plan)) ≡ false → AreKnown (above (links_after_edits a plan)) rs h) [
       | true ↦ λ _ moved.
           let stays = moved-holders a plan legal.links.set (turned (is_move plan) moved) in
-          subst (λ (up : Above). AreKnown up rs h) (λ i n. sym (above-held a (applied a plan) legal.links.set legal.links.forest after.links.set after.links.forest stays n) i) known
+          subst (λ (up : Above). AreKnown up rs h) (λ i n. sym (above-held a (links_after_edits a plan) legal.links.set legal.links.forest after.links.set after.links.forest stays n) i) known
       | false ↦ λ untouched _. hearers-after m v w a plan legal after fits kind rs h known untouched
     ] refl out
   where
@@ -114,17 +114,17 @@ hearers-kept m v w a plan legal after fits kind rs h known out =
     turned false h = sym h
 
 -- the adapters that were notified are notified at the same nodes as before
-places-told : (up : Above) (x : Node) (k j : ℕ) (cs : List (ℕ × Notice)) (rs : List Listed) → ordinals_from (hears_node up x) k (delivered_from j cs rs) ≡ ordinals_from (hears_node up x) k rs
+places-told : (up : Above) (x : Node) (k j : ℕ) (cs : List (ℕ × Notice)) (rs : List Listed) → ordinals_from (hears_node up x) k (adapters_after_copies_from j cs rs) ≡ ordinals_from (hears_node up x) k rs
 places-told up x k j cs [] = refl
 places-told up x k j cs (r ∷ rs) =
-    elim (hears_node up x r) as (λ b. (if b then k ∷ ordinals_from (hears_node up x) (suc k) (delivered_from (suc j) cs rs) else ordinals_from (hears_node up x) (suc k) (delivered_from (suc j) cs rs)) ≡ (if b then k ∷ ordinals_from (hears_node up x) (suc k) rs else ordinals_from (hears_node up x) (suc k) rs)) [
+    elim (hears_node up x r) as (λ b. (if b then k ∷ ordinals_from (hears_node up x) (suc k) (adapters_after_copies_from (suc j) cs rs) else ordinals_from (hears_node up x) (suc k) (adapters_after_copies_from (suc j) cs rs)) ≡ (if b then k ∷ ordinals_from (hears_node up x) (suc k) rs else ordinals_from (hears_node up x) (suc k) rs)) [
       | true ↦ ap (λ (ks : List ℕ). k ∷ ks) (places-told up x (suc k) (suc j) cs rs)
       | false ↦ places-told up x (suc k) (suc j) cs rs
     ]
 
-pub known-delivered : (up : Above) (cs : List (ℕ × Notice)) (rs : List Listed) (h : Hearers) → AreKnown up rs h → AreKnown up (delivered cs rs) h
-known-delivered up cs rs h known =
-    elim h.node as (λ o. IfSome o (λ x. h.ordinals.items ≡ hearers up x rs) → IfSome o (λ x. h.ordinals.items ≡ hearers up x (delivered cs rs))) [
+pub known-adapters_after_copies : (up : Above) (cs : List (ℕ × Notice)) (rs : List Listed) (h : Hearers) → AreKnown up rs h → AreKnown up (adapters_after_copies cs rs) h
+known-adapters_after_copies up cs rs h known =
+    elim h.node as (λ o. IfSome o (λ x. h.ordinals.items ≡ hearers up x rs) → IfSome o (λ x. h.ordinals.items ≡ hearers up x (adapters_after_copies cs rs))) [
       | None ↦ λ _. tt
       | Some x ↦ λ is. is ∙ sym (places-told up x 0 0 cs rs)
     ] known

@@ -7,9 +7,9 @@ use Rattle.mm_types.specs.declared.limits.TheConstants.{RESOURCES}
 use Rattle.mm_types.specs.declared.refused.Refused.{Refused}
 use Rattle.mm_types.specs.declared.refused.Refused.TheVariants.{AdapterFull, BadUri, Limit, Memory, ResourceExists, TextLength}
 use Rattle.notice_chain.specs.Listed.{is_chain_full, tell_chain, told_list}
-use Rattle.notice_chain.specs.Released.{Released, released}
-use Rattle.web_uris.proofs.JoinFacts.{joined-web}
-use Rattle.web_uris.specs.Joined.{IsWebUri, joined}
+use Rattle.notice_chain.specs.Released.{Released, released_adapters}
+use Rattle.web_uris.proofs.JoinFacts.{joined_uri-web}
+use Rattle.web_uris.specs.Joined.{IsWebUri, joined_uri}
 use Rattle.models.specs.Legal.{is_short_text}
 use Rattle.models.specs.Reading.{has_uri}
 use Rattle.handshake.specs.Effects as effects
@@ -19,7 +19,7 @@ use Rattle.handshake.specs.declared.change.Change.TheVariants.{NewResource}
 use Rattle.repository.specs.Answers.{answer_of}
 use Rattle.repository.specs.Run.{Executed, IsWanting, is_memory, is_plain, may_want_memory}
 use Rattle.repository.specs.State.{State, reads}
-use Rattle.repository.specs.Step.{Stepped, refusal_of, refused, step, step_unless}
+use Rattle.repository.specs.Step.{Stepped, refusal_of, refused_step, step, step_unless}
 use Rattle.repository.specs.Views.{Outcome}
 use Rattle.repository.specs.declared.command.Command.TheVariants.{CreateResource}
 use Rattle.change_plans.proofs.RefusalLemmas.{IsNot, later-not, unless-not, where-not}
@@ -37,7 +37,7 @@ module _ (s : State) where
       (BadUri unless is_some uri else_by
       (ResourceExists where_so option_map_or (has_uri (reads s)) uri false)))) else_by full_for uri
 
-  refusal-asked : (t : List ℕ) → refusal_of s (CreateResource t) ≡ asked (is_short_text t) (joined [] t)
+  refusal-asked : (t : List ℕ) → refusal_of s (CreateResource t) ≡ asked (is_short_text t) (joined_uri [] t)
   unfolding asked full_for
   refusal-asked t = refl
 
@@ -51,28 +51,28 @@ module _ (s : State) where
       (where-not is_plain AdapterFull _ refl)
 
   may-want-resource : (t : List ℕ) → IsTrue (may_want_memory s (CreateResource t))
-  may-want-resource t = ap (λ (o : Option Refused). not (option_map_or is_plain o false)) (refusal-asked t) ∙ ap not (asked-not-plain (is_short_text t) (joined [] t))
+  may-want-resource t = ap (λ (o : Option Refused). not (option_map_or is_plain o false)) (refusal-asked t) ∙ ap not (asked-not-plain (is_short_text t) (joined_uri [] t))
 
   pub resource_out_of_memory : (t : List ℕ) → Executed s (CreateResource t) (Err (record { refused = Memory; given_back = None })) s
   resource_out_of_memory t = record { may = may-want-resource t; outcome = refl; state = refl }
 
-  resource-refused : (t : List ℕ) (r : Refused) → is_memory_refusal r ≡ false → asked (is_short_text t) (joined [] t) ≡ Some r → Executed s (CreateResource t) (Err (record { refused = r; given_back = None })) s
-  resource-refused t r other found = rw other (ap (step_unless s (CreateResource t)) (refusal-asked t ∙ found))
+  resource-refused_step : (t : List ℕ) (r : Refused) → is_memory_refusal r ≡ false → asked (is_short_text t) (joined_uri [] t) ≡ Some r → Executed s (CreateResource t) (Err (record { refused = r; given_back = None })) s
+  resource-refused_step t r other found = rw other (ap (step_unless s (CreateResource t)) (refusal-asked t ∙ found))
 
   pub too_long : (t : List ℕ) → is_short_text t ≡ false → Executed s (CreateResource t) (Err (record { refused = TextLength; given_back = None })) s
   unfolding asked
-  too_long t long = resource-refused t TextLength refl (ap (λ (b : Bool). asked b (joined [] t)) long)
+  too_long t long = resource-refused_step t TextLength refl (ap (λ (b : Bool). asked b (joined_uri [] t)) long)
 
   no-uri : (b : Bool) → nat_lt (length (reads s).uris) RESOURCES ≡ b → asked true None ≡ (if b then Some BadUri else Some Limit)
   unfolding asked
   no-uri true room = rw room refl
   no-uri false room = rw room refl
 
-  pub no_uri : (t : List ℕ) → is_short_text t ≡ true → joined [] t ≡ None → nat_lt (length (reads s).uris) RESOURCES ≡ true → Executed s (CreateResource t) (Err (record { refused = BadUri; given_back = None })) s
-  no_uri t short none room = resource-refused t BadUri refl ((λ i. asked (short i) (none i)) ∙ no-uri true room)
+  pub no_uri : (t : List ℕ) → is_short_text t ≡ true → joined_uri [] t ≡ None → nat_lt (length (reads s).uris) RESOURCES ≡ true → Executed s (CreateResource t) (Err (record { refused = BadUri; given_back = None })) s
+  no_uri t short none room = resource-refused_step t BadUri refl ((λ i. asked (short i) (none i)) ∙ no-uri true room)
 
-  pub no_room : (t : List ℕ) → is_short_text t ≡ true → joined [] t ≡ None → nat_lt (length (reads s).uris) RESOURCES ≡ false → Executed s (CreateResource t) (Err (record { refused = Limit; given_back = None })) s
-  no_room t short none room = resource-refused t Limit refl ((λ i. asked (short i) (none i)) ∙ no-uri false room)
+  pub no_room : (t : List ℕ) → is_short_text t ≡ true → joined_uri [] t ≡ None → nat_lt (length (reads s).uris) RESOURCES ≡ false → Executed s (CreateResource t) (Err (record { refused = Limit; given_back = None })) s
+  no_room t short none room = resource-refused_step t Limit refl ((λ i. asked (short i) (none i)) ∙ no-uri false room)
 
   ---------------------------------------------------------------- a text and the URI that it gives
 
@@ -80,23 +80,23 @@ module _ (s : State) where
   done_by : Option (List ℕ) → Stepped
   done_by uri =
       let ns = option_map_or (chain (reads s)) (option_map NewResource uri) [] in
-      let x : Released = released [] (tell_chain (reads s).above ns s.adapters) in
+      let x : Released = released_adapters [] (tell_chain (reads s).above ns s.adapters) in
       record {
         outcome = Ok (record { answer = answer_of (reads s) s.adapters (CreateResource []); told = told_list (reads s).above ns s.adapters ++ x.told; released = x.views });
-        after = record { model = option_map_or (effects.after s.model) (option_map NewResource uri) s.model; adapters = x.others };
+        after = record { model = option_map_or (effects.model_after s.model) (option_map NewResource uri) s.model; adapters = x.others };
       }
 
   unless_by : Option Refused → Option (List ℕ) → Stepped
-  unless_by (Some r) uri = refused s (CreateResource []) r
+  unless_by (Some r) uri = refused_step s (CreateResource []) r
   unless_by None uri = done_by uri
 
-  step_unless-by : (t : List ℕ) (o : Option Refused) → step_unless s (CreateResource t) o ≡ unless_by o (joined [] t)
+  step_unless-by : (t : List ℕ) (o : Option Refused) → step_unless s (CreateResource t) o ≡ unless_by o (joined_uri [] t)
   unfolding done_by unless_by
   step_unless-by t None = refl
   step_unless-by t (Some r) = refl
 
-  step-by : (t : List ℕ) → step s (CreateResource t) ≡ unless_by (asked (is_short_text t) (joined [] t)) (joined [] t)
-  step-by t = step_unless-by t (refusal_of s (CreateResource t)) ∙ ap (λ (o : Option Refused). unless_by o (joined [] t)) (refusal-asked t)
+  step-by : (t : List ℕ) → step s (CreateResource t) ≡ unless_by (asked (is_short_text t) (joined_uri [] t)) (joined_uri [] t)
+  step-by t = step_unless-by t (refusal_of s (CreateResource t)) ∙ ap (λ (o : Option Refused). unless_by o (joined_uri [] t)) (refusal-asked t)
 
   as-short : (u : List ℕ) (b : Bool) → is_short_text u ≡ b → asked true (Some u) ≡ asked b (Some u)
   unfolding asked
@@ -104,14 +104,14 @@ module _ (s : State) where
   as-short u false long = rw long refl
 
   -- a short text has the same step as its URI
-  step-same : (t u : List ℕ) → is_short_text t ≡ true → joined [] t ≡ Some u → IsWebUri u → step s (CreateResource t) ≡ step s (CreateResource u)
+  step-same : (t u : List ℕ) → is_short_text t ≡ true → joined_uri [] t ≡ Some u → IsWebUri u → step s (CreateResource t) ≡ step s (CreateResource u)
   step-same t u short gives web =
-      let own = joined-web [] u web in
+      let own = joined_uri-web [] u web in
       step-by t ∙ (λ i. unless_by (asked (short i) (gives i)) (gives i))
       ∙ ap (λ (o : Option Refused). unless_by o (Some u)) (as-short u (is_short_text u) refl)
       ∙ sym (step-by u ∙ (λ i. unless_by (asked (is_short_text u) (own i)) (own i)))
 
-  pub as_uri : (t u : List ℕ) → is_short_text t ≡ true → joined [] t ≡ Some u → IsWebUri u → (o : Outcome) (x : State) → Executed s (CreateResource u) o x → Executed s (CreateResource t) o x
+  pub as_uri : (t u : List ℕ) → is_short_text t ≡ true → joined_uri [] t ≡ Some u → IsWebUri u → (o : Outcome) (x : State) → Executed s (CreateResource u) o x → Executed s (CreateResource t) o x
   as_uri t u short gives web o x was =
       elim (is_memory o) as (λ b. MatchBool b (IsWanting s (CreateResource u) o x) (step s (CreateResource u) ≡ record { outcome = o; after = x }) → MatchBool b (IsWanting s (CreateResource t) o x) (step s (CreateResource t) ≡ record { outcome = o; after = x })) [
         | true ↦ λ w. record { may = may-want-resource t; outcome = w.outcome; state = w.state }

@@ -4,12 +4,12 @@ use Rattle.std.specs.Prelude.{MatchBool}
 use Rattle.repository.specs.declared.command.Command.{Command}
 use Rattle.repository.specs.State.{State, reads}
 use Rattle.notice_chain.specs.View.{View}
-use Rattle.repository.specs.Views.{Outcome, brought}
+use Rattle.repository.specs.Views.{Outcome, brought_adapter}
 use Rattle.repository.specs.declared.reply.Failure.{Failure}
 use Rattle.mm_types.specs.declared.refused.Refused.{Refused}
 use Rattle.change_plans.specs.Plans.{is_memory_refusal}
 use Rattle.repository.specs.Refusals.{change_of}
-use Rattle.repository.specs.Step.{Stepped, done, refusal_of, step, step_unless}
+use Rattle.repository.specs.Step.{Stepped, done_step, refusal_of, step, step_unless}
 use Rattle.repository.proofs.KeptNodeLemmas.{metamodel-by}
 use Rattle.repository.specs.Run.{AllExecuted, Executed, IsRun, IsWanting, Ran, commands_kept, is_memory, outcomes_kept, run}
 
@@ -44,11 +44,11 @@ run-executed (c ∷ cs) (o ∷ os) s t h =
     go (is_memory o) refl
 
 -- no command edits the metamodel
-done-metamodel : (s : State) (c : Command View) → (done s c).after.model.metamodel ≡ s.model.metamodel
-done-metamodel s c = metamodel-by s.model (change_of (reads s) c)
+done_step-metamodel : (s : State) (c : Command View) → (done_step s c).after.model.metamodel ≡ s.model.metamodel
+done_step-metamodel s c = metamodel-by s.model (change_of (reads s) c)
 
 step-metamodel : (s : State) (c : Command View) → (step s c).after.model.metamodel ≡ s.model.metamodel
-step-metamodel s c = elim (refusal_of s c) as (λ r. (step_unless s c r).after.model.metamodel ≡ s.model.metamodel) [ Some r ↦ refl | None ↦ done-metamodel s c ]
+step-metamodel s c = elim (refusal_of s c) as (λ r. (step_unless s c r).after.model.metamodel ≡ s.model.metamodel) [ Some r ↦ refl | None ↦ done_step-metamodel s c ]
 
 pub executed-metamodel : (s t : State) (c : Command View) (o : Outcome) → Executed s c o t → t.model.metamodel ≡ s.model.metamodel
 executed-metamodel s t c o x =
@@ -71,15 +71,15 @@ abbrev IsFailed : Option (Option View) → Type 0
 IsFailed None = ⊥
 IsFailed (Some o) = Unit {0}
 
-step-refused : (s : State) (c : Command View) (r : Option Refused) (t : State) (f : Failure View) → step_unless s c r ≡ record { outcome = Err f; after = t } → (t ≡ s) × (f.given_back ≡ brought c)
+step-refused : (s : State) (c : Command View) (r : Option Refused) (t : State) (f : Failure View) → step_unless s c r ≡ record { outcome = Err f; after = t } → (t ≡ s) × (f.given_back ≡ brought_adapter c)
 unfolding failed inner
 step-refused s c (Some r) t f e = (sym (ap (λ (q : Stepped). q.after) e), sym (ap (λ (q : Stepped). inner (failed q.outcome)) e))
 step-refused s c None t f e = absurd (subst IsFailed (ap (λ (q : Stepped). failed q.outcome) (sym e)) tt)
 
-pub refused-nothing : (s t : State) (c : Command View) (f : Failure View) → Executed s c (Err f) t → (t ≡ s) × (f.given_back ≡ brought c)
+pub refused-nothing : (s t : State) (c : Command View) (f : Failure View) → Executed s c (Err f) t → (t ≡ s) × (f.given_back ≡ brought_adapter c)
 unfolding failed inner
 refused-nothing s t c f x =
-    elim (is_memory_refusal f.refused) as (λ b. MatchBool b (IsWanting s c (Err f) t) (step s c ≡ record { outcome = Err f; after = t }) → (t ≡ s) × (f.given_back ≡ brought c)) [
+    elim (is_memory_refusal f.refused) as (λ b. MatchBool b (IsWanting s c (Err f) t) (step s c ≡ record { outcome = Err f; after = t }) → (t ≡ s) × (f.given_back ≡ brought_adapter c)) [
       | true ↦ λ y. (y.state, ap (λ (o : Outcome). inner (failed o)) y.outcome)
       | false ↦ λ e. step-refused s c (refusal_of s c) t f e
     ] x

@@ -11,12 +11,12 @@ use Rattle.mm_types.specs.Same.{same_node}
 use Rattle.mm_types.specs.declared.numbers.AdapterNo.{AdapterNo}
 use Rattle.mm_types.specs.declared.numbers.Node.{Node}
 use Rattle.notice_chain.specs.Listed.{HasDistinctNumbers, Listed, has_no, has_target, is_at, is_target, same_no, targets_len, with_changed}
-use Rattle.notice_chain.specs.Released.{Spot, has_targets, last_notice, losing, released, spots, spots_of, without, without_all}
+use Rattle.notice_chain.specs.Released.{Spot, adapter_after_loss, adapters_without_target, adapters_without_targets, has_targets, last_notice, released_adapters, spots, spots_of}
 use Rattle.notice_chain.specs.declared.notice.Notice.{Notice}
 use Rattle.notice_chain.specs.declared.target.Target.{Target}
 use Rattle.adapter_list.proofs.MoveLemmas.{none-later, only}
 use Rattle.adapter_list.proofs.NumberLemmas.{distinct-filter}
-use Rattle.adapter_list.proofs.SplitLemmas.{targets_len-staying}
+use Rattle.adapter_list.proofs.SplitLemmas.{targets_len-staying_adapters}
 use Rattle.removal.proofs.ListLemmas.{any-left, any-right}
 
 abbrev numbers : List Listed → List AdapterNo
@@ -24,65 +24,65 @@ numbers rs = map (λ r. r.no) rs
 
 ---------------------------------------------------------------- their numbers
 
-numbers-changed : (k : AdapterNo) (x : Node) (n : Notice) (rs : List Listed) → numbers (with_changed k (losing x n) rs) ≡ numbers rs
+numbers-changed : (k : AdapterNo) (x : Node) (n : Notice) (rs : List Listed) → numbers (with_changed k (adapter_after_loss x n) rs) ≡ numbers rs
 numbers-changed k x n [] = refl
 numbers-changed k x n (r ∷ rs) =
-    elim (has_no k r) as (λ b. numbers (if b then (losing x n r ∷ rs) else r ∷ with_changed k (losing x n) rs) ≡ r.no ∷ numbers rs) [
+    elim (has_no k r) as (λ b. numbers (if b then (adapter_after_loss x n r ∷ rs) else r ∷ with_changed k (adapter_after_loss x n) rs) ≡ r.no ∷ numbers rs) [
       | true ↦ refl
       | false ↦ ap (λ (ks : List AdapterNo). r.no ∷ ks) (numbers-changed k x n rs)
     ]
 
-numbers-without : (s : Spot) (rs : List Listed) → numbers (without s rs) ≡ numbers rs
-numbers-without s rs =
-    elim (is_target s.0 s.1 rs) as (λ b. numbers (if b then with_changed s.0 (losing s.1 (last_notice s rs)) rs else rs) ≡ numbers rs) [
+numbers-adapters_without_target : (s : Spot) (rs : List Listed) → numbers (adapters_without_target s rs) ≡ numbers rs
+numbers-adapters_without_target s rs =
+    elim (is_target s.0 s.1 rs) as (λ b. numbers (if b then with_changed s.0 (adapter_after_loss s.1 (last_notice s rs)) rs else rs) ≡ numbers rs) [
       | true ↦ numbers-changed s.0 s.1 (last_notice s rs) rs
       | false ↦ refl
     ]
 
-distinct-without : (s : Spot) (rs : List Listed) → HasDistinctNumbers rs → HasDistinctNumbers (without s rs)
-distinct-without s rs distinct = subst (IsDistinct same_no) (sym (numbers-without s rs)) distinct
+distinct-adapters_without_target : (s : Spot) (rs : List Listed) → HasDistinctNumbers rs → HasDistinctNumbers (adapters_without_target s rs)
+distinct-adapters_without_target s rs distinct = subst (IsDistinct same_no) (sym (numbers-adapters_without_target s rs)) distinct
 
-pub distinct-all : (ss : List Spot) (rs : List Listed) → HasDistinctNumbers rs → HasDistinctNumbers (without_all ss rs)
+pub distinct-all : (ss : List Spot) (rs : List Listed) → HasDistinctNumbers rs → HasDistinctNumbers (adapters_without_targets ss rs)
 distinct-all [] rs distinct = distinct
-distinct-all (s ∷ ss) rs distinct = distinct-all ss (without s rs) (distinct-without s rs distinct)
+distinct-all (s ∷ ss) rs distinct = distinct-all ss (adapters_without_target s rs) (distinct-adapters_without_target s rs distinct)
 
-pub others-distinct : (ss : List Spot) (rs : List Listed) → HasDistinctNumbers rs → HasDistinctNumbers (released ss rs).others
+pub others-distinct : (ss : List Spot) (rs : List Listed) → HasDistinctNumbers rs → HasDistinctNumbers (released_adapters ss rs).others
 others-distinct [] rs distinct = distinct
-others-distinct (s ∷ ss) rs distinct = distinct-filter same_no (λ (r : Listed). r.no) has_targets (without_all (s ∷ ss) rs) (distinct-all (s ∷ ss) rs distinct)
+others-distinct (s ∷ ss) rs distinct = distinct-filter same_no (λ (r : Listed). r.no) has_targets (adapters_without_targets (s ∷ ss) rs) (distinct-all (s ∷ ss) rs distinct)
 
 ---------------------------------------------------------------- what holds on
 
 -- a property that stays true when an adapter loses a target that it has
 abbrev pub HoldsOn : (Listed → Type 0) → Type 0
-HoldsOn P = (x : Node) (n : Notice) (r : Listed) → has_target x r ≡ true → P r → P (losing x n r)
+HoldsOn P = (x : Node) (n : Notice) (r : Listed) → has_target x r ≡ true → P r → P (adapter_after_loss x n r)
 
-changed-all : (P : Listed → Type 0) → HoldsOn P → (k : AdapterNo) (x : Node) (n : Notice) (rs : List Listed) → HasDistinctNumbers rs → is_target k x rs ≡ true → All P rs → All P (with_changed k (losing x n) rs)
+changed-all : (P : Listed → Type 0) → HoldsOn P → (k : AdapterNo) (x : Node) (n : Notice) (rs : List Listed) → HasDistinctNumbers rs → is_target k x rs ≡ true → All P rs → All P (with_changed k (adapter_after_loss x n) rs)
 changed-all P on k x n [] distinct there all = all
 changed-all P on k x n (r ∷ rs) distinct there all =
-    elim (has_no k r) as (λ b. has_no k r ≡ b → All P (if b then (losing x n r ∷ rs) else r ∷ with_changed k (losing x n) rs)) [
+    elim (has_no k r) as (λ b. has_no k r ≡ b → All P (if b then (adapter_after_loss x n r ∷ rs) else r ∷ with_changed k (adapter_after_loss x n) rs)) [
       | true ↦ λ mine.
           let none = none-later k x r rs mine (IsDistinct-head same_no r.no (numbers rs) distinct) in
           let has : has_target x r ≡ true = only (has_target x r) (is_target k x rs) none (sym (ap (λ b. (b && has_target x r) || is_target k x rs) mine) ∙ there) in
-          All-cons P (losing x n r) rs (on x n r has (All-head P r rs all)) (All-tail P r rs all)
+          All-cons P (adapter_after_loss x n r) rs (on x n r has (All-head P r rs all)) (All-tail P r rs all)
       | false ↦ λ other.
           let later : is_target k x rs ≡ true = sym (ap (λ b. (b && has_target x r) || is_target k x rs) other) ∙ there in
-          All-cons P r (with_changed k (losing x n) rs) (All-head P r rs all) (changed-all P on k x n rs (IsDistinct-tail same_no r.no (numbers rs) distinct) later (All-tail P r rs all))
+          All-cons P r (with_changed k (adapter_after_loss x n) rs) (All-head P r rs all) (changed-all P on k x n rs (IsDistinct-tail same_no r.no (numbers rs) distinct) later (All-tail P r rs all))
     ] refl
 
-without-each : (P : Listed → Type 0) → HoldsOn P → (s : Spot) (rs : List Listed) → HasDistinctNumbers rs → All P rs → All P (without s rs)
-without-each P on s rs distinct all =
-    elim (is_target s.0 s.1 rs) as (λ b. is_target s.0 s.1 rs ≡ b → All P (if b then with_changed s.0 (losing s.1 (last_notice s rs)) rs else rs)) [
+adapters_without_target-each : (P : Listed → Type 0) → HoldsOn P → (s : Spot) (rs : List Listed) → HasDistinctNumbers rs → All P rs → All P (adapters_without_target s rs)
+adapters_without_target-each P on s rs distinct all =
+    elim (is_target s.0 s.1 rs) as (λ b. is_target s.0 s.1 rs ≡ b → All P (if b then with_changed s.0 (adapter_after_loss s.1 (last_notice s rs)) rs else rs)) [
       | true ↦ λ there. changed-all P on s.0 s.1 (last_notice s rs) rs distinct there all
       | false ↦ λ _. all
     ] refl
 
-all-each : (P : Listed → Type 0) → HoldsOn P → (ss : List Spot) (rs : List Listed) → HasDistinctNumbers rs → All P rs → All P (without_all ss rs)
+all-each : (P : Listed → Type 0) → HoldsOn P → (ss : List Spot) (rs : List Listed) → HasDistinctNumbers rs → All P rs → All P (adapters_without_targets ss rs)
 all-each P on [] rs distinct all = all
-all-each P on (s ∷ ss) rs distinct all = all-each P on ss (without s rs) (distinct-without s rs distinct) (without-each P on s rs distinct all)
+all-each P on (s ∷ ss) rs distinct all = all-each P on ss (adapters_without_target s rs) (distinct-adapters_without_target s rs distinct) (adapters_without_target-each P on s rs distinct all)
 
-pub others-each : (P : Listed → Type 0) → HoldsOn P → (ss : List Spot) (rs : List Listed) → HasDistinctNumbers rs → All P rs → All P (released ss rs).others
+pub others-each : (P : Listed → Type 0) → HoldsOn P → (ss : List Spot) (rs : List Listed) → HasDistinctNumbers rs → All P rs → All P (released_adapters ss rs).others
 others-each P on [] rs distinct all = all
-others-each P on (s ∷ ss) rs distinct all = All-filter has_targets P (without_all (s ∷ ss) rs) (all-each P on (s ∷ ss) rs distinct all)
+others-each P on (s ∷ ss) rs distinct all = All-filter has_targets P (adapters_without_targets (s ∷ ss) rs) (all-each P on (s ∷ ss) rs distinct all)
 
 ---------------------------------------------------------------- how many targets
 
@@ -97,28 +97,28 @@ few-losing x (t ∷ ts) =
 abbrev many : Listed → ℕ
 many r = length r.targets
 
-len-changed : (k : AdapterNo) (x : Node) (n : Notice) (rs : List Listed) → targets_len (with_changed k (losing x n) rs) ≤ targets_len rs
+len-changed : (k : AdapterNo) (x : Node) (n : Notice) (rs : List Listed) → targets_len (with_changed k (adapter_after_loss x n) rs) ≤ targets_len rs
 len-changed k x n [] = omega arith
 len-changed k x n (r ∷ rs) =
-    elim (has_no k r) as (λ b. sum_by many (if b then (losing x n r ∷ rs) else r ∷ with_changed k (losing x n) rs) ≤ sum_by many (r ∷ rs)) [
-      | true ↦ omega (arith, sum_by-cons many (losing x n r) rs, sum_by-cons many r rs, few-losing x r.targets)
-      | false ↦ omega (arith, sum_by-cons many r (with_changed k (losing x n) rs), sum_by-cons many r rs, len-changed k x n rs)
+    elim (has_no k r) as (λ b. sum_by many (if b then (adapter_after_loss x n r ∷ rs) else r ∷ with_changed k (adapter_after_loss x n) rs) ≤ sum_by many (r ∷ rs)) [
+      | true ↦ omega (arith, sum_by-cons many (adapter_after_loss x n r) rs, sum_by-cons many r rs, few-losing x r.targets)
+      | false ↦ omega (arith, sum_by-cons many r (with_changed k (adapter_after_loss x n) rs), sum_by-cons many r rs, len-changed k x n rs)
     ]
 
-len-without : (s : Spot) (rs : List Listed) → targets_len (without s rs) ≤ targets_len rs
-len-without s rs =
-    elim (is_target s.0 s.1 rs) as (λ b. targets_len (if b then with_changed s.0 (losing s.1 (last_notice s rs)) rs else rs) ≤ targets_len rs) [
+len-adapters_without_target : (s : Spot) (rs : List Listed) → targets_len (adapters_without_target s rs) ≤ targets_len rs
+len-adapters_without_target s rs =
+    elim (is_target s.0 s.1 rs) as (λ b. targets_len (if b then with_changed s.0 (adapter_after_loss s.1 (last_notice s rs)) rs else rs) ≤ targets_len rs) [
       | true ↦ len-changed s.0 s.1 (last_notice s rs) rs
       | false ↦ omega arith
     ]
 
-len-all : (ss : List Spot) (rs : List Listed) → targets_len (without_all ss rs) ≤ targets_len rs
+len-all : (ss : List Spot) (rs : List Listed) → targets_len (adapters_without_targets ss rs) ≤ targets_len rs
 len-all [] rs = omega arith
-len-all (s ∷ ss) rs = omega (arith, len-all ss (without s rs), len-without s rs)
+len-all (s ∷ ss) rs = omega (arith, len-all ss (adapters_without_target s rs), len-adapters_without_target s rs)
 
-pub others-len : (ss : List Spot) (rs : List Listed) → targets_len (released ss rs).others ≤ targets_len rs
+pub others-len : (ss : List Spot) (rs : List Listed) → targets_len (released_adapters ss rs).others ≤ targets_len rs
 others-len [] rs = omega arith
-others-len (s ∷ ss) rs = omega (arith, targets_len-staying (without_all (s ∷ ss) rs), len-all (s ∷ ss) rs)
+others-len (s ∷ ss) rs = omega (arith, targets_len-staying_adapters (adapters_without_targets (s ∷ ss) rs), len-all (s ∷ ss) rs)
 
 ---------------------------------------------------------------- which targets are left
 
@@ -170,8 +170,8 @@ left-of x y (t ∷ ts) h =
       ] refl k
     ] refl h
 
-stand-losing : (goes : AdapterNo → Node → Bool) (s : Spot) (ss : List Spot) (n : Notice) (r : Listed) → Stand goes (s ∷ ss) r → Stand goes ss (losing s.1 n r)
-stand-losing goes s ss n r stand x has g =
+stand-adapter_after_loss : (goes : AdapterNo → Node → Bool) (s : Spot) (ss : List Spot) (n : Notice) (r : Listed) → Stand goes (s ∷ ss) r → Stand goes ss (adapter_after_loss s.1 n r)
+stand-adapter_after_loss goes s ss n r stand x has g =
     let left = left-of s.1 x r.targets has in
     sym (ap (λ b. (same_no s.0 r.no && b) || is_among ss r.no x) left.0 ∙ ap (λ b. b || is_among ss r.no x) (and-false (same_no s.0 r.no))) ∙ stand x left.1 g
 
@@ -194,16 +194,16 @@ pub both-each : (P Q R : Listed → Type 0) → ((r : Listed) → P r → Q r �
 both-each P Q R f [] p q = All-nil R
 both-each P Q R f (r ∷ rs) p q = All-cons R r rs (f r (All-head P r rs p) (All-head Q r rs q)) (both-each P Q R f rs (All-tail P r rs p) (All-tail Q r rs q))
 
-stand-changed : (goes : AdapterNo → Node → Bool) (s : Spot) (ss : List Spot) (n : Notice) (rs : List Listed) → HasDistinctNumbers rs → All (Stand goes (s ∷ ss)) rs → All (Stand goes ss) (with_changed s.0 (losing s.1 n) rs)
+stand-changed : (goes : AdapterNo → Node → Bool) (s : Spot) (ss : List Spot) (n : Notice) (rs : List Listed) → HasDistinctNumbers rs → All (Stand goes (s ∷ ss)) rs → All (Stand goes ss) (with_changed s.0 (adapter_after_loss s.1 n) rs)
 stand-changed goes s ss n [] distinct all = All-nil (Stand goes ss)
 stand-changed goes s ss n (r ∷ rs) distinct all =
     let P = Stand goes (s ∷ ss) in
     let Q = Stand goes ss in
     let first = All-head P r rs all in
     let rest = All-tail P r rs all in
-    elim (has_no s.0 r) as (λ b. has_no s.0 r ≡ b → All Q (if b then (losing s.1 n r ∷ rs) else r ∷ with_changed s.0 (losing s.1 n) rs)) [
-      | true ↦ λ mine. All-cons Q (losing s.1 n r) rs (stand-losing goes s ss n r first) (both-each (λ q. has_no s.0 q ≡ false) P Q (stand-other goes s ss) rs (behind-other s.0 r rs mine (IsDistinct-head same_no r.no (numbers rs) distinct)) rest)
-      | false ↦ λ other. All-cons Q r (with_changed s.0 (losing s.1 n) rs) (stand-other goes s ss r other first) (stand-changed goes s ss n rs (IsDistinct-tail same_no r.no (numbers rs) distinct) rest)
+    elim (has_no s.0 r) as (λ b. has_no s.0 r ≡ b → All Q (if b then (adapter_after_loss s.1 n r ∷ rs) else r ∷ with_changed s.0 (adapter_after_loss s.1 n) rs)) [
+      | true ↦ λ mine. All-cons Q (adapter_after_loss s.1 n r) rs (stand-adapter_after_loss goes s ss n r first) (both-each (λ q. has_no s.0 q ≡ false) P Q (stand-other goes s ss) rs (behind-other s.0 r rs mine (IsDistinct-head same_no r.no (numbers rs) distinct)) rest)
+      | false ↦ λ other. All-cons Q r (with_changed s.0 (adapter_after_loss s.1 n) rs) (stand-other goes s ss r other first) (stand-changed goes s ss n rs (IsDistinct-tail same_no r.no (numbers rs) distinct) rest)
     ] refl
 
 stand-none : (goes : AdapterNo → Node → Bool) (s : Spot) (ss : List Spot) (rs : List Listed) → is_target s.0 s.1 rs ≡ false → All (Stand goes (s ∷ ss)) rs → All (Stand goes ss) rs
@@ -220,16 +220,16 @@ stand-none goes s ss (r ∷ rs) none all =
     ] refl parts.0)
     (stand-none goes s ss rs parts.1 (All-tail P r rs all))
 
-stand-without : (goes : AdapterNo → Node → Bool) (s : Spot) (ss : List Spot) (rs : List Listed) → HasDistinctNumbers rs → All (Stand goes (s ∷ ss)) rs → All (Stand goes ss) (without s rs)
-stand-without goes s ss rs distinct all =
-    elim (is_target s.0 s.1 rs) as (λ b. is_target s.0 s.1 rs ≡ b → All (Stand goes ss) (if b then with_changed s.0 (losing s.1 (last_notice s rs)) rs else rs)) [
+stand-adapters_without_target : (goes : AdapterNo → Node → Bool) (s : Spot) (ss : List Spot) (rs : List Listed) → HasDistinctNumbers rs → All (Stand goes (s ∷ ss)) rs → All (Stand goes ss) (adapters_without_target s rs)
+stand-adapters_without_target goes s ss rs distinct all =
+    elim (is_target s.0 s.1 rs) as (λ b. is_target s.0 s.1 rs ≡ b → All (Stand goes ss) (if b then with_changed s.0 (adapter_after_loss s.1 (last_notice s rs)) rs else rs)) [
       | true ↦ λ _. stand-changed goes s ss (last_notice s rs) rs distinct all
       | false ↦ λ none. stand-none goes s ss rs none all
     ] refl
 
-stand-all : (goes : AdapterNo → Node → Bool) (ss : List Spot) (rs : List Listed) → HasDistinctNumbers rs → All (Stand goes ss) rs → All (Stand goes []) (without_all ss rs)
+stand-all : (goes : AdapterNo → Node → Bool) (ss : List Spot) (rs : List Listed) → HasDistinctNumbers rs → All (Stand goes ss) rs → All (Stand goes []) (adapters_without_targets ss rs)
 stand-all goes [] rs distinct all = all
-stand-all goes (s ∷ ss) rs distinct all = stand-all goes ss (without s rs) (distinct-without s rs distinct) (stand-without goes s ss rs distinct all)
+stand-all goes (s ∷ ss) rs distinct all = stand-all goes ss (adapters_without_target s rs) (distinct-adapters_without_target s rs distinct) (stand-adapters_without_target goes s ss rs distinct all)
 
 -- no target of an adapter is removed
 abbrev pub NoneGoes : (AdapterNo → Node → Bool) → Listed → Type 0
@@ -238,14 +238,14 @@ NoneGoes goes r = (x : Node) → has_target x r ≡ true → goes r.no x ≡ fal
 none-goes : (goes : AdapterNo → Node → Bool) (r : Listed) → Stand goes [] r → NoneGoes goes r
 none-goes goes r stand x has = elim (goes r.no x) as (λ b. goes r.no x ≡ b → b ≡ false) [ true ↦ λ g. absurd (false≢true (stand x has g)) | false ↦ λ _. refl ] refl
 
-all-stay : (goes : AdapterNo → Node → Bool) (rs : List Listed) → All (NoneGoes goes) (without_all (spots goes rs) rs) → All (NoneGoes goes) (released (spots goes rs) rs).others
+all-stay : (goes : AdapterNo → Node → Bool) (rs : List Listed) → All (NoneGoes goes) (adapters_without_targets (spots goes rs) rs) → All (NoneGoes goes) (released_adapters (spots goes rs) rs).others
 all-stay goes rs all = by (spots goes rs) all
   where
-    by : (ss : List Spot) → All (NoneGoes goes) (without_all ss rs) → All (NoneGoes goes) (released ss rs).others
+    by : (ss : List Spot) → All (NoneGoes goes) (adapters_without_targets ss rs) → All (NoneGoes goes) (released_adapters ss rs).others
     by [] h = h
-    by (s ∷ ss) h = All-filter has_targets (NoneGoes goes) (without_all (s ∷ ss) rs) h
+    by (s ∷ ss) h = All-filter has_targets (NoneGoes goes) (adapters_without_targets (s ∷ ss) rs) h
 
 -- the adapters that stay have none of the removed targets
-pub others-free : (goes : AdapterNo → Node → Bool) (rs : List Listed) → HasDistinctNumbers rs → All (NoneGoes goes) (released (spots goes rs) rs).others
+pub others-free : (goes : AdapterNo → Node → Bool) (rs : List Listed) → HasDistinctNumbers rs → All (NoneGoes goes) (released_adapters (spots goes rs) rs).others
 others-free goes rs distinct =
-    all-stay goes rs (All-weaker (Stand goes []) (NoneGoes goes) (none-goes goes) (without_all (spots goes rs) rs) (stand-all goes (spots goes rs) rs distinct (stand-first goes rs)))
+    all-stay goes rs (All-weaker (Stand goes []) (NoneGoes goes) (none-goes goes) (adapters_without_targets (spots goes rs) rs) (stand-all goes (spots goes rs) rs distinct (stand-first goes rs)))

@@ -5,19 +5,19 @@ use Rattle.std.specs.Prelude.{Ok, unwrap_or}
 use Rattle.std.proofs.lemmas.Bool.{and_parts, false≢true, not-true}
 use Rattle.mm_types.specs.declared.numbers.AdapterNo.{AdapterNo}
 use Rattle.links.specs.declared.plan.Edit.{Edit}
-use Rattle.mm_values.specs.declared.edit.ValueEdit.{ValueEdit}
+use Rattle.mm_values.specs.declared.value_edit.ValueEdit.{ValueEdit}
 use Rattle.models.specs.Model.{Model, reading}
 use Rattle.models.specs.Reading.{Reading}
 use Rattle.notice_chain.specs.Listed.{Listed, is_chain_full, tell_chain, told_list}
-use Rattle.notice_chain.specs.Released.{Released, Spot, is_gone_at, released, spots}
-use Rattle.removal.specs.Outer.{gone}
+use Rattle.notice_chain.specs.Released.{Released, Spot, is_gone_at, released_adapters, spots}
+use Rattle.removal.specs.Outer.{is_in_subtree}
 use Rattle.adapter_list.specs.Hearing.{IsUnheard}
 use Rattle.notice_chain.specs.View.{View}
 use Rattle.notice_chain.specs.declared.notice.Notice.{Notice}
 use Rattle.change_plans.proofs.ValueLemmas.{IsPlain, is-plain, is-plain-link}
 use Rattle.change_plans.specs.Plans.{IsPlanOf, of_links, of_values}
 use Rattle.change_plans.specs.declared.planned.Planned.{Planned}
-use Rattle.handshake.specs.Effects.{after}
+use Rattle.handshake.specs.Effects.{model_after}
 use Rattle.handshake.specs.Changes.{edits_links_alone, edits_one_kind, edits_values_alone, is_at_reference}
 use Rattle.handshake.specs.Refusals.{early_refusal, late_refusal}
 use Rattle.handshake.specs.FeatureChanges.{chain, destroyed_by, resolves_one}
@@ -53,20 +53,20 @@ early-whole-link r rs text c q d h is = whole c (answer_of r rs (command_of text
 
 -- its result, for a reply and a state that are known by their parts
 pub changed-unheard : (s t : State) (text : List ℕ) (c : Change) (a : Answer) (told : List (AdapterNo × Notice)) (views : List (AdapterNo × View)) → IsUnheard (reads s).above (chain (reads s) c) s.adapters → destroyed_by c ≡ None → told ≡ [] → views ≡ [] → IsProper (reads s) text c → early_refusal (reads s) c ≡ None → late_refusal (reads s) c ≡ None
-    → a ≡ answer_of (reads s) s.adapters (command_of text c) → t.model ≡ after s.model c → t.adapters ≡ s.adapters → step s (command_of text c) ≡ record { outcome = Ok (record { answer = a; told = told; released = views }); after = t }
+    → a ≡ answer_of (reads s) s.adapters (command_of text c) → t.model ≡ model_after s.model c → t.adapters ≡ s.adapters → step s (command_of text c) ≡ record { outcome = Ok (record { answer = a; told = told; released = views }); after = t }
 changed-unheard s t text c a told views none kept told_is views_are proper early late answered model adapters =
     let up = (reads s).above in
-    let goes : going_with (reads s) s.adapters c ≡ [] = ap (λ o. option_map_or (λ x. spots (is_gone_at (gone (reads s) x)) s.adapters) o []) kept in
-    let gives : List Spot → Released = λ ss. released ss (tell_chain up [] s.adapters) in
+    let goes : going_with (reads s) s.adapters c ≡ [] = ap (λ o. option_map_or (λ x. spots (is_gone_at (is_in_subtree (reads s) x)) s.adapters) o []) kept in
+    let gives : List Spot → Released = λ ss. released_adapters ss (tell_chain up [] s.adapters) in
     changed_to s t text c [] a told views proper early late (unheard-tells up (chain (reads s) c) s.adapters none) (is_chain_full-nil up s.adapters) answered (told_is ∙ sym (ap (λ (ss : List Spot). (gives ss).told) goes)) (views_are ∙ sym (ap (λ (ss : List Spot). (gives ss).views) goes)) model
     (adapters ∙ sym (tell_chain-nil up s.adapters) ∙ sym (ap (λ (ss : List Spot). (gives ss).others) goes))
 
 -- the result of a change that edits only values, for a reply and a state that are known by their parts
 pub changed-values : (s t : State) (c : Change) (vs : List ValueEdit) (ns : List Notice) (a : Answer) (told : List (AdapterNo × Notice)) (views : List (AdapterNo × View)) → IsReady s [] c a [] [] vs ns → is_chain_full (reads s).above ns s.adapters ≡ false → told ≡ told_list (reads s).above ns s.adapters → views ≡ []
-    → t.model ≡ after s.model c → t.adapters ≡ tell_chain (reads s).above ns s.adapters → step s (command_of [] c) ≡ record { outcome = Ok (record { answer = a; told = told; released = views }); after = t }
+    → t.model ≡ model_after s.model c → t.adapters ≡ tell_chain (reads s).above ns s.adapters → step s (command_of [] c) ≡ record { outcome = Ok (record { answer = a; told = told; released = views }); after = t }
 changed-values s t c vs ns a told views ready free told_is views_are model adapters =
     let up = (reads s).above in
-    let gives : List Spot → Released = λ ss. released ss (tell_chain up ns s.adapters) in
+    let gives : List Spot → Released = λ ss. released_adapters ss (tell_chain up ns s.adapters) in
     changed_to s t [] c ns a told views ready.proper ready.asked ready.allowed ready.tells free ready.answered
     (told_is ∙ sym (append-nil (told_list up ns s.adapters)) ∙ ap (λ (ss : List Spot). told_list up ns s.adapters ++ (gives ss).told) ready.spots) (views_are ∙ ap (λ (ss : List Spot). (gives ss).views) ready.spots) model
     (adapters ∙ ap (λ (ss : List Spot). (gives ss).others) ready.spots)
@@ -97,7 +97,7 @@ module _ (m : State) (x : Model) (c : Change) (a : Answer) (is : x ≡ m.model) 
   answered-there = subst (λ (y : Model). a ≡ answer_of (reading y) m.adapters (command_of [] c)) is (answers m.adapters [] (subst (λ (y : Model). IsProper (reading y) [] c) (sym is) proper))
 
   none-goes : IsPlain (reads m) c → [] ≡ going_with (reads m) m.adapters c
-  none-goes plain = ap (λ o. option_map_or (λ y. spots (is_gone_at (gone (reads m) y)) m.adapters) o []) plain.whose
+  none-goes plain = ap (λ o. option_map_or (λ y. spots (is_gone_at (is_in_subtree (reads m) y)) m.adapters) o []) plain.whose
 
   -- a change that edits only values, whose notifications are made if an adapter may have to get them
   pub values-ready : (is_heard : Bool) (vs : List ValueEdit) (ns : List Notice) → edits_values_alone m.model.metamodel c ≡ true → IsPlanOf is_heard x c (of_values vs ns) → (is_heard ≡ false → IsUnheard (reads m).above (chain (reads m) c) m.adapters) → IsReady m [] c a [] [] vs ns

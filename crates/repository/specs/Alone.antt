@@ -2,7 +2,7 @@
 use Rattle.std.specs.Prelude.{◌≡◌, Bool, true, false, None, Ok}
 use Rattle.notice_chain.specs.View.{View}
 use Rattle.repository.specs.Run.{Executed}
-use Rattle.repository.specs.State.{bare, State}
+use Rattle.repository.specs.State.{state_of_model, State}
 use Rattle.repository.specs.Step.{refusal_of, step}
 use Rattle.repository.specs.declared.command.Command.{Command}
 use Rattle.repository.specs.declared.command.Command.TheVariants as command
@@ -21,7 +21,7 @@ is_change _ = true
 abbrev pub IsAloneToo : State → Command View → Type 0
 IsAloneToo s c =
     is_change c ≡ true → refusal_of s c ≡ None
-    → (refusal_of (bare s.model) c ≡ None) × ((step (bare s.model) c).after ≡ bare (step s c).after.model)
+    → (refusal_of (state_of_model s.model) c ≡ None) × ((step (state_of_model s.model) c).after ≡ state_of_model (step s c).after.model)
 
 -- any other command leaves the model
 abbrev pub KeepsModel : State → Command View → Type 0
@@ -31,4 +31,4 @@ KeepsModel s c = is_change c ≡ false → (step s c).after.model ≡ s.model
 abbrev pub ComesBack : State → Command View → Reply View → State → Type 0
 ComesBack s c r t =
     is_change c ≡ true → Executed s c (Ok r) t
-    → (q : Reply View) × (step (bare s.model) c ≡ record { outcome = Ok q; after = bare t.model })
+    → (q : Reply View) × (step (state_of_model s.model) c ≡ record { outcome = Ok q; after = state_of_model t.model })

@@ -30,24 +30,24 @@ use Rattle.mm_types.specs.declared.numbers.FeatureNo.{FeatureNo}
 use Rattle.mm_types.specs.declared.numbers.ObjectNo.{ObjectNo}
 use Rattle.fragment_paths.specs.Fragments.{fragment}
 use Rattle.fragment_paths.specs.Finding.{at}
-use Rattle.doc_writer.specs.Document.{saved}
+use Rattle.doc_writer.specs.Document.{saved_text}
 use Rattle.snapshots.specs.Snapshots.{snapshot_of}
 use Rattle.repository.specs.Loads.{objects_of, reads_into}
 use Rattle.proxies.specs.Resolving.{target_at}
-use Rattle.proxies.specs.ResolvingAll.{done, left}
+use Rattle.proxies.specs.ResolvingAll.{resolved_count, unresolved_count}
 use Rattle.removal.specs.declared.gone.Removal.{Removal}
 use Rattle.handshake.specs.declared.change.Change.{Change}
 use Rattle.handshake.specs.FeatureChanges.{destroyed_by, resolves_all, resolves_one}
 use Rattle.proxies.specs.declared.resolved.Resolved.{Resolved}
-use Rattle.proxies.specs.declared.target.Target.{Target}
+use Rattle.proxies.specs.declared.resolved_proxy.ResolvedProxy.{ResolvedProxy}
 
 -- a count that is taken of the view of an adapter; 0 if none has the number
 abbrev pub count_of : List Listed → AdapterNo → (View → ℕ) → ℕ
 count_of rs number count = option_map_or (λ a. count a.view) (adapter number rs) 0
 
 -- the value of a single feature, or the list of a many-valued one
-abbrev pub got : Reading → End → FeatureValue
-got r e = if (shape_at r e).is_single then feature_value.One (value_at r e) else feature_value.Many (r.values e)
+abbrev pub feature_value_at : Reading → End → FeatureValue
+feature_value_at r e = if (shape_at r e).is_single then feature_value.One (value_at r e) else feature_value.Many (r.values e)
 
 abbrev pub got_answer : FeatureValue → Answer
 got_answer (feature_value.One v) = answer.Value v
@@ -80,7 +80,7 @@ act_answer r e (act.Resolve i) = answer.Object (option_map_or (λ x. x.object) (
 act_answer r e _ = answer.Done
 
 abbrev pub read_answer : Reading → List Listed → Read → Answer
-read_answer r rs (asks.At e Get) = got_answer (got r e)
+read_answer r rs (asks.At e Get) = got_answer (feature_value_at r e)
 read_answer r rs (asks.At e IsSet) = answer.Flag (is_set r e)
 read_answer r rs (asks.Of o Class) = answer.Class (unwrap_or (r.class o) (record { 0 = 0 }))
 read_answer r rs (asks.Of o Container) = answer.Container (container r o)
@@ -89,7 +89,7 @@ read_answer r rs (asks.Of o Validate) = answer.Features (short_features r o)
 read_answer r rs (asks.Of o Fragment) = answer.Fragment (unwrap_or (fragment r o) [])
 read_answer r rs (asks.Under n Contents) = answer.Objects (contents r n)
 read_answer r rs (asks.Under n Snapshot) = answer.Snapshot (snapshot_of r n)
-read_answer r rs (asks.Save k) = answer.Document (saved r k)
+read_answer r rs (asks.Save k) = answer.Document (saved_text r k)
 read_answer r rs (asks.ObjectAt t) = answer.Found (at r t)
 read_answer r rs (asks.Adapter number Told) = answer.Count (count_of rs number (λ v. v.told))
 read_answer r rs (asks.Adapter number Kept) = answer.Count (count_of rs number (λ v. length v.kept))
@@ -101,7 +101,7 @@ answer_of r rs (command.Create c) = answer.Object (record { 0 = r.next })
 answer_of r rs (command.Delete o) = answer.Destroyed (length (subtree r o))
 answer_of r rs (command.CreateResource t) = answer.Resource (record { 0 = length r.uris })
 answer_of r rs (command.Load k text) = answer.Loaded (objects_of (reads_into r k text))
-answer_of r rs command.ResolveAll = answer.Resolved (done r) (left r)
+answer_of r rs command.ResolveAll = answer.Resolved (resolved_count r) (unresolved_count r)
 answer_of r rs (command.Watch number target deep) = answer.Flag (not (is_target number target rs))
 answer_of r rs (command.Unwatch number target) = answer.Flag (is_target number target rs)
 answer_of r rs (command.Read q) = read_answer r rs q
@@ -117,7 +117,7 @@ IsEarlyAnswer false a q = q ≡ Some a
 IsEarlyAnswer true a q = q ≡ None
 
 -- the answer of a change whose answer is known only when it is planned
-abbrev pub planned_answer : Option Removal → Option Target → Option Resolved → Answer
+abbrev pub planned_answer : Option Removal → Option ResolvedProxy → Option Resolved → Answer
 planned_answer q (Some x) y = answer.Object x.object
 planned_answer q None (Some y) = answer.Resolved y.done y.left
 planned_answer q None None = answer.Destroyed (option_map_or (λ (x : Removal). length x.objects.items) q 0)

@@ -7,7 +7,7 @@ use Rattle.mm_types.specs.declared.refused.Refused.TheVariants.{Index, NotMany}
 use Rattle.mm_types.specs.declared.value.Value.{Value}
 use Rattle.models.specs.Existence.{end_refusal}
 use Rattle.models.specs.Reading.{Reading}
-use Rattle.repository.specs.Answers.{got}
+use Rattle.repository.specs.Answers.{feature_value_at}
 use Rattle.repository.specs.declared.reply.FeatureValue.{FeatureValue}
 use Rattle.repository.specs.declared.reply.FeatureValue.TheVariants as feature_value
 
@@ -18,7 +18,7 @@ list_of (feature_value.Many vs) = Ok vs
 
 -- the list that `get` gives at an end, or the refusal
 abbrev pub list_at : Reading → End → Result (List Value) Refused
-list_at r e = option_map_or Err (end_refusal r e) (list_of (got r e))
+list_at r e = option_map_or Err (end_refusal r e) (list_of (feature_value_at r e))
 
 -- what f reads of a list, or the refusal of the list
 abbrev pub of_list : {X : Type 0} → (List Value → Result X Refused) → Result (List Value) Refused → Result X Refused

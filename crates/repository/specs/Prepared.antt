@@ -1,14 +1,14 @@
 -- A change that is ready to be made.
 use Rattle.std.specs.Prelude.{◌≡◌, ℕ, List, None}
 use Rattle.mm_values.specs.Values as values
-use Rattle.mm_values.specs.declared.edit.ValueEdit.{ValueEdit}
+use Rattle.mm_values.specs.declared.value_edit.ValueEdit.{ValueEdit}
 use Rattle.links.specs.Plans as links
 use Rattle.links.specs.declared.plan.Edit.{Edit}
 use Rattle.models.specs.Legal.{kinds_of}
 use Rattle.notice_chain.specs.Listed.{Above, Listed, is_chain_full, tell_chain, told_list}
 use Rattle.notice_chain.specs.Released.{Spot}
 use Rattle.notice_chain.specs.declared.notice.Notice.{Notice}
-use Rattle.handshake.specs.Effects.{after}
+use Rattle.handshake.specs.Effects.{model_after}
 use Rattle.handshake.specs.FeatureChanges.{chain}
 use Rattle.handshake.specs.Refusals.{early_refusal, late_refusal}
 use Rattle.handshake.specs.declared.change.Change.{Change}
@@ -35,6 +35,6 @@ pub record IsReady (s : State) (text : List ℕ) (c : Change) (a : Answer) (goin
   pub spots : going ≡ going_with (reads s) s.adapters c
   pub fits : links.PlanFits s.model.links es
   pub of_kind : links.IsPlanOfKind (kinds_of s.model.metamodel) es
-  pub links_made : links.applied s.model.links es ≡ (after s.model c).links
-  pub values_made : values.applied s.model.values vs ≡ (after s.model c).values
+  pub links_made : links.links_after_edits s.model.links es ≡ (model_after s.model c).links
+  pub values_made : values.values_after_edits s.model.values vs ≡ (model_after s.model c).values
   pub tells : TellsAll (reads s).above ns (chain (reads s) c) s.adapters

@@ -25,7 +25,7 @@ use Rattle.mm_types.specs.declared.read.Read.{Read}
 use Rattle.mm_types.specs.declared.read.Read.TheVariants as asks
 use Rattle.mm_types.specs.declared.read.ObjectRead.TheVariants.{Fragment}
 use Rattle.mm_types.specs.declared.limits.TheConstants.{RESOURCES}
-use Rattle.web_uris.specs.Joined.{joined}
+use Rattle.web_uris.specs.Joined.{joined_uri}
 use Rattle.models.specs.Legal.{is_short_text}
 use Rattle.web_uris.specs.Addresses.{has_mark}
 use Rattle.fragment_paths.specs.Fragments.{fragment}
@@ -36,7 +36,7 @@ abbrev pub change_of : Reading → Command View → Option Change
 change_of r (command.At e a) = Some (change.At e a)
 change_of r (command.Create c) = Some (change.Create c)
 change_of r (command.Delete o) = Some (change.Delete o)
-change_of r (command.CreateResource t) = option_map change.NewResource (joined [] t)
+change_of r (command.CreateResource t) = option_map change.NewResource (joined_uri [] t)
 change_of r (command.Load k text) = load_of k (reads_into r k text)
 change_of r command.ResolveAll = Some change.ResolveAll
 change_of r _ = None
@@ -88,7 +88,7 @@ late_read_refusal r _ = None
 
 -- the refusals that planning finds, and those that the list of adapters finds
 abbrev pub late_refusal : Reading → List Listed → Command View → Option Refused
-late_refusal r rs (command.CreateResource t) = resource_refusal r t (joined [] t)
+late_refusal r rs (command.CreateResource t) = resource_refusal r t (joined_uri [] t)
 late_refusal r rs (command.Load k text) = load_refusal r k (reads_into r k text)
 late_refusal r rs (command.Attach number target deep view) = attach_refusal rs number view
 late_refusal r rs (command.Watch number target deep) = watch_refusal rs number target

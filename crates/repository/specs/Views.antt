@@ -23,9 +23,9 @@ command_of text (change.Load k doc) = command.Load k text
 command_of text change.ResolveAll = command.ResolveAll
 
 -- the adapter that a command takes
-abbrev pub brought : {A : Type 0} → Command A → Option A
-brought (command.Attach number target deep adapter) = Some adapter
-brought _ = None
+abbrev pub brought_adapter : {A : Type 0} → Command A → Option A
+brought_adapter (command.Attach number target deep adapter) = Some adapter
+brought_adapter _ = None
 
 module _ {A : Type 0} (heard : A → View) where
   abbrev pub command_view : Command A → Command View

@@ -4,7 +4,7 @@ ghost use Rattle.std.specs.Option.{option_map_or};
 ghost use Rattle.models.specs.Reading.{Reading};
 ghost use Rattle.adapter_list.specs.Attached.{views_of};
 ghost use Rattle.adapter_list.specs.Rounds.{RoundFits};
-ghost use Rattle.notice_chain.specs.Released.{is_gone_at, released as released_of, spots as spots_where};
+ghost use Rattle.notice_chain.specs.Released.{is_gone_at, released_adapters as released_of, spots as spots_where};
 ghost use Rattle.removal.specs.Ranks.{is_in};
 ghost use Rattle.removal.specs.Removals.{IsRemoval};
 ghost use Rattle.repository.specs.Leaving.{HasRoom, leavers, spots_in};

@@ -2,7 +2,7 @@
 ghost use Rattle.std.specs.FinMap as map;
 ghost use Rattle.std.specs.Prelude.{◌≡◌, ◌∷◌, [], List, OnErr, OnOk, false, if◌then◌else◌, is_some};
 ghost use Rattle.mm_values.specs.Room.{values_of};
-ghost use Rattle.mm_values.specs.Values.{applied};
+ghost use Rattle.mm_values.specs.Values.{values_after_edits};
 ghost use Rattle.handshake.specs.Effects.{put_values};
 ghost use Rattle.notice_chain.specs.Listed.{Above, Listed};
 ghost use Rattle.adapter_list.specs.Hearing.{AreKnown};
@@ -35,7 +35,7 @@ pub(crate) fn put_value(
     value: Value,
     flag: bool,
 ) -> Result<(), AllocError>
-    ensures ok { OnOk result (values_of values.new ≡ applied (values_of values.old) (put_values end (value ∷ []) flag)) }
+    ensures ok { OnOk result (values_of values.new ≡ values_after_edits (values_of values.old) (put_values end (value ∷ []) flag)) }
     ensures err { OnErr result (values_of values.new ≡ values_of values.old) }
 {
     match end.node {

@@ -26,13 +26,13 @@ use crate::reply::Answer;
 use adapter_list::{AdapterList, Hearers, Round};
 use adapters::Adapter;
 use change_plans::{Planned, plan, plan_links, plan_values};
-use handshake::{Act, Change};
+use handshake::{Act, Change, is_repeat};
 use links::{LinkStore, Plan};
-use mm_types::{AdapterNo, End, Node, ObjectNo, Refused, ResourceNo};
+use mm_types::{AdapterNo, End, Node, ObjectNo, Refused, ResourceNo, Value};
 use mm_values::{ValuePlan, Values};
 use models::{ModelRef, copied};
 use notice_chain::Chain;
-use proxies::{Resolved, Target};
+use proxies::{Resolved, ResolvedProxy};
 use removal::Removal;
 use std::alloc::{AllocError, Global};
 
@@ -145,7 +145,7 @@ pub(crate) fn reserve<L: LinkStore, A: Adapter>(
     adapters: &mut AdapterList<A>,
     edits: &Plan,
     edited: &ValuePlan,
-    chain: &Chain,
+    chain: Chain,
     spots: Vec<(AdapterNo, Node)>,
     hearers: &mut Hearers,
 ) -> Result<(Round, Option<Leaving<A>>), Refused>
@@ -159,16 +159,16 @@ pub(crate) fn reserve<L: LinkStore, A: Adapter>(
     ensures adapters { adapters.new.0 ≡ adapters.old.0 }
     ensures links_room { OnOk result (L.has_room store.new edits.now) }
     ensures values_room { OnOk result (values_room.HasRoom values.new edited.now) }
-    ensures round { IfOk result (λ p. p.0 ≡ round_of (above (L.links store.old)) chain.now adapters.old.0) }
+    ensures round { IfOk result (λ p. p.0 ≡ round_of (above (L.links store.old)) chain adapters.old.0) }
     ensures fits { IfOk result (λ p. RoundFits adapters.new.0 adapters.new.1 p.0) }
-    ensures counted { OnOk result (is_chain_full (above (L.links store.old)) chain.now adapters.old.0 ≡ false) }
+    ensures counted { OnOk result (is_chain_full (above (L.links store.old)) chain adapters.old.0 ≡ false) }
     ensures spots { IfOk result (λ p. spots_in p.1 ≡ spots.items) }
     ensures room { IfOk result (λ p. IfSome p.1 (HasRoom (length p.0.told))) }
-    ensures reason { IfErr result (IsChainRefusal (is_chain_full (above (L.links store.old)) chain.now adapters.old.0)) }
+    ensures reason { IfErr result (IsChainRefusal (is_chain_full (above (L.links store.old)) chain adapters.old.0)) }
 {
     store.reserve_for(edits)?;
     values.reserve_for(edited)?;
-    let round = adapters.round(store, chain.as_slice(), hearers)?;
+    let round = adapters.round(store, chain, hearers)?;
     let leaving = room_for(alloc, spots, round.told_len())?;
     adapters.reserve_round(&round)?;
     Ok((round, leaving))
@@ -205,7 +205,7 @@ fn early_act_answer<L: LinkStore>(
 {
     match act {
         Act::Set(_) | Act::Unset => Ok(Some(Answer::Done)),
-        Act::Add(value, _) => Ok(Some(Answer::Flag(!model.is_repeat(end, value)))),
+        Act::Add(value, _) => Ok(Some(Answer::Flag(!is_repeat(model, end, value)))),
         Act::Remove(index) => Ok(Some(value_answer(alloc, model, end, *index)?)),
         Act::RemoveValue(value) => Ok(Some(Answer::Flag(model.has(end, value)))),
         Act::Move { from, .. } => Ok(Some(value_answer(alloc, model, end, *from)?)),
@@ -224,7 +224,7 @@ pub(crate) fn next_object<L: LinkStore>(model: &ModelRef<L>) -> ObjectNo
 /// The object that a proxy finds, how many proxies are resolved, or how many objects are destroyed, as an answer.
 fn planned_answer(
     removal: &Option<Removal>,
-    target: Option<Target>,
+    target: Option<ResolvedProxy>,
     resolved: Option<Resolved>,
 ) -> Answer
     ensures { result ≡ planned_answer_of removal.now target resolved }

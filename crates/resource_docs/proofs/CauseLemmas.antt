@@ -27,7 +27,7 @@ use Rattle.doc_parts.proofs.DataLemmas.{list_of-items_of}
 use Rattle.doc_parts.proofs.DepthLemmas.{parts_within}
 use Rattle.resource_docs.specs.Causes.{cause_of, has_other_format, reads, reads_bytes, reads_if, sense_cause, shape_cause, unless_faulty}
 use Rattle.resource_docs.specs.Read.{doc_read, object_read, root_number}
-use Rattle.resource_docs.specs.Reading.{early_cause, late_cause, objects_so_far}
+use Rattle.resource_docs.specs.Reading.{early_cause, late_cause, named_cause, objects_so_far}
 use Rattle.resource_docs.specs.Texts.{Base, base_of}
 use Rattle.resource_docs.specs.declared.doc.Doc.{Doc}
 use Rattle.resource_docs.specs.declared.doc.DocObject.{DocObject}
@@ -53,7 +53,7 @@ one_fault doc wanted says f is some = ap (λ o. unless_faulty o wanted) (ap says
 
 ---------------------------------------------------------------- shapes
 
-all_causes : (l f c e v s : Option DocFault) → option_or (option_or l (option_or f (option_or c (option_or e v)))) s ≡ option_or (option_or l (option_or f (option_or c e))) (option_or v s)
+all_causes : (l f c e v s : Option DocFault) → option_or (option_or l (option_or f (option_or c (option_or e v)))) s ≡ option_or (option_or l (option_or f c)) (option_or e (option_or v s))
 all_causes (Some x) f c e v s = refl
 all_causes None (Some x) c e v s = refl
 all_causes None None (Some x) e v s = refl
@@ -61,7 +61,7 @@ all_causes None None None (Some x) v s = refl
 all_causes None None None None v s = refl
 
 -- the causes that are found before values are read, and the causes that are found after
-in_two : (m : Metamodel) (b : Base) (d : Data) (t : Option Top) (doc : Doc) → option_or (shape_cause m t (parts m d)) (sense_cause m b d (parts m d) doc) ≡ option_or (early_cause m t (parts m d)) (late_cause m b d (parts m d) doc)
+in_two : (m : Metamodel) (b : Base) (d : Data) (t : Option Top) (doc : Doc) → option_or (shape_cause m t (parts m d)) (sense_cause m b d (parts m d) doc) ≡ option_or (early_cause m t (parts m d)) (named_cause m b d (parts m d) doc)
 in_two m b d t doc =
     let ps = parts m d in
     all_causes (cause.Layout where_so (not (is_some t) || list_any is_misshapen ps)) (cause.Format where_so option_map_or has_other_format t false) (cause.Class where_so of_written (has_no_class m) ps)
@@ -71,14 +71,25 @@ pub shape_faulty : (m : Metamodel) (b : Base) (d : Data) (t : Top) (f : DocFault
 unfolding cause_of
 shape_faulty m b d t f here some =
     ap (λ o. unless_faulty o (doc_read m b d)) (in_two m b d (top d) (doc_read m b d))
-    ∙ ap (λ o. unless_faulty (option_or o (late_cause m b d (parts m d) (doc_read m b d))) (doc_read m b d)) (ap (λ x. early_cause m x (parts m d)) here ∙ sym some)
+    ∙ ap (λ o. unless_faulty (option_or o (named_cause m b d (parts m d) (doc_read m b d))) (doc_read m b d)) (ap (λ x. early_cause m x (parts m d)) here ∙ sym some)
 
 pub shape_right : (m : Metamodel) (b : Base) (d : Data) (t : Top) → top d ≡ Some t → None ≡ early_cause m (Some t) (parts m d)
-    → unless_faulty (late_cause m b d (parts m d) (doc_read m b d)) (doc_read m b d) ≡ reads m b d
+    → unless_faulty (named_cause m b d (parts m d) (doc_read m b d)) (doc_read m b d) ≡ reads m b d
 unfolding cause_of
 shape_right m b d t here none =
     sym (ap (λ o. unless_faulty o (doc_read m b d)) (in_two m b d (top d) (doc_read m b d))
-    ∙ ap (λ o. unless_faulty (option_or o (late_cause m b d (parts m d) (doc_read m b d))) (doc_read m b d)) (ap (λ x. early_cause m x (parts m d)) here ∙ sym none))
+    ∙ ap (λ o. unless_faulty (option_or o (named_cause m b d (parts m d) (doc_read m b d))) (doc_read m b d)) (ap (λ x. early_cause m x (parts m d)) here ∙ sym none))
+
+-- the cause that is found by the names of features, and the causes that are found after
+abbrev by_names : Metamodel → Base → Data → Bool → Option DocFault
+by_names m b d other = option_or (cause.Feature where_so other) (late_cause m b d (parts m d) (doc_read m b d))
+
+pub name_faulty : (m : Metamodel) (b : Base) (d : Data) → of_written (has_other_key m) (parts m d) ≡ true → unless_faulty (named_cause m b d (parts m d) (doc_read m b d)) (doc_read m b d) ≡ Err cause.Feature
+name_faulty m b d other = ap (λ o. unless_faulty (by_names m b d o) (doc_read m b d)) other
+
+pub names_right : (m : Metamodel) (b : Base) (d : Data) → of_written (has_other_key m) (parts m d) ≡ false
+    → unless_faulty (late_cause m b d (parts m d) (doc_read m b d)) (doc_read m b d) ≡ unless_faulty (named_cause m b d (parts m d) (doc_read m b d)) (doc_read m b d)
+names_right m b d right = sym (ap (λ o. unless_faulty (by_names m b d o) (doc_read m b d)) right)
 
 -- the cause that is found after values are read: `Value` if a value is not of its feature's type, else a later one
 abbrev by_values : Metamodel → Base → Data → Bool → Option DocFault

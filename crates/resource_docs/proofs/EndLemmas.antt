@@ -15,7 +15,7 @@ use Rattle.mm_types.specs.declared.value.Value.{Value}
 use Rattle.mm_types.specs.declared.value.Value.TheVariants as value
 use Rattle.mm_meta.proofs.ShapeLemmas.{shape_opposite}
 use Rattle.resource_docs.specs.Causes.{is_one_sided, is_unanswered, of_content}
-use Rattle.resource_docs.specs.Ends.{IsEndsOf, among, any_one_sided_by, asks_back, by_contents, by_objects, has, new_naming, one_sided_by, unanswered_by}
+use Rattle.resource_docs.specs.Ends.{IsEndsOf, any_one_sided_by, asks_back, by_contents, by_objects, has, is_among, new_naming, one_sided_by, unanswered_by}
 use Rattle.resource_docs.specs.Read.{values_in, values_under}
 use Rattle.resource_docs.specs.declared.doc.Content.{Content}
 use Rattle.resource_docs.specs.declared.doc.Doc.{Doc}
@@ -26,13 +26,13 @@ use Rattle.resource_docs.proofs.AnyLemmas.{any-at, any-numbered, any-pulled}
 use Rattle.doc_parts.proofs.KnowLemmas.{list_any-as}
 
 abbrev named_by : Naming → Content → Bool
-named_by k c = nat_eq k.feature c.feature.0 && among c.values k
+named_by k c = nat_eq k.feature c.feature.0 && is_among c.values k
 
-one_named : (k : Naming) (b : Bool) (vs ws : List Value) → among (cond b vs [] ++ ws) k ≡ (b && among vs k) || among ws k
+one_named : (k : Naming) (b : Bool) (vs ws : List Value) → is_among (cond b vs [] ++ ws) k ≡ (b && is_among vs k) || is_among ws k
 one_named k true vs ws = list_any-append (same_value (value.Object (record { 0 = k.named }))) vs ws
 one_named k false vs ws = refl
 
-under_named : (k : Naming) (cs : List Content) → among (flat_map (λ c. cond (nat_eq k.feature c.feature.0) c.values []) cs) k ≡ list_any (named_by k) cs
+under_named : (k : Naming) (cs : List Content) → is_among (flat_map (λ c. cond (nat_eq k.feature c.feature.0) c.values []) cs) k ≡ list_any (named_by k) cs
 under_named k [] = refl
 under_named k (c ∷ cs) =
     one_named k (nat_eq k.feature c.feature.0) c.values (flat_map (λ x. cond (nat_eq k.feature x.feature.0) x.values []) cs)
@@ -44,12 +44,12 @@ feature_of k = record { 0 = k.feature }
 abbrev object_of : Naming → ObjectNo
 object_of k = record { 0 = k.object }
 
-at_object : (k : Naming) (o : Option DocObject) → option_map_or (λ x. list_any (named_by k) x.contents) o false ≡ among (option_map_or (λ x. values_under x (feature_of k)) o []) k
+at_object : (k : Naming) (o : Option DocObject) → option_map_or (λ x. list_any (named_by k) x.contents) o false ≡ is_among (option_map_or (λ x. values_under x (feature_of k)) o []) k
 at_object k None = refl
 at_object k (Some x) = sym (under_named k x.contents)
 
 -- the namings of a document are those of its ends
-named_in : (d : Doc) (k : Naming) → by_objects d.objects k ≡ among (values_in d (object_of k) (feature_of k)) k
+named_in : (d : Doc) (k : Naming) → by_objects d.objects k ≡ is_among (values_in d (object_of k) (feature_of k)) k
 named_in d k =
     list_any-as (λ y. by_contents y.0 y.1.contents k) (λ y. nat_eq (0 + k.object) y.0 && list_any (named_by k) y.1.contents) (enumerate_from 0 d.objects)
     (λ y. any-pulled (nat_eq k.object y.0) (named_by k) y.1.contents ∙ ap (λ n. nat_eq n y.0 && list_any (named_by k) y.1.contents) (let e : k.object ≡ 0 + k.object = omega arith in e))

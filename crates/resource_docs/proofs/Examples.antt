@@ -8,8 +8,8 @@ use Rattle.mm_types.specs.declared.document_fault.DocFault.TheVariants as cause
 use Rattle.mm_types.specs.declared.value.Value.{Value}
 use Rattle.mm_types.specs.declared.value.Value.TheVariants as value
 use Rattle.resource_docs.specs.declared.doc.Doc.{Doc}
-use Rattle.web_uris.specs.Joined.{joined}
-use Rattle.doc_parts.specs.Layout.{top, written}
+use Rattle.web_uris.specs.Joined.{joined_uri}
+use Rattle.doc_parts.specs.Layout.{top, written_object}
 use Rattle.doc_parts.specs.Parts.{parts}
 use Rattle.resource_docs.specs.Read.{doc_read}
 use Rattle.resource_docs.specs.declared.doc.Content.{Content}
@@ -18,7 +18,7 @@ use Rattle.mm_meta.proofs.Library.{fid, library, oid, v}
 
 -- the definitions that an example unfolds to compute the result of reading
 unfoldable on_literals : Rattle.std.specs.Prelude.⊤
-unfolding serde_json_on_literals url_on_literals joined top written parts doc_read cause_of reads_bytes
+unfolding serde_json_on_literals url_on_literals joined_uri top written_object parts doc_read cause_of reads_bytes
 on_literals = tt
 
 abbrev pub uri_a : List ℕ

@@ -1,5 +1,7 @@
 pub mod ReferenceLemmas
 pub mod ReadingLemmas
+pub mod MemberLemmas
+pub mod SingleLemmas
 pub mod ObjectLemmas
 pub mod AnyLemmas
 pub mod EndLemmas

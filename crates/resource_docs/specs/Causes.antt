@@ -106,15 +106,15 @@ abbrev pub reads : Metamodel → Base → Data → Result Doc DocFault
 reads m b d = unless_faulty (cause_of m b d) (doc_read m b d)
 
 -- the JSON value of bytes; none if they are no JSON in UTF-8, which is the first cause
-abbrev pub parsed : List ℕ → Option Data
-parsed bytes = if is_utf8 bytes then read bytes else None
+abbrev pub parsed_json : List ℕ → Option Data
+parsed_json bytes = if is_utf8 bytes then read bytes else None
 
 abbrev pub reads_if : Metamodel → Base → Option Data → Result Doc DocFault
 reads_if m b None = Err cause.Syntax
 reads_if m b (Some d) = reads m b d
 
 unfoldable pub reads_bytes : Metamodel → List ℕ → List ℕ → Result Doc DocFault
-reads_bytes m uri bytes = reads_if m (base_of uri) (parsed bytes)
+reads_bytes m uri bytes = reads_if m (base_of uri) (parsed_json bytes)
 
 -- each proxy of a document has the text of a proxy, with a normalised URI
 abbrev pub HasSteadyProxies : Doc → Type 0

@@ -23,11 +23,11 @@ has e k = list_any (same_naming k) e.namings.keys
 ---------------------------------------------------------------- what names what
 
 -- whether the object that a naming names is among values
-abbrev pub among : List Value → Naming → Bool
-among vs k = list_any (same_value (value.Object (record { 0 = k.named }))) vs
+abbrev pub is_among : List Value → Naming → Bool
+is_among vs k = list_any (same_value (value.Object (record { 0 = k.named }))) vs
 
 abbrev pub by_values : ℕ → ℕ → List Value → Naming → Bool
-by_values n f vs k = nat_eq k.object n && (nat_eq k.feature f && among vs k)
+by_values n f vs k = nat_eq k.object n && (nat_eq k.feature f && is_among vs k)
 
 abbrev pub by_contents : ℕ → List Content → Naming → Bool
 by_contents n cs k = list_any (λ c. by_values n c.feature.0 c.values k) cs

@@ -5,4 +5,5 @@ pub mod Reading
 pub mod Causes
 pub mod Keys
 pub mod DocValues
+pub mod Contents
 pub mod Ends

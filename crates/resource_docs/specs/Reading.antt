@@ -68,10 +68,14 @@ with_values r f v =
       has_long = r.has_long;
     }
 
+-- the contents, and whether one more content is of its type, and too long
+abbrev pub with_content_flags : ReadContents → Bool → Bool → ReadContents
+with_content_flags r is_of_type long =
+    record { contents = r.contents; is_lost = r.is_lost; has_other = r.has_other || not is_of_type; has_long = r.has_long || long }
+
 -- the contents with the faults of what is written under one more feature
 abbrev pub with_flaws : Metamodel → ReadContents → Entry → ReadContents
-with_flaws m r e =
-    record { contents = r.contents; is_lost = r.is_lost; has_other = r.has_other || not (is_content m e); has_long = r.has_long || is_long m e }
+with_flaws m r e = with_content_flags r (is_content m e) (is_long m e)
 
 abbrev pub objects_so_far : Metamodel → Base → List Part → List Part → ReadObjects
 objects_so_far m b ps qs =
@@ -84,17 +88,20 @@ objects_so_far m b ps qs =
 
 ---------------------------------------------------------------- causes
 
--- the causes that are found before values are read: by the shape of the parts, and by their names
+-- the causes that are found before values are read: by the shape of the parts, and by the names of their classes
 abbrev pub early_cause : Metamodel → Option Top → List Part → Option DocFault
 early_cause m t ps =
     cause.Layout where_so (not (is_some t) || list_any is_misshapen ps) else_by
     cause.Format where_so option_map_or has_other_format t false else_by
-    cause.Class where_so of_written (has_no_class m) ps else_by
-    cause.Feature where_so of_written (has_other_key m) ps
+    cause.Class where_so of_written (has_no_class m) ps
 
 -- the causes that are known after the values are read
 abbrev pub late_cause : Metamodel → Base → Data → List Part → Doc → Option DocFault
 late_cause m b d ps doc = cause.Value where_so of_entry m (λ e. not (is_content m e)) ps else_by sense_cause m b d ps doc
+
+-- the same, after the names of features
+abbrev pub named_cause : Metamodel → Base → Data → List Part → Doc → Option DocFault
+named_cause m b d ps doc = cause.Feature where_so of_written (has_other_key m) ps else_by late_cause m b d ps doc
 
 ---------------------------------------------------------------- proxies
 

@@ -3,11 +3,11 @@ use Rattle.std.specs.Prelude.{◌≡◌, ℕ, List, [], ◌∷◌, Option, Some,
 use Rattle.std.specs.Str.{bytes_eq}
 use Rattle.json_fields.specs.Fields.{◌>>=◌}
 use Rattle.web_uris.specs.Addresses.{IsSteadyProxy, address_text, fragment_part, has_mark, uri_part}
-use Rattle.web_uris.specs.Joined.{IsWebUri, joined}
+use Rattle.web_uris.specs.Joined.{IsWebUri, joined_uri}
 use Rattle.web_uris.specs.Paths.{parse}
 use Rattle.web_uris.specs.declared.path.Path.{Path}
-use Rattle.resource_docs.specs.declared.target.Target.{Target}
-use Rattle.resource_docs.specs.declared.target.Target.TheVariants.{Here, Elsewhere}
+use Rattle.resource_docs.specs.declared.referent.Referent.{Referent}
+use Rattle.resource_docs.specs.declared.referent.Referent.TheVariants.{Here, Elsewhere}
 
 -- a resource's URI, and how a reference joins with it
 pub record Base : Type 0 where
@@ -15,7 +15,7 @@ pub record Base : Type 0 where
   pub join : List ℕ → Option (List ℕ)
 
 abbrev pub base_of : List ℕ → Base
-base_of uri = record { uri = uri; join = joined uri }
+base_of uri = record { uri = uri; join = joined_uri uri }
 
 -- the URI that a text means; an empty text means the resource's own URI
 abbrev pub uri_meant : Base → List ℕ → Option (List ℕ)
@@ -23,21 +23,21 @@ uri_meant b [] = Some b.uri
 uri_meant b (c ∷ cs) = b.join (c ∷ cs)
 
 -- the target at a URI: an object of the document if the URI is the resource's own, as a text; else an object elsewhere
-abbrev pub target_in : Base → List ℕ → List ℕ → Path → Target
+abbrev pub target_in : Base → List ℕ → List ℕ → Path → Referent
 target_in b rest uri p = if bytes_eq uri b.uri then Here p else Elsewhere (address_text uri rest)
 
 -- the target of a URI, or an empty text, and the fragment after it
-abbrev pub target_at : Base → List ℕ → List ℕ → Option Target
+abbrev pub target_at : Base → List ℕ → List ℕ → Option Referent
 target_at b part rest = parse rest >>= (λ p. option_map (λ u. target_in b rest u p) (uri_meant b part))
 
 -- the target of a text: without `#` it is a fragment of the document; else a URI comes before the first `#`, and a fragment after it
-abbrev pub target : Base → List ℕ → Option Target
+abbrev pub target : Base → List ℕ → Option Referent
 target b t = if has_mark t then target_at b (uri_part t) (fragment_part t) else option_map Here (parse t)
 
 -- the target in another resource has the text of a proxy, with a normalised URI
-abbrev pub IsProxyTarget : Target → Type 0
-IsProxyTarget (Here p) = Unit {0}
-IsProxyTarget (Elsewhere t) = IsSteadyProxy t
+abbrev pub IsProxyReferent : Referent → Type 0
+IsProxyReferent (Here p) = Unit {0}
+IsProxyReferent (Elsewhere t) = IsSteadyProxy t
 
 -- a URI other than the resource's own is normalised
 abbrev pub IsWebElsewhere : List ℕ → List ℕ → Type 0

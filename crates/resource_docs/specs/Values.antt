@@ -20,8 +20,8 @@ use Rattle.web_uris.specs.declared.path.Path.{Path}
 use Rattle.doc_parts.specs.Contents.{attribute_value, conforms_to}
 use Rattle.doc_parts.specs.Parts.{Entry, Part, number_of, step_to, values_of}
 use Rattle.resource_docs.specs.Texts.{Base, target}
-use Rattle.resource_docs.specs.declared.target.Target.{Target}
-use Rattle.resource_docs.specs.declared.target.Target.TheVariants.{Here, Elsewhere}
+use Rattle.resource_docs.specs.declared.referent.Referent.{Referent}
+use Rattle.resource_docs.specs.declared.referent.Referent.TheVariants.{Here, Elsewhere}
 
 ---------------------------------------------------------------- references
 
@@ -30,7 +30,7 @@ abbrev pub object_of : ℕ → Value
 object_of n = value.Object (record { 0 = n })
 
 -- the value of a target: an object of the document whose class conforms, or a proxy
-abbrev pub led_to : Metamodel → List Part → ClassNo → Target → Option Value
+abbrev pub led_to : Metamodel → List Part → ClassNo → Referent → Option Value
 led_to m ps class (Here p) =
     number_of ps p >>= (λ n. slice_get ps n >>= (λ q. if conforms_to m class q.json then Some (object_of n) else None))
 led_to m ps class (Elsewhere t) = Some (value.Proxy t)

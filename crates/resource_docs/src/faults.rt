@@ -16,11 +16,9 @@ ghost use Rattle.resource_docs.specs.Values.{has_lost};
 use crate::cross::has_crosses;
 use crate::doc::Doc;
 use crate::ends::has_one_sided;
+use crate::read_context::ReadContext;
 use crate::repeats::has_repeats;
-use crate::source::Source;
-use doc_parts::{
-    FoundParts, TopMembers, has_deep, has_misshapen, has_unknown_class, has_unknown_feature,
-};
+use doc_parts::{FoundParts, TopMembers, has_deep, has_misshapen, has_unknown_class};
 use mm_meta::Meta;
 use mm_types::{DocFault, limits};
 use std::alloc::AllocError;
@@ -32,7 +30,7 @@ pub(crate) fn has_first_format(top: TopMembers) -> bool
     top.format == i64::from(limits::FIRST_DOCUMENT_FORMAT)
 }
 
-/// What is wrong with the shape of the parts, or with their names. Takes no memory.
+/// What is wrong with the shape of the parts, or with the names of their classes. Takes no memory.
 pub(crate) fn early_cause(meta: &Meta, top: TopMembers, found: &FoundParts) -> Option<DocFault>
     ensures { (ps : List Part) → Knows meta.now found.now ps → result ≡ early_meant meta.now (Some (new_top top.entry.format (items_view top.entry.roots.now))) ps }
 {
@@ -44,9 +42,6 @@ pub(crate) fn early_cause(meta: &Meta, top: TopMembers, found: &FoundParts) -> O
     }
     if has_unknown_class(meta, found) {
         return Some(DocFault::Class);
-    }
-    if has_unknown_feature(meta, found) {
-        return Some(DocFault::Feature);
     }
     None
 }
@@ -70,7 +65,7 @@ pub(crate) struct Noted {
 
 /// What is wrong with the targets of references, with the number of values, or with the depth of a part. Errs only if memory is refused.
 pub(crate) fn sense_cause(
-    source: &Source,
+    source: &ReadContext,
     noted: Noted,
     doc: &Doc,
 ) -> Result<Option<DocFault>, AllocError>

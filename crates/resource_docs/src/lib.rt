@@ -4,22 +4,24 @@
 //! `specs/Causes.antt` has the causes for which they are refused, in order.
 #![tactic(auto)]
 
+mod contents;
 mod cross;
 mod doc;
 mod doc_values;
 mod ends;
 mod faults;
 mod objects;
+mod read_context;
 mod reading;
 mod references;
+mod referent;
 mod repeats;
 mod roots;
-mod source;
-mod target;
 mod values;
 
+pub use contents::{ContentParts, Contents};
 pub use doc::{Content, Doc, DocObject};
 pub use doc_values::DocValues;
 pub use reading::read_doc;
-pub use target::Target;
+pub use referent::Referent;
 pub use web_uris::{UriFault, joined};

@@ -1,15 +1,22 @@
 //! The objects of a document are read.
-ghost use Rattle.std.specs.Prelude.{◌≡◌, ◌++◌, ◌∷◌, [], IfOk, List, OnOk, false, filter_map, option_to_list};
-ghost use Rattle.std.specs.List.{All};
+ghost use Rattle.std.specs.Prelude.{◌≡◌, ◌+◌, ◌<◌, ◌++◌, ◌∷◌, [], IfOk, List, if◌then◌else◌, OnOk, false, Some, filter_map, is_some, option_to_list, true};
+ghost use Rattle.std.specs.List.{All, list_all};
+ghost use Rattle.mm_types.specs.Lookups as lookups;
 ghost use Rattle.borrowed_json.specs.View.{members_view, view};
-ghost use Rattle.doc_parts.specs.FoundParts.{Knows, part_seen, seen};
+ghost use Rattle.doc_parts.specs.FoundParts.{Knows, has_other_member, part_seen, seen_part};
+ghost use Rattle.doc_parts.specs.Contents.{is_content as is_content_meant};
+ghost use Rattle.doc_parts.specs.Faults.{has_other_key as other_key, is_long as long, is_readable, of_written};
 ghost use Rattle.doc_parts.specs.Parts.{Entry, Part, entries, entry_at, new_entry};
-ghost use Rattle.resource_docs.specs.Reading.{IsProxyContent, IsProxyObject, Numbered, contents_so_far, objects_so_far, with_flaws, with_values};
-ghost use Rattle.resource_docs.specs.Texts.{base_of};
+ghost use Rattle.resource_docs.specs.Reading.{IsProxyContent, IsProxyObject, Numbered, contents_so_far, with_content_flags, objects_so_far, with_values};
+ghost use Rattle.resource_docs.specs.Read.{values_read};
+ghost use Rattle.resource_docs.specs.Texts.{Base, base_of};
+ghost use Rattle.web_uris.specs.declared.path.Path.{Path};
 ghost use Rattle.resource_docs.specs.Values.{IsProxyValue};
 
+use crate::contents::Contents;
 use crate::doc::{Content, DocObject};
-use crate::source::Source;
+use crate::doc_values::DocValues;
+use crate::read_context::ReadContext;
 use crate::values::{ReadValues, read_content};
 use borrowed_json::{Json, Members};
 use doc_parts::{FoundPart, content_at, is_content, is_long};
@@ -21,7 +28,7 @@ use std::alloc::{AllocError, Global};
 /// has too many values.
 #[derive(Drop)]
 pub(crate) struct ReadContents {
-    pub contents: Seq<Content>,
+    pub contents: Contents,
     pub is_lost: bool,
     pub has_other: bool,
     pub has_long: bool,
@@ -40,9 +47,9 @@ pub(crate) struct ReadObjects {
 fn no_contents(alloc: Global, room: usize) -> Result<ReadContents, AllocError>
     ensures { IfOk result (λ r. r ≡ record { contents = []; is_lost = false; has_other = false; has_long = false }) }
 {
-    let contents = Vec::with_capacity(alloc, room)?;
+    let contents = Contents::with_capacity(alloc, room)?;
     Ok(ReadContents {
-        contents: Seq::from_vec(contents),
+        contents,
         is_lost: false,
         has_other: false,
         has_long: false,
@@ -52,6 +59,7 @@ fn no_contents(alloc: Global, room: usize) -> Result<ReadContents, AllocError>
 /// Adds the values that were read under a feature, if there are any.
 fn add_values(
     read: &mut ReadContents,
+    alloc: Global,
     feature: FeatureNo,
     found: ReadValues,
 ) -> Result<(), AllocError>
@@ -61,27 +69,49 @@ fn add_values(
     let ReadValues { values, is_lost } = found;
     read.is_lost = read.is_lost || is_lost;
     if !values.is_empty() {
-        read.contents.push(Content { feature, values })?;
+        read.contents.push(alloc, Content { feature, values })?;
     }
     Ok(())
 }
 
-/// Notes the faults that a content has by itself.
-fn note_flaws<'t>(read: &mut ReadContents, meta: &Meta, feature: FeatureNo, content: &'t Json<'t>)
-    ensures { read.new ≡ with_flaws meta.now read.old (new_entry feature (view content.now)) }
+/// Whether a content, from which these values were read, is of its feature's type. The value of a single attribute is read only if it is.
+fn is_of_type<'t>(
+    meta: &Meta,
+    feature: FeatureNo,
+    content: &'t Json<'t>,
+    values: &DocValues,
+) -> bool
+    ensures { (b : Base) (ps : List Part) (path : Path) → values.now ≡ values_read meta.now b ps path (new_entry feature (view content.now)) → result ≡ is_content_meant meta.now (new_entry feature (view content.now)) }
 {
-    read.has_other = read.has_other || !is_content(meta, feature, content);
+    if meta.is_single(feature) && !meta.is_reference(feature) {
+        return !values.is_empty();
+    }
+    is_content(meta, feature, content)
+}
+
+/// Notes the faults that a content has by itself.
+fn note_flaws<'t>(
+    read: &mut ReadContents,
+    meta: &Meta,
+    feature: FeatureNo,
+    content: &'t Json<'t>,
+    is_of_type: bool,
+)
+    ensures { read.new ≡ with_content_flags read.old is_of_type (long meta.now (new_entry feature (view content.now))) }
+{
+    read.has_other = read.has_other || !is_of_type;
     read.has_long = read.has_long || is_long(meta, feature, content);
 }
 
-/// Reads the content of one more feature.
+/// Reads the content of one more feature. Returns whether there is one.
 fn add_feature(
     read: &mut ReadContents,
-    source: &Source,
+    source: &ReadContext,
     number: u32,
     members: Members,
     feature: FeatureNo,
-) -> Result<(), AllocError>
+) -> Result<bool, AllocError>
+    ensures found { IfOk result (λ b. b ≡ is_some (entry_at source.now.meta.now (members_view members.now) feature)) }
     ensures value { OnOk result (Numbered source.now.meta.now source.now.found.now number (λ ps path. (es : List Entry)
         → read.old ≡ contents_so_far source.now.meta.now (base_of source.now.uri.now) ps path es
         → read.new ≡ contents_so_far source.now.meta.now (base_of source.now.uri.now) ps path (es ++ option_to_list (entry_at source.now.meta.now (members_view members.now) feature)))) }
@@ -90,59 +120,87 @@ fn add_feature(
     match content_at(source.meta, members, feature) {
         Some(content) => {
             let found = read_content(source, number, feature, content)?;
-            note_flaws(read, source.meta, feature, content);
-            add_values(read, feature, found)
+            let is_of_type = is_of_type(source.meta, feature, content, &found.values);
+            note_flaws(read, source.meta, feature, content, is_of_type);
+            add_values(read, source.alloc, feature, found)?;
+            Ok(true)
         }
-        None => Ok(()),
+        None => Ok(false),
     }
 }
 
+/// How many members are left after a feature was looked for.
+fn left_after(left: usize, is_found: bool) -> usize
+    requires { 0 < left }
+    ensures { left ≡ result + (if is_found then 1 else 0) }
+{
+    if is_found { left - 1 } else { left }
+}
+
+/// Reads the contents of the features of a class, and says whether each member is the content of one of them.
 fn read_features(
-    source: &Source,
+    source: &ReadContext,
     number: u32,
+    class: ClassNo,
     members: Members,
     features: &[FeatureNo],
-) -> Result<ReadContents, AllocError>
-    ensures value { IfOk result (λ r. Numbered source.now.meta.now source.now.found.now number (λ ps path. r ≡ contents_so_far source.now.meta.now (base_of source.now.uri.now) ps path (filter_map (entry_at source.now.meta.now (members_view members.now)) features.now))) }
-    ensures proxy { IfOk result (λ r. All IsProxyContent r.contents) }
+) -> Result<(ReadContents, bool), AllocError>
+    requires features { Some features.now ≡ lookups.features source.now.meta.now class }
+    ensures all { IfOk result (λ r. r.1 ≡ true → list_all (λ m. is_readable source.now.meta.now class m.0.now) members.now ≡ true) }
+    ensures value { IfOk result (λ r. Numbered source.now.meta.now source.now.found.now number (λ ps path. r.0 ≡ contents_so_far source.now.meta.now (base_of source.now.uri.now) ps path (filter_map (entry_at source.now.meta.now (members_view members.now)) features.now))) }
+    ensures proxy { IfOk result (λ r. All IsProxyContent r.0.contents) }
 {
+    source.meta.lemma_is_of_document();
     let room = members.len().min(features.len());
     let mut read = no_contents(source.alloc, room)?;
+    // No two features share a name. So once as many contents are found as there are members, no other feature has one.
+    let mut left = members.len();
     'features: for feature in features {
-        add_feature(&mut read, source, number, members, *feature)?;
+        if left == 0 {
+            return Ok((read, true));
+        }
+        let is_found = add_feature(&mut read, source, number, members, *feature)?;
+        left = left_after(left, is_found);
     }
-    Ok(read)
+    Ok((read, left == 0))
 }
 
-/// Reads the contents of the object of a part.
-fn read_contents(source: &Source, part: &FoundPart) -> Result<ReadContents, AllocError>
-    ensures value { IfOk result (λ r. (ps : List Part) (p : Part) → Knows source.now.meta.now source.now.found.now ps → part_seen part.now ≡ seen source.now.meta.now ps p
-        → r ≡ contents_so_far source.now.meta.now (base_of source.now.uri.now) ps p.path (entries source.now.meta.now p.json)) }
-    ensures proxy { IfOk result (λ r. All IsProxyContent r.contents) }
+/// Reads the contents of the object of a part, and says whether it has no other members.
+fn read_contents(source: &ReadContext, part: &FoundPart) -> Result<(ReadContents, bool), AllocError>
+    ensures all { IfOk result (λ r. r.1 ≡ true → has_other_member source.now.meta.now (part_seen part.now) ≡ false) }
+    ensures value { IfOk result (λ r. (ps : List Part) (p : Part) → Knows source.now.meta.now source.now.found.now ps → part_seen part.now ≡ seen_part source.now.meta.now ps p
+        → r.0 ≡ contents_so_far source.now.meta.now (base_of source.now.uri.now) ps p.path (entries source.now.meta.now p.json)) }
+    ensures proxy { IfOk result (λ r. All IsProxyContent r.0.contents) }
 {
-    match part.known() {
+    match part.known {
         Some((class, members)) => match source.meta.features(class) {
-            Some(features) => read_features(source, part.number, members, features),
-            None => no_contents(source.alloc, 0),
+            Some(features) => read_features(source, part.number, class, members, features),
+            None => Ok((no_contents(source.alloc, 0)?, false)),
         },
-        None => no_contents(source.alloc, 0),
+        None => Ok((no_contents(source.alloc, 0)?, true)),
     }
 }
 
-/// Reads the object of one more part.
-fn add_object(read: &mut ReadObjects, source: &Source, part: &FoundPart) -> Result<(), AllocError>
-    ensures value { OnOk result ((ps qs : List Part) (p : Part) → Knows source.now.meta.now source.now.found.now ps → part_seen part.now ≡ seen source.now.meta.now ps p
+/// Reads the object of one more part, and says whether each of its members is the content of a feature.
+fn add_object(
+    read: &mut ReadObjects,
+    source: &ReadContext,
+    part: &FoundPart,
+) -> Result<bool, AllocError>
+    ensures all { IfOk result (λ b. b ≡ true → has_other_member source.now.meta.now (part_seen part.now) ≡ false) }
+    ensures value { OnOk result ((ps qs : List Part) (p : Part) → Knows source.now.meta.now source.now.found.now ps → part_seen part.now ≡ seen_part source.now.meta.now ps p
         → read.old ≡ objects_so_far source.now.meta.now (base_of source.now.uri.now) ps qs
         → read.new ≡ objects_so_far source.now.meta.now (base_of source.now.uri.now) ps (qs ++ p ∷ [])) }
     ensures proxy { OnOk result (All IsProxyObject read.old.objects → All IsProxyObject read.new.objects) }
 {
+    let (found, is_all) = read_contents(source, part)?;
     let ReadContents {
         contents,
         is_lost,
         has_other,
         has_long,
-    } = read_contents(source, part)?;
-    let class = match part.class {
+    } = found;
+    let class = match part.class() {
         Some(class) => class,
         None => ClassNo(0),
     };
@@ -150,13 +208,15 @@ fn add_object(read: &mut ReadObjects, source: &Source, part: &FoundPart) -> Resu
     read.has_other = read.has_other || has_other;
     read.has_long = read.has_long || has_long;
     read.objects.push(DocObject { class, contents })?;
-    Ok(())
+    Ok(is_all)
 }
 
-/// Reads the objects of the parts that were found, in loading order. Errs only if memory is refused.
-pub(crate) fn read_objects(source: &Source) -> Result<ReadObjects, AllocError>
-    ensures value { IfOk result (λ r. (ps : List Part) → Knows source.now.meta.now source.now.found.now ps → r ≡ objects_so_far source.now.meta.now (base_of source.now.uri.now) ps ps) }
-    ensures proxy { IfOk result (λ r. All IsProxyObject r.objects) }
+/// Reads the objects of the parts that were found, in loading order, and says whether each of their members is the content of a feature.
+/// Errs only if memory is refused.
+pub(crate) fn read_objects(source: &ReadContext) -> Result<(ReadObjects, bool), AllocError>
+    ensures all { IfOk result (λ r. (ps : List Part) → Knows source.now.meta.now source.now.found.now ps → r.1 ≡ true → of_written (other_key source.now.meta.now) ps ≡ false) }
+    ensures value { IfOk result (λ r. (ps : List Part) → Knows source.now.meta.now source.now.found.now ps → r.0 ≡ objects_so_far source.now.meta.now (base_of source.now.uri.now) ps ps) }
+    ensures proxy { IfOk result (λ r. All IsProxyObject r.0.objects) }
 {
     let objects = Vec::with_capacity(source.alloc, source.found.parts.len())?;
     let mut read = ReadObjects {
@@ -165,8 +225,10 @@ pub(crate) fn read_objects(source: &Source) -> Result<ReadObjects, AllocError>
         has_other: false,
         has_long: false,
     };
+    let mut is_all = true;
     'parts: for part in source.found.parts.as_slice() {
-        add_object(&mut read, source, part)?;
+        let is_whole = add_object(&mut read, source, part)?;
+        is_all = is_all & is_whole;
     }
-    Ok(read)
+    Ok((read, is_all))
 }

@@ -1,25 +1,26 @@
 //! The bytes of a document are read.
-ghost use Rattle.std.specs.Prelude.{◌≡◌, ◌≤◌, Some, false, map};
+ghost use Rattle.std.specs.Prelude.{◌≡◌, ◌≤◌, List, Some, false, map, true};
 ghost use Rattle.std.specs.List.{All};
 ghost use Rattle.std.specs.Option.{option_map_or};
 ghost use Rattle.serde_json.specs.Data.{Data, depth};
 ghost use Rattle.borrowed_json.specs.View.{items_view, view};
+ghost use Rattle.doc_parts.specs.Faults.{has_other_key, of_written};
 ghost use Rattle.doc_parts.specs.FoundParts.{Knows, roots_from};
 ghost use Rattle.doc_parts.specs.Layout.{new_top, top as top_meant};
-ghost use Rattle.doc_parts.specs.Parts.{parts, root_parts};
+ghost use Rattle.doc_parts.specs.Parts.{Part, parts, root_parts};
 ghost use Rattle.resource_docs.specs.Causes.{Answers, Reads, has_first_format as first_meant, reads, unless_faulty};
 ghost use Rattle.resource_docs.specs.Read.{doc_read};
-ghost use Rattle.resource_docs.specs.Reading.{IsProxyObject, late_cause as late_meant, objects_so_far};
+ghost use Rattle.resource_docs.specs.Reading.{IsProxyObject, late_cause as late_meant, named_cause as named_meant, objects_so_far};
 ghost use Rattle.resource_docs.specs.Texts.{base_of};
 
 use crate::doc::Doc;
 use crate::faults::{Noted, early_cause, has_first_format, sense_cause};
 use crate::objects::{ReadObjects, read_objects};
+use crate::read_context::ReadContext;
 use crate::roots::read_roots;
-use crate::source::Source;
 use borrowed_json::{Json, JsonFault, read_json};
 use bumpalo::Bump;
-use doc_parts::{TopMembers, find_parts, top};
+use doc_parts::{TopMembers, find_parts, has_unknown_feature, top};
 use json::Scratch;
 use mm_meta::Meta;
 use mm_types::{DocFault, Refused};
@@ -30,7 +31,7 @@ const NESTING: usize = 127;
 
 /// The document whose objects were read; `has_first_format` says whether it has the first format.
 fn read_rest(
-    source: &Source,
+    source: &ReadContext,
     has_first_format: bool,
     roots: &[Json],
     read: ReadObjects,
@@ -66,21 +67,33 @@ fn read_rest(
     }
 }
 
-/// Reads the document whose parts were found and have the right shape and names; `has_first_format` says whether it has the first format.
-fn read_found(source: &Source, has_first_format: bool, roots: &[Json]) -> Result<Doc, Refused>
+/// Whether some object has a member that is no feature of its class. If each member is known to be one, no name is looked up.
+fn has_other_member(source: &ReadContext, is_all: bool) -> bool
+    ensures { (ps : List Part) → Knows source.now.meta.now source.now.found.now ps → (is_all ≡ true → of_written (has_other_key source.now.meta.now) ps ≡ false) → result ≡ of_written (has_other_key source.now.meta.now) ps }
+{
+    !is_all && has_unknown_feature(source.meta, source.found)
+}
+
+/// Reads the document whose parts were found and have the right shape and classes; `has_first_format` says whether it has the first format.
+fn read_found(source: &ReadContext, has_first_format: bool, roots: &[Json]) -> Result<Doc, Refused>
     ensures { (d : Data) → Knows source.now.meta.now source.now.found.now (parts source.now.meta.now d) → has_first_format ≡ option_map_or first_meant (top_meant d) false
         → root_parts d ≡ roots_from (map view roots.now)
-        → Answers result (unless_faulty (late_meant source.now.meta.now (base_of source.now.uri.now) d (parts source.now.meta.now d) (doc_read source.now.meta.now (base_of source.now.uri.now) d))
+        → Answers result (unless_faulty (named_meant source.now.meta.now (base_of source.now.uri.now) d (parts source.now.meta.now d) (doc_read source.now.meta.now (base_of source.now.uri.now) d))
         (doc_read source.now.meta.now (base_of source.now.uri.now) d)) }
 {
     match read_objects(source) {
-        Ok(read) => read_rest(source, has_first_format, roots, read),
+        Ok((read, is_all)) => {
+            if has_other_member(source, is_all) {
+                return Err(Refused::Document(DocFault::Feature));
+            }
+            read_rest(source, has_first_format, roots, read)
+        }
         Err(_) => Err(Refused::Memory),
     }
 }
 
 /// Reads the document whose parts were found.
-fn read_parts(source: &Source, top: TopMembers) -> Result<Doc, Refused>
+fn read_parts(source: &ReadContext, top: TopMembers) -> Result<Doc, Refused>
     ensures { (d : Data) → Knows source.now.meta.now source.now.found.now (parts source.now.meta.now d) → top_meant d ≡ Some (new_top top.entry.format (items_view top.entry.roots.now))
         → Answers result (reads source.now.meta.now (base_of source.now.uri.now) d) }
 {
@@ -96,7 +109,7 @@ fn read_top(alloc: Global, meta: &Meta, uri: &str, top: TopMembers) -> Result<Do
 {
     match find_parts(alloc, meta, NESTING, top.roots) {
         Ok(found) => read_parts(
-            &Source {
+            &ReadContext {
                 alloc,
                 meta,
                 uri,
@@ -151,7 +164,7 @@ fn read_text(alloc: Global, meta: &Meta, uri: &str, text: &str) -> Result<Doc, R
 ///
 /// `Memory` if memory is refused, or if there are more than 2^32 objects or values of a list, whatever else applies; no other refusal.
 /// References into other resources become proxies, by their joined URIs. For each metamodel the time is linear in the document: the members
-/// of an object are searched about twice for each feature of its class.
+/// of an object are searched at most twice for each feature of its class.
 pub fn read_doc(alloc: Global, meta: &Meta, uri: &str, bytes: &[u8]) -> Result<Doc, Refused>
     ensures { Reads result meta.now uri.now bytes.now }
 {

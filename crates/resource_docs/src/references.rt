@@ -4,12 +4,12 @@ ghost use Rattle.borrowed_json.specs.View.{view};
 ghost use Rattle.doc_parts.specs.FoundParts.{Knows, conforms_seen, part_seen};
 ghost use Rattle.doc_parts.specs.Parts.{Part};
 ghost use Rattle.doc_parts.specs.declared.found.FoundPart.{FoundPart};
-ghost use Rattle.resource_docs.specs.Texts.{IsProxyTarget, base_of};
+ghost use Rattle.resource_docs.specs.Texts.{IsProxyReferent, base_of};
 ghost use Rattle.resource_docs.specs.Values.{IsProxyValue, led_to as led_meant, object_of, reference_value as value_meant};
-ghost use Rattle.resource_docs.specs.declared.target.Target.TheVariants.{Here};
+ghost use Rattle.resource_docs.specs.declared.referent.Referent.TheVariants.{Here};
 
-use crate::source::Source;
-use crate::target::{Target, target_of};
+use crate::read_context::ReadContext;
+use crate::referent::{Referent, target_of};
 use borrowed_json::Json;
 use doc_parts::{FoundPart, FoundParts};
 use mm_meta::Meta;
@@ -21,7 +21,7 @@ use web_uris::Path;
 fn conforms_to(meta: &Meta, class: ClassNo, part: FoundPart) -> bool
     ensures { result ≡ conforms_seen meta.now class (part_seen part.entry) }
 {
-    match part.class {
+    match part.class() {
         Some(own) => meta.conforms(own, class),
         None => false,
     }
@@ -49,20 +49,20 @@ fn object_at(meta: &Meta, found: &FoundParts, class: ClassNo, path: &Path) -> Op
     }
 }
 
-fn led_to(meta: &Meta, found: &FoundParts, class: ClassNo, target: Target) -> Option<Value>
+fn led_to(meta: &Meta, found: &FoundParts, class: ClassNo, target: Referent) -> Option<Value>
     ensures value { (ps : List Part) → Knows meta.now found.now ps → result ≡ led_meant meta.now ps class target }
-    ensures proxy { IsProxyTarget target → IfSome result IsProxyValue }
+    ensures proxy { IsProxyReferent target → IfSome result IsProxyValue }
 {
     match target {
-        Target::Here(path) => object_at(meta, found, class, &path),
-        Target::Elsewhere(address) => Some(Value::Proxy(address)),
+        Referent::Here(path) => object_at(meta, found, class, &path),
+        Referent::Elsewhere(address) => Some(Value::Proxy(address)),
     }
 }
 
 /// The value of a reference to a class: an object of the document that conforms, or a proxy; `None` if the text leads
 /// nowhere, or to an object of a wrong class. Errs only if memory is refused.
 pub(crate) fn reference_value(
-    source: &Source,
+    source: &ReadContext,
     class: ClassNo,
     json: &Json,
 ) -> Result<Option<Value>, AllocError>

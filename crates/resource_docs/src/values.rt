@@ -10,8 +10,8 @@ ghost use Rattle.resource_docs.specs.Texts.{base_of};
 ghost use Rattle.resource_docs.specs.Values.{IsProxyValue, is_link as link_meant, object_of, value_of as value_meant};
 
 use crate::doc_values::DocValues;
+use crate::read_context::ReadContext;
 use crate::references::reference_value;
-use crate::source::Source;
 use borrowed_json::Json;
 use doc_parts::{PartKey, attribute_value, index_of, values_of};
 use mm_types::{FeatureNo, Kind, ObjectNo, Value};
@@ -24,44 +24,65 @@ pub(crate) struct ReadValues {
     pub is_lost: bool,
 }
 
-/// The object to which a step leads from the part of a number.
-fn part_at(source: &Source, number: u32, name: &str, index: Option<u32>) -> Option<Value>
+/// The object to which a step leads from the part of a number. It is looked for first at the number that it is likely to have.
+fn part_at(
+    source: &ReadContext,
+    number: u32,
+    name: &str,
+    index: Option<u32>,
+    likely: u32,
+) -> Option<Value>
     ensures value { Numbered source.now.meta.now source.now.found.now number (λ ps path. result ≡ option_map object_of (number_of ps (with_step path (new_step name.now index)))) }
     ensures proxy { IfSome result IsProxyValue }
 {
-    match source.found.numbers.at(PartKey::Under {
+    let key = PartKey::Under {
         part: number,
         name,
         index,
-    }) {
+    };
+    match source.found.numbers.at_likely(key, likely) {
         Some(part) => Some(Value::Object(ObjectNo(part))),
         None => None,
     }
 }
 
 /// The object at a position under a feature of the part of a number.
-fn part_of(source: &Source, number: u32, feature: FeatureNo, position: u32) -> Option<Value>
+fn part_of(
+    source: &ReadContext,
+    number: u32,
+    feature: FeatureNo,
+    position: u32,
+    likely: u32,
+) -> Option<Value>
     ensures value { Numbered source.now.meta.now source.now.found.now number (λ ps path. result ≡ option_map object_of (number_of ps (with_step path (step_to source.now.meta.now feature position)))) }
     ensures proxy { IfSome result IsProxyValue }
 {
     if source.meta.is_single(feature) {
-        return part_at(source, number, source.meta.feature_name(feature), None);
+        return part_at(
+            source,
+            number,
+            source.meta.feature_name(feature),
+            None,
+            likely,
+        );
     }
     part_at(
         source,
         number,
         source.meta.feature_name(feature),
         Some(position),
+        likely,
     )
 }
 
 /// The value that is read at a position under a feature of the part of a number. Errs only if memory is refused.
 fn value_of(
-    source: &Source,
+    source: &ReadContext,
     number: u32,
     feature: FeatureNo,
     kind: &Kind,
     position: u32,
+    likely: u32,
     json: &Json,
 ) -> Result<Option<Value>, AllocError>
     ensures value { IfOk result (λ v. Numbered source.now.meta.now source.now.found.now number (λ ps path. v ≡ value_meant source.now.meta.now (base_of source.now.uri.now) ps path feature kind.now (position, view json.now))) }
@@ -78,7 +99,7 @@ fn value_of(
         Kind::Reference {
             containment: true,
             ..
-        } => Ok(part_of(source, number, feature, position)),
+        } => Ok(part_of(source, number, feature, position, likely)),
         Kind::Reference { target, .. } => reference_value(source, *target, json),
     }
 }
@@ -102,10 +123,18 @@ fn note_lost(read: &mut ReadValues, is_lost: bool)
     read.is_lost = read.is_lost || is_lost;
 }
 
+/// The number that the next object under a feature of the part of a number is likely to have: one more than that of the object before it.
+fn likely_number(read: &ReadValues, number: u32) -> u32 {
+    match read.values.as_slice().last() {
+        Some(Value::Object(object)) => object.0.saturating_add(1),
+        _ => number.saturating_add(1),
+    }
+}
+
 /// Reads one more value.
 fn add_value(
     read: &mut ReadValues,
-    source: &Source,
+    source: &ReadContext,
     number: u32,
     feature: FeatureNo,
     kind: &Kind,
@@ -117,7 +146,8 @@ fn add_value(
         → read.new ≡ values_so_far source.now.meta.now (base_of source.now.uri.now) ps path feature kind.now (ds ++ view json.now ∷ []))) }
     ensures proxy { OnOk result (All IsProxyValue read.old.values → All IsProxyValue read.new.values) }
 {
-    match value_of(source, number, feature, kind, position, json)? {
+    let likely = likely_number(read, number);
+    match value_of(source, number, feature, kind, position, likely, json)? {
         Some(value) => read.values.push(source.alloc, value)?,
         None => note_lost(read, is_link(kind)),
     }
@@ -137,7 +167,7 @@ fn no_values(alloc: Global, room: usize) -> Result<ReadValues, AllocError>
 
 /// Reads values under a feature. Errs only if memory is refused, or if there are more than 2^32.
 fn read_values(
-    source: &Source,
+    source: &ReadContext,
     number: u32,
     feature: FeatureNo,
     kind: &Kind,
@@ -154,9 +184,25 @@ fn read_values(
     Ok(read)
 }
 
+/// Reads the value of a single feature. Errs only if memory is refused.
+fn read_one(
+    source: &ReadContext,
+    number: u32,
+    feature: FeatureNo,
+    kind: &Kind,
+    json: &Json,
+) -> Result<ReadValues, AllocError>
+    ensures value { IfOk result (λ r. Numbered source.now.meta.now source.now.found.now number (λ ps path. r ≡ values_so_far source.now.meta.now (base_of source.now.uri.now) ps path feature kind.now (view json.now ∷ []))) }
+    ensures proxy { IfOk result (λ r. All IsProxyValue r.values) }
+{
+    let mut read = no_values(source.alloc, 1)?;
+    add_value(&mut read, source, number, feature, kind, 0, json)?;
+    Ok(read)
+}
+
 /// Reads the content of a feature of the part of a number. Errs only if memory is refused, or if there are more than 2^32 values.
 pub(crate) fn read_content<'t>(
-    source: &Source,
+    source: &ReadContext,
     number: u32,
     feature: FeatureNo,
     content: &'t Json<'t>,
@@ -165,6 +211,9 @@ pub(crate) fn read_content<'t>(
     ensures proxy { IfOk result (λ r. All IsProxyValue r.values) }
 {
     match source.meta.feature(feature) {
+        Some(found) if source.meta.is_single(feature) => {
+            read_one(source, number, feature, &found.kind, content)
+        }
         Some(found) => read_values(
             source,
             number,

@@ -25,7 +25,7 @@ use Rattle.doc_parts.specs.Contents.{attribute_value, is_short, text_value}
 use Rattle.mm_types.specs.Lookups.{literal_in}
 use Rattle.doc_writer.specs.Document.{value_data}
 use Rattle.round_trip.proofs.LiteralLemmas.{literal-read}
-use Rattle.round_trip.specs.Copied.{renamed}
+use Rattle.round_trip.specs.Copied.{renamed_value}
 
 ---------------------------------------------------------------- numbers
 
@@ -65,7 +65,7 @@ text-read single t short =
 -- a value is read as it was, and stays the same in the document
 pub record IsReadBack (r : Reading) (os : List ObjectNo) (single : Bool) (t : DataType) (d : Data) (v : Value) : Type 0 where
   pub reads : attribute_value r.metamodel single t d ≡ Some v
-  pub same : renamed r os v ≡ v
+  pub same : renamed_value r os v ≡ v
 
 no-null : (b : Bool) → (b && false) ≡ true → ⊥
 no-null true h = false≢true h

@@ -47,13 +47,13 @@ use Rattle.resource_docs.specs.declared.doc.Doc.{Doc}
 use Rattle.round_trip.specs.PartsLaws.{AreParts}
 use Rattle.round_trip.specs.Parts.{data_of, entry_of, part_of, path_in}
 use Rattle.round_trip.specs.TextsLaws.{LeadsBack}
-use Rattle.round_trip.specs.Copied.{copied, renamed}
+use Rattle.round_trip.specs.Copied.{copied_document, renamed_value}
 use Rattle.round_trip.specs.ValuesLaws.{AreReadAs, parts_of}
 use Rattle.round_trip.specs.Readable.{IsReadable}
 use Rattle.round_trip.proofs.DocumentLemmas.{parts-saved}
 use Rattle.round_trip.proofs.LeadsLemmas.{leads-back}
 use Rattle.round_trip.proofs.ReadAsLemmas.{all-read}
-use Rattle.round_trip.proofs.CopyLemmas.{doc-copied, values-written}
+use Rattle.round_trip.proofs.CopyLemmas.{doc-copied_document, values-written}
 use Rattle.round_trip.proofs.DepthLemmas.{document-depth}
 use Rattle.round_trip.proofs.EndLemmas.{apart-values, some-values, written-of}
 use Rattle.round_trip.proofs.ValuesListLemmas.{none-passes, stands}
@@ -95,7 +95,7 @@ module _ (s : Model) (legal : IsLegal s) (k : ResourceNo) (uri : List ℕ) (foun
   d = document (reading s) k
 
   abbrev doc : Doc
-  doc = copied (reading s) k
+  doc = copied_document (reading s) k
 
   abbrev ps : List Part
   ps = parts_of (reading s) k
@@ -111,13 +111,13 @@ module _ (s : Model) (legal : IsLegal s) (k : ResourceNo) (uri : List ℕ) (foun
       ap (λ (x : Option Feature). option_map_or (λ (g : Feature). list_any (is_lost m b ps g.kind) (values_of m (entry_of r k o f))) x false) w.there
       ∙ ap (list_any (is_lost m b ps w.feature.kind)) (values-written s legal k uri found read o f w)
       ∙ list_any-map made (is_lost m b ps w.feature.kind) vs
-      ∙ any-none (λ v. is_lost m b ps w.feature.kind (made v)) vs (each-at _ vs (λ i v at. not-lost m b ps (path_in r o) f w.feature.kind i (made v) (renamed r (objects_in r k) v) (read.values o f w.feature i v inside there w.there at).value)))
+      ∙ any-none (λ v. is_lost m b ps w.feature.kind (made v)) vs (each-at _ vs (λ i v at. not-lost m b ps (path_in r o) f w.feature.kind i (made v) (renamed_value r (objects_in r k) v) (read.values o f w.feature i v inside there w.there at).value)))
 
   repeated : of_content (λ o c. has_repeat m c) doc ≡ false
   repeated =
       none-content (reading s) k (λ o c. has_repeat m c) (λ n o f here there.
       let vs = values_at s (at_end (node.Object o) f) in
-      let named = map (renamed (reading s) (objects_in (reading s) k)) vs in
+      let named = map (renamed_value (reading s) (objects_in (reading s) k)) vs in
       elim (shape m f).is_unique as (λ u. (shape m f).is_unique ≡ u → u && repeats_value named ≡ false) [
         | true ↦ λ unique. no-repeat named (names-apart s legal k uri leads fine read o f (stands (objects_in (reading s) k) n o here) there (apart-values s legal o f unique))
         | false ↦ λ _. refl
@@ -168,12 +168,12 @@ module _ (s : Model) (legal : IsLegal s) (k : ResourceNo) (uri : List ℕ) (foun
   no-cause : cause_of m b d ≡ None
   unfolding cause_of
   no-cause =
-      ap (λ x. shape_cause m (top d) (parts m d) else_by sense_cause m b d (parts m d) x) (doc-copied s legal k uri found read)
+      ap (λ x. shape_cause m (top d) (parts m d) else_by sense_cause m b d (parts m d) x) (doc-copied_document s legal k uri found read)
       ∙ ap (λ x. x else_by sense_cause m b d (parts m d) doc) (no-shape_cause s legal k uri found read)
       ∙ no-sense_cause
 
   pub reads-back : reads m b d ≡ Ok doc
-  reads-back = ap (λ x. unless_faulty x (doc_read m b d)) no-cause ∙ ap Ok (doc-copied s legal k uri found read)
+  reads-back = ap (λ x. unless_faulty x (doc_read m b d)) no-cause ∙ ap Ok (doc-copied_document s legal k uri found read)
 
 ---------------------------------------------------------------- the law
 
@@ -187,7 +187,7 @@ module _ (s : Model) (legal : IsLegal s) (steady : HasSteadyTexts s) (k : Resour
   abbrev values-of : AreReadAs (reading s) k uri
   values-of = all-read s legal steady k uri parts-of leads-of fine
 
-  pub value-back : reads s.metamodel (base_of uri) (document (reading s) k) ≡ Ok (copied (reading s) k)
+  pub value-back : reads s.metamodel (base_of uri) (document (reading s) k) ≡ Ok (copied_document (reading s) k)
   value-back = reads-back s legal k uri parts-of leads-of fine values-of
 
   shallow : (o : ObjectNo) → Contains (objects_in (reading s) k) o → level (reading s) o ≤ 40
@@ -198,7 +198,7 @@ module _ (s : Model) (legal : IsLegal s) (steady : HasSteadyTexts s) (k : Resour
       low : (n : ℕ) → nat_lt 40 n ≡ false → n ≤ 40
       low n h = grind (arith, nat_tests)
 
-  pub text-back : (text : List ℕ) → IsReadAs (reading s) k text → is_utf8 text ≡ true → reads_bytes s.metamodel uri text ≡ Ok (copied (reading s) k)
+  pub text-back : (text : List ℕ) → IsReadAs (reading s) k text → is_utf8 text ≡ true → reads_bytes s.metamodel uri text ≡ Ok (copied_document (reading s) k)
   unfolding reads_bytes
   text-back text reads utf8 =
       ap (λ b. reads_if s.metamodel (base_of uri) (cond b (read text) None)) utf8

@@ -26,7 +26,8 @@ use Rattle.models.specs.Model.{Model, reading, values_at}
 use Rattle.models.specs.Reading.{all_features_of, at_end, is_live, is_set, object_of, objects_of}
 use Rattle.models.proofs.EndLemmas.{values-single}
 use Rattle.models.proofs.PlaceLemmas.{position-target}
-use Rattle.containment.proofs.PartLemmas.{all-append, all-objects, contains-itself, contains-reference, holder-at, values-linked}
+use Rattle.mm_meta.proofs.FeatureListLemmas.{all-append}
+use Rattle.containment.proofs.PartLemmas.{all-objects, contains-itself, contains-reference, holder-at, values-linked}
 use Rattle.containment.specs.Forest as forest
 use Rattle.web_uris.specs.Paths.{new_path, new_step, with_step}
 use Rattle.web_uris.specs.declared.path.Path.{Path}

@@ -13,7 +13,7 @@ use Rattle.mm_types.specs.Lookups as lookups
 use Rattle.mm_types.specs.Names.{repeats}
 use Rattle.mm_types.specs.OfDocument.{IsOfDocument}
 use Rattle.mm_types.specs.Raw.{RawMetamodel}
-use Rattle.mm_types.specs.Resolved.{Metamodel, class_no, classes_from, resolved}
+use Rattle.mm_types.specs.Resolved.{Metamodel, class_no, classes_from, resolved_metamodel}
 use Rattle.mm_types.specs.WellFormed.{WellFormed, class_names, enum_names, reserved_names}
 use Rattle.mm_types.specs.declared.class.Class.{Class}
 use Rattle.mm_types.specs.declared.meta_fault.Condition.TheVariants.{DuplicateName}
@@ -53,8 +53,8 @@ none-earlier raw well c n at =
           (ap (λ (w : List ℕ). list_any (bytes_eq w) (take c (class_names raw))) (same_Some k.name n named) ∙ h)))))
     ] refl (sym (slice_get-map (λ (k : RawClass). k.name) raw.classes c) ∙ at))
 
-class-first : (raw : RawMetamodel) → WellFormed raw → (c : ClassNo) (k : Class) → lookups.class (resolved raw) c ≡ Some k → lookups.class_by_name (resolved raw) k.name ≡ Some c
-unfolding resolved
+class-first : (raw : RawMetamodel) → WellFormed raw → (c : ClassNo) (k : Class) → lookups.class (resolved_metamodel raw) c ≡ Some k → lookups.class_by_name (resolved_metamodel raw) k.name ≡ Some c
+unfolding resolved_metamodel
 class-first raw well c k here =
     let cs = classes_from raw.classes 0 raw.classes in
     let name = λ (x : Class). x.name in

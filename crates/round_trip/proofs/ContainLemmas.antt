@@ -7,7 +7,7 @@ use Rattle.std.proofs.lemmas.Bool.{false≢true}
 use Rattle.serde_json.specs.Data.{Data, string}
 use Rattle.mm_meta.proofs.ShapeLemmas.{opposites_are_pairs, shape_opposite}
 use Rattle.mm_types.specs.Ends as ends
-use Rattle.mm_types.specs.Ends.{shown, value_in}
+use Rattle.mm_types.specs.Ends.{shown_values, value_in}
 use Rattle.mm_types.specs.Lookups as lookups
 use Rattle.mm_types.specs.OfDocument.{IsOfDocument}
 use Rattle.mm_types.specs.Resolved.{Metamodel}
@@ -64,14 +64,14 @@ plain-containment m d f contains =
 ---------------------------------------------------------------- when a containment is written
 
 -- an end that has only objects is set if it has any
-pub set-by : (a : Shape) (vs : List Value) (flag : Bool) → a.is_unsettable ≡ false → a.default ≡ value.Null → list_all lookups.is_object vs ≡ true → ends.is_set a (record { values = shown a.is_single vs; flag = flag }) ≡ not (is_nil vs)
+pub set-by : (a : Shape) (vs : List Value) (flag : Bool) → a.is_unsettable ≡ false → a.default ≡ value.Null → list_all lookups.is_object vs ≡ true → ends.is_set a (record { values = shown_values a.is_single vs; flag = flag }) ≡ not (is_nil vs)
 set-by a vs flag fixed null all =
-    elim a.is_single as (λ b. (if b then (if a.is_unsettable then flag else not (same_value (value_in (shown b vs) 0) a.default)) else not (is_nil (shown b vs))) ≡ not (is_nil vs)) [
-      | true ↦ ap (λ (b : Bool). if b then flag else not (same_value (value_in (shown true vs) 0) a.default)) fixed ∙ ap (λ (v : Value). not (same_value (value_in (shown true vs) 0) v)) null ∙ some vs all
+    elim a.is_single as (λ b. (if b then (if a.is_unsettable then flag else not (same_value (value_in (shown_values b vs) 0) a.default)) else not (is_nil (shown_values b vs))) ≡ not (is_nil vs)) [
+      | true ↦ ap (λ (b : Bool). if b then flag else not (same_value (value_in (shown_values true vs) 0) a.default)) fixed ∙ ap (λ (v : Value). not (same_value (value_in (shown_values true vs) 0) v)) null ∙ some vs all
       | false ↦ refl
     ]
   where
-    some : (ws : List Value) → list_all lookups.is_object ws ≡ true → not (same_value (value_in (shown true ws) 0) value.Null) ≡ not (is_nil ws)
+    some : (ws : List Value) → list_all lookups.is_object ws ≡ true → not (same_value (value_in (shown_values true ws) 0) value.Null) ≡ not (is_nil ws)
     some [] h = refl
     some (value.Object c ∷ ws) h = refl
     some (_ ∷ ws) h = absurd (false≢true h)

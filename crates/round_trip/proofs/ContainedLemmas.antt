@@ -26,7 +26,7 @@ use Rattle.web_uris.specs.declared.path.Path.{Path}
 use Rattle.fragment_paths.proofs.UpLemmas.{path-part}
 use Rattle.fragment_paths.specs.Fragments.{address, position_in, step_into}
 use Rattle.doc_parts.specs.Contents.{may_stand}
-use Rattle.doc_parts.specs.Layout.{Written, written}
+use Rattle.doc_parts.specs.Layout.{Written, written_object}
 use Rattle.doc_parts.specs.Parts.{number_of, step_to}
 use Rattle.doc_writer.specs.Document.{object_under, reference_text}
 use Rattle.doc_writer.specs.Written.{objects_in}
@@ -37,18 +37,18 @@ use Rattle.round_trip.proofs.InsideLemmas.{part-written, written-inside}
 use Rattle.round_trip.proofs.ValuesListLemmas.{found-among, object-at}
 use Rattle.round_trip.proofs.PlacedLemmas.{has-path, placed-object}
 use Rattle.round_trip.proofs.ValuesTargetLemmas.{contains-parts}
-use Rattle.round_trip.specs.Copied.{renamed}
+use Rattle.round_trip.specs.Copied.{renamed_value}
 use Rattle.round_trip.specs.ValuesLaws.{parts_of}
 
 -- data with the layout of an object is a JSON object
-written-object : (d : Data) (w : Written) → written d ≡ Some w → is_some (as_object d) ≡ true
-unfolding written
-written-object null w h = absurd (none-some w h)
-written-object (boolean b) w h = absurd (none-some w h)
-written-object (number n) w h = absurd (none-some w h)
-written-object (string t) w h = absurd (none-some w h)
-written-object (array ds) w h = absurd (none-some w h)
-written-object (object ms) w h = refl
+written_object-object : (d : Data) (w : Written) → written_object d ≡ Some w → is_some (as_object d) ≡ true
+unfolding written_object
+written_object-object null w h = absurd (none-some w h)
+written_object-object (boolean b) w h = absurd (none-some w h)
+written_object-object (number n) w h = absurd (none-some w h)
+written_object-object (string t) w h = absurd (none-some w h)
+written_object-object (array ds) w h = absurd (none-some w h)
+written_object-object (object ms) w h = refl
 
 -- if there is a class, the result for no class does not matter
 known-conforms : (p : ClassNo → Bool) (x : Option ClassNo) → option_map_or p x false ≡ true → option_map_or p x true ≡ true
@@ -56,9 +56,9 @@ known-conforms p None h = absurd (false≢true h)
 known-conforms p (Some c) h = h
 
 -- an object of the resource has in the document the number of its part
-pub renamed-here : (s : Model) → IsLegal s → (k : ResourceNo) (c : ObjectNo) → Contains (objects_in (reading s) k) c
-    → option_map object_of (number_of (parts_of (reading s) k) (path_in (reading s) c)) ≡ Some (renamed (reading s) (objects_in (reading s) k) (value.Object c))
-renamed-here s legal k c written =
+pub renamed_value-here : (s : Model) → IsLegal s → (k : ResourceNo) (c : ObjectNo) → Contains (objects_in (reading s) k) c
+    → option_map object_of (number_of (parts_of (reading s) k) (path_in (reading s) c)) ≡ Some (renamed_value (reading s) (objects_in (reading s) k) (value.Object c))
+renamed_value-here s legal k c written =
     let r = reading s in
     let os = objects_in r k in
     let at = object-at os c (found-among os c written) in
@@ -91,8 +91,8 @@ module _ (s : Model) (legal : IsLegal s) (k : ResourceNo) (o : ObjectNo) (f : Fe
 
   -- so the object is read by the number of its own part
   pub part-read : (shape s.metamodel f).is_reference ≡ true → option_map object_of (number_of (parts_of (reading s) k) (with_step (path_in (reading s) o) (step_to s.metamodel f i)))
-      ≡ Some (renamed (reading s) (objects_in (reading s) k) (value.Object c))
-  part-read reference = ap (λ (q : Path). option_map object_of (number_of (parts_of (reading s) k) q)) (part-path reference) ∙ renamed-here s legal k c there
+      ≡ Some (renamed_value (reading s) (objects_in (reading s) k) (value.Object c))
+  part-read reference = ap (λ (q : Path). option_map object_of (number_of (parts_of (reading s) k) q)) (part-path reference) ∙ renamed_value-here s legal k c there
 
   module _ (parts : AreParts (reading s) k) (conforms : option_map_or (λ x. lookups.conforms s.metamodel x target) ((reading s).class c) false ≡ true) where
     -- the JSON that is written for an object whose class conforms is accepted there
@@ -100,5 +100,5 @@ module _ (s : Model) (legal : IsLegal s) (k : ResourceNo) (o : ObjectNo) (f : Fe
     part-good =
         let part = parts.each c there in
         ap (may_stand s.metamodel target) part-data
-        ∙ and_from _ _ (written-object (data_of (reading s) k c) _ part.written)
+        ∙ and_from _ _ (written_object-object (data_of (reading s) k c) _ part.written)
         (ap (λ (x : Option ClassNo). option_map_or (λ y. lookups.conforms s.metamodel y target) x true) part.class ∙ known-conforms (λ y. lookups.conforms s.metamodel y target) ((reading s).class c) conforms)

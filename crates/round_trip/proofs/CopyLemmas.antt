@@ -33,7 +33,7 @@ use Rattle.resource_docs.specs.declared.doc.Doc.{Doc}
 use Rattle.resource_docs.specs.declared.doc.DocObject.{DocObject}
 use Rattle.round_trip.specs.PartsLaws.{AreParts}
 use Rattle.round_trip.specs.Parts.{data_of, entry_of, part_of, path_in}
-use Rattle.round_trip.specs.Copied.{content_copied, copied, object_copied, renamed, root_copied}
+use Rattle.round_trip.specs.Copied.{content_copied, copied_document, object_copied, renamed_value, root_copied}
 use Rattle.round_trip.specs.ValuesLaws.{AreReadAs, parts_of}
 use Rattle.round_trip.proofs.EndLemmas.{IsWrittenOf, some-values, written-of}
 use Rattle.round_trip.proofs.ValuesListLemmas.{found-among, in-all, in-front, object-at, place-of}
@@ -69,13 +69,13 @@ module _ (s : Model) (legal : IsLegal s) (k : ResourceNo) (uri : List ℕ) (foun
       written-values (shape m f).is_single (value_data (reading s) k (data_of (reading s) k) f) (values_at s (at_end (node.Object o) f)) (some-values s legal o f w.set).one
 
   values-copied : (o : ObjectNo) (f : FeatureNo) → Contains os o → Contains (written_features (reading s) o) f
-      → values_read m b ps (path_in (reading s) o) (entry_of (reading s) k o f) ≡ map (renamed (reading s) os) (values_at s (at_end (node.Object o) f))
+      → values_read m b ps (path_in (reading s) o) (entry_of (reading s) k o f) ≡ map (renamed_value (reading s) os) (values_at s (at_end (node.Object o) f))
   values-copied o f inside there =
       let w = written-of s legal o f there in
       let path = path_in (reading s) o in
       ap (λ (x : Option Feature). option_map_or (λ g. filter_map (value_of m b ps path f g.kind) (enumerate_from 0 (values_of m (entry_of (reading s) k o f)))) x []) w.there
       ∙ ap (λ ds. filter_map (value_of m b ps path f w.feature.kind) (enumerate_from 0 ds)) (values-written o f w)
-      ∙ read-each (value_of m b ps path f w.feature.kind) (value_data (reading s) k (data_of (reading s) k) f) (renamed (reading s) os) 0 (values_at s (at_end (node.Object o) f))
+      ∙ read-each (value_of m b ps path f w.feature.kind) (value_data (reading s) k (data_of (reading s) k) f) (renamed_value (reading s) os) 0 (values_at s (at_end (node.Object o) f))
       (λ i v at. ap (λ (j : ℕ). value_of m b ps path f w.feature.kind (j, value_data (reading s) k (data_of (reading s) k) f v)) (let e : 0 + i ≡ i = omega arith in e) ∙ (read.values o f w.feature i v inside there w.there at).value)
 
   content-copied : (o : ObjectNo) (f : FeatureNo) → Contains os o → Contains (written_features (reading s) o) f
@@ -94,7 +94,7 @@ module _ (s : Model) (legal : IsLegal s) (k : ResourceNo) (uri : List ℕ) (foun
       ∙ ap (filter kept) (map-twice (entry_of r k o) (content_read m b ps path) fs
       ∙ map-each (λ f. content_read m b ps path (entry_of r k o f)) (content_copied r os o) fs (each-of _ fs (λ f there. content-copied o f inside there)))
       ∙ all-kept kept (map (content_copied r os o) fs) (each-mapped (content_copied r os o) (λ c. kept c ≡ true) fs (each-of _ fs (λ f there.
-      ap not (nil-mapped (renamed r os) (values_at s (at_end (node.Object o) f)) ∙ (some-values s legal o f (written-of s legal o f there).set).some))))
+      ap not (nil-mapped (renamed_value r os) (values_at s (at_end (node.Object o) f)) ∙ (some-values s legal o f (written-of s legal o f there).set).some))))
 
   object-copied : (o : ObjectNo) → Contains os o → object_read m b ps (part_of (reading s) k o) ≡ object_copied (reading s) os o
   object-copied o inside = λ i. record { class = unwrap_or ((found.each o inside).class i) (record { 0 = 0 }); contents = contents-copied o inside i }
@@ -112,9 +112,9 @@ module _ (s : Model) (legal : IsLegal s) (k : ResourceNo) (uri : List ℕ) (foun
   new-doc : List DocObject → List ObjectNo → Doc
   new-doc objects numbers = record { objects = objects; roots = numbers }
 
-  pub doc-copied : doc_read m b (document (reading s) k) ≡ copied (reading s) k
-  unfolding doc_read copied new-doc
-  doc-copied =
+  pub doc-copied_document : doc_read m b (document (reading s) k) ≡ copied_document (reading s) k
+  unfolding doc_read copied_document new-doc
+  doc-copied_document =
       let r = reading s in
       let d = document r k in
       let rs = roots r k in

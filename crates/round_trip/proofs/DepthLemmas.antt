@@ -21,7 +21,7 @@ use Rattle.models.specs.Reading.{at_end}
 use Rattle.containment.proofs.PartLemmas.{holder-at}
 use Rattle.fragment_paths.specs.Finding.{roots}
 use Rattle.fragment_paths.proofs.UpLemmas.{above-node}
-use Rattle.doc_writer.specs.Document.{reference_text, class_name, content_data, document, feature_member, members_with, two, value_data}
+use Rattle.doc_writer.specs.Document.{reference_text, class_name, content_data, document, feature_member, members_with, two_members, value_data}
 use Rattle.doc_writer.specs.Written.{level, objects_in, written_features}
 use Rattle.round_trip.specs.Parts.{data_of, features_data}
 use Rattle.round_trip.proofs.LevelLemmas.{data-is}
@@ -49,8 +49,8 @@ with-depth : (xs : List (List ℕ × Data)) (ms : Members) (n : ℕ) → members
 with-depth [] ms n low each = low
 with-depth (x ∷ xs) ms n low each = with-depth xs (put x.0 x.1 ms) n (put-depth x.0 x.1 ms n each.0 low) each.1
 
-two-depth : (k l : List ℕ) (d e : Data) (n : ℕ) → depth d ≤ n → depth e ≤ n → depth (two k d l e) ≤ suc n
-two-depth k l d e n first second =
+two_members-depth : (k l : List ℕ) (d e : Data) (n : ℕ) → depth d ≤ n → depth e ≤ n → depth (two_members k d l e) ≤ suc n
+two_members-depth k l d e n first second =
     let low = with-depth ((k, d) ∷ (l, e) ∷ []) no_members n (omega arith) (first, (second, tt)) in
     omega (arith, low)
 
@@ -112,7 +112,7 @@ module _ (s : Model) (legal : IsLegal s) (k : ResourceNo) (uri : List ℕ) (foun
       content-depth (shape s.metamodel f).is_single (made o f) (values_at s (at_end (node.Object o) f)) (3 * j) (some-values s legal o f (written-of s legal o f there).set).one
       (each-at (λ v. depth (made o f v) ≤ 3 * j) (values_at s (at_end (node.Object o) f)) (λ i v at. value-depth (3 * j) o f i v below inside at)) in
       let features = with-depth (map member-of fs) no_members (suc (3 * j)) (omega arith) (each-mapped member-of (λ (x : List ℕ × Data). depth x.1 ≤ suc (3 * j)) fs (each-of _ fs content)) in
-      let whole = two-depth (codes "class") (codes "features") (string (class_name r o)) (object (features_data r k o)) (suc (suc (3 * j))) (omega arith) (omega (arith, features)) in
+      let whole = two_members-depth (codes "class") (codes "features") (string (class_name r o)) (object (features_data r k o)) (suc (suc (3 * j))) (omega arith) (omega (arith, features)) in
       let same = ap depth (data-is s legal k o live) in
       omega (arith, whole, same)
 
@@ -126,5 +126,5 @@ module _ (s : Model) (legal : IsLegal s) (k : ResourceNo) (uri : List ℕ) (foun
       let placed = (read.objects o inside).level in
       object-depth 40 o inside (omega (arith, placed))) in
       let low = items-depth (map (data_of r k) rs) 120 (each-mapped (data_of r k) (λ d. depth d ≤ 120) rs each) in
-      let whole = two-depth (codes "format") (codes "roots") (number (unsigned 1)) (array (items_of (map (data_of r k) rs))) 121 (omega arith) (omega (arith, low)) in
+      let whole = two_members-depth (codes "format") (codes "roots") (number (unsigned 1)) (array (items_of (map (data_of r k) rs))) 121 (omega arith) (omega (arith, low)) in
       omega (arith, whole)

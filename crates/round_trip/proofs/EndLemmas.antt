@@ -6,7 +6,7 @@ use Rattle.std.specs.Option.{option_map_or}
 use Rattle.std.proofs.lemmas.Bool.{and_parts, eq-eqb, false≢true, not-true}
 use Rattle.std.proofs.lemmas.Bool.Decides.{nat_tests}
 use Rattle.std.proofs.lemmas.Option.{none-some, same_Some}
-use Rattle.mm_types.specs.Ends.{shown, value_in}
+use Rattle.mm_types.specs.Ends.{shown_values, value_in}
 use Rattle.mm_types.specs.Ends as ends
 use Rattle.mm_types.specs.Lookups as lookups
 use Rattle.mm_types.specs.Same.{is_nil, same_value}
@@ -130,14 +130,14 @@ attribute-some a (v ∷ []) upper h set = record { some = refl; one = λ _. refl
 attribute-some a (v ∷ w ∷ ws) upper h set =
     record { some = refl; one = λ single. absurd (no-two a (length ws) (upper single) (h.few refl)); few = h.few refl }
 
-many-some : (a : Shape) (vs : List Value) (flag : Bool) → a.is_single ≡ false → ends.is_set a (record { values = shown a.is_single vs; flag = flag }) ≡ true → is_nil vs ≡ false
+many-some : (a : Shape) (vs : List Value) (flag : Bool) → a.is_single ≡ false → ends.is_set a (record { values = shown_values a.is_single vs; flag = flag }) ≡ true → is_nil vs ≡ false
 many-some a vs flag many set =
-    not-true (is_nil vs) (sym (ap (λ (b : Bool). if b then (if a.is_unsettable then flag else not (same_value (value_in (shown b vs) 0) a.default)) else not (is_nil (shown b vs))) many) ∙ set)
+    not-true (is_nil vs) (sym (ap (λ (b : Bool). if b then (if a.is_unsettable then flag else not (same_value (value_in (shown_values b vs) 0) a.default)) else not (is_nil (shown_values b vs))) many) ∙ set)
 
 -- a reference that is set has at least one value
-set-some : (a : Shape) (vs : List Value) (flag : Bool) → a.is_unsettable ≡ false → a.default ≡ value.Null → ends.is_set a (record { values = shown a.is_single vs; flag = flag }) ≡ true → is_nil vs ≡ false
+set-some : (a : Shape) (vs : List Value) (flag : Bool) → a.is_unsettable ≡ false → a.default ≡ value.Null → ends.is_set a (record { values = shown_values a.is_single vs; flag = flag }) ≡ true → is_nil vs ≡ false
 set-some a [] flag settable null set =
-    elim a.is_single as (λ b. (if b then (if a.is_unsettable then flag else not (same_value (value_in (shown b []) 0) a.default)) else not (is_nil (shown b []))) ≡ true → true ≡ false) [
+    elim a.is_single as (λ b. (if b then (if a.is_unsettable then flag else not (same_value (value_in (shown_values b []) 0) a.default)) else not (is_nil (shown_values b []))) ≡ true → true ≡ false) [
       | true ↦ λ h. sym h ∙ (λ i. if settable i then flag else not (same_value value.Null (null i)))
       | false ↦ λ h. sym h
     ] set

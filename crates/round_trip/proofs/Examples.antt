@@ -17,7 +17,7 @@ use Rattle.mm_types.specs.declared.value.Value.TheVariants as value
 use Rattle.models.specs.Reading.{Reading}
 use Rattle.resource_docs.specs.declared.doc.Content.{Content}
 use Rattle.resource_docs.specs.declared.doc.DocObject.{DocObject}
-use Rattle.round_trip.specs.Copied.{copied}
+use Rattle.round_trip.specs.Copied.{copied_document}
 
 ---------------------------------------------------------------- folders
 
@@ -87,11 +87,11 @@ abbrev folder : List Content → DocObject
 folder contents = record { class = record { 0 = 0 }; contents = contents }
 
 -- objects are named by their positions, the folder of the other resource by its address
-as-document : copied whole (record { 0 = 0 }) ≡ record {
+as-document : copied_document whole (record { 0 = 0 }) ≡ record {
   objects =
       folder (content 0 (value.Text (codes "A") ∷ []) ∷ content 1 (v 1 ∷ []) ∷ [])
       ∷ folder (content 2 (v 0 ∷ value.Proxy (codes "http://m.example/b#/") ∷ []) ∷ []) ∷ [];
   roots = record { 0 = 0 } ∷ [];
 }
-unfolding copied digits
+unfolding copied_document digits
 as-document = refl

@@ -3,7 +3,7 @@ use Rattle.std.proofs.Common.{◌≡◌, ◌∙◌, ◌&&◌, ℕ, Bool, true, f
 use Rattle.std.specs.List.{list_all}
 use Rattle.std.proofs.lemmas.Bool.{and_parts, false≢true}
 use Rattle.mm_types.specs.Ends as ends
-use Rattle.mm_types.specs.Ends.{shown, value_in}
+use Rattle.mm_types.specs.Ends.{shown_values, value_in}
 use Rattle.mm_types.specs.Resolved.{Metamodel}
 use Rattle.mm_types.specs.Same.{is_nil, same_value}
 use Rattle.mm_types.specs.SameValues.{same_value-self}
@@ -44,11 +44,11 @@ object-keeps m f (Some y) legal = record { each = list-legal m y.class f (stored
 ---------------------------------------------------------------- what is set
 
 -- an attribute without stored values is not set
-nothing-set : (a : Shape) (flag : Bool) → flag ≡ (a.is_unsettable && (a.is_single && false)) → ends.is_set a (record { values = shown a.is_single (attribute_values a []); flag = flag }) ≡ false
+nothing-set : (a : Shape) (flag : Bool) → flag ≡ (a.is_unsettable && (a.is_single && false)) → ends.is_set a (record { values = shown_values a.is_single (attribute_values a []); flag = flag }) ≡ false
 nothing-set a flag flagged = by a.is_single a.is_unsettable flagged
   where
     by : (single unsettable : Bool) → flag ≡ (unsettable && (single && false))
-        → (if single then (if unsettable then flag else not (same_value (value_in (shown single (if single then a.default ∷ [] else [])) 0) a.default)) else not (is_nil (shown single (if single then a.default ∷ [] else [])))) ≡ false
+        → (if single then (if unsettable then flag else not (same_value (value_in (shown_values single (if single then a.default ∷ [] else [])) 0) a.default)) else not (is_nil (shown_values single (if single then a.default ∷ [] else [])))) ≡ false
     by true true h = h
     by true false h = ap not (same_value-self a.default)
     by false unsettable h = refl
@@ -63,10 +63,10 @@ kept-legal s legal o f i v attribute set at =
     let flag = kept_flag s.values (node.Object o) f in
     let values : (reading s).values e ≡ attribute_values a (kept_values s.values (node.Object o) f) = rw attribute refl in
     by (kept_values s.values (node.Object o) f) (object-keeps m f (object_at s.values.objects o) (object-legal m s.values.objects o.0 legal.objects))
-    (sym (ap (λ (vs : List Value). ends.is_set a (record { values = shown a.is_single vs; flag = flag })) values) ∙ set) (ap (λ (vs : List Value). slice_get vs i) (sym values) ∙ at)
+    (sym (ap (λ (vs : List Value). ends.is_set a (record { values = shown_values a.is_single vs; flag = flag })) values) ∙ set) (ap (λ (vs : List Value). slice_get vs i) (sym values) ∙ at)
   where
     by : (vs : List Value) → IsKept s.metamodel f vs (kept_flag s.values (node.Object o) f)
-        → ends.is_set (shape s.metamodel f) (record { values = shown (shape s.metamodel f).is_single (attribute_values (shape s.metamodel f) vs); flag = kept_flag s.values (node.Object o) f }) ≡ true
+        → ends.is_set (shape s.metamodel f) (record { values = shown_values (shape s.metamodel f).is_single (attribute_values (shape s.metamodel f) vs); flag = kept_flag s.values (node.Object o) f }) ≡ true
         → slice_get (attribute_values (shape s.metamodel f) vs) i ≡ Some v → is_legal_value s.metamodel f v ≡ true
     by [] kept set there = absurd (false≢true (sym (nothing-set (shape s.metamodel f) (kept_flag s.values (node.Object o) f) kept.flagged) ∙ set))
     by (w ∷ ws) kept set there = all-get (is_legal_value s.metamodel f) (w ∷ ws) i v kept.each there

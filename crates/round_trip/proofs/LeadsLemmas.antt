@@ -21,7 +21,7 @@ use Rattle.fragment_paths.proofs.AddressLemmas.{named-at, object-found}
 use Rattle.fragment_paths.proofs.FoundLemmas.{IsLocated, located-object}
 use Rattle.doc_writer.specs.Document.{reference_text}
 use Rattle.resource_docs.specs.Texts.{base_of, target}
-use Rattle.resource_docs.specs.declared.target.Target.TheVariants.{Here, Elsewhere}
+use Rattle.resource_docs.specs.declared.referent.Referent.TheVariants.{Here, Elsewhere}
 use Rattle.round_trip.specs.TextsLaws.{LeadsBack, target_of}
 use Rattle.round_trip.proofs.TextsTargetLemmas.{target-address, target-fragment, target-proxy}
 use Rattle.round_trip.proofs.UnmarkedLemmas.{path-unmarked}

@@ -20,7 +20,7 @@ use Rattle.containment.proofs.PartLemmas.{IsPart, contains-itself, contains-refe
 use Rattle.containment.proofs.TreeLemmas.{depth, part-deeper, part-shallow, some-made}
 use Rattle.fragment_paths.proofs.ObjectLemmas.{all-objects, objects-get}
 use Rattle.doc_writer.proofs.RootLemmas.{all-live}
-use Rattle.doc_writer.specs.Document.{class_name, content_data, feature_member, members, object_data, reference_text, two, value_data}
+use Rattle.doc_writer.specs.Document.{class_name, content_data, feature_member, members, object_data, reference_text, two_members, value_data}
 use Rattle.doc_writer.specs.Written.{written_features}
 use Rattle.round_trip.specs.Parts.{data_of, features_data}
 use Rattle.round_trip.proofs.PartsListLemmas.{all-passing}
@@ -93,7 +93,7 @@ module _ (s : Model) (legal : IsLegal s) where
   more-levels k zero o some far = absurd (omega (arith, some))
   more-levels k (suc n) o some far =
       let r = reading s in
-      ap (λ ms. two (codes "class") (string (class_name r o)) (codes "features") (object (members ms)))
+      ap (λ ms. two_members (codes "class") (string (class_name r o)) (codes "features") (object (members ms)))
       (same-members r k (object_data r k (suc n)) (object_data r k n) o (written_features r o) (λ f i c contains at.
       let part = part-under (node.Object o) f i c contains at in
       let deeper = part-deeper s legal o c part in
@@ -102,5 +102,5 @@ module _ (s : Model) (legal : IsLegal s) where
 
   -- an object that lives is written with its features
   pub data-is : (k : ResourceNo) (o : ObjectNo) → is_live (reading s) o ≡ true
-      → data_of (reading s) k o ≡ two (codes "class") (string (class_name (reading s) o)) (codes "features") (object (features_data (reading s) k o))
+      → data_of (reading s) k o ≡ two_members (codes "class") (string (class_name (reading s) o)) (codes "features") (object (features_data (reading s) k o))
   data-is k o live = sym (more-levels k (length s.values.objects) o (some-made s o live) (omega arith))

@@ -10,7 +10,7 @@ use Rattle.mm_types.specs.Lookups as lookups
 use Rattle.mm_types.specs.Names.{is_among, repeats}
 use Rattle.mm_types.specs.OfDocument.{IsOfDocument}
 use Rattle.mm_types.specs.Raw.{RawMetamodel}
-use Rattle.mm_types.specs.Resolved.{Metamodel, resolved}
+use Rattle.mm_types.specs.Resolved.{Metamodel, resolved_metamodel}
 use Rattle.mm_types.specs.WellFormed.{enum_names, reserved_names}
 use Rattle.mm_types.specs.declared.class.Enumeration.{Enumeration}
 use Rattle.mm_types.specs.declared.meta_fault.Condition.TheVariants.{DuplicateName}
@@ -46,8 +46,8 @@ found-at seen (n ∷ ns) (suc i) w once at =
 
 ---------------------------------------------------------------- literals
 
-enums-are : (raw : RawMetamodel) → (resolved raw).enums ≡ raw.enums
-unfolding resolved
+enums-are : (raw : RawMetamodel) → (resolved_metamodel raw).enums ≡ raw.enums
+unfolding resolved_metamodel
 enums-are raw = refl
 
 -- no enumeration of an accepted metamodel has a literal twice

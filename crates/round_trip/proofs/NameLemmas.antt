@@ -1,10 +1,7 @@
 -- The values that are written under the features of a class are found under their names, since no two features share a name.
 use Rattle.std.proofs.Common.{◌≡◌, ◌∙◌, ◌&&◌, ℕ, Bool, true, false, cond, not, List, [], ◌∷◌, Option, Some, None, map, filter, filter_map, option_map, refl, sym, ap, if◌then◌else◌}
-use Rattle.std.specs.Prelude.{nat_eq, unwrap_or}
-use Rattle.std.specs.List.{AllByRecursion, IsDistinct, cons_option, list_any}
-use Rattle.std.specs.Option.{option_map_or}
-use Rattle.std.proofs.lemmas.Bool.{eq-eqb, false≢true, or_left, or_right}
-use Rattle.std.proofs.lemmas.Option.{same_Some}
+use Rattle.std.specs.Prelude.{unwrap_or}
+use Rattle.std.specs.List.{AllByRecursion, IsDistinct, cons_option}
 use Rattle.serde_json.specs.Data.{Data, Members, no_members, put}
 use Rattle.serde_json.specs.Find.{get_member}
 use Rattle.serde_json.proofs.Views.{get_member-put, get_member-put_other}
@@ -14,8 +11,8 @@ use Rattle.mm_types.specs.Resolved.{Metamodel}
 use Rattle.mm_types.specs.Same.{same_feature}
 use Rattle.mm_types.specs.declared.numbers.ClassNo.{ClassNo}
 use Rattle.mm_types.specs.declared.numbers.FeatureNo.{FeatureNo}
-use Rattle.fragment_paths.proofs.NameLemmas.{own-name}
 use Rattle.doc_parts.specs.Parts.{Entry, content_at, entry_at, new_entry}
+use Rattle.mm_meta.proofs.FeatureListLemmas.{class-features, one-name}
 use Rattle.doc_writer.specs.Document.{members_with}
 use Rattle.round_trip.proofs.PartsListLemmas.{all-both, all-more}
 
@@ -28,37 +25,15 @@ abbrev pub NamesAreApart : (FeatureNo → List ℕ) → List FeatureNo → Type 
 NamesAreApart name [] = Unit {0}
 NamesAreApart name (f ∷ fs) = IsOther name (name f) fs × NamesAreApart name fs
 
----------------------------------------------------------------- the features of a class
-
-all-there : (fs : List FeatureNo) → AllByRecursion (λ f. list_any (λ (g : FeatureNo). nat_eq g.0 f.0) fs ≡ true) fs
-all-there [] = tt
-all-there (f ∷ fs) = (
-  or_left (nat_eq f.0 f.0) (list_any (λ (g : FeatureNo). nat_eq g.0 f.0) fs) (eq-eqb f.0 f.0 refl),
-  all-more (λ g. list_any (λ (h : FeatureNo). nat_eq h.0 g.0) fs ≡ true) (λ g. list_any (λ (h : FeatureNo). nat_eq h.0 g.0) (f ∷ fs) ≡ true) fs (λ g h. or_right (nat_eq f.0 g.0) (list_any (λ (k : FeatureNo). nat_eq k.0 g.0) fs) h) (all-there fs),
-)
-
--- a class has each of its features
-class-features : (m : Metamodel) (c : ClassNo) → AllByRecursion (λ f. lookups.has_feature m c f ≡ true) (unwrap_or (lookups.features m c) [])
-class-features m c = by (lookups.features m c)
-  where
-    by : (o : Option (List FeatureNo)) → AllByRecursion (λ f. option_map_or (λ all. list_any (λ (g : FeatureNo). nat_eq g.0 f.0) all) o false ≡ true) (unwrap_or o [])
-    by None = tt
-    by (Some fs) = all-there fs
-
 module _ (m : Metamodel) (d : IsOfDocument m) (c : ClassNo) where
   abbrev IsOwn : FeatureNo → Type 0
   IsOwn f = lookups.has_feature m c f ≡ true
-
-  one-name : (f g : FeatureNo) → IsOwn f → same_feature f g ≡ false → IsOwn g → lookups.feature_name m f ≡ lookups.feature_name m g → ⊥
-  one-name f g a other b same =
-      let is = same_Some f g (sym (own-name m d c f a) ∙ ap (lookups.feature_by_name m c) same ∙ own-name m d c g b) in
-      false≢true (sym other ∙ eq-eqb f.0 g.0 (ap (λ (x : FeatureNo). x.0) is))
 
   apart-names : (fs : List FeatureNo) → AllByRecursion IsOwn fs → IsDistinct same_feature fs → NamesAreApart (lookups.feature_name m) fs
   unfolding IsDistinct
   apart-names [] own distinct = tt
   apart-names (f ∷ fs) own distinct = (
-    all-both (λ g. same_feature f g ≡ false) IsOwn (λ g. lookups.feature_name m f ≡ lookups.feature_name m g → ⊥) fs (λ g other b. one-name f g own.0 other b) distinct.0 own.1,
+    all-both (λ g. same_feature f g ≡ false) IsOwn (λ g. lookups.feature_name m f ≡ lookups.feature_name m g → ⊥) fs (λ g other b. one-name m d c f g own.0 other b) distinct.0 own.1,
     apart-names fs own.1 distinct.1,
   )
 

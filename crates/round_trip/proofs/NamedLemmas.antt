@@ -41,7 +41,7 @@ use Rattle.resource_docs.specs.Texts.{base_of}
 use Rattle.resource_docs.specs.Values.{object_of, value_of}
 use Rattle.round_trip.specs.Parts.{data_of, path_in}
 use Rattle.round_trip.specs.TextsLaws.{LeadsBack}
-use Rattle.round_trip.specs.Copied.{renamed}
+use Rattle.round_trip.specs.Copied.{renamed_value}
 use Rattle.round_trip.specs.ValuesLaws.{AreReadAs, parts_of}
 use Rattle.round_trip.specs.Readable.{IsReadable}
 use Rattle.round_trip.proofs.InsideLemmas.{inside-written}
@@ -117,10 +117,10 @@ module _ (s : Model) (legal : IsLegal s) (k : ResourceNo) (uri : List ℕ) (lead
   abbrev os : List ObjectNo
   os = objects_in (reading s) k
 
-  pub name-numbered : (b : ObjectNo) (n : ℕ) → position (same_object b) os ≡ Some n → renamed (reading s) os (value.Object b) ≡ value.Object (record { 0 = n })
+  pub name-numbered : (b : ObjectNo) (n : ℕ) → position (same_object b) os ≡ Some n → renamed_value (reading s) os (value.Object b) ≡ value.Object (record { 0 = n })
   name-numbered b n at = ap (λ (x : Option ℕ). option_map_or (λ i. value.Object (record { 0 = i })) x (value.Proxy (unwrap_or (address (reading s) b) []))) at
 
-  pub name-addressed : (b : ObjectNo) (at : IsElsewhere (reading s) k b) → renamed (reading s) os (value.Object b) ≡ value.Proxy at.text
+  pub name-addressed : (b : ObjectNo) (at : IsElsewhere (reading s) k b) → renamed_value (reading s) os (value.Object b) ≡ value.Proxy at.text
   name-addressed b at =
       ap (λ (x : Option ℕ). option_map_or (λ i. value.Object (record { 0 = i })) x (value.Proxy (unwrap_or (address (reading s) b) []))) at.nowhere
       ∙ ap (λ (x : Option (List ℕ)). value.Proxy (unwrap_or x [])) at.is
@@ -149,9 +149,9 @@ module _ (s : Model) (legal : IsLegal s) (k : ResourceNo) (uri : List ℕ) (lead
   not-false false h = sym h
 
   is-object : (o : ObjectNo) (f : FeatureNo) (g : Kind) (i : ℕ) (v : Value) → IsPartsKind g
-      → value_of s.metamodel (base_of uri) (parts_of (reading s) k) (path_in (reading s) o) f g (i, value_data (reading s) k (data_of (reading s) k) f v) ≡ Some (renamed (reading s) os v) → lookups.is_object (renamed (reading s) os v) ≡ true
+      → value_of s.metamodel (base_of uri) (parts_of (reading s) k) (path_in (reading s) o) f g (i, value_data (reading s) k (data_of (reading s) k) f v) ≡ Some (renamed_value (reading s) os v) → lookups.is_object (renamed_value (reading s) os v) ≡ true
   is-object o f (Attribute t unique unsettable default) i v parts is = absurd parts
-  is-object o f (Reference target true opposite) i v parts is = some-object (number_of (parts_of (reading s) k) (with_step (path_in (reading s) o) (step_to s.metamodel f i))) (renamed (reading s) os v) is
+  is-object o f (Reference target true opposite) i v parts is = some-object (number_of (parts_of (reading s) k) (with_step (path_in (reading s) o) (step_to s.metamodel f i))) (renamed_value (reading s) os v) is
   is-object o f (Reference target false opposite) i v parts is = absurd parts
 
   -- an object that is not in the resource is no part of its objects
@@ -161,7 +161,7 @@ module _ (s : Model) (legal : IsLegal s) (k : ResourceNo) (uri : List ℕ) (lead
       elim (is_containment s.metamodel f) as (λ c. is_containment s.metamodel f ≡ c → c ≡ false) [
         | true ↦ λ contains.
             let w = written-of s legal o f there in
-            let proxy : renamed (reading s) os (value.Object b) ≡ value.Proxy (unwrap_or (address (reading s) b) []) = ap (λ (x : Option ℕ). option_map_or (λ i. value.Object (record { 0 = i })) x (value.Proxy (unwrap_or (address (reading s) b) []))) nowhere in
+            let proxy : renamed_value (reading s) os (value.Object b) ≡ value.Proxy (unwrap_or (address (reading s) b) []) = ap (λ (x : Option ℕ). option_map_or (λ i. value.Object (record { 0 = i })) x (value.Proxy (unwrap_or (address (reading s) b) []))) nowhere in
             absurd (false≢true (sym (ap lookups.is_object proxy) ∙ is-object o f w.feature.kind i (value.Object b) (holds-parts s.metamodel f w.feature w.there w.plain contains) (read.values o f w.feature i (value.Object b) inside there w.there at).value))
         | false ↦ λ _. refl
       ] refl
@@ -181,14 +181,14 @@ module _ (s : Model) (legal : IsLegal s) (k : ResourceNo) (uri : List ℕ) (lead
 
   ---------------------------------------------------------------- no name twice
 
-  target-named : (b : ObjectNo) → is_target (renamed (reading s) os (value.Object b)) ≡ true
+  target-named : (b : ObjectNo) → is_target (renamed_value (reading s) os (value.Object b)) ≡ true
   target-named b = by (position (same_object b) os)
     where
       by : (q : Option ℕ) → is_target (option_map_or (λ i. value.Object (record { 0 = i })) q (value.Proxy (unwrap_or (address (reading s) b) []))) ≡ true
       by None = refl
       by (Some n) = refl
 
-  one-object : (a b : ObjectNo) → IsNamed (reading s) k a → IsNamed (reading s) k b → renamed (reading s) os (value.Object a) ≡ renamed (reading s) os (value.Object b) → value.Object a ≡ value.Object b
+  one-object : (a b : ObjectNo) → IsNamed (reading s) k a → IsNamed (reading s) k b → renamed_value (reading s) os (value.Object a) ≡ renamed_value (reading s) os (value.Object b) → value.Object a ≡ value.Object b
   one-object a b (Numbered n x) (Numbered i y) same =
       let number = ap (λ (o : ObjectNo). o.0) (object_value (record { 0 = n }) (record { 0 = i }) (sym (name-numbered a n x) ∙ same ∙ name-numbered b i y)) in
       ap value.Object (same_Some a b (sym (position-there os a n x) ∙ ap (slice_get os) number ∙ position-there os b i y))
@@ -199,7 +199,7 @@ module _ (s : Model) (legal : IsLegal s) (k : ResourceNo) (uri : List ℕ) (lead
       ap value.Object (leads.one_address a b y.text (x.is ∙ ap Some text) y.is)
 
   no-proxy : (o : ObjectNo) (f : FeatureNo) (a : ObjectNo) (t : List ℕ) (i j : ℕ) → Contains os o → IsNamed (reading s) k a → slice_get (values_at s (at_end (node.Object o) f)) i ≡ Some (value.Object a)
-      → slice_get (values_at s (at_end (node.Object o) f)) j ≡ Some (value.Proxy t) → renamed (reading s) os (value.Object a) ≡ value.Proxy t → ⊥
+      → slice_get (values_at s (at_end (node.Object o) f)) j ≡ Some (value.Proxy t) → renamed_value (reading s) os (value.Object a) ≡ value.Proxy t → ⊥
   no-proxy o f a t i j inside (Numbered n x) first second same = true≢false (ap lookups.is_object (sym (name-numbered a n x) ∙ same))
   no-proxy o f a t i j inside (Addressed x) first second same =
       let vs = values_at s (at_end (node.Object o) f) in
@@ -207,7 +207,7 @@ module _ (s : Model) (legal : IsLegal s) (k : ResourceNo) (uri : List ℕ) (lead
       fine.none_twice o f a t inside (stands vs i (value.Object a) first) (stands vs j (value.Proxy t) second) x.other (x.is ∙ ap Some text)
 
   one-name : (o : ObjectNo) (f : FeatureNo) (i j : ℕ) (v w : Value) → Contains os o → Contains (written_features (reading s) o) f → slice_get (values_at s (at_end (node.Object o) f)) i ≡ Some v
-      → slice_get (values_at s (at_end (node.Object o) f)) j ≡ Some w → renamed (reading s) os v ≡ renamed (reading s) os w → v ≡ w
+      → slice_get (values_at s (at_end (node.Object o) f)) j ≡ Some w → renamed_value (reading s) os v ≡ renamed_value (reading s) os w → v ≡ w
   one-name o f i j (value.Object a) (value.Object b) inside there first second same = one-object a b (named o f a i inside there first) (named o f b j inside there second) same
   one-name o f i j (value.Object a) (value.Proxy t) inside there first second same = absurd (no-proxy o f a t i j inside (named o f a i inside there first) first second same)
   one-name o f i j (value.Proxy t) (value.Object b) inside there first second same = absurd (no-proxy o f b t j i inside (named o f b j inside there second) second first (sym same))
@@ -217,10 +217,10 @@ module _ (s : Model) (legal : IsLegal s) (k : ResourceNo) (uri : List ℕ) (lead
   one-name o f i j v w inside there first second same = same
 
   pub names-apart : (o : ObjectNo) (f : FeatureNo) → Contains os o → Contains (written_features (reading s) o) f → sets.IsDistinct (values_at s (at_end (node.Object o) f))
-      → sets.IsDistinct (map (renamed (reading s) os) (values_at s (at_end (node.Object o) f)))
+      → sets.IsDistinct (map (renamed_value (reading s) os) (values_at s (at_end (node.Object o) f)))
   names-apart o f inside there distinct i j v first second =
       let vs = values_at s (at_end (node.Object o) f) in
-      let x = mapped-at (renamed (reading s) os) vs i v first in
-      let y = mapped-at (renamed (reading s) os) vs j v second in
+      let x = mapped-at (renamed_value (reading s) os) vs i v first in
+      let y = mapped-at (renamed_value (reading s) os) vs j v second in
       let same = one-name o f i j x.0 y.0 inside there x.1 y.1 (x.2 ∙ sym y.2) in
       distinct i j x.0 x.1 (y.1 ∙ ap Some (sym same))

@@ -21,10 +21,10 @@ use Rattle.models.specs.Reading.{all_features_of, at_end, is_live, is_set}
 use Rattle.containment.proofs.DistinctLemmas.{features-distinct}
 use Rattle.containment.proofs.PartLemmas.{live-made}
 use Rattle.json_fields.specs.Fields.{◌>>=◌}
-use Rattle.doc_parts.specs.Layout.{Written, new_written, written}
+use Rattle.doc_parts.specs.Layout.{Written, new_written, written_object}
 use Rattle.doc_parts.specs.Parts as parts
 use Rattle.doc_parts.specs.Parts.{entries_in, entry_at}
-use Rattle.doc_writer.specs.Document.{class_name, content_data, two}
+use Rattle.doc_writer.specs.Document.{class_name, content_data, two_members}
 use Rattle.doc_writer.specs.Written.{written_features}
 use Rattle.round_trip.specs.PartsLaws.{IsPart}
 use Rattle.round_trip.specs.Parts.{data_of, entry_of, features_data}
@@ -33,9 +33,9 @@ use Rattle.round_trip.proofs.LevelLemmas.{data-is}
 use Rattle.round_trip.proofs.NameLemmas.{NamesAreApart, entries-read, names-apart}
 
 -- JSON that is written for an object is read as an object
-written-read : (c : List ℕ) (ms : Members) → written (two (codes "class") (string c) (codes "features") (object ms)) ≡ Some (new_written c ms)
-unfolding written serde_json_on_literals
-written-read c ms = refl
+written_object-read : (c : List ℕ) (ms : Members) → written_object (two_members (codes "class") (string c) (codes "features") (object ms)) ≡ Some (new_written c ms)
+unfolding written_object serde_json_on_literals
+written_object-read c ms = refl
 
 ---------------------------------------------------------------- the class of an object
 
@@ -65,8 +65,8 @@ has-class s legal o live = by (get_or s.values.objects o.0 None) refl (legal.obj
 ---------------------------------------------------------------- what is read of an object
 
 module _ (s : Model) (legal : IsLegal s) (k : ResourceNo) (o : ObjectNo) (live : is_live (reading s) o ≡ true) where
-  is-written : written (data_of (reading s) k o) ≡ Some (new_written (class_name (reading s) o) (features_data (reading s) k o))
-  is-written = ap written (data-is s legal k o live) ∙ written-read (class_name (reading s) o) (features_data (reading s) k o)
+  is-written_object : written_object (data_of (reading s) k o) ≡ Some (new_written (class_name (reading s) o) (features_data (reading s) k o))
+  is-written_object = ap written_object (data-is s legal k o live) ∙ written_object-read (class_name (reading s) o) (features_data (reading s) k o)
 
   name-is : (h : HasClass s o) → class_name (reading s) o ≡ h.state.name
   name-is h =
@@ -78,11 +78,11 @@ module _ (s : Model) (legal : IsLegal s) (k : ResourceNo) (o : ObjectNo) (live :
   by-name h = ap (lookups.class_by_name s.metamodel) (name-is h) ∙ own-class s.metamodel legal.metamodel h.class h.state h.there
 
   is-class : (h : HasClass s o) → parts.class_of s.metamodel (data_of (reading s) k o) ≡ (reading s).class o
-  is-class h = ap (λ (w : Option Written). w >>= (λ w. lookups.class_by_name s.metamodel w.class)) is-written ∙ by-name h ∙ sym h.is
+  is-class h = ap (λ (w : Option Written). w >>= (λ w. lookups.class_by_name s.metamodel w.class)) is-written_object ∙ by-name h ∙ sym h.is
 
-  known-is : (h : HasClass s o) → parts.known s.metamodel (data_of (reading s) k o) ≡ Some (h.class, features_data (reading s) k o)
+  known-is : (h : HasClass s o) → parts.class_and_members s.metamodel (data_of (reading s) k o) ≡ Some (h.class, features_data (reading s) k o)
   known-is h =
-      ap (λ (w : Option Written). w >>= (λ w. option_map (λ (c : ClassNo). (c, w.features)) (lookups.class_by_name s.metamodel w.class))) is-written
+      ap (λ (w : Option Written). w >>= (λ w. option_map (λ (c : ClassNo). (c, w.features)) (lookups.class_by_name s.metamodel w.class))) is-written_object
       ∙ ap (option_map (λ (c : ClassNo). (c, features_data (reading s) k o))) (by-name h)
 
   features-are : (h : HasClass s o) → unwrap_or (option_and_then (lookups.features s.metamodel) ((reading s).class o)) [] ≡ unwrap_or (lookups.features s.metamodel h.class) []
@@ -103,4 +103,4 @@ module _ (s : Model) (legal : IsLegal s) (k : ResourceNo) (o : ObjectNo) (live :
 
   -- the object is read as it was written
   pub object-read : IsPart (reading s) k o
-  object-read = let h = has-class s legal o live in record { written = is-written; class = is-class h; entries = entries-are h }
+  object-read = let h = has-class s legal o live in record { written = is-written_object; class = is-class h; entries = entries-are h }

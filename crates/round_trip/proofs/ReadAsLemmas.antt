@@ -35,7 +35,7 @@ use Rattle.round_trip.proofs.ValuesListLemmas.{passes-kept}
 use Rattle.round_trip.proofs.PlacedLemmas.{placed-object}
 use Rattle.round_trip.proofs.ReferenceLemmas.{object-read, proxy-read, proxy-short, text-short}
 use Rattle.round_trip.proofs.ValuesTargetLemmas.{each-part, each-target, links-only, refers, shape-of, steady-there}
-use Rattle.round_trip.specs.Copied.{renamed}
+use Rattle.round_trip.specs.Copied.{renamed_value}
 use Rattle.round_trip.specs.ValuesLaws.{AreReadAs, parts_of}
 use Rattle.round_trip.specs.Readable.{IsReadable}
 
@@ -45,7 +45,7 @@ module _ (s : Model) (good : IsLegal s) (steady : HasSteadyTexts s) (k : Resourc
   abbrev IsReadBy : Kind → Value → Type 0
   IsReadBy x v =
       (is_value s.metamodel (shape s.metamodel f).is_single x (value_data (reading s) k (data_of (reading s) k) f v) ≡ true)
-      × (value_of s.metamodel (base_of uri) (parts_of (reading s) k) (path_in (reading s) o) f x (i, value_data (reading s) k (data_of (reading s) k) f v) ≡ Some (renamed (reading s) (objects_in (reading s) k) v))
+      × (value_of s.metamodel (base_of uri) (parts_of (reading s) k) (path_in (reading s) o) f x (i, value_data (reading s) k (data_of (reading s) k) f v) ≡ Some (renamed_value (reading s) (objects_in (reading s) k) v))
 
   written : (is_set (reading s) (at_end (node.Object o) f) ≡ true) × (lookups.is_container s.metamodel f ≡ false)
   written =

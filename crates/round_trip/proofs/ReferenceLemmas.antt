@@ -31,15 +31,15 @@ use Rattle.doc_writer.specs.Saved.{has_dangling, is_dangling, reference_features
 use Rattle.doc_writer.specs.Written.{objects_in, written_features}
 use Rattle.resource_docs.specs.Texts.{base_of}
 use Rattle.resource_docs.specs.Values.{led_to, object_of, reference_value}
-use Rattle.resource_docs.specs.declared.target.Target.TheVariants.{Here, Elsewhere}
+use Rattle.resource_docs.specs.declared.referent.Referent.TheVariants.{Here, Elsewhere}
 use Rattle.round_trip.specs.PartsLaws.{AreParts}
 use Rattle.round_trip.specs.Parts.{part_of, path_in}
 use Rattle.round_trip.specs.TextsLaws.{LeadsBack}
-use Rattle.round_trip.proofs.ContainedLemmas.{renamed-here}
+use Rattle.round_trip.proofs.ContainedLemmas.{renamed_value-here}
 use Rattle.round_trip.proofs.InsideLemmas.{inside-written, written-inside}
 use Rattle.round_trip.proofs.ValuesListLemmas.{found-among, among-found, is-kept, none-passes, object-among, object-at, object-nowhere, stands}
 use Rattle.round_trip.proofs.PlacedLemmas.{placed-object}
-use Rattle.round_trip.specs.Copied.{renamed}
+use Rattle.round_trip.specs.Copied.{renamed_value}
 use Rattle.round_trip.specs.ValuesLaws.{parts_of}
 use Rattle.round_trip.specs.Readable.{Holds, IsReadable}
 
@@ -79,7 +79,7 @@ module _ (s : Model) (legal : IsLegal s) (k : ResourceNo) (uri : List ℕ) (back
 
     -- an object of the resource is found by its number, if its class conforms
     module _ (parts : AreParts (reading s) k) (class : ClassNo) (conforms : option_map_or (λ c. lookups.conforms s.metamodel c class) ((reading s).class b) false ≡ true) where
-      led-here : Contains (objects_in (reading s) k) b → led_to s.metamodel (parts_of (reading s) k) class (Here (path_in (reading s) b)) ≡ Some (renamed (reading s) (objects_in (reading s) k) (value.Object b))
+      led-here : Contains (objects_in (reading s) k) b → led_to s.metamodel (parts_of (reading s) k) class (Here (path_in (reading s) b)) ≡ Some (renamed_value (reading s) (objects_in (reading s) k) (value.Object b))
       led-here written =
           let r = reading s in
           let m = s.metamodel in
@@ -94,10 +94,10 @@ module _ (s : Model) (legal : IsLegal s) (k : ResourceNo) (uri : List ℕ) (back
           ∙ ap (option_and_then (λ (q : Part). if conforms_to m class q.json then Some (object_of at.number) else None)) part
           ∙ ap (λ (t : Bool). if t then Some (object_of at.number) else None) good
           ∙ sym (ap (option_map object_of) number)
-          ∙ renamed-here s legal k b written
+          ∙ renamed_value-here s legal k b written
 
       -- an object of another resource is a proxy with its address
-      led-elsewhere : is_in (reading s) k b ≡ false → Some (value.Proxy (unwrap_or (address (reading s) b) [])) ≡ Some (renamed (reading s) (objects_in (reading s) k) (value.Object b))
+      led-elsewhere : is_in (reading s) k b ≡ false → Some (value.Proxy (unwrap_or (address (reading s) b) [])) ≡ Some (renamed_value (reading s) (objects_in (reading s) k) (value.Object b))
       led-elsewhere out =
           let r = reading s in
           let os = objects_in r k in
@@ -106,12 +106,12 @@ module _ (s : Model) (legal : IsLegal s) (k : ResourceNo) (uri : List ℕ) (back
           true≢false (sym (ap (λ (x : Option ResourceNo). option_map_or (λ j. nat_eq j.0 k.0) x false) within ∙ eq-eqb k.0 k.0 refl) ∙ out)) in
           sym (ap (λ (x : Option ℕ). Some (option_map_or (λ (n : ℕ). value.Object (record { 0 = n })) x (value.Proxy (unwrap_or (address r b) [])))) (object-nowhere os b none))
 
-      pub object-read : reference_value s.metamodel (base_of uri) (parts_of (reading s) k) class (string (reference_text (reading s) k b)) ≡ Some (renamed (reading s) (objects_in (reading s) k) (value.Object b))
+      pub object-read : reference_value s.metamodel (base_of uri) (parts_of (reading s) k) class (string (reference_text (reading s) k b)) ≡ Some (renamed_value (reading s) (objects_in (reading s) k) (value.Object b))
       object-read =
           let r = reading s in
           let j = somewhere in
           ap (option_and_then (led_to s.metamodel (parts_of r k) class)) (back.object b j.0 j.1)
-          ∙ elim (is_in r k b) as (λ t. is_in r k b ≡ t → led_to s.metamodel (parts_of r k) class (if t then Here (path_in r b) else Elsewhere (unwrap_or (address r b) [])) ≡ Some (renamed r (objects_in r k) (value.Object b))) [
+          ∙ elim (is_in r k b) as (λ t. is_in r k b ≡ t → led_to s.metamodel (parts_of r k) class (if t then Here (path_in r b) else Elsewhere (unwrap_or (address r b) [])) ≡ Some (renamed_value r (objects_in r k) (value.Object b))) [
             | true ↦ λ within.
                 let number = eqb-true j.0.0 k.0 (sym (ap (λ (x : Option ResourceNo). option_map_or (λ l. nat_eq l.0 k.0) x false) j.1) ∙ within) in
                 led-here (inside-written s legal k b (j.1 ∙ ap Some (λ n. record { 0 = number n })))

@@ -33,11 +33,11 @@ use Rattle.models.specs.Reading.{at_end, is_live, objects_of}
 use Rattle.models.proofs.PlaceLemmas.{legal-at}
 use Rattle.containment.specs.Above.{resource_of}
 use Rattle.fragment_paths.proofs.HeldLemmas.{held, held-object}
-use Rattle.fragment_paths.proofs.NameLemmas.{own-name}
+use Rattle.mm_meta.proofs.OwnNameLemmas.{own-name}
 use Rattle.fragment_paths.proofs.UpLemmas.{resource-none}
 use Rattle.doc_parts.specs.Contents.{is_content, is_value}
 use Rattle.doc_parts.specs.Faults.{has_no_class, has_other_key, is_misshapen, is_readable, of_entry, of_written}
-use Rattle.doc_parts.specs.Layout.{Written, new_written, top, written}
+use Rattle.doc_parts.specs.Layout.{Written, new_written, top, written_object}
 use Rattle.doc_parts.specs.Parts.{Entry, Part, entries, level_of, parts, values_of}
 use Rattle.doc_parts.proofs.DataLemmas.{list_all-map, list_any-map}
 use Rattle.doc_writer.specs.Document.{class_name, document, feature_member, members_with, value_data}
@@ -123,7 +123,7 @@ module _ (s : Model) (legal : IsLegal s) (k : ResourceNo) (uri : List ℕ) (foun
       ap (list_any holds) found.parts ∙ list_any-map (part_of (reading s) k) holds os ∙ any-none (λ o. holds (part_of (reading s) k o)) os (each-of _ os none)
 
   pub none-written : (holds : Written → Bool) → ((o : ObjectNo) → Contains os o → holds (new_written (class_name (reading s) o) (features_data (reading s) k o)) ≡ false) → of_written holds (parts m d) ≡ false
-  none-written holds none = none-part (λ p. option_map_or holds (written p.json) false) (λ o inside. ap (λ w. option_map_or holds w false) (found.each o inside).written ∙ none o inside)
+  none-written holds none = none-part (λ p. option_map_or holds (written_object p.json) false) (λ o inside. ap (λ w. option_map_or holds w false) (found.each o inside).written ∙ none o inside)
 
   pub none-entry : (holds : Entry → Bool) → ((o : ObjectNo) (f : FeatureNo) → Contains os o → Contains (written_features (reading s) o) f → holds (entry_of (reading s) k o f) ≡ false)
       → of_entry m holds (parts m d) ≡ false

@@ -8,7 +8,7 @@ use Rattle.std.proofs.lemmas.List.Folds.{list_any-append}
 use Rattle.std.proofs.lemmas.Option.{none-some, slice_get-map}
 use Rattle.mm_meta.proofs.ShapeLemmas.{opposites_are_pairs, shape_opposite}
 use Rattle.mm_types.specs.Ends as ends
-use Rattle.mm_types.specs.Ends.{shown, value_in}
+use Rattle.mm_types.specs.Ends.{shown_values, value_in}
 use Rattle.mm_types.specs.Lookups as lookups
 use Rattle.mm_types.specs.Resolved.{Metamodel}
 use Rattle.mm_types.specs.Same.{is_feature, is_nil, same_feature, same_value}
@@ -40,7 +40,7 @@ use Rattle.resource_docs.specs.Read.{values_in, values_under}
 use Rattle.resource_docs.specs.declared.doc.Content.{Content}
 use Rattle.resource_docs.specs.declared.doc.DocObject.{DocObject}
 use Rattle.round_trip.specs.TextsLaws.{LeadsBack}
-use Rattle.round_trip.specs.Copied.{content_copied, copied, object_copied, renamed}
+use Rattle.round_trip.specs.Copied.{content_copied, copied_document, object_copied, renamed_value}
 use Rattle.round_trip.specs.ValuesLaws.{AreReadAs}
 use Rattle.round_trip.specs.Readable.{IsReadable}
 use Rattle.round_trip.proofs.ContainLemmas.{reference-plain}
@@ -61,8 +61,8 @@ any-counted p g n (x ∷ xs) h =
 -- a test that fails for each content of a resource's document fails for the document
 pub none-content : (r : Reading) (k : ResourceNo) (holds : ObjectNo → Content → Bool)
     → ((n : ℕ) (o : ObjectNo) (f : FeatureNo) → slice_get (objects_in r k) n ≡ Some o → Contains (written_features r o) f → holds (record { 0 = n }) (content_copied r (objects_in r k) o f) ≡ false)
-    → of_content holds (copied r k) ≡ false
-unfolding copied
+    → of_content holds (copied_document r k) ≡ false
+unfolding copied_document
 none-content r k holds none =
     let os = objects_in r k in
     any-counted (λ (x : ℕ × DocObject). list_any (holds (record { 0 = x.0 })) x.1.contents) (object_copied r os) 0 os (λ n o at.
@@ -91,17 +91,17 @@ among-features (g ∷ gs) f h =
     ] refl h
 
 -- a reference that has an object or a proxy first is set
-pub first-set : (a : Shape) (v : Value) (vs : List Value) (flag : Bool) → a.is_unsettable ≡ false → a.default ≡ value.Null → is_target v ≡ true → ends.is_set a (record { values = shown a.is_single (v ∷ vs); flag = flag }) ≡ true
+pub first-set : (a : Shape) (v : Value) (vs : List Value) (flag : Bool) → a.is_unsettable ≡ false → a.default ≡ value.Null → is_target v ≡ true → ends.is_set a (record { values = shown_values a.is_single (v ∷ vs); flag = flag }) ≡ true
 first-set a v vs flag settable null target = by a.is_single v target
   where
-    by : (b : Bool) (w : Value) → is_target w ≡ true → (if b then (if a.is_unsettable then flag else not (same_value (value_in (shown b (w ∷ vs)) 0) a.default)) else not (is_nil (shown b (w ∷ vs)))) ≡ true
+    by : (b : Bool) (w : Value) → is_target w ≡ true → (if b then (if a.is_unsettable then flag else not (same_value (value_in (shown_values b (w ∷ vs)) 0) a.default)) else not (is_nil (shown_values b (w ∷ vs)))) ≡ true
     by true (value.Object o) is = λ i. if settable i then flag else not (same_value (value.Object o) (null i))
     by true (value.Proxy t) is = λ i. if settable i then flag else not (same_value (value.Proxy t) (null i))
     by true _ is = absurd (false≢true is)
     by false w is = refl
 
 some-set : (r : Reading) (e : End) (vs : List Value) (i : ℕ) (v : Value) → (shape r.metamodel e.feature).is_unsettable ≡ false → (shape r.metamodel e.feature).default ≡ value.Null → IsTrue (is_legal_end r e vs) → slice_get vs i ≡ Some v
-    → ends.is_set (shape r.metamodel e.feature) (record { values = shown (shape r.metamodel e.feature).is_single vs; flag = r.flag e }) ≡ true
+    → ends.is_set (shape r.metamodel e.feature) (record { values = shown_values (shape r.metamodel e.feature).is_single vs; flag = r.flag e }) ≡ true
 some-set r e [] i v settable null legal at = absurd (none-some v at)
 some-set r e (w ∷ ws) i v settable null legal at =
     first-set (shape r.metamodel e.feature) w ws (r.flag e) settable null (target-legal r e.feature w (legal-at r e (w ∷ ws) 0 w legal refl).1)
@@ -154,7 +154,7 @@ module _ (s : Model) (legal : IsLegal s) (k : ResourceNo) (uri : List ℕ) (lead
       let linked = values-linked s far pair.far_refers in
       let may = legal-at (reading s) far (end s.links far) has.0 (value.Object o) (legal.links.ends far) has.1 in
       let plain = reference-plain m g pair.far_refers in
-      let set : is_set (reading s) far ≡ true = subst (λ (vs : List Value). ends.is_set (shape m g) (record { values = shown (shape m g).is_single vs; flag = (reading s).flag far }) ≡ true) (sym linked)
+      let set : is_set (reading s) far ≡ true = subst (λ (vs : List Value). ends.is_set (shape m g) (record { values = shown_values (shape m g).is_single vs; flag = (reading s).flag far }) ≡ true) (sym linked)
       (some-set (reading s) far (end s.links far) has.0 (value.Object o) plain.0 plain.1 (legal.links.ends far) has.1) in
       is-kept (is_written (reading s) b) (all_features_of (reading s) (node.Object b)) g (among-class (reading s) b g may.0)
       (ap (λ (c : Bool). c && not (lookups.is_container m g)) set ∙ ap not (no-container m f g x there (sym (shape_opposite m g) ∙ pair.back) other))
@@ -162,57 +162,57 @@ module _ (s : Model) (legal : IsLegal s) (k : ResourceNo) (uri : List ℕ) (lead
   ---------------------------------------------------------------- both name each other
 
   -- the values that a document has under a feature of an object, by its number
-  under-number : (b : ObjectNo) (j : ℕ) (g : FeatureNo) → slice_get os j ≡ Some b → values_in (copied (reading s) k) (record { 0 = j }) g ≡ values_under (object_copied (reading s) os b) g
-  unfolding copied
+  under-number : (b : ObjectNo) (j : ℕ) (g : FeatureNo) → slice_get os j ≡ Some b → values_in (copied_document (reading s) k) (record { 0 = j }) g ≡ values_under (object_copied (reading s) os b) g
+  unfolding copied_document
   under-number b j g at =
       ap (λ (x : Option DocObject). option_map_or (λ y. values_under y g) x []) (slice_get-map (object_copied (reading s) os) os j ∙ ap (option_map (object_copied (reading s) os)) at)
 
   far-named : (o : ObjectNo) (n : ℕ) (b : ObjectNo) (j : ℕ) (g : FeatureNo) → slice_get os n ≡ Some o → slice_get os j ≡ Some b → Contains (written_features (reading s) b) g → Has s.links (at_end (node.Object b) g) (value.Object o)
-      → (shape m g).is_reference ≡ true → list_any (same_value (value.Object (record { 0 = n }))) (values_in (copied (reading s) k) (record { 0 = j }) g) ≡ true
+      → (shape m g).is_reference ≡ true → list_any (same_value (value.Object (record { 0 = n }))) (values_in (copied_document (reading s) k) (record { 0 = j }) g) ≡ true
   far-named o n b j g here there written has refers =
       let r = reading s in
       let far = at_end (node.Object b) g in
       let named = value.Object (record { 0 = n }) in
-      let own : renamed r os (value.Object o) ≡ named = name-numbered s legal k uri leads fine read o n (there-position os o n (objects-apart s legal k) here) in
-      let held = map (renamed r os) (values_at s far) in
+      let own : renamed_value r os (value.Object o) ≡ named = name-numbered s legal k uri leads fine read o n (there-position os o n (objects-apart s legal k) here) in
+      let held = map (renamed_value r os) (values_at s far) in
       let at : slice_get (values_at s far) has.0 ≡ Some (value.Object o) = ap (λ (vs : List Value). slice_get vs has.0) (values-linked s far refers) ∙ has.1 in
-      let placed : Contains held named = stands held has.0 named (slice_get-map (renamed r os) (values_at s far) has.0 ∙ ap (option_map (renamed r os)) at ∙ ap Some own) in
+      let placed : Contains held named = stands held has.0 named (slice_get-map (renamed_value r os) (values_at s far) has.0 ∙ ap (option_map (renamed_value r os)) at ∙ ap Some own) in
       ap (list_any (same_value named)) (under-number b j g there)
       ∙ any-flat (same_value named) (λ (c : Content). if same_feature g c.feature then c.values else []) (map (content_copied r os b) (written_features r b)) (content_copied r os b g)
       (mapped-in (content_copied r os b) (written_features r b) g written)
       (ap (λ (t : Bool). list_any (same_value named) (if t then held else [])) (eq-eqb g.0 g.0 refl) ∙ any-in (same_value named) held named placed (same_value-self named))
 
   answered : (o : ObjectNo) (n : ℕ) (f : FeatureNo) (x : Feature) (b : ObjectNo) (i j : ℕ) → slice_get os n ≡ Some o → lookups.feature m f ≡ Some x → is_containment m f ≡ false
-      → slice_get (values_at s (at_end (node.Object o) f)) i ≡ Some (value.Object b) → slice_get os j ≡ Some b → is_unanswered m (copied (reading s) k) (record { 0 = n }) f (value.Object (record { 0 = j })) ≡ false
+      → slice_get (values_at s (at_end (node.Object o) f)) i ≡ Some (value.Object b) → slice_get os j ≡ Some b → is_unanswered m (copied_document (reading s) k) (record { 0 = n }) f (value.Object (record { 0 = j })) ≡ false
   answered o n f x b i j here known other at there = by (shape m f).opposite refl
     where
       by : (q : Option FeatureNo) → (shape m f).opposite ≡ q
-          → option_map_or (λ g. not (list_any (same_value (value.Object (record { 0 = n }))) (values_in (copied (reading s) k) (record { 0 = j }) g))) q false ≡ false
+          → option_map_or (λ g. not (list_any (same_value (value.Object (record { 0 = n }))) (values_in (copied_document (reading s) k) (record { 0 = j }) g))) q false ≡ false
       by None is = refl
       by (Some g) is =
           let has = far-has o f g b i is at in
           ap not (far-named o n b j g here there (far-written o f g b x known is other has) has (opposites_are_pairs m legal.metamodel f g is).far_refers)
 
   value-answered : (o : ObjectNo) (n : ℕ) (f : FeatureNo) (x : Feature) (i : ℕ) (v : Value) → slice_get os n ≡ Some o → Contains (written_features (reading s) o) f → lookups.feature m f ≡ Some x → is_containment m f ≡ false
-      → slice_get (values_at s (at_end (node.Object o) f)) i ≡ Some v → is_unanswered m (copied (reading s) k) (record { 0 = n }) f (renamed (reading s) os v) ≡ false
+      → slice_get (values_at s (at_end (node.Object o) f)) i ≡ Some v → is_unanswered m (copied_document (reading s) k) (record { 0 = n }) f (renamed_value (reading s) os v) ≡ false
   value-answered o n f x i (value.Object b) here written known other at = by (named s legal k uri leads fine read o f b i (stands os n o here) written at)
     where
-      by : IsNamed (reading s) k b → is_unanswered m (copied (reading s) k) (record { 0 = n }) f (renamed (reading s) os (value.Object b)) ≡ false
+      by : IsNamed (reading s) k b → is_unanswered m (copied_document (reading s) k) (record { 0 = n }) f (renamed_value (reading s) os (value.Object b)) ≡ false
       by (Numbered j is) =
-          ap (is_unanswered m (copied (reading s) k) (record { 0 = n }) f) (name-numbered s legal k uri leads fine read b j is) ∙ answered o n f x b i j here known other at (position-there os b j is)
-      by (Addressed e) = ap (is_unanswered m (copied (reading s) k) (record { 0 = n }) f) (name-addressed s legal k uri leads fine read b e)
+          ap (is_unanswered m (copied_document (reading s) k) (record { 0 = n }) f) (name-numbered s legal k uri leads fine read b j is) ∙ answered o n f x b i j here known other at (position-there os b j is)
+      by (Addressed e) = ap (is_unanswered m (copied_document (reading s) k) (record { 0 = n }) f) (name-addressed s legal k uri leads fine read b e)
   value-answered o n f x i v here written known other at = refl
 
-  pub none-sided : of_content (is_one_sided m (copied (reading s) k)) (copied (reading s) k) ≡ false
-  none-sided = none-content (reading s) k (is_one_sided m (copied (reading s) k)) (λ n o f here written. by n o f here written (written-of s legal o f written))
+  pub none-sided : of_content (is_one_sided m (copied_document (reading s) k)) (copied_document (reading s) k) ≡ false
+  none-sided = none-content (reading s) k (is_one_sided m (copied_document (reading s) k)) (λ n o f here written. by n o f here written (written-of s legal o f written))
     where
-      by : (n : ℕ) (o : ObjectNo) (f : FeatureNo) → slice_get os n ≡ Some o → Contains (written_features (reading s) o) f → IsWrittenOf s o f → is_one_sided m (copied (reading s) k) (record { 0 = n }) (content_copied (reading s) os o f) ≡ false
+      by : (n : ℕ) (o : ObjectNo) (f : FeatureNo) → slice_get os n ≡ Some o → Contains (written_features (reading s) o) f → IsWrittenOf s o f → is_one_sided m (copied_document (reading s) k) (record { 0 = n }) (content_copied (reading s) os o f) ≡ false
       by n o f here written w =
           let vs = values_at s (at_end (node.Object o) f) in
-          let doc = copied (reading s) k in
-          elim (is_containment m f) as (λ c. is_containment m f ≡ c → not c && list_any (is_unanswered m doc (record { 0 = n }) f) (map (renamed (reading s) os) vs) ≡ false) [
+          let doc = copied_document (reading s) k in
+          elim (is_containment m f) as (λ c. is_containment m f ≡ c → not c && list_any (is_unanswered m doc (record { 0 = n }) f) (map (renamed_value (reading s) os) vs) ≡ false) [
             | true ↦ λ _. refl
             | false ↦ λ other.
-                list_any-map (renamed (reading s) os) (is_unanswered m doc (record { 0 = n }) f) vs
-                ∙ any-none (λ v. is_unanswered m doc (record { 0 = n }) f (renamed (reading s) os v)) vs (each-at _ vs (λ i v at. value-answered o n f w.feature i v here written w.there other at))
+                list_any-map (renamed_value (reading s) os) (is_unanswered m doc (record { 0 = n }) f) vs
+                ∙ any-none (λ v. is_unanswered m doc (record { 0 = n }) f (renamed_value (reading s) os v)) vs (each-at _ vs (λ i v at. value-answered o n f w.feature i v here written w.there other at))
           ] refl

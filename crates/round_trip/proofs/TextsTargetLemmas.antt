@@ -16,9 +16,9 @@ use Rattle.web_uris.specs.Paths.{parse}
 use Rattle.web_uris.specs.declared.path.Path.{Path}
 use Rattle.web_uris.proofs.AddressFacts.{steady_proxy, uri-of_address}
 use Rattle.web_uris.proofs.CutLemmas.{none_passes}
-use Rattle.web_uris.proofs.JoinFacts.{joined-web, web_joined}
+use Rattle.web_uris.proofs.JoinFacts.{joined_uri-web, web_joined}
 use Rattle.resource_docs.specs.Texts.{base_of, target, target_at, target_in, uri_meant}
-use Rattle.resource_docs.specs.declared.target.Target.TheVariants.{Here, Elsewhere}
+use Rattle.resource_docs.specs.declared.referent.Referent.TheVariants.{Here, Elsewhere}
 
 ---------------------------------------------------------------- the URI that is meant
 
@@ -39,7 +39,7 @@ web-not-empty web = option_and_then_some web_text (if_parsed (parse_url None [])
 -- joined with any base, a URI of http or https is the URI that is meant
 meant-web : (uri u : List ℕ) → IsWebUri u → uri_meant (base_of uri) u ≡ Some u
 meant-web uri [] web = absurd (web-not-empty web)
-meant-web uri (c ∷ cs) web = joined-web uri (c ∷ cs) web
+meant-web uri (c ∷ cs) web = joined_uri-web uri (c ∷ cs) web
 
 ---------------------------------------------------------------- a text around its first `#`
 

@@ -19,7 +19,7 @@ use Rattle.mm_types.specs.Same.{is_feature, node_value, same_end}
 use Rattle.mm_types.specs.declared.end.End.{End}
 use Rattle.mm_types.specs.declared.numbers.Node.{Node}
 use Rattle.links.specs.Links.{end}
-use Rattle.links.specs.Indexed.{far_indexed, far_value, indexed}
+use Rattle.links.specs.Indexed.{far_indexed, far_value, indexed_value}
 use Rattle.links.specs.declared.link.Far.{Far}
 use Rattle.links.specs.declared.link.Far.TheVariants.{At, Alone, Proxy}
 use Rattle.links.specs.declared.link.Link.{Link}
@@ -67,7 +67,7 @@ far-placed (Alone o) n e k t = λ h. none-some _ h
 far-placed (Proxy u) n e k t = λ h. none-some _ h
 
 -- a link that has a proxy at a position is that proxy
-placed-far : (l : Link) (e : End) (k : ℕ) (t : List ℕ) → indexed l e ≡ Some (k, value.Proxy t) → l.far ≡ Proxy t
+placed-far : (l : Link) (e : End) (k : ℕ) (t : List ℕ) → indexed_value l e ≡ Some (k, value.Proxy t) → l.far ≡ Proxy t
 placed-far l e k t = elim (same_end l.end e) as (λ b. (if b then at_index l.index (far_value l.far) else far_indexed l.far (node_value l.end.node) e) ≡ Some (k, value.Proxy t) → l.far ≡ Proxy t) [
   | true ↦ λ h. far-of_value l.far t (some_pair_parts l.index k (far_value l.far) (value.Proxy t) h).1
   | false ↦ λ h. absurd (far-placed l.far l.end.node e k t h)

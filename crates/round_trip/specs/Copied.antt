@@ -18,13 +18,13 @@ use Rattle.resource_docs.specs.declared.doc.Doc.{Doc}
 use Rattle.resource_docs.specs.declared.doc.DocObject.{DocObject}
 
 -- a value as the document has it: an object of the resource becomes its position, an object of another resource a proxy with its address
-abbrev pub renamed : Reading → List ObjectNo → Value → Value
-renamed r os (value.Object o) =
+abbrev pub renamed_value : Reading → List ObjectNo → Value → Value
+renamed_value r os (value.Object o) =
     option_map_or (λ n. value.Object (record { 0 = n })) (position (same_object o) os) (value.Proxy (unwrap_or (address r o) []))
-renamed r os v = v
+renamed_value r os v = v
 
 abbrev pub content_copied : Reading → List ObjectNo → ObjectNo → FeatureNo → Content
-content_copied r os o f = record { feature = f; values = map (renamed r os) (r.values (at_end (node.Object o) f)) }
+content_copied r os o f = record { feature = f; values = map (renamed_value r os) (r.values (at_end (node.Object o) f)) }
 
 abbrev pub object_copied : Reading → List ObjectNo → ObjectNo → DocObject
 object_copied r os o =
@@ -33,7 +33,7 @@ object_copied r os o =
 abbrev pub root_copied : List ObjectNo → ObjectNo → ObjectNo
 root_copied os o = record { 0 = unwrap_or (position (same_object o) os) 0 }
 
-unfoldable pub copied : Reading → ResourceNo → Doc
-copied r k =
+unfoldable pub copied_document : Reading → ResourceNo → Doc
+copied_document r k =
     let os = objects_in r k in
     record { objects = map (object_copied r os) os; roots = map (root_copied os) (roots r k) }

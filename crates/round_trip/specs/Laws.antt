@@ -9,17 +9,17 @@ use Rattle.doc_writer.specs.Document.{document}
 use Rattle.doc_writer.specs.Saved.{IsReadAs}
 use Rattle.resource_docs.specs.Causes.{reads, reads_bytes}
 use Rattle.resource_docs.specs.Texts.{base_of}
-use Rattle.round_trip.specs.Copied.{copied}
+use Rattle.round_trip.specs.Copied.{copied_document}
 use Rattle.round_trip.specs.Readable.{IsReadable}
 
 -- the JSON value of a resource is read as that resource
 abbrev pub ReadsBack : Model → Type 0
 ReadsBack s =
     IsLegal s → HasSteadyTexts s → (k : ResourceNo) (uri : List ℕ) → IsReadable (reading s) k uri
-    → reads s.metamodel (base_of uri) (document (reading s) k) ≡ Ok (copied (reading s) k)
+    → reads s.metamodel (base_of uri) (document (reading s) k) ≡ Ok (copied_document (reading s) k)
 
 -- the text of a resource, as a save returns it, is read as that resource
 abbrev pub ReadsTextBack : Model → Type 0
 ReadsTextBack s =
     IsLegal s → HasSteadyTexts s → (k : ResourceNo) (uri text : List ℕ) → IsReadable (reading s) k uri → IsReadAs (reading s) k text → is_utf8 text ≡ true
-    → reads_bytes s.metamodel uri text ≡ Ok (copied (reading s) k)
+    → reads_bytes s.metamodel uri text ≡ Ok (copied_document (reading s) k)

@@ -6,7 +6,7 @@ use Rattle.mm_types.specs.declared.numbers.ObjectNo.{ObjectNo}
 use Rattle.mm_types.specs.declared.numbers.ResourceNo.{ResourceNo}
 use Rattle.models.specs.Reading.{Reading}
 use Rattle.fragment_paths.specs.Finding.{roots}
-use Rattle.doc_parts.specs.Layout.{new_top, new_written, top, written}
+use Rattle.doc_parts.specs.Layout.{new_top, new_written, top, written_object}
 use Rattle.doc_parts.specs.Parts.{class_of, entries, parts, root_parts}
 use Rattle.doc_writer.specs.Document.{class_name, document}
 use Rattle.doc_writer.specs.Written.{objects_in, written_features}
@@ -14,7 +14,7 @@ use Rattle.round_trip.specs.Parts.{data_of, entry_of, features_data, part_of}
 
 -- an object is read with its class and, in order, its written features
 pub record IsPart (r : Reading) (k : ResourceNo) (o : ObjectNo) : Type 0 where
-  pub written : written (data_of r k o) ≡ Some (new_written (class_name r o) (features_data r k o))
+  pub written : written_object (data_of r k o) ≡ Some (new_written (class_name r o) (features_data r k o))
   pub class : class_of r.metamodel (data_of r k o) ≡ r.class o
   pub entries : entries r.metamodel (data_of r k o) ≡ map (entry_of r k o) (written_features r o)
 

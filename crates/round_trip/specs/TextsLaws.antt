@@ -9,11 +9,11 @@ use Rattle.web_uris.specs.Paths.{new_path}
 use Rattle.fragment_paths.specs.Fragments.{address, is_in, path_of}
 use Rattle.doc_writer.specs.Document.{reference_text}
 use Rattle.resource_docs.specs.Texts.{base_of, target}
-use Rattle.resource_docs.specs.declared.target.Target.{Target}
-use Rattle.resource_docs.specs.declared.target.Target.TheVariants.{Here, Elsewhere}
+use Rattle.resource_docs.specs.declared.referent.Referent.{Referent}
+use Rattle.resource_docs.specs.declared.referent.Referent.TheVariants.{Here, Elsewhere}
 
 -- the target of a resource's reference to an object: the object's path in the resource, or its address in another resource
-abbrev pub target_of : Reading → ResourceNo → ObjectNo → Target
+abbrev pub target_of : Reading → ResourceNo → ObjectNo → Referent
 target_of r k o = if is_in r k o then Here (unwrap_or (path_of r o) (new_path 0 [])) else Elsewhere (unwrap_or (address r o) [])
 
 -- in a resource of this URI, each text of a reference leads to the object, or the address, for which it was written; and no two objects

@@ -19,7 +19,7 @@ use Rattle.doc_writer.specs.Written.{level, objects_in, written_features}
 use Rattle.resource_docs.specs.Texts.{base_of}
 use Rattle.resource_docs.specs.Values.{value_of}
 use Rattle.round_trip.specs.Parts.{data_of, part_of, path_in}
-use Rattle.round_trip.specs.Copied.{renamed}
+use Rattle.round_trip.specs.Copied.{renamed_value}
 
 -- the parts of the document of a resource
 abbrev pub parts_of : Reading → ResourceNo → List Part
@@ -35,7 +35,7 @@ pub record IsPlaced (r : Reading) (k : ResourceNo) (o : ObjectNo) : Type 0 where
 -- the JSON value of a value under a feature is accepted for that feature, and is read as the value in the document
 pub record IsReadAs (r : Reading) (k : ResourceNo) (uri : List ℕ) (o : ObjectNo) (f : FeatureNo) (g : Feature) (i : ℕ) (v : Value) : Type 0 where
   pub good : is_value r.metamodel (shape r.metamodel f).is_single g.kind (value_data r k (data_of r k) f v) ≡ true
-  pub value : value_of r.metamodel (base_of uri) (parts_of r k) (path_in r o) f g.kind (i, value_data r k (data_of r k) f v) ≡ Some (renamed r (objects_in r k) v)
+  pub value : value_of r.metamodel (base_of uri) (parts_of r k) (path_in r o) f g.kind (i, value_data r k (data_of r k) f v) ≡ Some (renamed_value r (objects_in r k) v)
 
 -- each object has its place in the document, and each written value is read as the value in the document
 pub record AreReadAs (r : Reading) (k : ResourceNo) (uri : List ℕ) : Type 0 where

@@ -6,7 +6,7 @@ use Rattle.std.proofs.lemmas.List.{nil_from_length}
 use Rattle.std.proofs.lemmas.List.Folds.{list_any-append}
 use Rattle.script_lines.specs.Lines.{lines}
 use Rattle.script_lines.specs.declared.grammar.TheConstants.{NEWLINE}
-use Rattle.script_answers.specs.Dressed.{dressed, dressed_from, dressed_line, each_behind, is_stopped, kept, numbered, plain, until_fault}
+use Rattle.script_answers.specs.Dressed.{dressed_line, dressed_output, dressed_output_from, each_behind, is_stopped, lines_until_end, numbered_lines, plain_dress, until_fault}
 use Rattle.script_answers.specs.Turns.{Printed, is_fault, texts}
 use Rattle.script_answers.specs.declared.dress.Dress.{Dress}
 
@@ -24,17 +24,17 @@ next_behind f g rest line more cut =
 
 -- a line of an answer, and then the others
 pub next_numbered : (k : ℕ) (rest line more : List ℕ) → lines rest ≡ line ∷ lines more
-    → numbered k rest ≡ (decimal k ++ (codes ": " ++ (line ++ NEWLINE ∷ []))) ++ numbered k more
+    → numbered_lines k rest ≡ (decimal k ++ (codes ": " ++ (line ++ NEWLINE ∷ []))) ++ numbered_lines k more
 next_numbered k rest line more cut = next_behind (decimal k) (codes ": ") rest line more cut
 
 -- an answer is written when nothing of it is left
-pub all_numbered : (k : ℕ) (answer front rest : List ℕ) → length rest ≡ 0 → numbered k answer ≡ front ++ numbered k rest → numbered k answer ≡ front
-all_numbered k answer front rest none is = is ∙ (ap (λ r. front ++ numbered k r) (nil_from_length rest none) ∙ append-nil front)
+pub all_numbered : (k : ℕ) (answer front rest : List ℕ) → length rest ≡ 0 → numbered_lines k answer ≡ front ++ numbered_lines k rest → numbered_lines k answer ≡ front
+all_numbered k answer front rest none is = is ∙ (ap (λ r. front ++ numbered_lines k r) (nil_from_length rest none) ∙ append-nil front)
 
 -- ---- one more line
 
 pub dressed_push : (d : Dress) (k n : ℕ) (ls : List (List ℕ)) (ps : List Printed) (l : List ℕ) (p : Printed) → length ls ≡ length ps → n ≡ k + length ls
-    → dressed_from d k (ls ++ l ∷ []) (ps ++ p ∷ []) ≡ dressed_from d k ls ps ++ dressed_line d n l p
+    → dressed_output_from d k (ls ++ l ∷ []) (ps ++ p ∷ []) ≡ dressed_output_from d k ls ps ++ dressed_line d n l p
 dressed_push d k n [] [] l p same at =
     let here : n ≡ k = omega (arith, at) in
     append-nil (dressed_line d k l p) ∙ ap (λ i. dressed_line d i l p) (sym here)
@@ -43,10 +43,10 @@ dressed_push d k n (m ∷ ls) [] l p same at = absurd (omega (arith, same))
 dressed_push d k n (m ∷ ls) (q ∷ ps) l p same at =
     let one = dressed_line d k m q in
     let more = dressed_push d (suc k) n ls ps l p (omega (arith, same)) (omega (arith, at)) in
-    ap (λ x. one ++ x) more ∙ sym (append_assoc one (dressed_from d (suc k) ls ps) (dressed_line d n l p))
+    ap (λ x. one ++ x) more ∙ sym (append_assoc one (dressed_output_from d (suc k) ls ps) (dressed_line d n l p))
 
 -- lines that print nothing add nothing
-pub dressed_first : (d : Dress) (k : ℕ) (ls more : List (List ℕ)) (ps : List Printed) → length ls ≡ length ps → dressed_from d k (ls ++ more) ps ≡ dressed_from d k ls ps
+pub dressed_first : (d : Dress) (k : ℕ) (ls more : List (List ℕ)) (ps : List Printed) → length ls ≡ length ps → dressed_output_from d k (ls ++ more) ps ≡ dressed_output_from d k ls ps
 dressed_first d k [] [] [] same = refl
 dressed_first d k [] (m ∷ more) [] same = refl
 dressed_first d k [] more (p ∷ ps) same = absurd (omega (arith, same))
@@ -69,7 +69,7 @@ kept_by true ps none = until_none ps none
 kept_by false ps none = refl
 
 -- a run that has not ended keeps all its lines
-pub kept_all : (d : Dress) (ps : List Printed) → is_stopped d ps ≡ false → kept d ps ≡ ps
+pub kept_all : (d : Dress) (ps : List Printed) → is_stopped d ps ≡ false → lines_until_end d ps ≡ ps
 kept_all d ps going = kept_by d.stop ps going
 
 one : (b : Bool) (p : Printed) → cond b (p ∷ []) (p ∷ []) ≡ p ∷ []
@@ -91,7 +91,7 @@ kept_last_by true ps p none = until_last ps p none
 kept_last_by false ps p none = refl
 
 -- such a run keeps one more line, whatever the line prints
-pub kept_last : (d : Dress) (ps : List Printed) (p : Printed) → is_stopped d ps ≡ false → kept d (ps ++ p ∷ []) ≡ ps ++ p ∷ []
+pub kept_last : (d : Dress) (ps : List Printed) (p : Printed) → is_stopped d ps ≡ false → lines_until_end d (ps ++ p ∷ []) ≡ ps ++ p ∷ []
 kept_last d ps p going = kept_last_by d.stop ps p going
 
 stopped_by : (b c any : Bool) → (b && any) ≡ false → (b && (any || (c || false))) ≡ (b && c)
@@ -122,12 +122,12 @@ kept_append_by true ps more ended = until_append ps more ended
 kept_append_by false ps more ended = cc
 
 -- lines after the end of a run are not kept
-pub kept_append : (d : Dress) (ps more : List Printed) → is_stopped d ps ≡ true → kept d (ps ++ more) ≡ kept d ps
+pub kept_append : (d : Dress) (ps more : List Printed) → is_stopped d ps ≡ true → lines_until_end d (ps ++ more) ≡ lines_until_end d ps
 kept_append d ps more ended = kept_append_by d.stop ps more ended
 
 -- ---- answers alone
 
-texts_from : (stop : Bool) (k : ℕ) (ls : List (List ℕ)) (ps : List Printed) → length ps ≤ length ls → dressed_from (record plain { stop = stop }) k ls ps ≡ texts ps
+texts_from : (stop : Bool) (k : ℕ) (ls : List (List ℕ)) (ps : List Printed) → length ps ≤ length ls → dressed_output_from (record plain_dress { stop = stop }) k ls ps ≡ texts ps
 texts_from stop k [] [] within = refl
 texts_from stop k [] (p ∷ ps) within = absurd (omega (arith, within))
 texts_from stop k (l ∷ ls) [] within = refl
@@ -141,8 +141,8 @@ shorter (p ∷ ps) = go (is_fault p.turn) (shorter ps)
     go true h = omega arith
     go false h = omega (arith, h)
 
-pub plain_text : (ls : List (List ℕ)) (ps : List Printed) → length ls ≡ length ps → dressed plain ls ps ≡ texts ps
+pub plain_text : (ls : List (List ℕ)) (ps : List Printed) → length ls ≡ length ps → dressed_output plain_dress ls ps ≡ texts ps
 plain_text ls ps same = texts_from false 1 ls ps (omega (arith, same))
 
-pub stopped_text : (ls : List (List ℕ)) (ps : List Printed) → length ls ≡ length ps → dressed (record plain { stop = true }) ls ps ≡ texts (until_fault ps)
+pub stopped_text : (ls : List (List ℕ)) (ps : List Printed) → length ls ≡ length ps → dressed_output (record plain_dress { stop = true }) ls ps ≡ texts (until_fault ps)
 stopped_text ls ps same = let short = shorter ps in texts_from true 1 ls (until_fault ps) (omega (arith, same, short))

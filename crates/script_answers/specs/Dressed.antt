@@ -9,33 +9,33 @@ use Rattle.script_answers.specs.declared.dress.Dress.{Dress}
 use Rattle.script_answers.specs.declared.turn.Turn.{Turn}
 
 -- the answers of all lines, and nothing else
-abbrev pub plain : Dress
-plain = record { echo = false; number = false; stop = false }
+abbrev pub plain_dress : Dress
+plain_dress = record { echo = false; number = false; stop = false }
 
 -- the lines of a text, with some bytes before each
 abbrev pub each_behind : List ℕ → List ℕ → List ℕ
 each_behind front text = flat_map (λ l. front ++ l ++ NEWLINE ∷ []) (lines text)
 
 -- the lines of an answer, with the number of the script's line before each
-abbrev pub numbered : ℕ → List ℕ → List ℕ
-numbered k answer = each_behind (decimal k ++ codes ": ") answer
+abbrev pub numbered_lines : ℕ → List ℕ → List ℕ
+numbered_lines k answer = each_behind (decimal k ++ codes ": ") answer
 
 -- a line of the script, as it is written before its answer with `--echo`
-abbrev pub echoed : Dress → List ℕ → Turn → List ℕ
-echoed d line turn = if d.echo && not (is_blank turn) then codes "> " ++ line ++ NEWLINE ∷ [] else []
+abbrev pub echoed_line : Dress → List ℕ → Turn → List ℕ
+echoed_line d line turn = if d.echo && not (is_blank turn) then codes "> " ++ line ++ NEWLINE ∷ [] else []
 
 abbrev pub dressed_answer : Dress → ℕ → List ℕ → List ℕ
-dressed_answer d k answer = if d.number then numbered k answer else answer
+dressed_answer d k answer = if d.number then numbered_lines k answer else answer
 
 -- the output for the line of number k
 abbrev pub dressed_line : Dress → ℕ → List ℕ → Printed → List ℕ
-dressed_line d k line p = echoed d line p.turn ++ dressed_answer d k p.text
+dressed_line d k line p = echoed_line d line p.turn ++ dressed_answer d k p.text
 
 -- the output for lines that are numbered from k on
-abbrev pub dressed_from : Dress → ℕ → List (List ℕ) → List Printed → List ℕ
-dressed_from d k [] ps = []
-dressed_from d k (l ∷ ls) [] = []
-dressed_from d k (l ∷ ls) (p ∷ ps) = dressed_line d k l p ++ dressed_from d (suc k) ls ps
+abbrev pub dressed_output_from : Dress → ℕ → List (List ℕ) → List Printed → List ℕ
+dressed_output_from d k [] ps = []
+dressed_output_from d k (l ∷ ls) [] = []
+dressed_output_from d k (l ∷ ls) (p ∷ ps) = dressed_line d k l p ++ dressed_output_from d (suc k) ls ps
 
 -- the output of lines, up to and including the first line that is refused or bad
 abbrev pub until_fault : List Printed → List Printed
@@ -43,12 +43,12 @@ until_fault [] = []
 until_fault (p ∷ ps) = if is_fault p.turn then p ∷ [] else p ∷ until_fault ps
 
 -- the output of lines until the run ends
-abbrev pub kept : Dress → List Printed → List Printed
-kept d ps = if d.stop then until_fault ps else ps
+abbrev pub lines_until_end : Dress → List Printed → List Printed
+lines_until_end d ps = if d.stop then until_fault ps else ps
 
 -- the output of a script; `ps` is the output of its lines if all were run
-abbrev pub dressed : Dress → List (List ℕ) → List Printed → List ℕ
-dressed d ls ps = dressed_from d 1 ls (kept d ps)
+abbrev pub dressed_output : Dress → List (List ℕ) → List Printed → List ℕ
+dressed_output d ls ps = dressed_output_from d 1 ls (lines_until_end d ps)
 
 -- whether a run ends at a fault among what the lines print
 abbrev pub is_stopped : Dress → List Printed → Bool

@@ -9,8 +9,8 @@ pub record Printed : Type 0 where
   pub text : List ℕ
   pub turn : Turn
 
-abbrev pub printed : List ℕ → Turn → Printed
-printed text turn = record { text = text; turn = turn }
+abbrev pub printed_line : List ℕ → Turn → Printed
+printed_line text turn = record { text = text; turn = turn }
 
 -- all that lines printed
 abbrev pub texts : List Printed → List ℕ

@@ -1,6 +1,6 @@
 //! The output options of a script.
 ghost use Rattle.std.specs.Prelude.{◌≡◌, ◌&&◌, IsTrue};
-ghost use Rattle.script_answers.specs.Dressed.{plain};
+ghost use Rattle.script_answers.specs.Dressed.{plain_dress};
 ghost use Rattle.script_answers.specs.Turns.{is_fault};
 
 use crate::turn::Turn;
@@ -20,7 +20,7 @@ pub struct Dress {
 impl Dress {
     /// The answers of all lines, and nothing else.
     pub fn plain() -> Self
-        ensures { result ≡ plain }
+        ensures { result ≡ plain_dress }
     {
         Dress {
             echo: false,
@@ -31,7 +31,7 @@ impl Dress {
 
     /// Whether nothing is written but answers, and all lines are run.
     pub fn is_plain(self) -> bool
-        ensures { IsTrue result → self ≡ plain }
+        ensures { IsTrue result → self ≡ plain_dress }
     {
         !(self.echo || self.number || self.stop)
     }

@@ -1,8 +1,8 @@
 //! The answer of a line is written by the output options.
 ghost use Rattle.std.specs.Prelude.{◌≡◌, IfErr, OnErr, OnOk};
 ghost use Rattle.std.specs.Io.KnownBytes.{Appends};
-ghost use Rattle.script_answers.specs.Dressed.{dressed_answer, dressed_line, each_behind, echoed, numbered};
-ghost use Rattle.script_answers.specs.Turns.{printed};
+ghost use Rattle.script_answers.specs.Dressed.{dressed_answer, dressed_line, each_behind, echoed_line, numbered_lines};
+ghost use Rattle.script_answers.specs.Turns.{printed_line};
 ghost use Rattle.script_streams.specs.Streams.{AppendsFront};
 
 use crate::dress::Dress;
@@ -27,8 +27,8 @@ fn write_echo<W: Write>(
     line: &[u8],
     turn: Turn,
 ) -> Result<(), RunFault>
-    ensures ok { OnOk result (Appends (W.contents writer.old) (W.contents writer.new) (echoed dress line.now turn)) }
-    ensures err { OnErr result (AppendsFront (W.contents writer.old) (W.contents writer.new) (echoed dress line.now turn)) }
+    ensures ok { OnOk result (Appends (W.contents writer.old) (W.contents writer.new) (echoed_line dress line.now turn)) }
+    ensures err { OnErr result (AppendsFront (W.contents writer.old) (W.contents writer.new) (echoed_line dress line.now turn)) }
     ensures kind { IfErr result (λ e. e ≡ RunFault.Write) }
 {
     if !dress.echo || turn == Turn::Blank {
@@ -39,8 +39,8 @@ fn write_echo<W: Write>(
 
 /// Writes each line of an answer after the number of its line in the script.
 fn write_numbered<W: Write>(writer: &mut W, number: u64, answer: &[u8]) -> Result<(), RunFault>
-    ensures ok { OnOk result (Appends (W.contents writer.old) (W.contents writer.new) (numbered number answer.now)) }
-    ensures err { OnErr result (AppendsFront (W.contents writer.old) (W.contents writer.new) (numbered number answer.now)) }
+    ensures ok { OnOk result (Appends (W.contents writer.old) (W.contents writer.new) (numbered_lines number answer.now)) }
+    ensures err { OnErr result (AppendsFront (W.contents writer.old) (W.contents writer.new) (numbered_lines number answer.now)) }
     ensures kind { IfErr result (λ e. e ≡ RunFault.Write) }
 {
     let mut buffer = itoa::Buffer::new();
@@ -82,8 +82,8 @@ pub fn write_dressed<W: Write>(
     turn: Turn,
     answer: &[u8],
 ) -> Result<(), RunFault>
-    ensures ok { OnOk result (Appends (W.contents writer.old) (W.contents writer.new) (dressed_line dress number line.now (printed answer.now turn))) }
-    ensures err { OnErr result (AppendsFront (W.contents writer.old) (W.contents writer.new) (dressed_line dress number line.now (printed answer.now turn))) }
+    ensures ok { OnOk result (Appends (W.contents writer.old) (W.contents writer.new) (dressed_line dress number line.now (printed_line answer.now turn))) }
+    ensures err { OnErr result (AppendsFront (W.contents writer.old) (W.contents writer.new) (dressed_line dress number line.now (printed_line answer.now turn))) }
     ensures kind { IfErr result (λ e. e ≡ RunFault.Write) }
 {
     write_echo(writer, dress, line, turn)?;

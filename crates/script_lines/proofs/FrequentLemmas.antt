@@ -7,7 +7,7 @@ use Rattle.std.proofs.lemmas.Bool.Decides.{nat_tests}
 use Rattle.std.proofs.Math.Seq.{take-length}
 use Rattle.std.proofs.lemmas.List.{drop_all}
 use Rattle.std.specs.Char.{is_ascii_digit}
-use Rattle.mm_types.specs.Integers.{natural}
+use Rattle.mm_types.specs.Integers.{natural_number}
 use Rattle.mm_types.specs.Names.{is_name, is_name_byte}
 use Rattle.mm_types.specs.declared.numbers.Node.{Node}
 use Rattle.mm_types.specs.declared.numbers.Node.TheVariants as node
@@ -39,7 +39,7 @@ object_begins_at false c n o is h = absurd (true≢false (ap is_some (sym h)))
 
 object_begins : (w : List ℕ) (o : ObjectNo) → object_in w ≡ Some o → begins_plain w ≡ true
 object_begins [] o h = absurd (true≢false (ap is_some (sym h)))
-object_begins (c ∷ cs) o h = object_begins_at (c == 35) c (natural cs) o refl h
+object_begins (c ∷ cs) o h = object_begins_at (c == 35) c (natural_number cs) o refl h
 
 name_byte_plain : (c : ℕ) → is_name_byte c ≡ true → (not (is_space c) && not (c == 34)) ≡ true
 name_byte_plain c h = grind (arith, nat_tests)
@@ -68,7 +68,7 @@ node_is_at false n x o h = absurd (true≢false (ap is_some (sym h)))
 -- the object of a word is its node
 node_is : (w : List ℕ) (o : ObjectNo) → object_in w ≡ Some o → node_in w ≡ Some (node.Object o)
 node_is [] o h = absurd (true≢false (ap is_some (sym h)))
-node_is (c ∷ cs) o h = node_is_at (c == 35) (natural cs) _ o h
+node_is (c ∷ cs) o h = node_is_at (c == 35) (natural_number cs) _ o h
 
 no_space_in : (w : List ℕ) → list_all is_name_byte w ≡ true → position_or_len is_space w ≡ length w
 no_space_in [] h = refl
@@ -92,7 +92,7 @@ name_word w h =
 digit_no_space : (c : ℕ) → is_ascii_digit c ≡ true → is_space c ≡ false
 digit_no_space c h = grind (arith, nat_tests)
 
-object_at : (cs : List ℕ) (n len : ℕ) → natural (take len cs) ≡ Some n → position_or_len is_space cs ≡ len
+object_at : (cs : List ℕ) (n len : ℕ) → natural_number (take len cs) ≡ Some n → position_or_len is_space cs ≡ len
     → (object_in (before_first is_space (35 ∷ cs)) ≡ Some (object n)) × (drop (len + 1) cs ≡ after_first is_space (35 ∷ cs))
 object_at cs n len number at =
     let f : 1 + len ≡ suc len = omega arith in
@@ -100,7 +100,7 @@ object_at cs n len number at =
     (rw (at, f, number) refl, rw at (ap (λ k. drop k (35 ∷ cs)) g))
 
 -- the mark of an object, its number, and a space
-pub object_before : (text : List ℕ) (n len : ℕ) → 0 < length text → get_or text 0 0 ≡ 35 → natural (take len (drop 1 text)) ≡ Some n
+pub object_before : (text : List ℕ) (n len : ℕ) → 0 < length text → get_or text 0 0 ≡ 35 → natural_number (take len (drop 1 text)) ≡ Some n
     → len < length (drop 1 text) → get_or (drop 1 text) len 0 ≡ 32
     → (object_in (before_first is_space text) ≡ Some (object n)) × (drop (len + 1) (drop 1 text) ≡ after_first is_space text)
 object_before [] n len some mark number within space = absurd (omega arith)

@@ -10,7 +10,7 @@ use Rattle.std.proofs.lemmas.List.{length-take, take-take}
 use Rattle.std.proofs.lemmas.List.Sums.{prefix_len-le-length}
 use Rattle.std.proofs.lemmas.Str.{digit_value_digit}
 use Rattle.std.proofs.lemmas.Str.Parse.{IsNumeralModel, digits_value_short, numerals_by_value, tells_digits}
-use Rattle.mm_types.specs.Integers.{integer, is_decimal, natural}
+use Rattle.mm_types.specs.Integers.{integer, is_decimal, natural_number}
 use Rattle.mm_types.proofs.IntegerLemmas.{digits_model}
 
 -- ---- digits, one after another
@@ -49,7 +49,7 @@ decimal_of [] some all first = absurd (omega arith)
 decimal_of (c ∷ []) some all first = grind (arith, nat_tests)
 decimal_of (c ∷ d ∷ cs) some all first = let other : c ≢ 48 = first (omega arith) in grind (arith, nat_tests)
 
-natural_is : (w : List ℕ) → is_decimal w ≡ true → digits_value 10 w < 2 ^ 32 → natural w ≡ Some (digits_value 10 w)
+natural_is : (w : List ℕ) → is_decimal w ≡ true → digits_value 10 w < 2 ^ 32 → natural_number w ≡ Some (digits_value 10 w)
 natural_is w decimal low = let l : nat_lt (digits_value 10 w) (2 ^ 32) ≡ true = grind (arith, nat_tests) in rw (decimal, l) refl
 
 -- the first byte of a prefix is the first byte of the whole
@@ -61,7 +61,7 @@ front_first (c ∷ cs) (suc k) some = refl
 
 -- the digits at the front are a number
 pub number_in_front : (bytes : List ℕ) (n len : ℕ) → len ≡ prefix_len is_ascii_digit (take 9 bytes) → n ≡ digits_value 10 (take len (take 9 bytes)) → 0 < len
-    → (1 < len → get_or bytes 0 0 ≢ 48) → (natural (take len bytes) ≡ Some n) × (len ≤ length bytes)
+    → (1 < len → get_or bytes 0 0 ≢ 48) → (natural_number (take len bytes) ≡ Some n) × (len ≤ length bytes)
 number_in_front bytes n len is value some first =
     let front : List ℕ = take 9 bytes in
     let short = prefix_len-le-length is_ascii_digit front in
@@ -83,11 +83,11 @@ natural_parts true false v n h = absurd (true≢false (ap is_some (sym h)))
 natural_parts false c v n h = absurd (true≢false (ap is_some (sym h)))
 
 -- digits that write a number are digits
-pub natural_digits : (w : List ℕ) (n : ℕ) → natural w ≡ Some n → list_all is_ascii_digit w ≡ true
+pub natural_digits : (w : List ℕ) (n : ℕ) → natural_number w ≡ Some n → list_all is_ascii_digit w ≡ true
 natural_digits w n h = (and_parts _ _ (natural_parts (is_decimal w) (nat_lt (digits_value 10 w) (2 ^ 32)) _ n h).0).0
 
 -- a number below 2^32 fits in 64 bits
-pub natural_is_integer : (w : List ℕ) (n : ℕ) → slice_index w 0 ≢ 45 → natural w ≡ Some n → integer w ≡ Some (pos n)
+pub natural_is_integer : (w : List ℕ) (n : ℕ) → slice_index w 0 ≢ 45 → natural_number w ≡ Some n → integer w ≡ Some (pos n)
 natural_is_integer w n minus h =
     let parts = natural_parts (is_decimal w) (nat_lt (digits_value 10 w) (2 ^ 32)) _ n h in
     let other : (slice_index w 0 == 45) ≡ false = grind (arith, nat_tests) in
@@ -104,7 +104,7 @@ no_zero (c ∷ []) decimal some = single (c == 48) c refl some
 no_zero (c ∷ d ∷ cs) decimal some = grind (arith, nat_tests)
 
 -- a minus and a number other than 0 are read as the negative number
-pub minus_is_integer : (w : List ℕ) (n : ℕ) → slice_index w 0 ≡ 45 → natural (drop 1 w) ≡ Some n → n ≢ 0 → integer w ≡ Some (neg_ℤ (pos n))
+pub minus_is_integer : (w : List ℕ) (n : ℕ) → slice_index w 0 ≡ 45 → natural_number (drop 1 w) ≡ Some n → n ≢ 0 → integer w ≡ Some (neg_ℤ (pos n))
 minus_is_integer w n minus h some =
     let ds : List ℕ = drop 1 w in
     let parts = natural_parts (is_decimal ds) (nat_lt (digits_value 10 ds) (2 ^ 32)) _ n h in

@@ -5,7 +5,7 @@ use Rattle.std.specs.Option.{option_zip}
 use Rattle.std.specs.List.{after_first, before_first, list_any}
 use Rattle.std.specs.Str.{bytes_eq, is_utf8}
 use Rattle.script_lines.specs.Words.{after_spaces, is_space, words}
-use Rattle.mm_types.specs.Integers.{natural}
+use Rattle.mm_types.specs.Integers.{natural_number}
 use Rattle.script_lines.specs.Values.{adapter_in, feature_in, feature_value_in, name_in, node_in, object_in, resource_in, string_in}
 use Rattle.mm_types.specs.declared.numbers.Node.TheVariants as node
 use Rattle.mm_types.specs.declared.read.EndRead.TheVariants.{Get, IsSet}
@@ -73,15 +73,15 @@ add_form n f v = option_map (λ p. asks.At p.0.0 p.0.1 (feature.Add p.1)) (featu
 
 -- `add NODE NAME VALUE N`
 abbrev pub add_at_form : List ℕ → List ℕ → List ℕ → List ℕ → Option Form
-add_at_form n f v i = option_and_then (λ k. option_map (λ p. asks.At p.0.0 p.0.1 (feature.AddAt k p.1)) (feature_value_in n f v)) (natural i)
+add_at_form n f v i = option_and_then (λ k. option_map (λ p. asks.At p.0.0 p.0.1 (feature.AddAt k p.1)) (feature_value_in n f v)) (natural_number i)
 
 -- `remove NODE NAME N`
 abbrev pub remove_form : List ℕ → List ℕ → List ℕ → Option Form
-remove_form n f i = option_map (λ p. asks.At p.0.0 p.0.1 (feature.Remove p.1)) (option_zip (feature_in n f) (natural i))
+remove_form n f i = option_map (λ p. asks.At p.0.0 p.0.1 (feature.Remove p.1)) (option_zip (feature_in n f) (natural_number i))
 
 -- `resolve OBJ NAME N`
 abbrev pub resolve_form : List ℕ → List ℕ → List ℕ → Option Form
-resolve_form o f i = option_map (λ p. asks.At (node.Object p.0.0) p.0.1 (feature.Resolve p.1)) (option_zip (option_zip (object_in o) (name_in f)) (natural i))
+resolve_form o f i = option_map (λ p. asks.At (node.Object p.0.0) p.0.1 (feature.Resolve p.1)) (option_zip (option_zip (object_in o) (name_in f)) (natural_number i))
 
 -- `removevalue NODE NAME VALUE`
 abbrev pub removevalue_form : List ℕ → List ℕ → List ℕ → Option Form
@@ -89,7 +89,7 @@ removevalue_form n f v = option_map (λ p. asks.At p.0.0 p.0.1 (feature.RemoveVa
 
 -- `move NODE NAME N N`: to, then from
 abbrev pub move_form : List ℕ → List ℕ → List ℕ → List ℕ → Option Form
-move_form n f to from = option_map (λ p. asks.At p.0.0.0 p.0.0.1 (feature.Move p.0.1 p.1)) (option_zip (option_zip (feature_in n f) (natural to)) (natural from))
+move_form n f to from = option_map (λ p. asks.At p.0.0.0 p.0.0.1 (feature.Move p.0.1 p.1)) (option_zip (option_zip (feature_in n f) (natural_number to)) (natural_number from))
 
 -- whether an adapter is deep: `flat` or `deep`
 abbrev pub depth_in : List ℕ → Option Bool
@@ -108,8 +108,8 @@ abbrev pub unwatch_form : List ℕ → List ℕ → Option Form
 unwatch_form a n = option_map (λ p. asks.Unwatch p.0 p.1) (option_zip (adapter_in a) (node_in n))
 
 -- `resolveall`, the only form that is just a verb
-abbrev pub alone : List ℕ → Option Form
-alone verb = if bytes_eq verb (codes "resolveall") then Some asks.ResolveAll else None
+abbrev pub lone_verb_form : List ℕ → Option Form
+lone_verb_form verb = if bytes_eq verb (codes "resolveall") then Some asks.ResolveAll else None
 
 -- the question about an object that a verb asks
 abbrev pub object_read : List ℕ → Option ObjectRead
@@ -174,7 +174,7 @@ with_four verb a b c d =
 
 -- the form of a verb and its arguments
 abbrev pub form_of : List (List ℕ) → Option Form
-form_of (verb ∷ []) = alone verb
+form_of (verb ∷ []) = lone_verb_form verb
 form_of (verb ∷ a ∷ []) = with_one verb a
 form_of (verb ∷ a ∷ b ∷ []) = with_two verb a b
 form_of (verb ∷ a ∷ b ∷ c ∷ []) = with_three verb a b c

@@ -4,7 +4,7 @@ use Rattle.std.specs.Option.{option_zip}
 use Rattle.std.specs.Str.{bytes_eq, is_utf8}
 use Rattle.serde_json.specs.Read.{read}
 use Rattle.serde_json.specs.Find.{as_str}
-use Rattle.mm_types.specs.Integers.{integer, natural}
+use Rattle.mm_types.specs.Integers.{integer, natural_number}
 use Rattle.mm_types.specs.Names.{is_name}
 use Rattle.mm_types.specs.declared.numbers.AdapterNo.{AdapterNo}
 use Rattle.mm_types.specs.declared.numbers.ObjectNo.{ObjectNo}
@@ -43,7 +43,7 @@ is_plain c = nat_le SPACE c && (not (c == QUOTE) && not (c == BACKSLASH))
 -- the number of a word after a mark
 abbrev pub number_in : ℕ → List ℕ → Option ℕ
 number_in mark [] = None
-number_in mark (c ∷ cs) = if c == mark then natural cs else None
+number_in mark (c ∷ cs) = if c == mark then natural_number cs else None
 
 -- `#3`
 abbrev pub object_in : List ℕ → Option ObjectNo
@@ -60,8 +60,8 @@ resource_in w = option_map resource (number_in RESOURCE_MARK w)
 -- `#3`, an object, or `r0`, a resource
 abbrev pub node_in : List ℕ → Option Node
 node_in [] = None
-node_in (c ∷ cs) = if c == OBJECT_MARK then option_map (λ n. node.Object (object n)) (natural cs)
-    else if c == RESOURCE_MARK then option_map (λ n. node.Resource (resource n)) (natural cs) else None
+node_in (c ∷ cs) = if c == OBJECT_MARK then option_map (λ n. node.Object (object n)) (natural_number cs)
+    else if c == RESOURCE_MARK then option_map (λ n. node.Resource (resource n)) (natural_number cs) else None
 
 -- `#3 pages`: a node, and the name of one of its features
 abbrev pub feature_in : List ℕ → List ℕ → Option (Node × List ℕ)
@@ -72,7 +72,7 @@ abbrev pub other_value_in : List ℕ → Option WrittenValue
 other_value_in [] = None
 other_value_in (c ∷ cs) = if c == QUOTE then option_map written.Text (text_in (c ∷ cs))
     else if c == LITERAL_MARK then option_map written.Literal (name_in cs)
-    else if c == OBJECT_MARK then option_map (λ n. written.Object (object n)) (natural cs)
+    else if c == OBJECT_MARK then option_map (λ n. written.Object (object n)) (natural_number cs)
     else option_map written.Int (integer (c ∷ cs))
 
 abbrev pub value_in : List ℕ → Option WrittenValue

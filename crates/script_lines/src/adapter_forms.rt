@@ -44,7 +44,7 @@ pub(crate) fn unwatch_of<'a>(adapter: &str, target: &str) -> Option<Form<'a>>
 {
     let no = adapter_of(adapter)?;
     let target = node_of(target)?;
-    Some(Form::Unwatch { no, target })
+    Some(Form::Unwatch(no, target))
 }
 
 /// `detach AD`

@@ -56,10 +56,7 @@ pub enum Form<'a> {
         deep: bool,
     },
     /// One target taken from an adapter (EMF: Notifier.eAdapters().remove).
-    Unwatch {
-        no: AdapterNo,
-        target: Node,
-    },
+    Unwatch(AdapterNo, Node),
     /// An adapter detached from all its targets (EMF: Notifier.eAdapters().remove).
     Detach(AdapterNo),
     /// Destroys an object and all objects below it (EMF: EcoreUtil.delete, recursively).

@@ -3,7 +3,7 @@ ghost use Rattle.std.specs.Prelude.{◌≡◌, ◌≢◌, ◌≤◌, ◌<◌, If
 ghost use Rattle.std.specs.Char.{is_ascii_digit};
 ghost use Rattle.std.specs.List.{prefix_len};
 ghost use Rattle.std.specs.Str.Parse.{digits_value};
-ghost use Rattle.mm_types.specs.Integers.{integer, natural};
+ghost use Rattle.mm_types.specs.Integers.{integer, natural_number};
 
 use crate::grammar::MINUS;
 use mm_types::integers;
@@ -45,7 +45,7 @@ fn digits_of(bytes: &[u8]) -> (u32, usize)
 /// read, and a further digit may follow.
 #[inline]
 pub(crate) fn number_begun(bytes: &[u8]) -> Option<(u32, usize)>
-    ensures { IfSome result (λ p. (natural (take p.1 bytes.now) ≡ Some p.0) × (p.1 ≤ length bytes.now)) }
+    ensures { IfSome result (λ p. (natural_number (take p.1 bytes.now) ≡ Some p.0) × (p.1 ≤ length bytes.now)) }
 {
     let (number, len) = digits_of(first_bytes(bytes));
     if len == 0 {
@@ -60,7 +60,7 @@ pub(crate) fn number_begun(bytes: &[u8]) -> Option<(u32, usize)>
 /// The number of a word, of 32 bits.
 #[inline]
 pub(crate) fn natural_of(word: &str) -> Option<u32>
-    ensures { result ≡ natural word.now }
+    ensures { result ≡ natural_number word.now }
 {
     match number_begun(word.as_bytes()) {
         Some((number, len)) if len == word.len() => Some(number),

@@ -1,6 +1,6 @@
 //! The form that the words of a line fit.
 ghost use Rattle.std.specs.Prelude.{◌≡◌, IfOk, map};
-ghost use Rattle.script_lines.specs.Forms.{add_at_form, add_form, alone, at_form, contents_form, delete_form, form_of as the_form_of, get_form, isset_form, move_form, new_form, object_read, remove_form, removevalue_form, resolve_form, resource_form, save_form, set_form, unset_form, with_four, with_object, with_one, with_three, with_two, with_word};
+ghost use Rattle.script_lines.specs.Forms.{add_at_form, add_form, at_form, contents_form, delete_form, form_of as the_form_of, get_form, isset_form, lone_verb_form, move_form, new_form, object_read, remove_form, removevalue_form, resolve_form, resource_form, save_form, set_form, unset_form, with_four, with_object, with_one, with_three, with_two, with_word};
 
 use crate::adapter_forms::{attach_of, detach_of, seen_of, unwatch_of, watch_of};
 use crate::form::{FeatureForm, Form};
@@ -225,7 +225,7 @@ fn move_of<'a>(node: &str, feature: &'a str, to: &str, from: &str) -> Option<For
 
 /// The form of a line that is only a verb: `resolveall`.
 fn alone_of<'a>(verb: &str) -> Option<Form<'a>>
-    ensures { result ≡ alone verb.now }
+    ensures { result ≡ lone_verb_form verb.now }
 {
     if verb == "resolveall" {
         Some(Form::ResolveAll)

@@ -119,6 +119,17 @@ impl Output {
         self.digit(n % 10)
     }
 
+    /// Adds a number that mostly has one digit.
+    #[inline(always)]
+    fn brief(&mut self, n: u64) -> Result<(), AllocError>
+        ensures ok { OnOk result (self.new ≡ self.old ++ decimal n) }
+    {
+        if n < 10 {
+            return self.digit(n);
+        }
+        self.natural(n)
+    }
+
     fn digit(&mut self, n: u64) -> Result<(), AllocError>
         requires { n < 10 }
         ensures ok { OnOk result (self.new ≡ self.old ++ decimal n) }
@@ -133,7 +144,7 @@ impl Output {
             return self.natural(n.unsigned_abs());
         }
         self.byte(MINUS)?;
-        self.natural(n.unsigned_abs())
+        self.brief(n.unsigned_abs())
     }
 
     /// Adds a text as a JSON string, with the escapes that `serde_json` writes.
@@ -187,7 +198,7 @@ impl Output {
         ensures ok { OnOk result (self.new ≡ self.old ++ adapter_text no) }
     {
         self.byte(ADAPTER_MARK)?;
-        self.natural(u64::from(no.0))
+        self.brief(u64::from(no.0))
     }
 
     /// Adds a proxy by its text: `proxy "http://m.example/b#/0"`.

@@ -5,13 +5,13 @@ use Rattle.std.specs.Io.KnownBytes.{Appends}
 use Rattle.durable.specs.Answered.{Ends, EndsIn, LeavesFront, LeavesIn, Stops, StopsIn, WritesUntil}
 use Rattle.durable.specs.Printed as durable
 use Rattle.journal.specs.Disk.{LeavesOnly}
-use Rattle.journal.specs.Lines.{recovered}
+use Rattle.journal.specs.Lines.{recovered_lines}
 use Rattle.mm_types.specs.Resolved.{Metamodel}
 use Rattle.models.specs.Model.{Model}
 use Rattle.repository.specs.State.{State, empty_state}
 use Rattle.script_lines.specs.Lines.{lines}
-use Rattle.durable.specs.Heads.{begun}
-use Rattle.script_program.specs.Kept.{EndsJournaled, IsJournalOf, LeavesJournaled, RunsJournaled, StopsJournaled, model_of, replayed}
+use Rattle.durable.specs.Heads.{begun_lines}
+use Rattle.script_program.specs.Kept.{EndsJournaled, IsJournalOf, LeavesJournaled, RunsJournaled, StopsJournaled, model_after_lines, model_of}
 use Rattle.script_program.specs.Session.{Session}
 use Rattle.script_program.proofs.KeptLemmas.{RanAll, Runs, kept_all, model_of-append, none_refused, ran_all}
 use Rattle.script_streams.specs.declared.run_fault.RunFault.{RunFault}
@@ -86,10 +86,10 @@ module _ {S : Type 0} (of : S → Session) (m : Metamodel) (j : S) (before : Lis
 
 -- ---- lines that are run again
 
-pub leaves_all : {S : Type 0} (of : S → Session) (m : Metamodel) (j k : S) (bytes head rest : List ℕ) → (of j).state ≡ empty_state m → recovered bytes ≡ head ∷ recovered rest
-    → durable.RunsKept (Runs of) j (recovered rest) k → model_of m (begun head (recovered bytes)) ≡ Some (of k).state.model
+pub leaves_all : {S : Type 0} (of : S → Session) (m : Metamodel) (j k : S) (bytes head rest : List ℕ) → (of j).state ≡ empty_state m → recovered_lines bytes ≡ head ∷ recovered_lines rest
+    → durable.RunsKept (Runs of) j (recovered_lines rest) k → model_of m (begun_lines head (recovered_lines bytes)) ≡ Some (of k).state.model
 leaves_all of m j k bytes head rest empty found run =
-    ap (λ (ls : List (List ℕ)). model_of m (begun head ls)) found ∙ ap (λ (s : State). replayed s.model (recovered rest)) (sym empty) ∙ kept_all of j k (recovered rest) run
+    ap (λ (ls : List (List ℕ)). model_of m (begun_lines head ls)) found ∙ ap (λ (s : State). model_after_lines s.model (recovered_lines rest)) (sym empty) ∙ kept_all of j k (recovered_lines rest) run
 
 -- a session that is refused a line again
 refuses_of : {S : Type 0} (of : S → Session) (j : S) (ls : List (List ℕ)) → durable.Refuses (Runs of) j ls → durable.Refuses RunsJournaled (of j) ls
@@ -110,12 +110,12 @@ after_first (l ∷ ls) = ls
 
 -- a journal whose lines leave a model is not refused for a line
 pub never_refused : {S : Type 0} (of : S → Session) (m : Metamodel) (model : Model) (j : S) (bytes head rest : List ℕ) → (of j).state ≡ empty_state m → IsJournalOf m head bytes model
-    → recovered bytes ≡ head ∷ recovered rest → durable.Refuses (Runs of) j (recovered rest) → ⊥
+    → recovered_lines bytes ≡ head ∷ recovered_lines rest → durable.Refuses (Runs of) j (recovered_lines rest) → ⊥
 unfolding after_first
 never_refused of m model j bytes head rest empty is found refused =
-    let same : recovered rest ≡ is.lines_after = ap after_first (sym found ∙ is.lines_are) in
-    none_refused (of j) (recovered rest) model (ap (λ (s : State). s.adapters) empty)
-    (ap (λ (s : State). replayed s.model (recovered rest)) empty ∙ ap (replayed (empty_state m).model) same ∙ is.leaves) (refuses_of of j (recovered rest) refused)
+    let same : recovered_lines rest ≡ is.lines_after = ap after_first (sym found ∙ is.lines_are) in
+    none_refused (of j) (recovered_lines rest) model (ap (λ (s : State). s.adapters) empty)
+    (ap (λ (s : State). model_after_lines s.model (recovered_lines rest)) empty ∙ ap (model_after_lines (empty_state m).model) same ∙ is.leaves) (refuses_of of j (recovered_lines rest) refused)
 
 -- ---- from moment to moment
 

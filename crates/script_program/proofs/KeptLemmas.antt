@@ -11,7 +11,7 @@ use Rattle.models.specs.Model.{Model}
 use Rattle.notice_chain.specs.Listed.{Listed}
 use Rattle.notice_chain.specs.View.{View}
 use Rattle.repository.specs.Run.{Executed, IsWanting, is_memory}
-use Rattle.repository.specs.State.{bare, State}
+use Rattle.repository.specs.State.{state_of_model, State}
 use Rattle.repository.specs.Step.{Stepped, step}
 use Rattle.repository.specs.Views.{Outcome}
 use Rattle.repository.specs.declared.command.Command.{Command}
@@ -25,7 +25,7 @@ use Rattle.script_lines.specs.declared.line.Line.{Line}
 use Rattle.script_lines.specs.declared.line.Line.TheVariants as line
 use Rattle.repository.specs.Alone.{is_change}
 use Rattle.script_program.specs.Bind.{at_command, attach_request, named_end}
-use Rattle.script_program.specs.Kept.{RunsJournaled, asks_change, journal_printed, journal_turn, kept_lines, line_asks, model_after_line, model_after_request, model_if_done, model_of, replayed}
+use Rattle.script_program.specs.Kept.{RunsJournaled, asks_change, edits, journal_printed, journal_turn, kept_lines, line_asks, model_after_line, model_after_lines, model_after_request, model_if_done, model_of}
 use Rattle.script_program.specs.Live.{live_text}
 use Rattle.script_program.specs.Pool.{box_of}
 use Rattle.script_program.specs.Script.{RunsCommand, RunsLine, RunsLines, RunsRequest, command_printed}
@@ -79,7 +79,7 @@ failed_is_not_kept : (b : Bool) → durable.is_kept (journal_turn true (if b the
 failed_is_not_kept true = refl
 failed_is_not_kept false = refl
 
-alone : (s : State) → s.adapters ≡ [] → s ≡ bare s.model
+alone : (s : State) → s.adapters ≡ [] → s ≡ state_of_model s.model
 alone s none = ap (λ (rs : List Listed). let t : State = record { model = s.model; adapters = rs } in t) none
 
 -- a change that is done without adapters leaves no adapters
@@ -96,7 +96,7 @@ only_memory : (s u : Session) (c : Command View) (f : Failure View) (m : Model) 
     → s.state.adapters ≡ [] → model_after_request s.state.model (request.Execute c) ≡ Some m → durable.is_lost (journal_turn true (if b then turned.Lost else turned.Refused)) ≡ true
 only_memory s u c f m true is x none done = refl
 only_memory s u c f m false is x none done =
-    let here : step (bare s.state.model) c ≡ record { outcome = Err f; after = u.state } =
+    let here : step (state_of_model s.state.model) c ≡ record { outcome = Err f; after = u.state } =
     ap (λ (t : State). step t c) (sym (alone s.state none)) ∙ not_wanting s.state u.state c f is x in
     let nothing : None ≡ Some m = sym (ap (λ (y : Stepped). model_if_done y.outcome y.after.model) here) ∙ done in
     absurd (cc nothing)
@@ -121,25 +121,25 @@ change_one : (s u : Session) (c : Command View) (p : Printed) → is_change c �
 change_one s u c p is run =
     subst (λ (q : Printed). Counts s u true (model_after_request s.state.model (request.Execute c)) q.turn) (sym run.printed) (change_of s u c run.outcome is run.executed)
 
+command_one : (s u : Session) (c : Command View) (b : Bool) (p : Printed) → is_change c ≡ b → RunsCommand s c p u
+    → Counts s u b (if b then model_after_request s.state.model (request.Execute c) else None) p.turn
+command_one s u c true p is run = change_one s u c p is run
+command_one s u c false p is run = other_counts s u p.turn (other_one s u c p is run)
+
 -- ---- a line
 
 at_one : (s u : Session) (n : Node) (name : List ℕ) (f : FeatureForm) (p : Printed) → RunsCommand s (at_command s.state.model.metamodel (named_end s.state n name) f) p u
     → Counts s u (asks_change (asks.At n name f)) (model_after_line s.state.model (line.Form (asks.At n name f))) p.turn
-at_one s u n name (feature.Read q) p run = other_counts s u p.turn (other_one s u _ p refl run)
-at_one s u n name _ p run = change_one s u _ p refl run
+at_one s u n name (feature.Read q) p run = command_one s u _ false p refl run
+at_one s u n name f p run = command_one s u _ (edits f) p refl run
 
 line_one : (s u : Session) (x : Line) (p : Printed) → RunsLine s x p u → Counts s u (line_asks x) (model_after_line s.state.model x) p.turn
 line_one s u line.Blank p run = other_counts s u p.turn (ap (λ (v : Session). v.state.model) run.1)
 line_one s u line.Bad p run = other_counts s u p.turn (ap (λ (v : Session). v.state.model) run.1)
 line_one s u (line.Form (asks.At n name f)) p run = at_one s u n name f p run
-line_one s u (line.Form (asks.New class)) p run = change_one s u _ p refl run
-line_one s u (line.Form asks.ResolveAll) p run = change_one s u _ p refl run
-line_one s u (line.Form (asks.Load k text)) p run = change_one s u _ p refl run
-line_one s u (line.Form (asks.Resource t)) p run = change_one s u _ p refl run
-line_one s u (line.Form (asks.Delete o)) p run = change_one s u _ p refl run
 line_one s u (line.Form (asks.Attach number target deep)) p run = other_counts s u p.turn (attach_one s u (box_of s.pool number) number target deep p run)
 line_one s u (line.Form (asks.Seen number)) p run = other_counts s u p.turn (ap (λ (v : Session). v.state.model) run.1)
-line_one s u (line.Form _) p run = other_counts s u p.turn (other_one s u _ p refl run)
+line_one s u (line.Form f) p run = command_one s u _ (asks_change f) p refl run
 
 -- ---- lines
 
@@ -150,7 +150,7 @@ kept_false : (l : List ℕ) (p : Printed) (ks : List (List ℕ)) → durable.is_
 kept_false l p ks is = ap (λ (b : Bool). (if b then l ∷ [] else []) ++ ks) is
 
 -- the kept lines leave the model that all of them left
-pub lines_again : (s t : Session) (ls : List (List ℕ)) (ps : List Printed) → RunsLines s ls ps t → replayed s.state.model (kept_lines ls ps) ≡ Some t.state.model
+pub lines_again : (s t : Session) (ls : List (List ℕ)) (ps : List Printed) → RunsLines s ls ps t → model_after_lines s.state.model (kept_lines ls ps) ≡ Some t.state.model
 lines_again s t [] [] run = ap (λ (v : Session). Some v.state.model) (sym run)
 lines_again s t [] (p ∷ ps) run = absurd run
 lines_again s t (l ∷ ls) [] run = absurd run
@@ -160,22 +160,22 @@ lines_again s t (l ∷ ls) (p ∷ ps) run =
     let one = line_one s u (form l) p run.1 in
     let rest = lines_again u t ls ps run.2 in
     elim (cases_Bool (durable.is_kept (journal_printed l p).turn)) [
-      | inl is ↦ ap (replayed s.state.model) (kept_true l p ks is) ∙ ap (option_and_then (λ (n : Model). replayed n ks)) (one.again is) ∙ rest
-      | inr is ↦ ap (replayed s.state.model) (kept_false l p ks is) ∙ ap (λ (m : Model). replayed m ks) (sym (one.other is)) ∙ rest
+      | inl is ↦ ap (model_after_lines s.state.model) (kept_true l p ks is) ∙ ap (option_and_then (λ (n : Model). model_after_lines n ks)) (one.again is) ∙ rest
+      | inr is ↦ ap (model_after_lines s.state.model) (kept_false l p ks is) ∙ ap (λ (m : Model). model_after_lines m ks) (sym (one.other is)) ∙ rest
     ]
 
-replayed-append : (m n : Model) (ls more : List (List ℕ)) → replayed m ls ≡ Some n → replayed m (ls ++ more) ≡ replayed n more
-replayed-append m n [] more is = ap (λ (o : Option Model). option_and_then (λ (k : Model). replayed k more) o) is
-replayed-append m n (l ∷ ls) more is =
-    elim (model_after_line m (form l)) as (λ o. option_and_then (λ (k : Model). replayed k ls) o ≡ Some n → option_and_then (λ (k : Model). replayed k (ls ++ more)) o ≡ replayed n more) [
+model_after_lines-append : (m n : Model) (ls more : List (List ℕ)) → model_after_lines m ls ≡ Some n → model_after_lines m (ls ++ more) ≡ model_after_lines n more
+model_after_lines-append m n [] more is = ap (λ (o : Option Model). option_and_then (λ (k : Model). model_after_lines k more) o) is
+model_after_lines-append m n (l ∷ ls) more is =
+    elim (model_after_line m (form l)) as (λ o. option_and_then (λ (k : Model). model_after_lines k ls) o ≡ Some n → option_and_then (λ (k : Model). model_after_lines k (ls ++ more)) o ≡ model_after_lines n more) [
       | None ↦ λ h. absurd (cc h)
-      | Some k ↦ λ h. replayed-append k n ls more h
+      | Some k ↦ λ h. model_after_lines-append k n ls more h
     ] is
 
 -- the lines of a journal, and some more
-pub model_of-append : (m : Metamodel) (a : Model) (ls more : List (List ℕ)) (b : Option Model) → model_of m ls ≡ Some a → replayed a more ≡ b → model_of m (ls ++ more) ≡ b
+pub model_of-append : (m : Metamodel) (a : Model) (ls more : List (List ℕ)) (b : Option Model) → model_of m ls ≡ Some a → model_after_lines a more ≡ b → model_of m (ls ++ more) ≡ b
 model_of-append m a [] more b is leaves = absurd (cc is)
-model_of-append m a (head ∷ ls) more b is leaves = replayed-append _ a ls more is ∙ leaves
+model_of-append m a (head ∷ ls) more b is leaves = model_after_lines-append _ a ls more is ∙ leaves
 
 -- ---- lines that a journal counts
 
@@ -184,7 +184,7 @@ pub record RanAll (s : Session) (ls : List (List ℕ)) (ps : List durable.Printe
   pub printed : List Printed
   pub ran : RunsLines s ls printed t
   pub text : durable.answers ps ≡ live_text printed
-  pub again : replayed s.state.model (durable.kept_lines ls ps) ≡ Some t.state.model
+  pub again : model_after_lines s.state.model (durable.kept_lines ls ps) ≡ Some t.state.model
 
 module _ {S : Type 0} (of : S → Session) where
   abbrev pub Runs : S → List ℕ → durable.Printed → S → Type 0
@@ -218,27 +218,27 @@ module _ {S : Type 0} (of : S → Session) where
         printed = all.printed;
         ran = all.ran;
         text = all.text;
-        again = ap (replayed (of j).state.model) all.kept ∙ lines_again (of j) (of k) ls all.printed all.ran;
+        again = ap (model_after_lines (of j).state.model) all.kept ∙ lines_again (of j) (of k) ls all.printed all.ran;
       }
 
   -- lines that were run again
-  pub kept_all : (j k : S) (ls : List (List ℕ)) → durable.RunsKept Runs j ls k → replayed (of j).state.model ls ≡ Some (of k).state.model
+  pub kept_all : (j k : S) (ls : List (List ℕ)) → durable.RunsKept Runs j ls k → model_after_lines (of j).state.model ls ≡ Some (of k).state.model
   kept_all j k [] run = ap (λ (v : S). Some (of v).state.model) (sym run)
   kept_all j k (l ∷ ls) run =
       let one = run.2 in
       let is : durable.is_kept (journal_printed l one.printed).turn ≡ true = ap (λ (q : durable.Printed). durable.is_kept q.turn) (sym one.counted) ∙ run.3 in
-      ap (option_and_then (λ (n : Model). replayed n ls)) ((line_one (of j) (of run.1) (form l) one.printed one.ran).again is)
+      ap (option_and_then (λ (n : Model). model_after_lines n ls)) ((line_one (of j) (of run.1) (form l) one.printed one.ran).again is)
       ∙ kept_all run.1 k ls run.4
 
 -- ---- lines that are run again are done
 
 -- the first of lines that are all done is done
-first_done : (o : Option Model) (ls : List (List ℕ)) (n : Model) → option_and_then (λ (m : Model). replayed m ls) o ≡ Some n → (m : Model) × (o ≡ Some m)
+first_done : (o : Option Model) (ls : List (List ℕ)) (n : Model) → option_and_then (λ (m : Model). model_after_lines m ls) o ≡ Some n → (m : Model) × (o ≡ Some m)
 first_done None ls n is = absurd (cc is)
 first_done (Some m) ls n is = (m, refl)
 
 -- if lines leave a model when they are run in turn without adapters, a session without adapters refuses none of them, except for memory
-pub none_refused : (x : Session) (ls : List (List ℕ)) (n : Model) → x.state.adapters ≡ [] → replayed x.state.model ls ≡ Some n → durable.Refuses RunsJournaled x ls → ⊥
+pub none_refused : (x : Session) (ls : List (List ℕ)) (n : Model) → x.state.adapters ≡ [] → model_after_lines x.state.model ls ≡ Some n → durable.Refuses RunsJournaled x ls → ⊥
 none_refused x [] n none is refused = refused
 none_refused x (l ∷ ls) n none is refused =
     let p = refused.0 in
@@ -253,6 +253,6 @@ none_refused x (l ∷ ls) n none is refused =
           both_ways _ not_lost (one.lost first.0 none first.1 not_kept)
       | inr later ↦
           let kept : durable.is_kept (journal_printed l ran.printed).turn ≡ true = ap (λ (q : durable.Printed). durable.is_kept q.turn) (sym ran.counted) ∙ later.0 in
-          let rest : replayed u.state.model ls ≡ Some n = ap (option_and_then (λ (m : Model). replayed m ls)) (sym (one.again kept)) ∙ is in
+          let rest : model_after_lines u.state.model ls ≡ Some n = ap (option_and_then (λ (m : Model). model_after_lines m ls)) (sym (one.again kept)) ∙ is in
           none_refused u ls n (one.lone none kept) rest later.1
     ]

@@ -2,10 +2,10 @@
 use Rattle.std.proofs.Common.{◌≡◌, inl, inr, Err, ℕ, List, Ok, OnOk, Option, None, Result, Some, refl, subst}
 use Rattle.std.specs.Prelude.{IfErr, IfSome}
 use Rattle.journal.specs.Disk.{LeavesOnly}
-use Rattle.journal.specs.Lines.{recovered}
+use Rattle.journal.specs.Lines.{recovered_lines}
 use Rattle.mm_types.specs.Resolved.{Metamodel}
 use Rattle.script_lines.specs.Lines.{lines}
-use Rattle.durable.specs.Heads.{IsBegunOrNot, begun}
+use Rattle.durable.specs.Heads.{IsBegunOrNot, begun_lines}
 use Rattle.script_program.specs.Kept.{EndsJournaled, EndsKept, LeavesJournaled, LeavesKeptIn, StopsJournaled, StopsKept, kept_outcome, model_of}
 use Rattle.script_program.specs.Session.{Session}
 use Rattle.script_program.specs.declared.kept_run.KeptFault.TheVariants.{Stopped, Unopened}
@@ -33,8 +33,8 @@ kept_opened (Err other) fault is = absurd (cc is)
 
 -- ---- after the lines of a file
 
-module _ (m : Metamodel) (head file : List ℕ) (s : Session) (had : model_of m (begun head (recovered file)) ≡ Some s.state.model) where
-  pub ends_kept : (input old new : Option (List ℕ)) (after : List ℕ) (t : Session) → IfSome input (λ bytes. EndsJournaled m s (lines bytes) old new (recovered after) t)
+module _ (m : Metamodel) (head file : List ℕ) (s : Session) (had : model_of m (begun_lines head (recovered_lines file)) ≡ Some s.state.model) where
+  pub ends_kept : (input old new : Option (List ℕ)) (after : List ℕ) (t : Session) → IfSome input (λ bytes. EndsJournaled m s (lines bytes) old new (recovered_lines after) t)
       → IfSome input (λ bytes. EndsKept m head file (lines bytes) old new after t)
   ends_kept None old new after t ends = tt
   ends_kept (Some bytes) old new after t ends = record { start = s; had = had; ends = ends }
@@ -50,7 +50,7 @@ module _ (m : Metamodel) (head file : List ℕ) (s : Session) (had : model_of m 
 
   -- at any moment of the recovery, and then of the run
   pub leaves_both : {D : Type 0} (moment : D → ℕ) (left_since : D → ℕ → List ℕ → Type 0) (x y z : D) (input : Option (List ℕ))
-      → LeavesOnly moment left_since x y (IsBegunOrNot head (recovered file)) → LeavesOnly moment left_since y z (λ c. IfSome input (λ bytes. LeavesJournaled m s (lines bytes) c))
+      → LeavesOnly moment left_since x y (IsBegunOrNot head (recovered_lines file)) → LeavesOnly moment left_since y z (λ c. IfSome input (λ bytes. LeavesJournaled m s (lines bytes) c))
       → LeavesOnly moment left_since x z (LeavesKeptIn m head file input)
   leaves_both moment left_since x y z input one two =
       leaves_then moment left_since x y z (LeavesKeptIn m head file input) (leaves_weaker moment left_since x y _ _ (λ c same. inl same) one)

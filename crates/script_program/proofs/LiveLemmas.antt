@@ -14,7 +14,7 @@ use Rattle.durable.proofs.InputLemmas.{LinesRead, none_read, read_end, read_more
 use Rattle.script_streams.proofs.FrontLemmas.{front_after, front_more, front_whole}
 use Rattle.repository.specs.State.{State}
 use Rattle.script_program.specs.Batch.{AnswersFront, AnswersLine, EndsIn}
-use Rattle.script_answers.specs.Dressed.{plain}
+use Rattle.script_answers.specs.Dressed.{plain_dress}
 use Rattle.script_program.specs.Live.{AnswersLive, AnswersLiveFront, IsTooLong, PrintsLive, PrintsLiveFront, live_answer, live_text, with_empty_line}
 use Rattle.script_program.specs.Script.{RunsLines}
 use Rattle.script_program.specs.Session.{Session}
@@ -31,14 +31,14 @@ with_empty_lines [] = refl
 with_empty_lines (p ∷ ps) = ap (λ x. live_answer p ++ x) (with_empty_lines ps)
 
 -- an answer is written in part, or nothing of it
-pub front_of_answer : (line : List ℕ) (s : Session) (q : State) (old new : Option (List ℕ)) → ((new ≡ old) × (q ≡ s.state)) ⊎ AnswersFront plain 0 line s (EndsIn q) old new
+pub front_of_answer : (line : List ℕ) (s : Session) (q : State) (old new : Option (List ℕ)) → ((new ≡ old) × (q ≡ s.state)) ⊎ AnswersFront plain_dress 0 line s (EndsIn q) old new
     → (new ≡ old) ⊎ AnswersLiveFront line s old new
 front_of_answer line s q old new (inl same) = inl same.0
 front_of_answer line s q old new (inr one) =
     inr (record { printed = one.printed; after = one.after; ran = one.ran; written = front_more old new one.printed.text (10 ∷ []) one.written })
 
 -- the answer is written, and the empty line is not
-pub front_behind : (line : List ℕ) (s u : Session) (old mid new : Option (List ℕ)) (turn : Turn) → AnswersLine plain 0 line s old mid turn u → AppendsFront mid new (10 ∷ [])
+pub front_behind : (line : List ℕ) (s u : Session) (old mid new : Option (List ℕ)) (turn : Turn) → AnswersLine plain_dress 0 line s old mid turn u → AppendsFront mid new (10 ∷ [])
     → (new ≡ old) ⊎ AnswersLiveFront line s old new
 front_behind line s u old mid new turn one behind =
     inr (record { printed = one.printed; after = u; ran = one.ran; written = front_after old mid new one.printed.text (10 ∷ []) one.written behind })

@@ -5,7 +5,7 @@ use Rattle.std.specs.Result.{result_ok}
 use Rattle.std.proofs.lemmas.Option.{none-some}
 use Rattle.mm_types.specs.declared.numbers.AdapterNo.{AdapterNo}
 use Rattle.notice_chain.specs.View.{View}
-use Rattle.script_program.specs.Pool.{Pool, box_in, box_of, index, with_box, with_entry, without}
+use Rattle.script_program.specs.Pool.{Pool, box_in, box_of, index, pool_without, with_box, with_entry}
 
 -- putting an element where it is, or past the end, changes nothing
 set-there : {X : Type 0} (xs : List X) (i : ℕ) (x : X) → slice_get xs i ≡ Some x → slice_set xs i x ≡ xs
@@ -46,7 +46,7 @@ nowhere-to-put o pool number = at (index number)
     at (Some i) h = set-past pool i o h
 
 -- after an adapter is taken out and put back, the pool is as it was
-pub put-back : (pool : Pool) (number : AdapterNo) (v : View) → box_of pool number ≡ Ok v → with_box (without pool number) (number, v) ≡ pool
+pub put-back : (pool : Pool) (number : AdapterNo) (v : View) → box_of pool number ≡ Ok v → with_box (pool_without pool number) (number, v) ≡ pool
 put-back pool number v = at (index number)
   where
     boxed : (o : Option (Option View)) → box_in o ≡ Ok v → o ≡ Some (Some v)

@@ -10,7 +10,7 @@ use Rattle.script_lines.specs.Forms.{form}
 use Rattle.script_lines.specs.Lines.{lines}
 use Rattle.repository.specs.State.{State}
 use Rattle.script_program.specs.Batch.{AnswersFront, AnswersLine, EndsIn, PrintsDressed, PrintsDressedFront, RunsFirst}
-use Rattle.script_answers.specs.Dressed.{dressed_from, dressed_line, is_stopped, kept}
+use Rattle.script_answers.specs.Dressed.{dressed_line, dressed_output_from, is_stopped, lines_until_end}
 use Rattle.script_program.specs.Script.{RunsLine, RunsLines}
 use Rattle.script_program.specs.Session.{Session}
 use Rattle.script_program.specs.Summary.{IsWithin, no_lines, summary_of, with_turn}
@@ -55,13 +55,13 @@ pub record Ran (d : Dress) (z : Session) (bytes rest : List ℕ) (s : Session) (
   pub number_is : number ≡ length done
   pub room : length done + length rest ≤ length bytes
   pub within : IsWithin summary (length done)
-  pub none_behind : kept d printed ≡ printed
+  pub none_behind : lines_until_end d printed ≡ printed
 
 -- The run has not ended, and the answers of its lines are written.
 pub record GoesOn (d : Dress) (z : Session) (bytes rest : List ℕ) (s : Session) (number : ℕ) (printed : List Printed) (summary : Summary) (old now : Option (List ℕ)) : Type 0 where
   pub so_far : Ran d z bytes rest s number printed summary
   pub going : is_stopped d printed ≡ false
-  pub written : Appends old now (dressed_from d 1 so_far.done printed)
+  pub written : Appends old now (dressed_output_from d 1 so_far.done printed)
 
 unfoldable pub none_run : (d : Dress) (z : Session) (bytes : List ℕ) → Ran d z bytes bytes z 0 [] no_lines
 none_run d z bytes = record {
@@ -99,7 +99,7 @@ one_more d z bytes rest more line s u number printed summary p g going cut short
 -- the output of the line is appended to the earlier output
 pub line_behind : (d : Dress) (z : Session) (bytes rest : List ℕ) (s : Session) (number : ℕ) (printed : List Printed) (summary : Summary) (line : List ℕ) (p : Printed)
     → (g : Ran d z bytes rest s number printed summary)
-    → dressed_from d 1 (g.done ++ line ∷ []) (printed ++ p ∷ []) ≡ dressed_from d 1 g.done printed ++ dressed_line d (number + 1) line p
+    → dressed_output_from d 1 (g.done ++ line ∷ []) (printed ++ p ∷ []) ≡ dressed_output_from d 1 g.done printed ++ dressed_line d (number + 1) line p
 line_behind d z bytes rest s number printed summary line p g =
     let n = g.number_is in
     dressed_push d 1 (number + 1) g.done printed line p (runs_length z s g.done printed g.ran) (omega (arith, n))
@@ -112,7 +112,7 @@ module _ (d : Dress) (z : Session) (bytes : List ℕ) where
   first_run rest s number printed summary g = record { lines_are = sym g.all; ran = g.ran; none_behind = g.none_behind }
 
   pub whole_of : (Left : Session → Type 0) (rest : List ℕ) (s : Session) (number : ℕ) (printed : List Printed) (summary : Summary) (old new : Option (List ℕ)) → (g : Ran d z bytes rest s number printed summary)
-      → ((lines rest ≡ []) ⊎ (is_stopped d printed ≡ true)) → Appends old new (dressed_from d 1 g.done printed) → Left s → PrintsDressed d z Left old new bytes summary
+      → ((lines rest ≡ []) ⊎ (is_stopped d printed ≡ true)) → Appends old new (dressed_output_from d 1 g.done printed) → Left s → PrintsDressed d z Left old new bytes summary
   whole_of Left rest s number printed summary old new g ends wrote left = record {
     first = g.done;
     printed = printed;
@@ -120,11 +120,11 @@ module _ (d : Dress) (z : Session) (bytes : List ℕ) where
     left = left;
     ran = record { rest = lines rest; runs = first_run rest s number printed summary g; ends = ends };
     counted = g.counted;
-    written = subst (λ ps. Appends old new (dressed_from d 1 g.done ps)) (sym g.none_behind) wrote;
+    written = subst (λ ps. Appends old new (dressed_output_from d 1 g.done ps)) (sym g.none_behind) wrote;
   }
 
   pub front_of : (Left : Session → Type 0) (rest : List ℕ) (s : Session) (number : ℕ) (printed : List Printed) (summary : Summary) (old new : Option (List ℕ))
-      → (g : Ran d z bytes rest s number printed summary) → AppendsFront old new (dressed_from d 1 g.done printed) → Left s → PrintsDressedFront d z Left old new bytes
+      → (g : Ran d z bytes rest s number printed summary) → AppendsFront old new (dressed_output_from d 1 g.done printed) → Left s → PrintsDressedFront d z Left old new bytes
   front_of Left rest s number printed summary old new g wrote left = record {
     first = g.done;
     rest = lines rest;
@@ -132,7 +132,7 @@ module _ (d : Dress) (z : Session) (bytes : List ℕ) where
     after = s;
     left = left;
     ran = first_run rest s number printed summary g;
-    written = subst (λ ps. AppendsFront old new (dressed_from d 1 g.done ps)) (sym g.none_behind) wrote;
+    written = subst (λ ps. AppendsFront old new (dressed_output_from d 1 g.done ps)) (sym g.none_behind) wrote;
   }
 
   -- all lines were run

@@ -10,8 +10,8 @@ use Rattle.mm_types.specs.declared.numbers.Node.{Node}
 use Rattle.mm_types.specs.declared.refused.Refused.{Refused}
 use Rattle.repository.specs.Run.{Executed, read_outcome}
 use Rattle.repository.specs.State.{State}
-use Rattle.repository.specs.Step.{joins}
-use Rattle.repository.specs.Views.{Outcome, brought}
+use Rattle.repository.specs.Step.{attached_adapters}
+use Rattle.repository.specs.Views.{Outcome, brought_adapter}
 use Rattle.repository.specs.declared.command.Command.{Command}
 use Rattle.repository.specs.declared.command.Command.TheVariants.{Attach}
 use Rattle.repository.specs.declared.reply.Answer.{Answer}
@@ -21,27 +21,27 @@ use Rattle.script_lines.specs.declared.form.FeatureForm.{FeatureForm}
 use Rattle.script_lines.specs.declared.form.FeatureForm.TheVariants as feature
 use Rattle.script_lines.specs.declared.form.Form.TheVariants as asks
 use Rattle.script_program.specs.Bind.{IsGiven, at_command, attach_request, bind, named_end}
-use Rattle.script_program.specs.Pool.{Pool, box_of, with_box, without}
+use Rattle.script_program.specs.Pool.{Pool, box_of, pool_without, with_box}
 use Rattle.script_program.specs.Script.{Adds}
-use Rattle.script_program.specs.Session.{IsBrought, Session, brought_no, pool_after, returned, taken}
+use Rattle.script_program.specs.Session.{IsBrought, Session, brought_no, pool_after, pool_after_return, pool_after_take}
 use Rattle.script_answers.specs.Turns.{Printed}
 use Rattle.script_answers.specs.declared.turn.Turn.{Turn}
 use Rattle.script_program.proofs.PoolLemmas.{put-back}
 
 -- a command that takes no adapter and releases none leaves the pool as it is
-pub unheard-pool : {X : Type 0} (pool : Pool) (c : Command View) (f : X → Answer) (r : Result X Refused) → joins c ≡ [] → pool ≡ pool_after pool c (read_outcome f r)
-unheard-pool pool c f (Ok x) alone = ap (λ (js : List Listed). fold without pool (map (λ a. a.no) js)) (sym alone)
+pub unheard-pool : {X : Type 0} (pool : Pool) (c : Command View) (f : X → Answer) (r : Result X Refused) → attached_adapters c ≡ [] → pool ≡ pool_after pool c (read_outcome f r)
+unheard-pool pool c f (Ok x) alone = ap (λ (js : List Listed). fold pool_without pool (map (λ a. a.no) js)) (sym alone)
 unheard-pool pool c f (Err e) alone = refl
 
 -- after the adapter of a command is put back, the pool is as it was
-undone : (before : Pool) (c : Command View) → IsBrought before c → option_map_or (with_box (taken before c)) (option_zip (brought_no c) (brought c)) (taken before c) ≡ before
+undone : (before : Pool) (c : Command View) → IsBrought before c → option_map_or (with_box (pool_after_take before c)) (option_zip (brought_no c) (brought_adapter c)) (pool_after_take before c) ≡ before
 undone before (Attach number target deep view) h = put-back before number view (All-head (λ (a : Listed). box_of before a.no ≡ Ok a.view) (record { no = number; targets = record { node = target; deep = deep } ∷ []; view = view }) [] h)
 undone before _ h = refl
 
-pub returned-after : (before : Pool) (s t : State) (c : Command View) (o : Outcome) → IsBrought before c → Executed s c o t → returned (taken before c) (brought_no c) o ≡ pool_after before c o
-returned-after before s t c (Ok r) h x = refl
-returned-after before s t c (Err f) h x =
-    ap (λ (back : Option View). option_map_or (with_box (taken before c)) (option_zip (brought_no c) back) (taken before c)) (refused-nothing s t c f x).1 ∙ undone before c h
+pub pool_after_return-after : (before : Pool) (s t : State) (c : Command View) (o : Outcome) → IsBrought before c → Executed s c o t → pool_after_return (pool_after_take before c) (brought_no c) o ≡ pool_after before c o
+pool_after_return-after before s t c (Ok r) h x = refl
+pool_after_return-after before s t c (Err f) h x =
+    ap (λ (back : Option View). option_map_or (with_box (pool_after_take before c)) (option_zip (brought_no c) back) (pool_after_take before c)) (refused-nothing s t c f x).1 ∙ undone before c h
 
 at-given : (s : Session) (n : Node) (name : List ℕ) (f : FeatureForm) → IsBrought s.pool (at_command s.state.model.metamodel (named_end s.state n name) f)
 at-given s n name (feature.Read q) = All-nil (λ (a : Listed). box_of s.pool a.no ≡ Ok a.view)

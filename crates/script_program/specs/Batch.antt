@@ -5,7 +5,7 @@ use Rattle.mm_types.specs.declared.limits.TheConstants.{INPUT_BYTES}
 use Rattle.repository.specs.State.{State}
 use Rattle.script_lines.specs.Forms.{form}
 use Rattle.script_lines.specs.Lines.{lines}
-use Rattle.script_answers.specs.Dressed.{dressed, dressed_line, is_stopped, kept}
+use Rattle.script_answers.specs.Dressed.{dressed_line, dressed_output, is_stopped, lines_until_end}
 use Rattle.script_program.specs.Script.{RunsLine, RunsLines}
 use Rattle.script_program.specs.Session.{Session}
 use Rattle.script_answers.specs.Turns.{Printed}
@@ -19,7 +19,7 @@ use Rattle.script_streams.specs.Streams.{AppendsFront}
 pub record RunsFirst (d : Dress) (s : Session) (bytes : List ℕ) (first rest : List (List ℕ)) (printed : List Printed) (t : Session) : Type 0 where
   pub lines_are : lines bytes ≡ first ++ rest
   pub ran : RunsLines s first printed t
-  pub none_behind : kept d printed ≡ printed
+  pub none_behind : lines_until_end d printed ≡ printed
 
 -- A line was run, and its output was written by the output options.
 pub record AnswersLine (d : Dress) (number : ℕ) (line : List ℕ) (s : Session) (old new : Option (List ℕ)) (turn : Turn) (t : Session) : Type 0 where
@@ -58,7 +58,7 @@ pub record PrintsDressed (d : Dress) (s : Session) (Left : Session → Type 0) (
   pub left : Left after
   pub ran : RunsBatch d s bytes first printed after
   pub counted : summary_of printed ≡ summary
-  pub written : Appends old new (dressed d first printed)
+  pub written : Appends old new (dressed_output d first printed)
 
 -- The first lines of a script were run, a prefix of their answers was written by the output options, and `Left` is true of the session that
 -- is left.
@@ -69,7 +69,7 @@ pub record PrintsDressedFront (d : Dress) (s : Session) (Left : Session → Type
   pub after : Session
   pub left : Left after
   pub ran : RunsFirst d s bytes first rest printed after
-  pub written : AppendsFront old new (dressed d first printed)
+  pub written : AppendsFront old new (dressed_output d first printed)
 
 -- If the input is known, it is within its limit, and was run to the end of its run.
 abbrev pub PrintsInputDressed : Dress → Option (List ℕ) → Session → (Session → Type 0) → Option (List ℕ) → Option (List ℕ) → Summary → Type 0

@@ -9,7 +9,6 @@ use Rattle.mm_types.specs.declared.numbers.ClassNo.{ClassNo}
 use Rattle.mm_types.specs.declared.numbers.FeatureNo.{FeatureNo}
 use Rattle.mm_types.specs.declared.numbers.Node.{Node}
 use Rattle.mm_types.specs.declared.numbers.Node.TheVariants as node
-use Rattle.mm_types.specs.declared.numbers.ObjectNo.{ObjectNo}
 use Rattle.mm_types.specs.declared.refused.Refused.{Refused}
 use Rattle.mm_types.specs.declared.value.Value.{Value}
 use Rattle.mm_types.specs.declared.value.Value.TheVariants as value
@@ -29,7 +28,7 @@ use Rattle.script_lines.specs.declared.written_value.WrittenValue.{WrittenValue}
 use Rattle.script_lines.specs.declared.written_value.WrittenValue.TheVariants as written
 use Rattle.script_output.specs.Names.{enum_of}
 use Rattle.script_program.specs.Pool.{Pool, box_of}
-use Rattle.script_program.specs.Session.{IsBrought, Session, taken}
+use Rattle.script_program.specs.Session.{IsBrought, Session, pool_after_take}
 use Rattle.script_program.specs.declared.bind.TheConstants.{NOTHING}
 use Rattle.script_program.specs.declared.request.Request.{Request}
 use Rattle.script_program.specs.declared.request.Request.TheVariants as request
@@ -105,7 +104,7 @@ bind s (asks.Seen number) = request.Seen number
 
 -- the pool without the adapter that a request takes
 abbrev pub pool_of : Pool → Request View → Pool
-pool_of pool (request.Execute c) = taken pool c
+pool_of pool (request.Execute c) = pool_after_take pool c
 pool_of pool (request.Seen number) = pool
 pool_of pool (request.Refuse r) = pool
 

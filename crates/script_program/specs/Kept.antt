@@ -4,7 +4,7 @@ use Rattle.std.specs.Io.KnownBytes.{Appends}
 use Rattle.mm_types.specs.Resolved.{Metamodel}
 use Rattle.models.specs.Model.{Model}
 use Rattle.notice_chain.specs.View.{View}
-use Rattle.repository.specs.State.{bare, empty_state}
+use Rattle.repository.specs.State.{empty_state, state_of_model}
 use Rattle.repository.specs.Step.{step}
 use Rattle.repository.specs.Views.{Outcome}
 use Rattle.script_lines.specs.Forms.{form}
@@ -17,11 +17,11 @@ use Rattle.script_lines.specs.declared.line.Line.{Line}
 use Rattle.script_lines.specs.declared.line.Line.TheVariants as line
 use Rattle.script_streams.specs.declared.run_fault.RunFault.{RunFault}
 use Rattle.durable.specs.Answered.{WritesUntil}
-use Rattle.journal.specs.Lines.{recovered}
-use Rattle.durable.specs.Heads.{IsBegunOrNot, begun}
+use Rattle.journal.specs.Lines.{recovered_lines}
+use Rattle.durable.specs.Heads.{IsBegunOrNot, begun_lines}
 use Rattle.durable.specs.Printed as durable
-use Rattle.durable.specs.declared.session.Turn.{Turn as JournalTurn}
-use Rattle.durable.specs.declared.session.Turn.TheVariants as journaled
+use Rattle.durable.specs.declared.session.JournalTurn.{JournalTurn}
+use Rattle.durable.specs.declared.session.JournalTurn.TheVariants as journaled
 use Rattle.script_program.specs.Bind.{bind}
 use Rattle.script_program.specs.Live.{live_text}
 use Rattle.script_program.specs.Script.{RunsLine, RunsLines}
@@ -93,26 +93,26 @@ model_if_done (Err f) m = None
 
 -- the model after a command on a repository without adapters, if the command is done
 abbrev pub model_after_request : Model → Request View → Option Model
-model_after_request m (request.Execute c) = let one = step (bare m) c in model_if_done one.outcome one.after.model
+model_after_request m (request.Execute c) = let one = step (state_of_model m) c in model_if_done one.outcome one.after.model
 model_after_request m _ = None
 
 abbrev pub model_after_line : Model → Line → Option Model
-model_after_line m (line.Form f) = if asks_change f then model_after_request m (bind (session (bare m) []) f) else None
+model_after_line m (line.Form f) = if asks_change f then model_after_request m (bind (session (state_of_model m) []) f) else None
 model_after_line m _ = None
 
 -- the model after lines that are run in turn on a repository without adapters, if each line asks for a change and is done
-abbrev pub replayed : Model → List (List ℕ) → Option Model
-replayed m [] = Some m
-replayed m (l ∷ ls) = option_and_then (λ n. replayed n ls) (model_after_line m (form l))
+abbrev pub model_after_lines : Model → List (List ℕ) → Option Model
+model_after_lines m [] = Some m
+model_after_lines m (l ∷ ls) = option_and_then (λ n. model_after_lines n ls) (model_after_line m (form l))
 
 -- the model after the lines of a journal, run from the empty repository on; the first line, its head, is not run
 abbrev pub model_of : Metamodel → List (List ℕ) → Option Model
 model_of m [] = None
-model_of m (head ∷ ls) = replayed (empty_state m).model ls
+model_of m (head ∷ ls) = model_after_lines (empty_state m).model ls
 
 -- a file is a journal whose lines leave this model
 abbrev pub Recalls : Metamodel → Model → List ℕ → Type 0
-Recalls m model file = model_of m (recovered file) ≡ Some model
+Recalls m model file = model_of m (recovered_lines file) ≡ Some model
 
 -- A run came to its end: all lines were run and answered, and the lines of the journal leave the model that the run left.
 pub record EndsJournaled (m : Metamodel) (s : Session) (ls : List (List ℕ)) (old new : Option (List ℕ)) (kept : List (List ℕ)) (t : Session) : Type 0 where
@@ -157,28 +157,28 @@ kept_outcome (Err fault) = Err (stopping.Stopped fault)
 -- A run came to its end, and so did the lines of the file before it.
 pub record EndsKept (m : Metamodel) (head file : List ℕ) (ls : List (List ℕ)) (old new : Option (List ℕ)) (file_after : List ℕ) (t : Session) : Type 0 where
   pub start : Session
-  pub had : model_of m (begun head (recovered file)) ≡ Some start.state.model
-  pub ends : EndsJournaled m start ls old new (recovered file_after) t
+  pub had : model_of m (begun_lines head (recovered_lines file)) ≡ Some start.state.model
+  pub ends : EndsJournaled m start ls old new (recovered_lines file_after) t
 
 -- A run stopped for a fault after the lines of the file had been run again.
 pub record StopsKept (m : Metamodel) (fault : RunFault) (head file : List ℕ) (ls : List (List ℕ)) (old new : Option (List ℕ)) (may_leave : List ℕ → Type 0) : Type 0 where
   pub start : Session
-  pub had : model_of m (begun head (recovered file)) ≡ Some start.state.model
+  pub had : model_of m (begun_lines head (recovered_lines file)) ≡ Some start.state.model
   pub stops : StopsJournaled m fault start ls old new may_leave
 
 -- A file is a journal of the model that the first lines left, run after the lines of another file.
 pub record LeavesKept (m : Metamodel) (head file : List ℕ) (ls : List (List ℕ)) (left : List ℕ) : Type 0 where
   pub start : Session
-  pub had : model_of m (begun head (recovered file)) ≡ Some start.state.model
+  pub had : model_of m (begun_lines head (recovered_lines file)) ≡ Some start.state.model
   pub leaves : LeavesJournaled m start ls left
 
 -- what a crash at any moment of a run leaves: the lines of the file, or a journal of the model that the first lines of the input left, if
 -- the input is known
 abbrev pub LeavesKeptIn : Metamodel → List ℕ → List ℕ → Option (List ℕ) → List ℕ → Type 0
-LeavesKeptIn m head file input left = IsBegunOrNot head (recovered file) left ⊎ IfSome input (λ bytes. LeavesKept m head file (lines bytes) left)
+LeavesKeptIn m head file input left = IsBegunOrNot head (recovered_lines file) left ⊎ IfSome input (λ bytes. LeavesKept m head file (lines bytes) left)
 
 -- a file begins with a head, and the lines after it leave a model
 pub record IsJournalOf (m : Metamodel) (head file : List ℕ) (model : Model) : Type 0 where
   pub lines_after : List (List ℕ)
-  pub lines_are : recovered file ≡ head ∷ lines_after
-  pub leaves : replayed (empty_state m).model lines_after ≡ Some model
+  pub lines_are : recovered_lines file ≡ head ∷ lines_after
+  pub leaves : model_after_lines (empty_state m).model lines_after ≡ Some model

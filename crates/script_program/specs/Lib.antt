@@ -2,7 +2,7 @@ pub mod Pool
 pub mod Session
 pub mod Bind
 pub mod Answers
-pub mod Edits
+pub mod SetOrAdd
 pub mod Script
 pub mod Lists
 pub mod Loading

@@ -28,8 +28,8 @@ abbrev pub with_entry : Option View → Pool → AdapterNo → Pool
 with_entry o pool number = option_map_or (λ i. slice_set pool i o) (index number) pool
 
 -- the pool without the adapter of a number; and `with_box`, with the adapter back in it
-abbrev pub without : Pool → AdapterNo → Pool
-without pool number = with_entry None pool number
+abbrev pub pool_without : Pool → AdapterNo → Pool
+pool_without pool number = with_entry None pool number
 
 abbrev pub with_box : Pool → AdapterNo × View → Pool
 with_box pool b = with_entry (Some b.1) pool b.0

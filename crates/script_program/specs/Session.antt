@@ -6,10 +6,10 @@ use Rattle.mm_types.specs.Resolved.{Metamodel}
 use Rattle.mm_types.specs.declared.numbers.AdapterNo.{AdapterNo}
 use Rattle.notice_chain.specs.View.{View}
 use Rattle.repository.specs.State.{State, empty_state}
-use Rattle.repository.specs.Step.{joins}
+use Rattle.repository.specs.Step.{attached_adapters}
 use Rattle.repository.specs.Views.{Outcome}
 use Rattle.repository.specs.declared.command.Command.{Command}
-use Rattle.script_program.specs.Pool.{Pool, box_of, with_box, without}
+use Rattle.script_program.specs.Pool.{Pool, box_of, pool_without, with_box}
 
 pub record Session : Type 0 where
   pub state : State
@@ -28,22 +28,22 @@ first_session heard m boxes = session_with heard (empty_state m) boxes
 
 -- the adapter that a command takes is in the pool
 abbrev pub IsBrought : Pool → Command View → Type 0
-IsBrought pool c = All (λ a. box_of pool a.no ≡ Ok a.view) (joins c)
+IsBrought pool c = All (λ a. box_of pool a.no ≡ Ok a.view) (attached_adapters c)
 
 -- the pool without the adapter that a command takes
-abbrev pub taken : Pool → Command View → Pool
-taken pool c = fold without pool (map (λ a. a.no) (joins c))
+abbrev pub pool_after_take : Pool → Command View → Pool
+pool_after_take pool c = fold pool_without pool (map (λ a. a.no) (attached_adapters c))
 
 -- the pool after a command: without the adapter that was attached, and with the adapters that were released
 abbrev pub pool_after : Pool → Command View → Outcome → Pool
-pool_after pool c (Ok r) = fold with_box (taken pool c) r.released
+pool_after pool c (Ok r) = fold with_box (pool_after_take pool c) r.released
 pool_after pool c (Err f) = pool
 
 -- the number of the adapter that a command takes
 abbrev pub brought_no : Command View → Option AdapterNo
-brought_no c = option_map (λ a. a.no) (slice_get (joins c) 0)
+brought_no c = option_map (λ a. a.no) (slice_get (attached_adapters c) 0)
 
 -- the pool after the adapters that an outcome gives back are put into it
-abbrev pub returned : Pool → Option AdapterNo → Outcome → Pool
-returned pool number (Ok r) = fold with_box pool r.released
-returned pool number (Err f) = option_map_or (with_box pool) (option_zip number f.given_back) pool
+abbrev pub pool_after_return : Pool → Option AdapterNo → Outcome → Pool
+pool_after_return pool number (Ok r) = fold with_box pool r.released
+pool_after_return pool number (Err f) = option_map_or (with_box pool) (option_zip number f.given_back) pool

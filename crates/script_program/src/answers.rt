@@ -172,7 +172,7 @@ fn print_notified<A: Adapter>(
 }
 
 /// Adds the lines that a command prints when it is done; `feature` is the feature that it names.
-fn print_reply<A: Adapter>(
+pub(crate) fn print_reply<A: Adapter>(
     output: &mut Output,
     meta: &Meta,
     feature: FeatureNo,

@@ -4,7 +4,7 @@ ghost use Rattle.repository.specs.Views.{command_view};
 ghost use Rattle.repository.specs.declared.command.Command.TheVariants as command;
 ghost use Rattle.script_program.specs.Bind as b;
 ghost use Rattle.script_program.specs.Pool.{Pool as PoolView, box_of};
-ghost use Rattle.script_program.specs.Session.{session, taken};
+ghost use Rattle.script_program.specs.Session.{pool_after_take, session};
 ghost use Rattle.script_program.specs.declared.request.Request.TheVariants as request;
 
 use crate::pool::Pool;
@@ -44,7 +44,7 @@ pub(crate) fn bind<L: LinkStore, A: Adapter>(
         Form::Watch { no, target, deep } => {
             Request::Execute(Command::Watch { no, target, deep })
         }
-        Form::Unwatch { no, target } => Request::Execute(Command::Unwatch { no, target }),
+        Form::Unwatch(no, target) => Request::Execute(Command::Unwatch { no, target }),
         Form::Detach(no) => Request::Execute(Command::Detach(no)),
         Form::Delete(object) => Request::Execute(Command::Delete(object)),
         Form::Read(read) => Request::Execute(Command::Read(read)),
@@ -86,7 +86,7 @@ fn at_command<L: LinkStore, A: Adapter>(
     form: FeatureForm<'_>,
 ) -> Command<A>
     ensures command { command_view A.heard result ≡ b.at_command repository.now.model.metamodel (b.named_end repository.now node name.entry) form.entry }
-    ensures pool { (pool : PoolView) → pool ≡ taken pool (command_view A.heard result) }
+    ensures pool { (pool : PoolView) → pool ≡ pool_after_take pool (command_view A.heard result) }
 {
     let end = named_end(repository, node, name);
     let (meta, feature) = (repository.meta(), end.feature);

@@ -6,7 +6,7 @@ ghost use Rattle.mm_types.specs.declared.numbers.Node.TheVariants as node;
 ghost use Rattle.notice_chain.specs.View.{View};
 ghost use Rattle.repository.specs.Run.{change_outcome, read_outcome};
 ghost use Rattle.repository.specs.declared.command.Command.{Command};
-ghost use Rattle.repository.specs.Commands.{container};
+ghost use Rattle.repository.specs.Commands.{add, container, set};
 ghost use Rattle.repository.specs.declared.reply.Answer.{Answer};
 ghost use Rattle.repository.specs.declared.reply.Answer.TheVariants as answer;
 ghost use Rattle.script_lines.specs.Frequent.{frequent_line};
@@ -14,19 +14,19 @@ ghost use Rattle.script_lines.specs.Values.{value_in};
 ghost use Rattle.script_lines.specs.declared.frequent.Frequent.TheVariants as frequent;
 ghost use Rattle.script_program.specs.Answers.{feature_of, unheard_text};
 ghost use Rattle.script_program.specs.Bind as b;
-ghost use Rattle.script_program.specs.Edits.{edit_command};
+ghost use Rattle.script_program.specs.SetOrAdd.{edit_command};
 ghost use Rattle.script_program.specs.Pool.{Pool as PoolView};
 ghost use Rattle.script_program.specs.Script.{Adds, IsLeft, RunsCommand, RunsLine, command_printed};
 ghost use Rattle.script_program.specs.Session.{session};
 
 use crate::answers::print_refusal;
 use crate::bind::{class_number, feature_number, value_in};
-use crate::line::{print_bad, run_command, run_get, turn_of_refusal};
+use crate::line::{finish_change, print_bad, run_command, run_get, turn_of_refusal};
 use crate::pool::Pool;
 use adapters::Adapter;
 use links::LinkStore;
 use mm_types::{End, FeatureNo, Node, ObjectNo, Refused, Value};
-use repository::{Act, Command, EndRead, Read, Repository};
+use repository::{Command, EndRead, Read, Repository};
 use script_answers::Turn;
 use script_lines::{Frequent, Name, Word, WrittenValue, value_of};
 use script_output::Output;
@@ -111,7 +111,7 @@ fn run_container<L: LinkStore, A: Adapter>(
 
 /// How a line gives a feature of an object a value.
 #[derive(Clone, Copy)]
-enum Edit {
+enum SetOrAdd {
     /// The value is set.
     Set,
     /// The value is added at the end.
@@ -121,7 +121,7 @@ enum Edit {
 /// The request of a line that gives a feature of an object a value.
 #[derive(Drop)]
 struct Asked<'a> {
-    edit: Edit,
+    edit: SetOrAdd,
     object: ObjectNo,
     feature: Name<'a>,
     value: WrittenValue<'a>,
@@ -130,7 +130,7 @@ struct Asked<'a> {
 /// The request of a line of these parts; `None` if its last word is no value. Errs only if memory is refused for the text of the word.
 fn asked_of<'a>(
     alloc: Global,
-    edit: Edit,
+    edit: SetOrAdd,
     object: ObjectNo,
     feature: Name<'a>,
     word: Word<'a>,
@@ -183,6 +183,40 @@ fn print_change(
     }
 }
 
+/// Sets a feature of a node by `e_set`, and prints the answer and the notifications. Errs only if memory is refused for the output.
+#[inline(never)]
+fn run_set<L: LinkStore, A: Adapter>(
+    repository: &mut Repository<L, A>,
+    pool: &mut Pool<A>,
+    output: &mut Output,
+    node: Node,
+    feature: FeatureNo,
+    value: Value,
+) -> Result<Turn, AllocError>
+    ensures ok { IfOk result (λ t. Adds output.old output.new t (λ p. RunsCommand (session repository.old pool.old) (set node feature value) p (session repository.new pool.new))) }
+    ensures left { OnErr result (IsLeft (RunsCommand (session repository.old pool.old) (set node feature value)) repository.old repository.new) }
+{
+    let outcome = repository.e_set(node, feature, value);
+    finish_change(repository, pool, output, feature, outcome)
+}
+
+/// Adds a value at the end of a list by `add`, and prints the answer and the notifications. Errs only if memory is refused for the output.
+#[inline(never)]
+fn run_add<L: LinkStore, A: Adapter>(
+    repository: &mut Repository<L, A>,
+    pool: &mut Pool<A>,
+    output: &mut Output,
+    node: Node,
+    feature: FeatureNo,
+    value: Value,
+) -> Result<Turn, AllocError>
+    ensures ok { IfOk result (λ t. Adds output.old output.new t (λ p. RunsCommand (session repository.old pool.old) (add node feature value None) p (session repository.new pool.new))) }
+    ensures left { OnErr result (IsLeft (RunsCommand (session repository.old pool.old) (add node feature value None)) repository.old repository.new) }
+{
+    let outcome = repository.add(node, feature, value, None);
+    finish_change(repository, pool, output, feature, outcome)
+}
+
 /// Gives a feature of an object a value, and prints the answer. Errs only if memory is refused for the output.
 #[inline(always)]
 fn run_edit<L: LinkStore, A: Adapter>(
@@ -200,19 +234,13 @@ fn run_edit<L: LinkStore, A: Adapter>(
     let (edit, node) = (asked.edit, Node::Object(asked.object));
     let (feature, value) = bound(repository, asked);
     match edit {
-        Edit::Set => match repository.set_unheard(node, feature, value) {
+        SetOrAdd::Set => match repository.set_unheard(node, feature, value) {
             Ok(outcome) => print_change(output, outcome, "ok\n"),
-            Err(value) => {
-                let command = Command::At(End { node, feature }, Act::Set(value));
-                run_command(repository, pool, output, command)
-            }
+            Err(value) => run_set(repository, pool, output, node, feature, value),
         },
-        Edit::Add => match repository.add_unheard(node, feature, value, None) {
+        SetOrAdd::Add => match repository.add_unheard(node, feature, value, None) {
             Ok(outcome) => print_change(output, outcome, "true\n"),
-            Err(value) => {
-                let command = Command::At(End { node, feature }, Act::Add(value, None));
-                run_command(repository, pool, output, command)
-            }
+            Err(value) => run_add(repository, pool, output, node, feature, value),
         },
     }
 }
@@ -238,13 +266,13 @@ pub(crate) fn run_frequent<L: LinkStore, A: Adapter>(
         }
         Frequent::Container(object) => run_container(repository, output, object),
         Frequent::Set(object, feature, word) => {
-            match asked_of(alloc, Edit::Set, object, feature, word)? {
+            match asked_of(alloc, SetOrAdd::Set, object, feature, word)? {
                 Some(asked) => run_edit(repository, pool, output, asked),
                 None => print_bad(output),
             }
         }
         Frequent::Add(object, feature, word) => {
-            match asked_of(alloc, Edit::Add, object, feature, word)? {
+            match asked_of(alloc, SetOrAdd::Add, object, feature, word)? {
                 Some(asked) => run_edit(repository, pool, output, asked),
                 None => print_bad(output),
             }

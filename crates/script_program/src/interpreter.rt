@@ -3,7 +3,7 @@ ghost use Rattle.std.specs.Prelude.{◌≡◌, [], IfOk};
 ghost use Rattle.script_lines.specs.Forms as forms;
 ghost use Rattle.script_program.specs.Script.{RunsLine};
 ghost use Rattle.script_program.specs.Session.{first_session, session};
-ghost use Rattle.script_answers.specs.Turns.{printed};
+ghost use Rattle.script_answers.specs.Turns.{printed_line};
 
 mod calls;
 
@@ -48,7 +48,7 @@ impl<L: LinkStore, A: Adapter> Interpreter<L, A> {
     /// Errs only if memory is refused to the run itself; then no contract determines the state of the interpreter. If memory is refused to
     /// the repository, the line prints `refused 28 MEMORY`, and nothing has changed.
     pub fn answer(&mut self, line: &[u8]) -> Result<Turn, AllocError>
-        ensures { IfOk result (λ t. RunsLine (session self.old.repository self.old.pool) (forms.form line.now) (printed self.new.output t)
+        ensures { IfOk result (λ t. RunsLine (session self.old.repository self.old.pool) (forms.form line.now) (printed_line self.new.output t)
             (session self.new.repository self.new.pool)) }
     {
         self.output.clear();

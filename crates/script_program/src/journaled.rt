@@ -64,19 +64,19 @@ fn asks_for_change(alloc: Global, line: &[u8]) -> Result<bool, AllocError>
 }
 
 /// How a line that was run counts for a journal. Errs as `asks_for_change` does.
-fn turn_of(alloc: Global, line: &[u8], turn: Turn) -> Result<durable::Turn, AllocError>
+fn turn_of(alloc: Global, line: &[u8], turn: Turn) -> Result<durable::JournalTurn, AllocError>
     ensures { IfOk result (λ t. t ≡ journal_turn (line_asks (form line.now)) turn) }
 {
     match turn {
         Turn::Done => {
             if asks_for_change(alloc, line)? {
-                Ok(durable::Turn::Kept)
+                Ok(durable::JournalTurn::Kept)
             } else {
-                Ok(durable::Turn::Other)
+                Ok(durable::JournalTurn::Other)
             }
         }
-        Turn::Lost => Ok(durable::Turn::Lost),
-        _ => Ok(durable::Turn::Other),
+        Turn::Lost => Ok(durable::JournalTurn::Lost),
+        _ => Ok(durable::JournalTurn::Other),
     }
 }
 
@@ -142,7 +142,11 @@ impl<L: LinkStore, A: Adapter, H: Listener> Session for Journaled<L, A, H> {
 
     ghost runs = { λ j l p k. RunsJournaled (session_of j) l p (session_of k) };
 
-    fn answer(&mut self, line: &[u8], text: &mut Vec<u8>) -> Result<durable::Turn, AllocError> {
+    fn answer(
+        &mut self,
+        line: &[u8],
+        text: &mut Vec<u8>,
+    ) -> Result<durable::JournalTurn, AllocError> {
         let turn = self.interpreter.answer(line)?;
         tell(&mut self.listener, &self.interpreter, line);
         text.extend_from_slice(self.interpreter.text())?;

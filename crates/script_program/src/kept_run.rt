@@ -3,12 +3,12 @@ ghost use Rattle.std.specs.Prelude.{◌≡◌, [], Err, Some, IfErr, IfOk, IfSom
 ghost use Rattle.std.specs.Io.Buffered.{reader_remaining};
 ghost use Rattle.std.specs.Io.KnownBytes.{IsAtEnd};
 ghost use Rattle.journal.specs.Disk.{IsDurable, LeavesOnly};
-ghost use Rattle.journal.specs.Journal.{IsSettled, disk_of, kept, noted};
-ghost use Rattle.journal.specs.Lines.{IsLine, recovered};
+ghost use Rattle.journal.specs.Journal.{IsSettled, disk_of, journal_lines, noted_lines};
+ghost use Rattle.journal.specs.Lines.{IsLine, recovered_lines};
 ghost use Rattle.mm_types.specs.Resolved.{Metamodel};
 ghost use Rattle.repository.specs.State.{empty_state};
 ghost use Rattle.script_lines.specs.Lines.{lines};
-ghost use Rattle.durable.specs.Heads.{IsBegunOrNot, begun};
+ghost use Rattle.durable.specs.Heads.{IsBegunOrNot, begun_lines};
 ghost use Rattle.script_program.specs.Kept.{EndsJournaled, EndsKept, LeavesJournaled, LeavesKeptIn, StopsJournaled, StopsKept, kept_outcome, model_of, session_of};
 ghost use Rattle.durable.specs.declared.opening.JournalFault.{JournalFault};
 ghost use Rattle.script_streams.specs.declared.run_fault.RunFault.{RunFault};
@@ -67,13 +67,13 @@ fn opened<D: Disk + Drop, L: LinkStore, A: Adapter, H: Listener>(
     requires bytes { D.seen disk ≡ bytes.items }
     requires durable { IsDurable (D.seen disk) (D.may_leave disk) }
     ensures settled { IfOk result (λ journal. IsSettled D.seen D.may_leave journal) }
-    ensures kept { IfOk result (λ journal. kept D.seen journal ≡ begun head.now (recovered bytes.items)) }
-    ensures noted { IfOk result (λ journal. noted journal ≡ []) }
+    ensures kept { IfOk result (λ journal. journal_lines D.seen journal ≡ begun_lines head.now (recovered_lines bytes.items)) }
+    ensures noted { IfOk result (λ journal. noted_lines journal ≡ []) }
     ensures model { (m : Metamodel) → (session_of session.old).state ≡ empty_state m
-        → OnOk result (model_of m (begun head.now (recovered bytes.items)) ≡ Some (session_of session.new).state.model) }
+        → OnOk result (model_of m (begun_lines head.now (recovered_lines bytes.items)) ≡ Some (session_of session.new).state.model) }
     ensures any_moment { IfOk result (λ journal. LeavesOnly D.moment D.left_since disk (disk_of journal)
-        (IsBegunOrNot head.now (recovered bytes.items))) }
-    ensures any_moment_err { IfErr result (λ e. LeavesOnly D.moment D.left_since disk e.1 (IsBegunOrNot head.now (recovered bytes.items))) }
+        (IsBegunOrNot head.now (recovered_lines bytes.items))) }
+    ensures any_moment_err { IfErr result (λ e. LeavesOnly D.moment D.left_since disk e.1 (IsBegunOrNot head.now (recovered_lines bytes.items))) }
 {
     // A file that is refused is left as it is.
     match run_again(alloc, session, bytes.as_slice(), head) {
@@ -94,18 +94,18 @@ fn run_opened<R: Read, D: Disk, W: Write, L: LinkStore, A: Adapter, H: Listener>
     journal: Journal<D>,
 ) -> KeptRun<D, W>
     requires settled { IsSettled D.seen D.may_leave journal }
-    requires noted { noted journal ≡ [] }
-    ensures ok { (m : Metamodel) → model_of m (kept D.seen journal) ≡ Some (session_of session.old).state.model
+    requires noted { noted_lines journal ≡ [] }
+    ensures ok { (m : Metamodel) → model_of m (journal_lines D.seen journal) ≡ Some (session_of session.old).state.model
         → OnOk result.outcome (IfSome (reader_remaining R.remaining reader.old) (λ input. EndsJournaled m (session_of session.old) (lines input)
-        (W.contents writer) (W.contents result.writer) (recovered (D.seen result.disk)) (session_of session.new))) }
+        (W.contents writer) (W.contents result.writer) (recovered_lines (D.seen result.disk)) (session_of session.new))) }
     ensures end { OnOk result.outcome (OnSome (reader_remaining R.remaining reader.old) (IsAtEnd (reader_remaining R.remaining reader.new))) }
     ensures durable { OnOk result.outcome (IsDurable (D.seen result.disk) (D.may_leave result.disk)) }
-    ensures stopped { (m : Metamodel) (fault : RunFault) → model_of m (kept D.seen journal) ≡ Some (session_of session.old).state.model
+    ensures stopped { (m : Metamodel) (fault : RunFault) → model_of m (journal_lines D.seen journal) ≡ Some (session_of session.old).state.model
         → result.outcome ≡ Err (KeptFault.Stopped fault)
         → IfSome (reader_remaining R.remaining reader.old) (λ input. StopsJournaled m fault (session_of session.old) (lines input)
         (W.contents writer) (W.contents result.writer) (D.may_leave result.disk)) }
     ensures opened { (fault : JournalFault) → result.outcome ≡ Err (KeptFault.Unopened fault) → ⊥ }
-    ensures any_moment { (m : Metamodel) → model_of m (kept D.seen journal) ≡ Some (session_of session.old).state.model
+    ensures any_moment { (m : Metamodel) → model_of m (journal_lines D.seen journal) ≡ Some (session_of session.old).state.model
         → LeavesOnly D.moment D.left_since (disk_of journal) result.disk
         (λ file. IfSome (reader_remaining R.remaining reader.old) (λ input. LeavesJournaled m (session_of session.old) (lines input) file)) }
 {

@@ -2,9 +2,9 @@
 ghost use Rattle.std.specs.Prelude.{◌≡◌, ◌++◌, [], List, ℕ, Some, length, map};
 ghost use Rattle.script_lines.specs.Lines.{lines};
 ghost use Rattle.script_program.specs.Batch.{RunsBatch};
-ghost use Rattle.script_answers.specs.Dressed.{dressed};
+ghost use Rattle.script_answers.specs.Dressed.{dressed_output};
 ghost use Rattle.durable.specs.Printed.{Refuses};
-ghost use Rattle.script_program.specs.Kept.{RunsJournaled, kept_lines, replayed};
+ghost use Rattle.script_program.specs.Kept.{RunsJournaled, kept_lines, model_after_lines};
 ghost use Rattle.script_program.specs.Live.{live_text, with_empty_line};
 ghost use Rattle.script_program.specs.Lost.{AreCommands, lost_lines, script};
 ghost use Rattle.script_program.specs.Session.{Session};
@@ -36,7 +36,7 @@ pub fn with_no_line_lost_the_script_is_a_function()
 /// numbers of the lost lines.
 pub fn a_run_writes_the_dressed_script()
     ensures { (d : Dress) (s t : Session) (bytes : List ℕ) (first : List (List ℕ)) (printed : List Printed) → RunsBatch d s bytes first printed t
-        → dressed d (lines bytes) (script s bytes (lost_lines printed)) ≡ dressed d first printed }
+        → dressed_output d (lines bytes) (script s bytes (lost_lines printed)) ≡ dressed_output d first printed }
 {}
 
 /// The output of a live run has the same answers as the text of the script, each with an empty line after it.
@@ -50,7 +50,7 @@ pub fn a_live_run_writes_the_script_with_empty_lines()
 /// are done, and they leave the model that all lines of the run left. Only memory can make a session without adapters refuse one of them.
 pub fn what_was_kept_comes_back()
     ensures again { (s t : Session) (ls : List (List ℕ)) (printed : List Printed) → RunsLines s ls printed t
-        → replayed s.state.model (kept_lines ls printed) ≡ Some t.state.model }
+        → model_after_lines s.state.model (kept_lines ls printed) ≡ Some t.state.model }
     ensures done { (s t x : Session) (ls : List (List ℕ)) (printed : List Printed) → RunsLines s ls printed t → x.state.model ≡ s.state.model
         → x.state.adapters ≡ [] → Refuses RunsJournaled x (kept_lines ls printed) → ⊥ }
 {}

@@ -2,8 +2,12 @@
 ghost use Rattle.std.specs.Prelude.{◌≡◌, Err, true, IfOk, OnErr};
 ghost use Rattle.mm_types.specs.Shapes.{shape};
 ghost use Rattle.notice_chain.specs.View.{View};
-ghost use Rattle.repository.specs.Run.{change_outcome};
-ghost use Rattle.repository.specs.Views.{command_view, outcome_view};
+ghost use Rattle.mm_types.specs.declared.end.End.{End};
+ghost use Rattle.handshake.specs.declared.act.Act.{Act};
+ghost use Rattle.repository.specs.Run.{Executed, change_outcome};
+ghost use Rattle.repository.specs.State.{State};
+ghost use Rattle.repository.specs.Views.{changed_view, command_view, outcome_view};
+ghost use Rattle.repository.specs.declared.command.Command.TheVariants.{At};
 ghost use Rattle.repository.specs.Commands.{get};
 ghost use Rattle.script_lines.specs.Forms as forms;
 ghost use Rattle.script_lines.specs.Source.{bytes_of};
@@ -11,18 +15,18 @@ ghost use Rattle.script_lines.specs.declared.line.Line.TheVariants as asked;
 ghost use Rattle.script_program.specs.Bind.{IsGiven, pool_of, request_view};
 ghost use Rattle.script_program.specs.Pool.{Pool as PoolView};
 ghost use Rattle.script_program.specs.Script.{Adds, IsLeft, RunsCommand, RunsLine, RunsRequest};
-ghost use Rattle.script_program.specs.Session.{IsBrought, Session, brought_no, session, taken};
+ghost use Rattle.script_program.specs.Session.{IsBrought, Session, brought_no, pool_after_take, session};
 ghost use Rattle.script_program.specs.Summary.{outcome_turn};
 ghost use Rattle.script_program.specs.declared.request.Request.TheVariants as request;
 
-use crate::answers::{feature_of, print_found, print_outcome, print_refusal};
+use crate::answers::{feature_of, print_found, print_outcome, print_refusal, print_reply};
 use crate::bind::bind;
 use crate::frequent::run_frequent;
 use crate::pool::Pool;
 use crate::request::Request;
 use adapters::Adapter;
 use links::LinkStore;
-use mm_types::{AdapterNo, End, Refused};
+use mm_types::{AdapterNo, End, FeatureNo, Refused};
 use repository::{Command, EndRead, Failure, Read, Reply, Repository};
 use script_answers::Turn;
 use script_lines::{Line, Source, frequent_of, text_line_of};
@@ -112,7 +116,7 @@ pub(crate) fn run_command<L: LinkStore, A: Adapter>(
     output: &mut Output,
     command: Command<A>,
 ) -> Result<Turn, AllocError>
-    ensures ok { (before : PoolView) → pool.old ≡ taken before (command_view A.heard command) → IsBrought before (command_view A.heard command) → IfOk result (λ t.
+    ensures ok { (before : PoolView) → pool.old ≡ pool_after_take before (command_view A.heard command) → IsBrought before (command_view A.heard command) → IfOk result (λ t.
         Adds output.old output.new t (λ p. RunsCommand (session repository.old before) (command_view A.heard command) p (session repository.new pool.new))) }
     ensures left { (before : PoolView) → OnErr result (IsLeft (RunsCommand (session repository.old before) (command_view A.heard command)) repository.old repository.new) }
 {
@@ -123,6 +127,32 @@ pub(crate) fn run_command<L: LinkStore, A: Adapter>(
     let turn = turn_of(&outcome);
     pool.give_back(no, outcome);
     Ok(turn)
+}
+
+/// Prints the outcome of a change at an end that was made. Adapters that it released go back to the pool. Errs only if memory is refused for
+/// the output.
+#[inline(always)]
+pub(crate) fn finish_change<L: LinkStore, A: Adapter>(
+    repository: &Repository<L, A>,
+    pool: &mut Pool<A>,
+    output: &mut Output,
+    feature: FeatureNo,
+    outcome: Result<Reply<A>, Refused>,
+) -> Result<Turn, AllocError>
+    ensures { (s : State) (end : End) (act : Act) → end.feature ≡ feature → Executed s (At end act) (change_outcome (changed_view A.heard outcome)) repository.now
+        → IfOk result (λ t. Adds output.old output.new t (λ p. RunsCommand (session s pool.old) (At end act) p (session repository.now pool.new))) }
+{
+    match outcome {
+        Ok(reply) => {
+            print_reply(output, repository.meta(), feature, &reply)?;
+            pool.put_all(reply.released.into_vec());
+            Ok(Turn::Done)
+        }
+        Err(refused) => {
+            print_refusal(output, refused)?;
+            Ok(turn_of_refusal(refused))
+        }
+    }
 }
 
 /// Runs the command of a form, and prints the answer. Errs only if memory is refused for the output.

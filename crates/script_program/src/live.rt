@@ -146,14 +146,8 @@ pub fn run_live<R: Read, W: Write, L: LinkStore, A: Adapter>(
     ensures long { IsErrOf result RunFault.TooLong → IfSome (reader_remaining R.remaining reader.old) IsTooLong }
 {
     let mut repository: Repository<L, A> = Repository::new(alloc, meta);
-    let outcome = live_over(
-        alloc,
-        reader,
-        writer,
-        &mut repository,
-        boxes,
-        &mut NoListener,
-    );
+    let listener = &mut NoListener;
+    let outcome = live_over(alloc, reader, writer, &mut repository, boxes, listener);
     let _ = repository.close();
     outcome
 }

@@ -5,7 +5,7 @@ ghost use Rattle.mm_types.specs.declared.limits.TheConstants.{INPUT_BYTES};
 ghost use Rattle.script_streams.specs.Faults.{IsWriteOrMemory};
 ghost use Rattle.script_streams.specs.Streams.{AppendsFront};
 ghost use Rattle.script_program.specs.Batch.{EndsIn, PrintsDressed, PrintsDressedFront};
-ghost use Rattle.script_answers.specs.Dressed.{plain};
+ghost use Rattle.script_answers.specs.Dressed.{plain_dress};
 ghost use Rattle.script_program.specs.Session.{session};
 
 use crate::line::run_line;
@@ -45,8 +45,8 @@ pub(crate) fn run_plain<W: Write, L: LinkStore, A: Adapter>(
     input: &[u8],
 ) -> Result<Summary, RunFault>
     requires { length input.now ≤ INPUT_BYTES }
-    ensures ok { IfOk result (λ s. PrintsDressed plain (session repository.old pool.old) (EndsIn repository.new) (W.contents writer.old) (W.contents writer.new) input.now s) }
-    ensures err { OnErr result (PrintsDressedFront plain (session repository.old pool.old) (EndsIn repository.new) (W.contents writer.old) (W.contents writer.new) input.now) }
+    ensures ok { IfOk result (λ s. PrintsDressed plain_dress (session repository.old pool.old) (EndsIn repository.new) (W.contents writer.old) (W.contents writer.new) input.now s) }
+    ensures err { OnErr result (PrintsDressedFront plain_dress (session repository.old pool.old) (EndsIn repository.new) (W.contents writer.old) (W.contents writer.new) input.now) }
     ensures kind { IfErr result (λ e. IsWriteOrMemory e) }
 {
     let mut block = Output::new(alloc);

@@ -2,7 +2,7 @@
 ghost use Rattle.std.specs.Prelude.{◌≡◌, fold, map, slice_get, Some, Ok, Err, option_and_then, option_map, IfOk, IfErr, OnOk, OnErr};
 ghost use Rattle.repository.specs.Views.{outcome_view};
 ghost use Rattle.script_program.specs.Pool as p;
-ghost use Rattle.script_program.specs.Session.{returned};
+ghost use Rattle.script_program.specs.Session.{pool_after_return};
 
 use adapters::Adapter;
 use mm_types::{AdapterNo, Refused};
@@ -65,7 +65,7 @@ impl<A: Adapter> Pool<A> {
     pub(crate) fn take(&mut self, no: AdapterNo) -> Result<A, Refused>
         ensures ok { IfOk result (λ a. p.box_of self.old no ≡ Ok (A.heard a)) }
         ensures err { IfErr result (λ r. p.box_of self.old no ≡ Err r) }
-        ensures taken { OnOk result (self.new ≡ p.without self.old no) }
+        ensures taken { OnOk result (self.new ≡ p.pool_without self.old no) }
         ensures unchanged { OnErr result (self.new ≡ self.old) }
     {
         match self.replaced(no, None) {
@@ -84,7 +84,7 @@ impl<A: Adapter> Pool<A> {
 
     /// Puts back the adapters of an outcome: those that were released, or the adapter of the number that was not attached.
     pub(crate) fn give_back(&mut self, no: Option<AdapterNo>, outcome: Result<Reply<A>, Failure<A>>)
-        ensures { self.new ≡ returned self.old no (outcome_view A.heard outcome) }
+        ensures { self.new ≡ pool_after_return self.old no (outcome_view A.heard outcome) }
     {
         match outcome {
             Ok(reply) => self.put_all(reply.released.into_vec()),

@@ -1,10 +1,10 @@
 //! The lines of a journal are run again.
 ghost use Rattle.std.specs.Prelude.{◌≡◌, ◌≢◌, ◌∷◌, ℕ, List, Some, IfErr, OnOk};
-ghost use Rattle.journal.specs.Lines.{recovered};
+ghost use Rattle.journal.specs.Lines.{recovered_lines};
 ghost use Rattle.mm_types.specs.Resolved.{Metamodel};
 ghost use Rattle.repository.specs.State.{empty_state};
 ghost use Rattle.models.specs.Model.{Model};
-ghost use Rattle.durable.specs.Heads.{IsOfHead, begun};
+ghost use Rattle.durable.specs.Heads.{IsOfHead, begun_lines};
 ghost use Rattle.script_program.specs.Kept.{IsJournalOf, model_of, session_of};
 
 use crate::journaled::Journaled;
@@ -26,9 +26,9 @@ pub fn run_again<L: LinkStore, A: Adapter, H: Listener>(
 ) -> Result<(), JournalFault>
     // Then the session has the model that the lines leave.
     ensures model { (m : Metamodel) → (session_of session.old).state ≡ empty_state m
-        → OnOk result (model_of m (begun head.now (recovered bytes.now)) ≡ Some (session_of session.new).state.model) }
+        → OnOk result (model_of m (begun_lines head.now (recovered_lines bytes.now)) ≡ Some (session_of session.new).state.model) }
     // Only memory can make it refuse a journal whose lines leave a model.
-    ensures head { IfErr result (λ fault. IsOfHead fault → (rest : List (List ℕ)) → recovered bytes.now ≢ head.now ∷ rest) }
+    ensures head { IfErr result (λ fault. IsOfHead fault → (rest : List (List ℕ)) → recovered_lines bytes.now ≢ head.now ∷ rest) }
     ensures taken { (m : Metamodel) (model : Model) → (session_of session.old).state ≡ empty_state m → IsJournalOf m head.now bytes.now model
         → IfErr result (λ fault. fault ≡ JournalFault.Memory) }
 {

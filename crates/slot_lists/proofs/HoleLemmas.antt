@@ -2,12 +2,12 @@
 use Rattle.std.proofs.Common.{◌≡◌, ℕ, ◌+◌, ◌<◌, ◌≢◌, inl, inr, List, [], ◌∷◌, ◌++◌, length, get_or, set, sym, ◌∙◌, ap, subst, arith, add-one, length-set}
 use Rattle.std.proofs.lemmas.List.{get_or-set_same, get_or-set_other, get_or_default, length_push}
 use Rattle.std.proofs.lemmas.Bool.{cases_eq}
-use Rattle.slot_lists.specs.Pieces.{joined, HasHole}
-use Rattle.slot_lists.proofs.PieceLemmas.{joined-lower, joined-raise}
+use Rattle.slot_lists.specs.Pieces.{joined_values, HasHole}
+use Rattle.slot_lists.proofs.PieceLemmas.{joined_values-lower, joined_values-raise}
 
 pub record HoleAt {T : Type 0} (n h : ℕ) (old cs : List (List T)) : Type 0 where
   pub count : length cs ≡ length old
-  pub values : joined cs ≡ joined old
+  pub values : joined_values cs ≡ joined_values old
   pub hole : HasHole n h cs
 
 -- the i-th piece has one value more, and the j-th piece one value less
@@ -32,7 +32,7 @@ hole-raised {T} n h old cs d e y ys ps lt m eq is =
     let here : ps ≡ get_or cs h [] ++ y ∷ [] = is ∙ ap (λ (p : List T). p ++ y ∷ []) (get_or-set_other cs (h + 1) h ys e ne ∙ get_or_default cs h e [] in_h) in
     record {
       count = length-set (set cs (h + 1) ys) h ps ∙ length-set cs (h + 1) ys ∙ m.count;
-      values = rw (here, add-one) (joined-lower cs h y ys (omega arith) (rw add-one at next)) ∙ m.values;
+      values = rw (here, add-one) (joined_values-lower cs h y ys (omega arith) (rw add-one at next)) ∙ m.values;
       hole = hole-moved n h (h + 1) cs ps ys ne in_h lt m.hole (ap length here ∙ length_push (get_or cs h []) y) (add-one (length ys) ∙ sym (ap length next));
     }
 
@@ -45,7 +45,7 @@ hole-lowered {T} n h old cs d e y ys ps lt m eq is =
     let here : ps ≡ y ∷ get_or cs (h + 1) [] = is ∙ ap (λ (p : List T). y ∷ p) (get_or-set_other cs h (h + 1) ys e ne ∙ get_or_default cs (h + 1) e [] lt) in
     record {
       count = length-set (set cs h ys) (h + 1) ps ∙ length-set cs h ys ∙ m.count;
-      values = rw (here, add-one) (joined-raise cs h ys y (omega arith) before) ∙ m.values;
+      values = rw (here, add-one) (joined_values-raise cs h ys y (omega arith) before) ∙ m.values;
       hole = hole-moved n (h + 1) h cs ps ys ne lt in_h m.hole (ap length here ∙ sym (add-one (length (get_or cs (h + 1) [])))) (sym (length_push ys y) ∙ sym (ap length before));
     }
 

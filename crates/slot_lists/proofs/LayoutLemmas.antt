@@ -5,13 +5,13 @@ use Rattle.std.proofs.lemmas.List.Edits.{length-insert, length-remove}
 use Rattle.std.proofs.lemmas.Bool.{cases_eq}
 use Rattle.std.specs.List.{insert, remove, slice_get}
 use Rattle.slot_lists.specs.Places.{Places}
-use Rattle.slot_lists.specs.Pieces.{joined, IsFilled, HasHole}
+use Rattle.slot_lists.specs.Pieces.{joined_values, IsFilled, HasHole}
 use Rattle.slot_lists.specs.Layout.{places_in, IsLaidOut}
-use Rattle.slot_lists.proofs.PieceLemmas.{FullBefore, joined-insert, joined-remove, joined-get, length-joined}
+use Rattle.slot_lists.proofs.PieceLemmas.{FullBefore, joined_values-insert, joined_values-remove, joined_values-get, length-joined_values}
 
 -- the fields, by the view
 pub len-view : {T : Type 0} (cs : List (List T)) (n : ℕ) (v : Places T) → IsLaidOut cs n → places_in cs n ≡ v → length v.items ≡ n
-len-view cs n v l e = sym (ap (λ w. length w.items) e) ∙ length-joined n cs l.filled l.in_range
+len-view cs n v l e = sym (ap (λ w. length w.items) e) ∙ length-joined_values n cs l.filled l.in_range
 
 pub spare-view : {T : Type 0} (cs : List (List T)) (n : ℕ) (v : Places T) → places_in cs n ≡ v → v.spare ≡ 1024 * length cs - n
 spare-view cs n v e = sym (ap (λ w. w.spare) e)
@@ -35,7 +35,7 @@ written cs k j xs ne = get_or-set_other cs k j xs [] ne
 
 pub record Taken {T : Type 0} (n p : ℕ) (cs new : List (List T)) : Type 0 where
   pub hole : HasHole n (p / 1024) new
-  pub values : joined new ≡ remove (joined cs) p
+  pub values : joined_values new ≡ remove (joined_values cs) p
   pub count : length new ≡ length cs
 
 pub taken : {T : Type 0} (n p : ℕ) (cs : List (List T)) (x : List T) → IsFilled n cs → n ≤ 1024 * length cs → p < n → x ≡ get_or cs (p / 1024) x → Taken n p cs (set cs (p / 1024) (remove x (p % 1024)))
@@ -50,13 +50,13 @@ taken {T} n p cs x f le lt is =
         hole = ap (λ (q : List T). length q + 1) (get_or-set_same cs k (remove (get_or cs k []) (p % 1024)) [] at.piece) ∙ short ∙ f k;
         others = λ j ne. ap length (written cs k j (remove (get_or cs k []) (p % 1024)) ne) ∙ f j;
       };
-      values = joined-remove cs k (p % 1024) p at.piece at.before at.place (omega arith);
+      values = joined_values-remove cs k (p % 1024) p at.piece at.before at.place (omega arith);
       count = length-set cs k _;
     })
 
 pub record Put {T : Type 0} (n p : ℕ) (v : T) (cs new : List (List T)) : Type 0 where
   pub filled : IsFilled n new
-  pub values : joined new ≡ insert (joined cs) p v
+  pub values : joined_values new ≡ insert (joined_values cs) p v
   pub count : length new ≡ length cs
 
 -- there is a free slot in the piece that lacks a value
@@ -88,7 +88,7 @@ put {T} n p cs x v m le lt is =
         | inl e ↦ rw (e, get_or-set_same cs k (insert (get_or cs k []) (p % 1024) v) [] inside) (long ∙ m.hole)
         | inr ne ↦ ap length (written cs k j (insert (get_or cs k []) (p % 1024) v) ne) ∙ m.others j ne
       ];
-      values = joined-insert cs k (p % 1024) p v inside before place (omega arith);
+      values = joined_values-insert cs k (p % 1024) p v inside before place (omega arith);
       count = length-set cs k _;
     })
 
@@ -97,7 +97,7 @@ pub read_at : {T : Type 0} (n p : ℕ) (cs : List (List T)) (x : List T) (v : Pl
 read_at n p cs x v l e lt is =
     let at = in_piece n p cs l.filled l.in_range lt in
     let same : x ≡ get_or cs (p / 1024) [] = is ∙ get_or_default cs (p / 1024) x [] at.piece in
-    ap (λ q. slice_get q (p % 1024)) same ∙ joined-get cs (p / 1024) (p % 1024) p at.piece at.before at.place (omega arith) ∙ ap (λ w. slice_get w.items p) e
+    ap (λ q. slice_get q (p % 1024)) same ∙ joined_values-get cs (p / 1024) (p % 1024) p at.piece at.before at.place (omega arith) ∙ ap (λ w. slice_get w.items p) e
 
 pub long_at : {T : Type 0} (n p : ℕ) (cs : List (List T)) (x : List T) → IsLaidOut cs n → p < n → x ≡ get_or cs (p / 1024) x → p % 1024 < length x
 long_at {T} n p cs x l lt is =

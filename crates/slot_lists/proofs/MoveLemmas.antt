@@ -5,7 +5,7 @@ use Rattle.std.specs.List.{insert, remove, slice_get}
 use Rattle.std.proofs.lemmas.List.Edits.{length-remove}
 use Rattle.std.proofs.lemmas.List.{take_all, drop_all}
 use Rattle.std.proofs.lemmas.Bool.{cases_lt}
-use Rattle.slot_lists.specs.Moved.{moved}
+use Rattle.slot_lists.specs.Moved.{list_after_move}
 
 -- an insert past the end puts the value last
 insert_past : {X : Type 0} (xs : List X) (i : ℕ) (x : X) → length xs ≤ i → insert xs i x ≡ insert xs (length xs) x
@@ -29,8 +29,8 @@ taken_back back xs to from (Some x) lt none some = to_last xs to from x lt ∙ s
 
 -- `back` puts a value that was taken out of a list back at `to`, or at the end if `to` is past it: a move that is cut at the end does the
 -- same
-pub moved-back : {X : Type 0} (back : Option X → List X) (xs : List X) (to from : ℕ) → from < length xs → back None ≡ xs → ((x : X) → back (Some x) ≡ insert (remove xs from) to x) → moved xs (min to (length xs - 1)) from ≡ back (slice_get xs from)
-moved-back back xs to from = taken_back back xs to from (slice_get xs from)
+pub list_after_move-back : {X : Type 0} (back : Option X → List X) (xs : List X) (to from : ℕ) → from < length xs → back None ≡ xs → ((x : X) → back (Some x) ≡ insert (remove xs from) to x) → list_after_move xs (min to (length xs - 1)) from ≡ back (slice_get xs from)
+list_after_move-back back xs to from = taken_back back xs to from (slice_get xs from)
 
 pub remove_nothing : {X : Type 0} (i : ℕ) → remove {X = X} [] i ≡ []
 remove_nothing zero = refl

@@ -1,10 +1,10 @@
 -- Pieces one after another, and how many values lie in them.
 use Rattle.std.specs.Prelude.{ℕ, ◌-◌, ◌*◌, ◌^◌, ◌≤◌, List, length}
-use Rattle.slot_lists.specs.Pieces.{joined, IsFilled}
+use Rattle.slot_lists.specs.Pieces.{joined_values, IsFilled}
 use Rattle.slot_lists.specs.Places.{Places}
 
 abbrev pub places_in : {T : Type 0} → List (List T) → ℕ → Places T
-places_in cs n = record { items = joined cs; spare = 1024 * length cs - n }
+places_in cs n = record { items = joined_values cs; spare = 1024 * length cs - n }
 
 pub record IsLaidOut {T : Type 0} (cs : List (List T)) (n : ℕ) : Type 0 where
   pub filled : IsFilled n cs

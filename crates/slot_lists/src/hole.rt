@@ -1,6 +1,6 @@
 //! The hole in a list of pieces.
 ghost use Rattle.std.specs.Prelude.{◌≡◌, ◌+◌, ◌*◌, ◌<◌, ◌≤◌, length};
-ghost use Rattle.slot_lists.specs.Pieces.{joined, HasHole};
+ghost use Rattle.slot_lists.specs.Pieces.{joined_values, HasHole};
 
 use crate::piece::Piece;
 
@@ -10,7 +10,7 @@ pub(crate) fn move_hole<T: Drop>(pieces: &mut Vec<Piece<T>>, len: usize, from: u
     requires to { 1024 * to < len }
     requires room { len ≤ 1024 * length pieces.old.items }
     ensures count { length pieces.new.items ≡ length pieces.old.items }
-    ensures values { joined pieces.new.items ≡ joined pieces.old.items }
+    ensures values { joined_values pieces.new.items ≡ joined_values pieces.old.items }
     ensures hole { HasHole len to pieces.new.items }
 {
     let mut hole = from;

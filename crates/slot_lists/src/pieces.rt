@@ -1,7 +1,7 @@
 //! A long list, in pieces that are full except the last.
 ghost use Rattle.std.specs.Prelude.{◌≡◌, ◌+◌, ◌<◌, ◌≤◌, [], ◌++◌, length, Some, slice_get, position, IsOk, OnOk, OnErr, vec_len};
 ghost use Rattle.std.specs.List.{insert, remove};
-ghost use Rattle.slot_lists.specs.Moved.{moved};
+ghost use Rattle.slot_lists.specs.Moved.{list_after_move};
 
 use crate::hole::move_hole;
 use crate::piece::{PLACES, Piece};
@@ -126,7 +126,7 @@ impl<T: Drop> Pieces<T> {
     pub fn move_to(&mut self, to: usize, from: usize)
         requires to { to < length self.old.items }
         requires from { from < length self.old.items }
-        ensures items { self.new.items ≡ moved self.old.items to from }
+        ensures items { self.new.items ≡ list_after_move self.old.items to from }
         ensures spare { self.new.spare ≡ self.old.spare }
     {
         let (source, target) = (from / PLACES, to / PLACES);

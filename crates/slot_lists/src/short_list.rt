@@ -1,7 +1,7 @@
 //! Lists of which most have one value.
 ghost use Rattle.std.specs.Prelude.{◌≡◌, ◌+◌, ◌<◌, ◌≤◌, [], length, slice_get, position, option_copied, IfOk, OnOk};
 ghost use Rattle.std.specs.List.{insert, remove};
-ghost use Rattle.slot_lists.specs.Moved.{moved};
+ghost use Rattle.slot_lists.specs.Moved.{list_after_move};
 
 use crate::slot_list::SlotList;
 use std::alloc::{AllocError, Global};
@@ -152,7 +152,7 @@ impl<T: Drop> ShortList<T> {
     pub fn move_to(&mut self, to: usize, from: usize)
         requires to { to < length self.old.items }
         requires from { from < length self.old.items }
-        ensures items { self.new.items ≡ moved self.old.items to from }
+        ensures items { self.new.items ≡ list_after_move self.old.items to from }
         ensures spare { self.new.spare ≡ self.old.spare }
     {
         let Layout::Many(list) = &mut self.layout else {

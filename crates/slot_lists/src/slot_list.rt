@@ -1,7 +1,7 @@
 //! Lists of any length.
 ghost use Rattle.std.specs.Prelude.{◌≡◌, ◌+◌, ◌<◌, ◌≤◌, ◌==◌, [], ◌++◌, length, Some, slice_get, position, option_copied, is_ok, IsOk, IfOk, IfErr, OnOk, OnErr, if◌then◌else◌, vec_len, vec_capacity};
 ghost use Rattle.std.specs.List.{insert, remove};
-ghost use Rattle.slot_lists.specs.Moved.{moved};
+ghost use Rattle.slot_lists.specs.Moved.{list_after_move};
 
 use crate::piece::PLACES;
 use crate::pieces::Pieces;
@@ -163,7 +163,7 @@ impl<T: Drop> SlotList<T> {
     pub fn move_to(&mut self, to: usize, from: usize)
         requires to { to < length self.old.items }
         requires from { from < length self.old.items }
-        ensures items { self.new.items ≡ moved self.old.items to from }
+        ensures items { self.new.items ≡ list_after_move self.old.items to from }
         ensures spare { self.new.spare ≡ self.old.spare }
     {
         match &mut self.layout {
@@ -211,7 +211,7 @@ impl<T: Drop> SlotList<T> {
     }
 }
 
-/// Reserves capacity in the block of a short list. If the block grows, it grows by at least a half.
+/// Reserves capacity in the block of a short list. If the block grows, it grows by at least a half, also while it has no values yet.
 fn reserve_in_block<T: Drop>(values: &mut Vec<T>, additional: usize) -> Result<(), AllocError>
     requires { vec_len values.old + additional ≤ 1024 }
     ensures items { values.new.items ≡ values.old.items }
@@ -223,7 +223,8 @@ fn reserve_in_block<T: Drop>(values: &mut Vec<T>, additional: usize) -> Result<(
         return Ok(());
     }
     let free = PLACES - values.len();
-    values.reserve_exact(additional.max(values.len() / 2 + 1).min(free))
+    let grown = values.capacity() - values.len() + values.capacity() / 2 + 1;
+    values.reserve_exact(additional.max(grown).min(free))
 }
 
 /// Moves the values of a block into pieces, with capacity for more. If memory is refused, they stay.
@@ -244,7 +245,7 @@ fn in_pieces<T: Drop>(values: &mut Vec<T>, additional: usize) -> Result<Box<Piec
 fn move_in_block<T: Drop>(values: &mut Vec<T>, to: usize, from: usize)
     requires to { to < vec_len values.old }
     requires from { from < vec_len values.old }
-    ensures items { values.new.items ≡ moved values.old.items to from }
+    ensures items { values.new.items ≡ list_after_move values.old.items to from }
     ensures len { vec_len values.new ≡ vec_len values.old }
     ensures capacity { vec_capacity values.new ≡ vec_capacity values.old }
 {

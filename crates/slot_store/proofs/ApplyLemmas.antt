@@ -7,7 +7,7 @@ use Rattle.mm_types.specs.declared.numbers.Node.{Node}
 use Rattle.mm_types.specs.declared.end.End.{End}
 use Rattle.links.specs.LegalSets.{AreOfKind, Kinds}
 use Rattle.links.specs.Links.{Links, coded_links}
-use Rattle.links.specs.Plans.{EditFits, HasPlanOfKind, IsEditOfKind, IsPlanOfKind, PlanFits, applied, edited}
+use Rattle.links.specs.Plans.{EditFits, HasPlanOfKind, IsEditOfKind, IsPlanOfKind, PlanFits, links_after_edit, links_after_edits}
 use Rattle.links.specs.declared.plan.Edit.{Edit}
 use Rattle.links.specs.declared.plan.Edit.TheVariants as edit
 use Rattle.links.proofs.KindLemmas.{plan_keeps_kinds}
@@ -57,16 +57,16 @@ room_rest r s x xs has takes = record {
 ---------------------------------------------------------------- an edit
 
 module _ (t u : NodeSlots) (kept : ∥ IsStore t ∥₁) (x : Edit) (xs : List Edit) (fits : PlanFits (store_links t) (x ∷ xs)) (kind : HasPlanOfKind (IsStoreOfKind t) (x ∷ xs)) (now : cells u ≡ cells_after x (cells t)) where
-  after : IsStore t → IsStore u × (cell_links (cells u) (ends_of u) ≡ edited (store_links t) x)
+  after : IsStore t → IsStore u × (cell_links (cells u) (ends_of u) ≡ links_after_edit (store_links t) x)
   unfolding store_links
   after ok =
-      subst (λ (c : Cells). HasKeys c (ends_of u) → IsKept c (ends_of u) × (cell_links c (ends_of u) ≡ edited (store_links t) x)) (sym now)
+      subst (λ (c : Cells). HasKeys c (ends_of u) → IsKept c (ends_of u) × (cell_links c (ends_of u) ≡ links_after_edit (store_links t) x)) (sym now)
       (λ keys. kept_edit kind.0 kind.1.0 (cells t) (ends_of t) ok kind.1.1 x (ends_of u) fits.0 kind.2.0 keys) (keys_of u)
 
   pub edit_kept : ∥ IsStore u ∥₁
   edit_kept = ∥∥₁_map kept (λ ok. (after ok).0)
 
-  pub edit_links : store_links u ≡ edited (store_links t) x
+  pub edit_links : store_links u ≡ links_after_edit (store_links t) x
   unfolding store_links
   edit_links = ∥∥₁_elim kept (Coded-set coded_links _ _) (λ ok. (after ok).1)
 
@@ -80,11 +80,11 @@ module _ (t u : NodeSlots) (kept : ∥ IsStore t ∥₁) (x : Edit) (xs : List E
     kind.2.1,
   )
 
-  pub edit_rest : applied (store_links u) xs ≡ applied (store_links t) (x ∷ xs)
-  edit_rest = ap (λ (s : Links). applied s xs) edit_links
+  pub edit_rest : links_after_edits (store_links u) xs ≡ links_after_edits (store_links t) (x ∷ xs)
+  edit_rest = ap (λ (s : Links). links_after_edits s xs) edit_links
 
 -- a plan that agrees with the kinds keeps rows that agree with them
-pub kinds_applied : (t u : NodeSlots) (plan : List Edit) → store_links u ≡ applied (store_links t) plan → (m : Kinds) → IsStoreOfKind t m → IsPlanOfKind m plan → IsStoreOfKind u m
+pub kinds_applied : (t u : NodeSlots) (plan : List Edit) → store_links u ≡ links_after_edits (store_links t) plan → (m : Kinds) → IsStoreOfKind t m → IsPlanOfKind m plan → IsStoreOfKind u m
 kinds_applied t u plan is m of kind = (of.0, subst (λ (s : Links). AreOfKind m s) (sym is) (plan_keeps_kinds m of.0 (store_links t) plan of.1 kind))
 
 pub kinds_same : (t u : NodeSlots) → store_links u ≡ store_links t → (m : Kinds) → IsStoreOfKind t m → IsStoreOfKind u m
@@ -97,10 +97,10 @@ module _ (t u : NodeSlots) (kept : ∥ IsStore t ∥₁) (x : Edit) (fits : Edit
   tried_kept true now = edit_kept t u kept x [] (fits, tt) kind now
   tried_kept false now = grown_kept t u now kept
 
-  pub tried_links : (is_made : Bool) → cells u ≡ (if is_made then cells_after x (cells t) else cells t) → store_links u ≡ (if is_made then edited (store_links t) x else store_links t)
+  pub tried_links : (is_made : Bool) → cells u ≡ (if is_made then cells_after x (cells t) else cells t) → store_links u ≡ (if is_made then links_after_edit (store_links t) x else store_links t)
   tried_links true now = edit_links t u kept x [] (fits, tt) kind now
   tried_links false now = grown_links t u now
 
-pub tried_kinds : {A B : Type 0} (t u : NodeSlots) (x : Edit) (r : Result A B) → store_links u ≡ (if is_ok r then edited (store_links t) x else store_links t) → (m : Kinds) → IsStoreOfKind t m → OnOk r (IsEditOfKind m x) → IsStoreOfKind u m
+pub tried_kinds : {A B : Type 0} (t u : NodeSlots) (x : Edit) (r : Result A B) → store_links u ≡ (if is_ok r then links_after_edit (store_links t) x else store_links t) → (m : Kinds) → IsStoreOfKind t m → OnOk r (IsEditOfKind m x) → IsStoreOfKind u m
 tried_kinds t u x (Ok _) is m of kind = kinds_applied t u (x ∷ []) is m of (kind, tt)
 tried_kinds t u x (Err _) is m of kind = kinds_same t u is m of

@@ -13,7 +13,7 @@ use Rattle.links.proofs.PlaceLemmas.{ne-same_end, same_node_if}
 use Rattle.node_slots.specs.declared.row.RowEdit.TheVariants.{Leave}
 use Rattle.node_slots.specs.Cells.{Cells, cell_edit}
 pub use Rattle.node_slots.proofs.CellLemmas.{same_twice}
-use Rattle.slot_store.specs.EditedCells.{holds, released, without_entry}
+use Rattle.slot_store.specs.EditedCells.{cells_after_hold, cells_after_release, without_entry}
 use Rattle.slot_store.proofs.OnceLemmas.{without_end}
 
 pub two_tests : {X : Type 0} (a b : Bool) (y z : X) → (if a then (if b then y else z) else z) ≡ (if a && b then y else z)
@@ -46,29 +46,29 @@ else_node n m y z ne = ap (λ (b : Bool). if b then y else z) (no_node n m ne)
 
 ---------------------------------------------------------------- a holder recorded
 
-pub holds-vals : (o : Option (Node × End)) (c : Cells) (x : End) → (holds o c).vals x ≡ c.vals x
-holds-vals None c x = refl
-holds-vals (Some p) c x = same_twice (same_node p.0 x.node) (c.vals x)
+pub cells_after_hold-vals : (o : Option (Node × End)) (c : Cells) (x : End) → (cells_after_hold o c).vals x ≡ c.vals x
+cells_after_hold-vals None c x = refl
+cells_after_hold-vals (Some p) c x = same_twice (same_node p.0 x.node) (c.vals x)
 
-pub holds-pairing : (o : Option (Node × End)) (c : Cells) (x : End) → (holds o c).pairing x ≡ c.pairing x
-holds-pairing None c x = refl
-holds-pairing (Some p) c x = same_twice (same_node p.0 x.node) (c.pairing x)
+pub cells_after_hold-pairing : (o : Option (Node × End)) (c : Cells) (x : End) → (cells_after_hold o c).pairing x ≡ c.pairing x
+cells_after_hold-pairing None c x = refl
+cells_after_hold-pairing (Some p) c x = same_twice (same_node p.0 x.node) (c.pairing x)
 
-pub holds-entered : (o : Option (Node × End)) (c : Cells) (m : Node) → (holds o c).entered m ≡ c.entered m
-holds-entered None c m = refl
-holds-entered (Some p) c m = same_twice (same_node p.0 m) (c.entered m)
+pub cells_after_hold-entered : (o : Option (Node × End)) (c : Cells) (m : Node) → (cells_after_hold o c).entered m ≡ c.entered m
+cells_after_hold-entered None c m = refl
+cells_after_hold-entered (Some p) c m = same_twice (same_node p.0 m) (c.entered m)
 
-pub released-vals : (o : Option (Node × End)) (c : Cells) (x : End) → (released o c).vals x ≡ c.vals x
-released-vals None c x = refl
-released-vals (Some p) c x = same_twice (same_node p.0 x.node) (c.vals x)
+pub cells_after_release-vals : (o : Option (Node × End)) (c : Cells) (x : End) → (cells_after_release o c).vals x ≡ c.vals x
+cells_after_release-vals None c x = refl
+cells_after_release-vals (Some p) c x = same_twice (same_node p.0 x.node) (c.vals x)
 
-pub released-pairing : (o : Option (Node × End)) (c : Cells) (x : End) → (released o c).pairing x ≡ c.pairing x
-released-pairing None c x = refl
-released-pairing (Some p) c x = same_twice (same_node p.0 x.node) (c.pairing x)
+pub cells_after_release-pairing : (o : Option (Node × End)) (c : Cells) (x : End) → (cells_after_release o c).pairing x ≡ c.pairing x
+cells_after_release-pairing None c x = refl
+cells_after_release-pairing (Some p) c x = same_twice (same_node p.0 x.node) (c.pairing x)
 
-pub released-entered : (o : Option (Node × End)) (c : Cells) (m : Node) → (released o c).entered m ≡ c.entered m
-released-entered None c m = refl
-released-entered (Some p) c m = same_twice (same_node p.0 m) (c.entered m)
+pub cells_after_release-entered : (o : Option (Node × End)) (c : Cells) (m : Node) → (cells_after_release o c).entered m ≡ c.entered m
+cells_after_release-entered None c m = refl
+cells_after_release-entered (Some p) c m = same_twice (same_node p.0 m) (c.entered m)
 
 ---------------------------------------------------------------- an entry taken out
 

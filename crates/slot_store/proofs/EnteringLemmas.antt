@@ -26,7 +26,7 @@ use Rattle.node_slots.specs.declared.slot.Slot.{Slot}
 use Rattle.node_slots.specs.Slots.{slot_in, values_of}
 use Rattle.node_slots.specs.Rows.{row_slots}
 use Rattle.node_slots.specs.Cells.{Cells, cells, row_at}
-use Rattle.slot_store.specs.CellLinks.{IsStore, Stands, store_links}
+use Rattle.slot_store.specs.CellLinks.{HasValue, IsStore, store_links}
 use Rattle.slot_store.specs.Entering.{ends_at, entering_ends, far_ends, far_ends_of, far_of, found_in, paired_ends}
 use Rattle.slot_store.proofs.PositionLemmas.{position_at, position_lacks}
 use Rattle.slot_store.proofs.StoreLemmas.{ends_kept}
@@ -131,16 +131,16 @@ module _ (t : NodeSlots) (kept : ∥ IsStore t ∥₁) (o : ObjectNo) where
   unfolding cells
   own g = refl
 
-  stands_there : IsStore t → (x : End) → has_end all x ≡ true → Stands ((cells t).vals x) (value.Object o)
+  stands_there : IsStore t → (x : End) → has_end all x ≡ true → HasValue ((cells t).vals x) (value.Object o)
   stands_there ok x h = elim (has_end_cases (paired_ends (cells t) o slots) ((cells t).entered (node.Object o)) x h) [
     | inl paired ↦
         let r = paired_has (cells t) o slots x paired in
         let m = ok.lists.mutual_ (far_end o r.0) r.1 r.2 x.feature r.3 r.4 in
-        subst (λ (y : End). Stands ((cells t).vals y) (value.Object o)) r.5 m.back
+        subst (λ (y : End). HasValue ((cells t).vals y) (value.Object o)) r.5 m.back
     | inr alone ↦ ((ok.entered o x).0 alone).1
   ]
 
-  is_entered : IsStore t → (n : Node) (f : FeatureNo) → let x : End = record { node = n; feature = f } in Stands ((cells t).vals x) (value.Object o) → (g : Option FeatureNo) → ((cells t).pairing x).opposite ≡ g → has_end all x ≡ true
+  is_entered : IsStore t → (n : Node) (f : FeatureNo) → let x : End = record { node = n; feature = f } in HasValue ((cells t).vals x) (value.Object o) → (g : Option FeatureNo) → ((cells t).pairing x).opposite ≡ g → has_end all x ≡ true
   is_entered ok n f at None q =
       let x : End = record { node = n; feature = f } in
       has_end_right (paired_ends (cells t) o slots) ((cells t).entered (node.Object o)) x ((ok.entered o x).1 (q, at))
@@ -150,7 +150,7 @@ module _ (t : NodeSlots) (kept : ∥ IsStore t ∥₁) (o : ObjectNo) where
       let slot = ap (λ (vs : List Value). slice_get vs m.back.0) (sym (own g)) ∙ m.back.1 in
       has_end_left (paired_ends (cells t) o slots) ((cells t).entered (node.Object o)) (far_end p f) (has_paired (cells t) o slots g f m.back.0 p (value.Object p) slot m.opposite m.back.1)
 
-  found : (x : End) → has_end all x ≡ true → (i : Option ℕ) → position (same_value (value.Object o)) ((cells t).vals x) ≡ i → Stands ((cells t).vals x) (value.Object o)
+  found : (x : End) → has_end all x ≡ true → (i : Option ℕ) → position (same_value (value.Object o)) ((cells t).vals x) ≡ i → HasValue ((cells t).vals x) (value.Object o)
   found x h (Some i) q = (i, position_at ((cells t).vals x) (value.Object o) i q)
   found x h None q = absurd (∥∥₁_elim kept (λ a b. absurd a) (λ ok. let at = stands_there ok x h in position_lacks ((cells t).vals x) (value.Object o) at.0 q at.1))
 

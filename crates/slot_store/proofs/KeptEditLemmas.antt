@@ -10,10 +10,10 @@ use Rattle.mm_types.specs.declared.numbers.ObjectNo.{ObjectNo}
 use Rattle.mm_types.specs.declared.end.End.{End}
 use Rattle.mm_types.specs.declared.value.Value.{Value}
 use Rattle.mm_types.specs.declared.value.Value.TheVariants as value
-use Rattle.links.specs.Holders.{holder, holding}
+use Rattle.links.specs.Holders.{holder, holding_end}
 use Rattle.links.specs.LegalSets.{AreKinds, AreOfKind, IsHeldOnce, IsLegalSet, Kinds}
 use Rattle.links.specs.Links.{Links, cut_value, end}
-use Rattle.links.specs.Plans.{EditFits, FarFitsIn, Has, IsEditOfKind, edited}
+use Rattle.links.specs.Plans.{EditFits, FarFitsIn, Has, IsEditOfKind, links_after_edit}
 use Rattle.links.specs.declared.plan.Edit.{Edit}
 use Rattle.links.specs.declared.plan.Edit.TheVariants as edit
 use Rattle.links.proofs.ContainedLemmas.{free_new}
@@ -22,8 +22,8 @@ use Rattle.links.proofs.KindLemmas.{plan_keeps_kinds}
 use Rattle.links.proofs.LegalLemmas.{edited_legal}
 use Rattle.links.proofs.PutLemmas.{apart_of}
 use Rattle.node_slots.specs.Cells.{Cells, HasKeys}
-use Rattle.slot_store.specs.CellLinks.{IsKept, Stands, StandsAlone, cell_links, link_from}
-use Rattle.slot_store.specs.EditedCells.{cells_after, held}
+use Rattle.slot_store.specs.CellLinks.{HasValue, IsKept, StandsAlone, cell_links, link_from}
+use Rattle.slot_store.specs.EditedCells.{cells_after, held_node}
 use Rattle.slot_store.proofs.CellEditLemmas.{same_twice}
 use Rattle.slot_store.proofs.KeptEndLemmas.{cut_is, ends_cut, ends_cut_proxy, ends_put, ends_put_proxy, ends_shift, link_within}
 use Rattle.slot_store.proofs.KeptEntryLemmas.{AreEntered, AreOnce, EntersAlone, entered_cut, entered_cut_proxy, entered_put, entered_put_proxy, entered_shift, once_cut, once_put, once_same, without-entered}
@@ -34,7 +34,7 @@ use Rattle.slot_store.proofs.TellingLemmas.{IsTold, told_cut, told_lists, told_p
 
 -- if an object is at an end, the pairing of the feature is that of the metamodel
 module _ (m : Kinds) (c : Cells) (told : IsTold m c) (o : ObjectNo) (x : End) where
-  opposite_told : Stands (c.vals x) (value.Object o) → (c.pairing x).opposite ≡ m.opposite x.feature
+  opposite_told : HasValue (c.vals x) (value.Object o) → (c.pairing x).opposite ≡ m.opposite x.feature
   opposite_told at = λ i. (told x at.0 (value.Object o) at.1 i).opposite
 
   alone_told : StandsAlone c o x → EntersAlone m c o x
@@ -85,7 +85,7 @@ module _ (m : Kinds) (meta : AreKinds m) (c : Cells) (es : List End) (ok : IsKep
   within e i = subst (λ (xs : List Value). i ≤ length xs) (ends e)
 
   -- the holders after a link is cut
-  cut_holder : (e : End) (k : ℕ) (v : Value) → slice_get (c.vals e) k ≡ Some v → (n : Node) → unheld (holding (link_from c e k v) n) (holder was n) ≡ holder (cut_value was e v) n
+  cut_holder : (e : End) (k : ℕ) (v : Value) → slice_get (c.vals e) k ≡ Some v → (n : Node) → unheld (holding_end (link_from c e k v) n) (holder was n) ≡ holder (cut_value was e v) n
   cut_holder e k v at n =
       sym (ap (λ (s : Links). holder s n) (cut_is c es ok.lists e k v at) ∙ holder-cut was legal.placed ok.held (link_from c e k v) (link_within c es ok.lists e k v at) n)
 
@@ -97,10 +97,10 @@ module _ (m : Kinds) (meta : AreKinds m) (c : Cells) (es : List End) (ok : IsKep
     abbrev now : Cells
     now = cells_after x c
 
-    kept_by : IsTold m now → ((y : End) → end (edited was x) y ≡ now.vals y) → ((n : Node) → now.hold n ≡ holder (edited was x) n) → AreEntered m now → AreOnce now → IsKept now fs × (cell_links now fs ≡ edited was x)
-    kept_by telling same holds entering single = kept_from m meta (edited was x) (edited_legal was x legal fits) (plan_keeps_kinds m meta was (x ∷ []) of (kind, tt)) now fs keys telling same holds entering single
+    kept_by : IsTold m now → ((y : End) → end (links_after_edit was x) y ≡ now.vals y) → ((n : Node) → now.hold n ≡ holder (links_after_edit was x) n) → AreEntered m now → AreOnce now → IsKept now fs × (cell_links now fs ≡ links_after_edit was x)
+    kept_by telling same holds entering single = kept_from m meta (links_after_edit was x) (edited_legal was x legal fits) (plan_keeps_kinds m meta was (x ∷ []) of (kind, tt)) now fs keys telling same holds entering single
 
-  kept_cut : (e : End) (o : ObjectNo) (fs : List End) → EditFits was (edit.Cut e o) → HasKeys (cells_after (edit.Cut e o) c) fs → IsKept (cells_after (edit.Cut e o) c) fs × (cell_links (cells_after (edit.Cut e o) c) fs ≡ edited was (edit.Cut e o))
+  kept_cut : (e : End) (o : ObjectNo) (fs : List End) → EditFits was (edit.Cut e o) → HasKeys (cells_after (edit.Cut e o) c) fs → IsKept (cells_after (edit.Cut e o) c) fs × (cell_links (cells_after (edit.Cut e o) c) fs ≡ links_after_edit was (edit.Cut e o))
   kept_cut e o fs fits keys =
       let g = (c.pairing e).opposite in
       let h = (c.pairing e).container in
@@ -108,13 +108,13 @@ module _ (m : Kinds) (meta : AreKinds m) (c : Cells) (es : List End) (ok : IsKep
       let at = here_is e (value.Object o) fits in
       kept_by (edit.Cut e o) fs fits tt keys (told_cut m meta c told e o g h) (ends_cut c es ok.lists e k o at h)
       (λ n.
-      cut-hold e o g h c n ∙ ap (unheld (pair_holding (held e o g h) n)) (ok.holds n)
+      cut-hold e o g h c n ∙ ap (unheld (pair_holding (held_node e o g h) n)) (ok.holds n)
       ∙ ap (λ (p : Option End). unheld p (holder was n)) (sym (link_holding c e k o g (two_of e k o g at refl) n))
       ∙ cut_holder e k (value.Object o) at n)
       (entered_cut m meta c entered e k o h (ok.lists.distinct e) at g (sym (opposite_told m c told o e (k, at))) ok.once ok.lists.distinct)
       (once_cut m meta c entered e k o h (ok.lists.distinct e) at g (sym (opposite_told m c told o e (k, at))) ok.once)
 
-  kept_cut_proxy : (e : End) (t : List ℕ) (fs : List End) → EditFits was (edit.CutProxy e t) → HasKeys (cells_after (edit.CutProxy e t) c) fs → IsKept (cells_after (edit.CutProxy e t) c) fs × (cell_links (cells_after (edit.CutProxy e t) c) fs ≡ edited was (edit.CutProxy e t))
+  kept_cut_proxy : (e : End) (t : List ℕ) (fs : List End) → EditFits was (edit.CutProxy e t) → HasKeys (cells_after (edit.CutProxy e t) c) fs → IsKept (cells_after (edit.CutProxy e t) c) fs × (cell_links (cells_after (edit.CutProxy e t) c) fs ≡ links_after_edit was (edit.CutProxy e t))
   kept_cut_proxy e t fs fits keys =
       let v = value.Proxy t in
       let at = here_is e v fits in
@@ -123,19 +123,19 @@ module _ (m : Kinds) (meta : AreKinds m) (c : Cells) (es : List End) (ok : IsKep
       (entered_cut_proxy m meta c entered e fits.0 t (ok.lists.distinct e) at)
       (once_same c (cells_after (edit.CutProxy e t) c) (without-entered e v c) ok.once)
 
-  kept_put : (e : End) (i : ℕ) (o : ObjectNo) (g h : Option FeatureNo) (fs : List End) → EditFits was (edit.Put e i o g h) → IsEditOfKind m (edit.Put e i o g h) → HasKeys (cells_after (edit.Put e i o g h) c) fs → IsKept (cells_after (edit.Put e i o g h) c) fs × (cell_links (cells_after (edit.Put e i o g h) c) fs ≡ edited was (edit.Put e i o g h))
+  kept_put : (e : End) (i : ℕ) (o : ObjectNo) (g h : Option FeatureNo) (fs : List End) → EditFits was (edit.Put e i o g h) → IsEditOfKind m (edit.Put e i o g h) → HasKeys (cells_after (edit.Put e i o g h) c) fs → IsKept (cells_after (edit.Put e i o g h) c) fs × (cell_links (cells_after (edit.Put e i o g h) c) fs ≡ links_after_edit was (edit.Put e i o g h))
   kept_put e i o g h fs fits kind keys =
       let le = within e i fits.0.in_range in
       let free = free_new was e i o g h (apart_of was e o g fits.1) fits.2 in
       kept_by (edit.Put e i o g h) fs fits kind keys (told_put m meta c told e o i le h kind.1 g kind.0) (ends_put c es ok.lists e i o g h legal fits)
       (λ n.
-      put-hold e i o g h c n ∙ ap (option_or (pair_holding (held e o g h) n)) (ok.holds n)
+      put-hold e i o g h c n ∙ ap (option_or (pair_holding (held_node e o g h) n)) (ok.holds n)
       ∙ ap (λ (p : Option End). option_or p (holder was n)) (sym (new_holding was e i o g h (far_two was e o g fits.1) n))
       ∙ sym (holder-put was e i o g h ok.held free n))
       (entered_put m meta c entered e i o h g (sym kind.0) le)
       (once_put m meta c entered e i o h g (sym kind.0) le (λ at. fits.0.absent at.0 (ap (λ (xs : List Value). slice_get xs at.0) (ends e) ∙ at.1)) ok.once)
 
-  kept_put_proxy : (e : End) (i : ℕ) (t : List ℕ) (fs : List End) → EditFits was (edit.PutProxy e i t) → IsEditOfKind m (edit.PutProxy e i t) → HasKeys (cells_after (edit.PutProxy e i t) c) fs → IsKept (cells_after (edit.PutProxy e i t) c) fs × (cell_links (cells_after (edit.PutProxy e i t) c) fs ≡ edited was (edit.PutProxy e i t))
+  kept_put_proxy : (e : End) (i : ℕ) (t : List ℕ) (fs : List End) → EditFits was (edit.PutProxy e i t) → IsEditOfKind m (edit.PutProxy e i t) → HasKeys (cells_after (edit.PutProxy e i t) c) fs → IsKept (cells_after (edit.PutProxy e i t) c) fs × (cell_links (cells_after (edit.PutProxy e i t) c) fs ≡ links_after_edit was (edit.PutProxy e i t))
   kept_put_proxy e i t fs fits kind keys =
       let le = within e i fits.in_range in
       kept_by (edit.PutProxy e i t) fs fits kind keys (told_proxy m c told e i t le kind) (ends_put_proxy c es ok.lists e i t legal.placed fits)
@@ -143,7 +143,7 @@ module _ (m : Kinds) (meta : AreKinds m) (c : Cells) (es : List End) (ok : IsKep
       (entered_put_proxy m meta c entered e i t le)
       (once_same c (cells_after (edit.PutProxy e i t) c) (λ n. same_twice (same_node e.node n) (c.entered n)) ok.once)
 
-  kept_shift : (e : End) (to from : ℕ) (fs : List End) → EditFits was (edit.Shift e to from) → HasKeys (cells_after (edit.Shift e to from) c) fs → IsKept (cells_after (edit.Shift e to from) c) fs × (cell_links (cells_after (edit.Shift e to from) c) fs ≡ edited was (edit.Shift e to from))
+  kept_shift : (e : End) (to from : ℕ) (fs : List End) → EditFits was (edit.Shift e to from) → HasKeys (cells_after (edit.Shift e to from) c) fs → IsKept (cells_after (edit.Shift e to from) c) fs × (cell_links (cells_after (edit.Shift e to from) c) fs ≡ links_after_edit was (edit.Shift e to from))
   kept_shift e to from fs fits keys =
       let lt : from < length (c.vals e) = subst (λ (xs : List Value). from < length xs) (ends e) fits.0 in
       let lt_to : to < length (c.vals e) = subst (λ (xs : List Value). to < length xs) (ends e) fits.1 in
@@ -154,7 +154,7 @@ module _ (m : Kinds) (meta : AreKinds m) (c : Cells) (es : List End) (ok : IsKep
       (entered_shift m meta c entered e to from w at lt_to)
       (once_same c (cells_after (edit.Shift e to from) c) (λ n. same_twice (same_node e.node n) (c.entered n)) ok.once)
 
-  pub kept_edit : (x : Edit) (fs : List End) → EditFits was x → IsEditOfKind m x → HasKeys (cells_after x c) fs → IsKept (cells_after x c) fs × (cell_links (cells_after x c) fs ≡ edited was x)
+  pub kept_edit : (x : Edit) (fs : List End) → EditFits was x → IsEditOfKind m x → HasKeys (cells_after x c) fs → IsKept (cells_after x c) fs × (cell_links (cells_after x c) fs ≡ links_after_edit was x)
   kept_edit (edit.Cut e o) fs fits kind keys = kept_cut e o fs fits keys
   kept_edit (edit.Put e i o g h) fs fits kind keys = kept_put e i o g h fs fits kind keys
   kept_edit (edit.Shift e to from) fs fits kind keys = kept_shift e to from fs fits keys

@@ -4,7 +4,7 @@ use Rattle.std.specs.Prelude.{◌↔◌}
 use Rattle.std.specs.List.{insert, position, remove, slice_get}
 use Rattle.std.specs.Option.{option_map_or}
 use Rattle.std.proofs.lemmas.Option.{none-some}
-use Rattle.mm_types.specs.Lists.{shifted}
+use Rattle.mm_types.specs.Lists.{values_after_move}
 use Rattle.mm_types.specs.Same.{node_value, same_node, same_value}
 use Rattle.mm_types.specs.declared.numbers.FeatureNo.{FeatureNo}
 use Rattle.mm_types.specs.declared.numbers.Node.{Node}
@@ -25,16 +25,16 @@ use Rattle.links.proofs.ForestLemmas.{cases_node}
 use Rattle.node_slots.specs.declared.row.RowEdit.TheVariants.{Change}
 use Rattle.node_slots.specs.declared.slot.SlotEdit.TheVariants.{Move, Remove}
 use Rattle.node_slots.specs.Cells.{Cells, cell_edit}
-use Rattle.slot_store.specs.CellLinks.{IsOnce, Stands}
-use Rattle.slot_store.specs.EditedCells.{cut_cells, cut_far, held, put_cells, put_far, put_near, without_value}
-use Rattle.slot_store.proofs.CellEditLemmas.{else_node, entry_out-vals, entry_out_here, entry_out_there, here, holds-entered, holds-vals, if_node, released-entered, released-vals, same_twice, there}
+use Rattle.slot_store.specs.CellLinks.{HasValue, IsOnce}
+use Rattle.slot_store.specs.EditedCells.{cut_cells, cut_far, held_node, put_cells, put_far, put_near, without_value}
+use Rattle.slot_store.proofs.CellEditLemmas.{cells_after_hold-entered, cells_after_hold-vals, cells_after_release-entered, cells_after_release-vals, else_node, entry_out-vals, entry_out_here, entry_out_there, here, if_node, same_twice, there}
 use Rattle.slot_store.proofs.KeptEndLemmas.{without_is}
-use Rattle.slot_store.proofs.StandLemmas.{Stands-insert, Stands-remove, Stands-shifted, Stands_insert_new, Stands_insert_old, Stands_remove, Stands_shifted, has_end-push, has_end_new}
+use Rattle.slot_store.proofs.StandLemmas.{HasValue-insert, HasValue-remove, HasValue-values_after_move, HasValue_insert_new, HasValue_insert_old, HasValue_remove, HasValue_shifted, has_end-push, has_end_new}
 use Rattle.slot_store.proofs.OnceLemmas.{has_end-without, has_end_without, once-push, once-without, without_end}
 
 -- the object is in x, which has no opposite
 abbrev pub EntersAlone : Kinds → Cells → ObjectNo → End → Type 0
-EntersAlone m c o x = (m.opposite x.feature ≡ None) × Stands (c.vals x) (value.Object o)
+EntersAlone m c o x = (m.opposite x.feature ≡ None) × HasValue (c.vals x) (value.Object o)
 
 -- the entries of each object are the ends without an opposite that have it
 abbrev pub AreEntered : Kinds → Cells → Type 0
@@ -84,17 +84,17 @@ cut_far-distinct e o (Some g) c once x =
 
 module _ (m : Kinds) (meta : AreKinds m) (c : Cells) (entered : AreEntered m c) where
   -- if the lists without an opposite keep their objects, and the entries stay
-  carry : (d : Cells) → ((n : Node) → d.entered n ≡ c.entered n) → ((x : End) (o : ObjectNo) → m.opposite x.feature ≡ None → Stands (c.vals x) (value.Object o) → Stands (d.vals x) (value.Object o)) → ((x : End) (o : ObjectNo) → m.opposite x.feature ≡ None → Stands (d.vals x) (value.Object o) → Stands (c.vals x) (value.Object o)) → AreEntered m d
+  carry : (d : Cells) → ((n : Node) → d.entered n ≡ c.entered n) → ((x : End) (o : ObjectNo) → m.opposite x.feature ≡ None → HasValue (c.vals x) (value.Object o) → HasValue (d.vals x) (value.Object o)) → ((x : End) (o : ObjectNo) → m.opposite x.feature ≡ None → HasValue (d.vals x) (value.Object o) → HasValue (c.vals x) (value.Object o)) → AreEntered m d
   carry d same to from o x = (
     λ h. (let old = (entered o x).0 (sym (ap (λ (ds : List End). has_end ds x) (same (node.Object o))) ∙ h) in (old.0, to x o old.0 old.1)),
     λ now. ap (λ (ds : List End). has_end ds x) (same (node.Object o)) ∙ (entered o x).1 (now.0, from x o now.0 now.1),
   )
 
-  stands_now : (d : Cells) (x : End) (o : ObjectNo) → d.vals x ≡ c.vals x → Stands (c.vals x) (value.Object o) → Stands (d.vals x) (value.Object o)
-  stands_now d x o is h = subst (λ (xs : List Value). Stands xs (value.Object o)) (sym is) h
+  stands_now : (d : Cells) (x : End) (o : ObjectNo) → d.vals x ≡ c.vals x → HasValue (c.vals x) (value.Object o) → HasValue (d.vals x) (value.Object o)
+  stands_now d x o is h = subst (λ (xs : List Value). HasValue xs (value.Object o)) (sym is) h
 
-  stood : (d : Cells) (x : End) (o : ObjectNo) → d.vals x ≡ c.vals x → Stands (d.vals x) (value.Object o) → Stands (c.vals x) (value.Object o)
-  stood d x o is h = subst (λ (xs : List Value). Stands xs (value.Object o)) is h
+  stood : (d : Cells) (x : End) (o : ObjectNo) → d.vals x ≡ c.vals x → HasValue (d.vals x) (value.Object o) → HasValue (c.vals x) (value.Object o)
+  stood d x o is h = subst (λ (xs : List Value). HasValue xs (value.Object o)) is h
 
   -- an end with no opposite is no far end
   no_far : (e : End) (n : ObjectNo) (g : Option FeatureNo) → m.opposite e.feature ≡ g → (x : End) → m.opposite x.feature ≡ None → IsFar n g x → ⊥
@@ -111,14 +111,14 @@ module _ (m : Kinds) (meta : AreKinds m) (c : Cells) (entered : AreEntered m c) 
     near g = put_near e i (value.Object n) (Some (record { opposite = g; container = h })) c
 
     put_here : (g : Option FeatureNo) (x : End) → (IsFar n g x → ⊥) → e ≡ x → (put_cells e i n g h c).vals x ≡ insert (c.vals x) i (value.Object n)
-    put_here g x out is = holds-vals (held e n g h) (put_far e n g h (near g)) x ∙ put_far-other e n g h (near g) x out ∙ here e x (insert (c.vals x) i (value.Object n)) (c.vals x) is
+    put_here g x out is = cells_after_hold-vals (held_node e n g h) (put_far e n g h (near g)) x ∙ put_far-other e n g h (near g) x out ∙ here e x (insert (c.vals x) i (value.Object n)) (c.vals x) is
 
     put_there : (g : Option FeatureNo) (x : End) → (IsFar n g x → ⊥) → e ≢ x → (put_cells e i n g h c).vals x ≡ c.vals x
-    put_there g x out ne = holds-vals (held e n g h) (put_far e n g h (near g)) x ∙ put_far-other e n g h (near g) x out ∙ there e x (insert (c.vals x) i (value.Object n)) (c.vals x) ne
+    put_there g x out ne = cells_after_hold-vals (held_node e n g h) (put_far e n g h (near g)) x ∙ put_far-other e n g h (near g) x out ∙ there e x (insert (c.vals x) i (value.Object n)) (c.vals x) ne
 
     -- if the feature has an opposite, the entries stay
     entries_put : (g : FeatureNo) (k : Node) → (put_cells e i n (Some g) h c).entered k ≡ c.entered k
-    entries_put g k = holds-entered (held e n (Some g) h) (put_far e n (Some g) h (near (Some g))) k ∙ same_twice (same_node (node.Object n) k) ((near (Some g)).entered k) ∙ same_twice (same_node e.node k) (c.entered k)
+    entries_put g k = cells_after_hold-entered (held_node e n (Some g) h) (put_far e n (Some g) h (near (Some g))) k ∙ same_twice (same_node (node.Object n) k) ((near (Some g)).entered k) ∙ same_twice (same_node e.node k) (c.entered k)
 
     module _ (q : m.opposite e.feature ≡ None) (le : i ≤ length (c.vals e)) (o : ObjectNo) (x : End) where
       abbrev d : Cells
@@ -129,7 +129,7 @@ module _ (m : Kinds) (meta : AreKinds m) (c : Cells) (entered : AreEntered m c) 
 
       base : d.entered (node.Object o) ≡ (if same_node (node.Object n) (node.Object o) then old_ends ++ e ∷ [] else old_ends)
       base =
-          holds-entered (held e n None h) (put_far e n None h (near None)) (node.Object o)
+          cells_after_hold-entered (held_node e n None h) (put_far e n None h (near None)) (node.Object o)
           ∙ ap (λ (ds : List End). if same_node (node.Object n) (node.Object o) then ds ++ e ∷ [] else ds) (same_twice (same_node e.node (node.Object o)) old_ends)
 
       within : e ≡ x → i ≤ length (c.vals x)
@@ -139,7 +139,7 @@ module _ (m : Kinds) (meta : AreKinds m) (c : Cells) (entered : AreEntered m c) 
       old_in old = (
         old.0,
         elim (cases_end e x) [
-          | inl is ↦ subst (λ (xs : List Value). Stands xs (value.Object o)) (sym (put_here None x (λ f. f) is)) (Stands_insert_old (c.vals x) i (value.Object n) (within is) (value.Object o) old.1)
+          | inl is ↦ subst (λ (xs : List Value). HasValue xs (value.Object o)) (sym (put_here None x (λ f. f) is)) (HasValue_insert_old (c.vals x) i (value.Object n) (within is) (value.Object o) old.1)
           | inr ne ↦ stands_now d x o (put_there None x (λ f. f) ne) old.1
         ],
       )
@@ -147,8 +147,8 @@ module _ (m : Kinds) (meta : AreKinds m) (c : Cells) (entered : AreEntered m c) 
       new_in : e ≡ x → node.Object n ≡ node.Object o → EntersAlone m d o x
       new_in is who = (
         ap (λ (y : End). m.opposite y.feature) (sym is) ∙ q,
-        subst (λ (xs : List Value). Stands xs (value.Object o)) (sym (put_here None x (λ f. f) is))
-            (subst (λ (p : Node). Stands (insert (c.vals x) i (value.Object n)) (node_value p)) who (Stands_insert_new (c.vals x) i (value.Object n) (within is))),
+        subst (λ (xs : List Value). HasValue xs (value.Object o)) (sym (put_here None x (λ f. f) is))
+            (subst (λ (p : Node). HasValue (insert (c.vals x) i (value.Object n)) (node_value p)) who (HasValue_insert_new (c.vals x) i (value.Object n) (within is))),
       )
 
       into : has_end (d.entered (node.Object o)) x ≡ true → EntersAlone m d o x
@@ -168,7 +168,7 @@ module _ (m : Kinds) (meta : AreKinds m) (c : Cells) (entered : AreEntered m c) 
 
       out_of : EntersAlone m d o x → has_end (d.entered (node.Object o)) x ≡ true
       out_of now = elim (cases_end e x) [
-        | inl is ↦ elim (Stands-insert (c.vals x) i (value.Object n) (within is) (value.Object o) (subst (λ (xs : List Value). Stands xs (value.Object o)) (put_here None x (λ f. f) is) now.1)) [
+        | inl is ↦ elim (HasValue-insert (c.vals x) i (value.Object n) (within is) (value.Object o) (subst (λ (xs : List Value). HasValue xs (value.Object o)) (put_here None x (λ f. f) is) now.1)) [
           | inl new ↦
               let who = sym (same_node_value (node.Object o) (node.Object n) tt new) in
               subst (λ (ds : List End). has_end ds x ≡ true) (sym (base ∙ if_node (node.Object n) (node.Object o) (old_ends ++ e ∷ []) old_ends who))
@@ -179,12 +179,12 @@ module _ (m : Kinds) (meta : AreKinds m) (c : Cells) (entered : AreEntered m c) 
       ]
 
     -- a put of an object that is not in the list adds one entry
-    pub once_put : (g : Option FeatureNo) → m.opposite e.feature ≡ g → i ≤ length (c.vals e) → (Stands (c.vals e) (value.Object n) → ⊥) → AreOnce c → AreOnce (put_cells e i n g h c)
+    pub once_put : (g : Option FeatureNo) → m.opposite e.feature ≡ g → i ≤ length (c.vals e) → (HasValue (c.vals e) (value.Object n) → ⊥) → AreOnce c → AreOnce (put_cells e i n g h c)
     once_put None q le absent single o = subst IsOnce (sym (base q le o e)) (
         let ds = c.entered (node.Object o) in
         elim (cases_node (node.Object n) (node.Object o)) [
           | inl who ↦ subst IsOnce (sym (if_node (node.Object n) (node.Object o) (ds ++ e ∷ []) ds who))
-              (once-push ds e (single o) (λ p. absent (subst (λ (y : Node). Stands (c.vals e) (node_value y)) (sym who) ((entered o e).0 p).1)))
+              (once-push ds e (single o) (λ p. absent (subst (λ (y : Node). HasValue (c.vals e) (node_value y)) (sym who) ((entered o e).0 p).1)))
           | inr ne ↦ subst IsOnce (sym (else_node (node.Object n) (node.Object o) (ds ++ e ∷ []) ds ne)) (single o)
         ])
     once_put (Some g) q le absent single o = once_same c (put_cells e i n (Some g) h c) (entries_put g) single o
@@ -205,12 +205,12 @@ module _ (m : Kinds) (meta : AreKinds m) (c : Cells) (entered : AreEntered m c) 
       carry d (λ k. same_twice (same_node e.node k) (c.entered k))
       (λ x o alone h. elim (cases_end e x) [
         | inl is ↦
-            subst (λ (xs : List Value). Stands xs (value.Object o)) (sym (here e x (insert (c.vals x) i (value.Proxy t)) (c.vals x) is))
-            (Stands_insert_old (c.vals x) i (value.Proxy t) (subst (λ (y : End). i ≤ length (c.vals y)) is le) (value.Object o) h)
+            subst (λ (xs : List Value). HasValue xs (value.Object o)) (sym (here e x (insert (c.vals x) i (value.Proxy t)) (c.vals x) is))
+            (HasValue_insert_old (c.vals x) i (value.Proxy t) (subst (λ (y : End). i ≤ length (c.vals y)) is le) (value.Object o) h)
         | inr ne ↦ stands_now d x o (there e x (insert (c.vals x) i (value.Proxy t)) (c.vals x) ne) h
       ])
       (λ x o alone h. elim (cases_end e x) [
-        | inl is ↦ elim (Stands-insert (c.vals x) i (value.Proxy t) (subst (λ (y : End). i ≤ length (c.vals y)) is le) (value.Object o) (subst (λ (xs : List Value). Stands xs (value.Object o)) (here e x (insert (c.vals x) i (value.Proxy t)) (c.vals x) is) h)) [
+        | inl is ↦ elim (HasValue-insert (c.vals x) i (value.Proxy t) (subst (λ (y : End). i ≤ length (c.vals y)) is le) (value.Object o) (subst (λ (xs : List Value). HasValue xs (value.Object o)) (here e x (insert (c.vals x) i (value.Proxy t)) (c.vals x) is) h)) [
           | inl new ↦ absurd (not_proxy t (node.Object o) (sym new))
           | inr old ↦ old
         ]
@@ -224,12 +224,12 @@ module _ (m : Kinds) (meta : AreKinds m) (c : Cells) (entered : AreEntered m c) 
       let lt_x : (x : End) → e ≡ x → to < length (c.vals x) = λ x is. subst (λ (y : End). to < length (c.vals y)) is lt in
       carry d (λ k. same_twice (same_node e.node k) (c.entered k))
       (λ x o alone h. elim (cases_end e x) [
-        | inl is ↦ subst (λ (xs : List Value). Stands xs (value.Object o)) (sym (here e x (shifted (c.vals x) to from) (c.vals x) is)) (Stands_shifted (c.vals x) to from w (at_x x is) (lt_x x is) (value.Object o) h)
-        | inr ne ↦ stands_now d x o (there e x (shifted (c.vals x) to from) (c.vals x) ne) h
+        | inl is ↦ subst (λ (xs : List Value). HasValue xs (value.Object o)) (sym (here e x (values_after_move (c.vals x) to from) (c.vals x) is)) (HasValue_shifted (c.vals x) to from w (at_x x is) (lt_x x is) (value.Object o) h)
+        | inr ne ↦ stands_now d x o (there e x (values_after_move (c.vals x) to from) (c.vals x) ne) h
       ])
       (λ x o alone h. elim (cases_end e x) [
-        | inl is ↦ Stands-shifted (c.vals x) to from w (at_x x is) (lt_x x is) (value.Object o) (subst (λ (xs : List Value). Stands xs (value.Object o)) (here e x (shifted (c.vals x) to from) (c.vals x) is) h)
-        | inr ne ↦ stood d x o (there e x (shifted (c.vals x) to from) (c.vals x) ne) h
+        | inl is ↦ HasValue-values_after_move (c.vals x) to from w (at_x x is) (lt_x x is) (value.Object o) (subst (λ (xs : List Value). HasValue xs (value.Object o)) (here e x (values_after_move (c.vals x) to from) (c.vals x) is) h)
+        | inr ne ↦ stood d x o (there e x (values_after_move (c.vals x) to from) (c.vals x) ne) h
       ])
 
   ---------------------------------------------------------------- cuts
@@ -251,11 +251,11 @@ module _ (m : Kinds) (meta : AreKinds m) (c : Cells) (entered : AreEntered m c) 
       let left : (x : End) → e ≡ x → d.vals x ≡ remove (c.vals x) k = λ x is. removed e k v distinct at c (λ y. refl) x is in
       carry d (λ n. without-entered e v c n)
       (λ x o alone h. elim (cases_end e x) [
-        | inl is ↦ subst (λ (xs : List Value). Stands xs (value.Object o)) (sym (left x is)) (Stands_remove (c.vals x) k (value.Object o) v (at_x e k v distinct at x is) (λ same. not_proxy t (node.Object o) (sym same)) h)
+        | inl is ↦ subst (λ (xs : List Value). HasValue xs (value.Object o)) (sym (left x is)) (HasValue_remove (c.vals x) k (value.Object o) v (at_x e k v distinct at x is) (λ same. not_proxy t (node.Object o) (sym same)) h)
         | inr ne ↦ stands_now d x o (without-other e v c x ne) h
       ])
       (λ x o alone h. elim (cases_end e x) [
-        | inl is ↦ Stands-remove (c.vals x) k (value.Object o) (subst (λ (xs : List Value). Stands xs (value.Object o)) (left x is) h)
+        | inl is ↦ HasValue-remove (c.vals x) k (value.Object o) (subst (λ (xs : List Value). HasValue xs (value.Object o)) (left x is) h)
         | inr ne ↦ stood d x o (without-other e v c x ne) h
       ])
 
@@ -265,17 +265,17 @@ module _ (m : Kinds) (meta : AreKinds m) (c : Cells) (entered : AreEntered m c) 
 
     cut_there : (g : Option FeatureNo) (x : End) → (IsFar n g x → ⊥) → e ≢ x → (cut_d g).vals x ≡ c.vals x
     cut_there g x out ne =
-        released-vals (held e n g h) (without_value e (value.Object n) (cut_far e n g c)) x
+        cells_after_release-vals (held_node e n g h) (without_value e (value.Object n) (cut_far e n g c)) x
         ∙ without-other e (value.Object n) (cut_far e n g c) x ne
         ∙ cut_far-other e n g c x out
 
     cut_here : (x : End) → e ≡ x → (cut_d None).vals x ≡ remove (c.vals x) k
     cut_here x is =
-        released-vals (held e n None h) (without_value e (value.Object n) (cut_far e n None c)) x
+        cells_after_release-vals (held_node e n None h) (without_value e (value.Object n) (cut_far e n None c)) x
         ∙ removed e k (value.Object n) distinct at (cut_far e n None c) (λ y. cut_far-other e n None c y (λ f. f)) x is
 
     left_entered : (g : Option FeatureNo) (p : Node) → (cut_d g).entered p ≡ (cut_far e n g c).entered p
-    left_entered g p = released-entered (held e n g h) (without_value e (value.Object n) (cut_far e n g c)) p ∙ without-entered e (value.Object n) (cut_far e n g c) p
+    left_entered g p = cells_after_release-entered (held_node e n g h) (without_value e (value.Object n) (cut_far e n g c)) p ∙ without-entered e (value.Object n) (cut_far e n g c) p
 
     module _ (q : m.opposite e.feature ≡ None) (single : AreOnce c) (o : ObjectNo) (x : End) where
       abbrev pub all_ends : List End
@@ -303,8 +303,8 @@ module _ (m : Kinds) (meta : AreKinds m) (c : Cells) (entered : AreEntered m c) 
             elim (cases_end e x) [
               | inl is ↦ (
                 old.0,
-                subst (λ (xs : List Value). Stands xs (value.Object o)) (sym (cut_here x is))
-                    (Stands_remove (c.vals x) k (value.Object o) (value.Object n) (at_x e k (value.Object n) distinct at x is) (λ same. ne (sym (same_node_value (node.Object o) (node.Object n) tt same))) old.1),
+                subst (λ (xs : List Value). HasValue xs (value.Object o)) (sym (cut_here x is))
+                    (HasValue_remove (c.vals x) k (value.Object o) (value.Object n) (at_x e k (value.Object n) distinct at x is) (λ same. ne (sym (same_node_value (node.Object o) (node.Object n) tt same))) old.1),
               )
               | inr out ↦ stays out old
             ]
@@ -313,10 +313,10 @@ module _ (m : Kinds) (meta : AreKinds m) (c : Cells) (entered : AreEntered m c) 
       cut_back : IsDistinct (c.vals x) → EntersAlone m (cut_d None) o x → has_end left_ends x ≡ true
       cut_back once now = elim (cases_end e x) [
         | inl is ↦
-            let had = subst (λ (xs : List Value). Stands xs (value.Object o)) (cut_here x is) now.1 in
+            let had = subst (λ (xs : List Value). HasValue xs (value.Object o)) (cut_here x is) now.1 in
             elim (cases_node (node.Object n) (node.Object o)) [
               | inl who ↦ absurd (removed_absent (c.vals x) k (value.Object n) once (at_x e k (value.Object n) distinct at x is) had.0 (had.1 ∙ ap (λ (p : Node). Some (node_value p)) (sym who)))
-              | inr ne ↦ subst (λ (ds : List End). has_end ds x ≡ true) (sym (left_there ne)) ((entered o x).1 (now.0, Stands-remove (c.vals x) k (value.Object o) had))
+              | inr ne ↦ subst (λ (ds : List End). has_end ds x ≡ true) (sym (left_there ne)) ((entered o x).1 (now.0, HasValue-remove (c.vals x) k (value.Object o) had))
             ]
         | inr out ↦
             let old = (entered o x).1 (now.0, stood (cut_d None) x o (cut_there None x (λ f. f) out) now.1) in

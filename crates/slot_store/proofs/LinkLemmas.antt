@@ -18,12 +18,12 @@ use Rattle.mm_types.proofs.SameLemmas.{same_end-self, same_end-true}
 use Rattle.links.specs.declared.link.Far.TheVariants.{At}
 use Rattle.links.specs.declared.link.Link.{Link}
 use Rattle.links.specs.LegalSets.{HasTwoSides, IsEnd, IsObject, IsPlaced}
-use Rattle.links.specs.Links.{In, end, far_end, joined}
-use Rattle.links.specs.Indexed.{indexed}
+use Rattle.links.specs.Links.{In, end, far_end, joined_link}
+use Rattle.links.specs.Indexed.{indexed_value}
 use Rattle.links.proofs.EditLemmas.{IsOnce}
 use Rattle.links.proofs.EndLemmas.{Among, Among_cases, Among_head, Among_tail, end_is, from_list_HasLinks}
 use Rattle.links.proofs.PlaceLemmas.{ne-same_end}
-use Rattle.links.proofs.PutLemmas.{cases_end, indexed-joined_far, indexed-joined_near, indexed-joined_other, placed_from}
+use Rattle.links.proofs.PutLemmas.{cases_end, indexed_value-joined_far, indexed_value-joined_near, indexed_value-joined_other, placed_from}
 use Rattle.node_slots.specs.Cells.{Cells}
 use Rattle.slot_store.specs.CellLinks.{AreLists, all_links, cell_links, link_from, link_to, links_from}
 
@@ -38,7 +38,7 @@ slice_get-index_in (x ∷ xs) v (suc j) h =
     ] refl
 
 -- a link is the same from either side
-joined_comm : (x : End) (i : ℕ) (y : End) (j : ℕ) (c : Option FeatureNo) → ((y.feature.0 ≡ x.feature.0) → ⊥) → joined x i y j c ≡ joined y j x i c
+joined_comm : (x : End) (i : ℕ) (y : End) (j : ℕ) (c : Option FeatureNo) → ((y.feature.0 ≡ x.feature.0) → ⊥) → joined_link x i y j c ≡ joined_link y j x i c
 joined_comm x i y j c ne = elim (cases_order x.feature.0 y.feature.0) [
   | inl e ↦ absurd (ne (sym e))
   | inr (inl lt) ↦ let a = lt-ltb x.feature.0 y.feature.0 lt in let b = le-ltb y.feature.0 x.feature.0 (omega arith) in rw (a, b) refl
@@ -108,11 +108,11 @@ module _ (c : Cells) where
     ---------------------------------------------------------------- positions
 
     -- the link of a position is in the set
-    place_to : (e : End) (k : ℕ) (o : ObjectNo) (g : Option FeatureNo) → (c.pairing e).opposite ≡ g → slice_get (c.vals e) k ≡ Some (value.Object o) → indexed (link_to c e k o g) e ≡ Some (k, value.Object o)
+    place_to : (e : End) (k : ℕ) (o : ObjectNo) (g : Option FeatureNo) → (c.pairing e).opposite ≡ g → slice_get (c.vals e) k ≡ Some (value.Object o) → indexed_value (link_to c e k o g) e ≡ Some (k, value.Object o)
     place_to e k o None q h = rw (same_end-self e) refl
-    place_to e k o (Some g) q h = indexed-joined_near e k (far_end o g) (index_in (c.vals (far_end o g)) (node_value e.node)) (c.pairing e).container (apart e k o g q h)
+    place_to e k o (Some g) q h = indexed_value-joined_near e k (far_end o g) (index_in (c.vals (far_end o g)) (node_value e.node)) (c.pairing e).container (apart e k o g q h)
 
-    pub place_from : (e : End) (k : ℕ) (v : Value) → slice_get (c.vals e) k ≡ Some v → indexed (link_from c e k v) e ≡ Some (k, v)
+    pub place_from : (e : End) (k : ℕ) (v : Value) → slice_get (c.vals e) k ≡ Some v → indexed_value (link_from c e k v) e ≡ Some (k, v)
     place_from e k (value.Object o) h = place_to e k o (c.pairing e).opposite refl h
     place_from e k (value.Proxy t) h = rw (same_end-self e) refl
     place_from e k v h = absurd (ok.references e k v h)
@@ -138,11 +138,11 @@ module _ (c : Cells) where
       from_far =
           let m = ok.mutual_ d k o g h q in
           joined_comm d k far back (c.pairing d).container m.apart
-          ∙ (λ i. joined far back d (sym there_again i) (sym m.container i))
+          ∙ (λ i. joined_link far back d (sym there_again i) (sym m.container i))
           ∙ ap (λ (x : Option FeatureNo). link_to c far back p x) (sym m.opposite)
 
     -- a link that is at a position is the link of that position
-    object_far : (p : ObjectNo) (f : FeatureNo) (k : ℕ) (o : ObjectNo) (g : FeatureNo) → (c.pairing (far_end p f)).opposite ≡ Some g → slice_get (c.vals (far_end p f)) k ≡ Some (value.Object o) → (e : End) (i : ℕ) (v : Value) → far_end p f ≢ e → indexed (link_to c (far_end p f) k o (Some g)) e ≡ Some (i, v) → (slice_get (c.vals e) i ≡ Some v) × (link_to c (far_end p f) k o (Some g) ≡ link_from c e i v)
+    object_far : (p : ObjectNo) (f : FeatureNo) (k : ℕ) (o : ObjectNo) (g : FeatureNo) → (c.pairing (far_end p f)).opposite ≡ Some g → slice_get (c.vals (far_end p f)) k ≡ Some (value.Object o) → (e : End) (i : ℕ) (v : Value) → far_end p f ≢ e → indexed_value (link_to c (far_end p f) k o (Some g)) e ≡ Some (i, v) → (slice_get (c.vals e) i ≡ Some v) × (link_to c (far_end p f) k o (Some g) ≡ link_from c e i v)
     object_far p f k o g q h e i v ne at =
         let d = far_end p f in
         let y = far_end o g in
@@ -151,40 +151,40 @@ module _ (c : Cells) where
         let two : d ≢ y = apart d k o g q h in
         elim (cases_end y e) [
           | inl same ↦
-              let parts = some_pair_parts j i (value.Object p) v (sym (indexed-joined_far d k y j w two) ∙ subst (λ (x : End). indexed (joined d k y j w) x ≡ Some (i, v)) (sym same) at) in (
+              let parts = some_pair_parts j i (value.Object p) v (sym (indexed_value-joined_far d k y j w two) ∙ subst (λ (x : End). indexed_value (joined_link d k y j w) x ≡ Some (i, v)) (sym same) at) in (
                 (λ t. slice_get (c.vals (sym same t)) (sym parts.0 t)) ∙ at_back p f k o g q h ∙ ap Some parts.1,
                 from_far p f k o g q h ∙ (λ t. link_from c (same t) (parts.0 t) (parts.1 t)),
               )
-          | inr out ↦ absurd (none-some _ (sym (indexed-joined_other d k y j w two e ne out) ∙ at))
+          | inr out ↦ absurd (none-some _ (sym (indexed_value-joined_other d k y j w two e ne out) ∙ at))
         ]
 
-    only_to : (n : Node) (f : FeatureNo) (k : ℕ) (o : ObjectNo) (g : Option FeatureNo) (e : End) (i : ℕ) (v : Value) → let d : End = record { node = n; feature = f } in (c.pairing d).opposite ≡ g → slice_get (c.vals d) k ≡ Some (value.Object o) → d ≢ e → indexed (link_to c d k o g) e ≡ Some (i, v) → (slice_get (c.vals e) i ≡ Some v) × (link_to c d k o g ≡ link_from c e i v)
+    only_to : (n : Node) (f : FeatureNo) (k : ℕ) (o : ObjectNo) (g : Option FeatureNo) (e : End) (i : ℕ) (v : Value) → let d : End = record { node = n; feature = f } in (c.pairing d).opposite ≡ g → slice_get (c.vals d) k ≡ Some (value.Object o) → d ≢ e → indexed_value (link_to c d k o g) e ≡ Some (i, v) → (slice_get (c.vals e) i ≡ Some v) × (link_to c d k o g ≡ link_from c e i v)
     only_to n f k o None e i v q h ne at =
         let d : End = record { node = n; feature = f } in
         let other = ne-same_end d e ne in
-        let out : indexed (link_to c d k o None) e ≡ None = rw other refl in
+        let out : indexed_value (link_to c d k o None) e ≡ None = rw other refl in
         absurd (none-some _ (sym out ∙ at))
     only_to (node.Resource r) f k o (Some g) e i v q h ne at = absurd (ok.mutual_ (record { node = node.Resource r; feature = f }) k o g h q).object
     only_to (node.Object p) f k o (Some g) e i v q h ne at = object_far p f k o g q h e i v ne at
 
-    far_from : (d : End) (k : ℕ) (w : Value) → slice_get (c.vals d) k ≡ Some w → (e : End) (i : ℕ) (v : Value) → d ≢ e → indexed (link_from c d k w) e ≡ Some (i, v) → (slice_get (c.vals e) i ≡ Some v) × (link_from c d k w ≡ link_from c e i v)
+    far_from : (d : End) (k : ℕ) (w : Value) → slice_get (c.vals d) k ≡ Some w → (e : End) (i : ℕ) (v : Value) → d ≢ e → indexed_value (link_from c d k w) e ≡ Some (i, v) → (slice_get (c.vals e) i ≡ Some v) × (link_from c d k w ≡ link_from c e i v)
     far_from d k (value.Object o) h e i v ne at = only_to d.node d.feature k o (c.pairing d).opposite e i v refl h ne at
-    far_from d k (value.Proxy t) h e i v ne at = let other = ne-same_end d e ne in absurd (none-some _ (let out : indexed (link_from c d k (value.Proxy t)) e ≡ None = rw other refl in sym out ∙ at))
+    far_from d k (value.Proxy t) h e i v ne at = let other = ne-same_end d e ne in absurd (none-some _ (let out : indexed_value (link_from c d k (value.Proxy t)) e ≡ None = rw other refl in sym out ∙ at))
     far_from d k w h e i v ne at = absurd (ok.references d k w h)
 
-    only_from : (d : End) (k : ℕ) (w : Value) → slice_get (c.vals d) k ≡ Some w → (e : End) (i : ℕ) (v : Value) → indexed (link_from c d k w) e ≡ Some (i, v) → (slice_get (c.vals e) i ≡ Some v) × (link_from c d k w ≡ link_from c e i v)
+    only_from : (d : End) (k : ℕ) (w : Value) → slice_get (c.vals d) k ≡ Some w → (e : End) (i : ℕ) (v : Value) → indexed_value (link_from c d k w) e ≡ Some (i, v) → (slice_get (c.vals e) i ≡ Some v) × (link_from c d k w ≡ link_from c e i v)
     only_from d k w h e i v at = elim (cases_end d e) [
       | inl same ↦
-          let parts = some_pair_parts k i w v (sym (place_from d k w h) ∙ subst (λ (x : End). indexed (link_from c d k w) x ≡ Some (i, v)) (sym same) at) in
+          let parts = some_pair_parts k i w v (sym (place_from d k w h) ∙ subst (λ (x : End). indexed_value (link_from c d k w) x ≡ Some (i, v)) (sym same) at) in
           ((λ t. slice_get (c.vals (sym same t)) (sym parts.0 t)) ∙ h ∙ ap Some parts.1, (λ t. link_from c (same t) (parts.0 t) (parts.1 t)))
       | inr ne ↦ far_from d k w h e i v ne at
     ]
 
     -- a member that is at a position is the link of that position
-    pub stands_from : (l : Link) → In l (cell_links c es) → (e : End) (i : ℕ) (v : Value) → indexed l e ≡ Some (i, v) → (slice_get (c.vals e) i ≡ Some v) × (l ≡ link_from c e i v)
+    pub stands_from : (l : Link) → In l (cell_links c es) → (e : End) (i : ℕ) (v : Value) → indexed_value l e ≡ Some (i, v) → (slice_get (c.vals e) i ≡ Some v) × (l ≡ link_from c e i v)
     stands_from l h e i v at =
         let b = all_back es l ((from_list_HasLinks (all_links c es)).has l h) in
-        let r = only_from b.0 b.1 b.2 b.3 e i v (subst (λ (m : Link). indexed m e ≡ Some (i, v)) b.4 at) in
+        let r = only_from b.0 b.1 b.2 b.3 e i v (subst (λ (m : Link). indexed_value m e ≡ Some (i, v)) b.4 at) in
         (r.0, b.4 ∙ r.1)
 
     pub link_in : (e : End) (k : ℕ) (v : Value) → slice_get (c.vals e) k ≡ Some v → In (link_from c e k v) (cell_links c es)
@@ -204,7 +204,7 @@ module _ (c : Cells) where
         let b = stands_from m hm e k w am in
         a.1 ∙ ap (λ (x : Value). link_from c e k x) (same_Some v w (sym a.0 ∙ b.0)) ∙ sym b.1
 
-    two_sides : (x : End) (i : ℕ) (y : End) (j : ℕ) (h : Option FeatureNo) → ((y.feature.0 ≡ x.feature.0) → ⊥) → IsObject x.node → IsObject y.node → HasTwoSides (joined x i y j h).end (joined x i y j h).far
+    two_sides : (x : End) (i : ℕ) (y : End) (j : ℕ) (h : Option FeatureNo) → ((y.feature.0 ≡ x.feature.0) → ⊥) → IsObject x.node → IsObject y.node → HasTwoSides (joined_link x i y j h).end (joined_link x i y j h).far
     two_sides x i y j h ne a b = elim (ltb x.feature.0 y.feature.0) as (λ b. let l : Link = (if b then record { end = x; index = i; far = At y j; container = h } else record { end = y; index = j; far = At x i; container = h }) in HasTwoSides l.end l.far) [ true ↦ (ne, a, b) | false ↦ (λ e. ne (sym e), b, a) ]
 
     sides_to : (e : End) (k : ℕ) (o : ObjectNo) (g : Option FeatureNo) → (c.pairing e).opposite ≡ g → slice_get (c.vals e) k ≡ Some (value.Object o) → HasTwoSides (link_to c e k o g).end (link_to c e k o g).far

@@ -15,8 +15,8 @@ use Rattle.links.specs.declared.link.Far.{Far}
 use Rattle.links.specs.declared.link.Far.TheVariants.{At, Alone, Proxy}
 use Rattle.links.specs.declared.link.Link.{Link}
 use Rattle.links.specs.LegalSets.{AreKinds, AreOfKind, HasTwoSides, IsDistinct, IsObject, IsOfKind, IsPlaced, Kinds, most}
-use Rattle.links.specs.Links.{Links, end, far_end, joined}
-use Rattle.links.specs.Indexed.{far_indexed, far_value, indexed}
+use Rattle.links.specs.Links.{Links, end, far_end, joined_link}
+use Rattle.links.specs.Indexed.{far_indexed, far_value, indexed_value}
 use Rattle.links.proofs.EndLemmas.{from_list_HasLinks}
 use Rattle.links.proofs.KindLemmas.{kind_joined}
 use Rattle.links.proofs.SameLinksLemmas.{same_by_ends}
@@ -51,7 +51,7 @@ there_reference e (Alone o) two y k v = λ at. absurd (let w : ℕ × Value = (k
 there_reference e (Proxy t) two y k v = λ at. absurd (let w : ℕ × Value = (k, v) in none-some w at)
 
 -- only objects and proxies are at the positions of a link
-place_reference : (l : Link) → HasTwoSides l.end l.far → (y : End) (k : ℕ) (v : Value) → indexed l y ≡ Some (k, v) → IsReference v
+place_reference : (l : Link) → HasTwoSides l.end l.far → (y : End) (k : ℕ) (v : Value) → indexed_value l y ≡ Some (k, v) → IsReference v
 place_reference l two y k v =
     elim (same_end l.end y) as (λ b. let p : Option (ℕ × Value) = (if b then Some (l.index, far_value l.far) else far_indexed l.far (node_value l.end.node) y) in p ≡ Some (k, v) → IsReference v) [
       | true ↦ λ at. subst IsReference (some_pair_parts l.index k (far_value l.far) v at).1 (far_reference l.end l.far two)
@@ -109,7 +109,7 @@ module _ (m : Kinds) (meta : AreKinds m) (s : Links) (placed : IsPlaced s) (of :
       let y = far_end o g in
       let j = index_in (d.vals y) (node_value e.node) in
       let mq = (λ i. (sym is i).opposite) ∙ q in
-      subst (λ (h : Option FeatureNo). IsOfKind m (joined e k y j h)) (λ i. (sym is i).container)
+      subst (λ (h : Option FeatureNo). IsOfKind m (joined_link e k y j h)) (λ i. (sym is i).container)
       (kind_joined m e k y j mq (meta.inverse e.feature g mq) (meta.two e.feature g mq) (meta.one_container e.feature g mq))
 
   kind_from : (e : End) (k : ℕ) (v : Value) → slice_get (d.vals e) k ≡ Some v → IsOfKind m (link_from d e k v)

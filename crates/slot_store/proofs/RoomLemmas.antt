@@ -13,13 +13,13 @@ use Rattle.links.specs.declared.plan.Edit.TheVariants as edit
 use Rattle.links.specs.LegalSets.{IsObject}
 use Rattle.links.specs.Links.{Links, far_end}
 use Rattle.links.specs.Plans.{EditFits}
-use Rattle.node_slots.specs.Targets.{CanHave}
+use Rattle.node_slots.specs.EndValues.{CanHave}
 use Rattle.node_slots.specs.declared.node_slots.NodeSlots.{NodeSlots}
 use Rattle.node_slots.specs.declared.node_slots.growth.PutPlaces.{PutPlaces}
 use Rattle.node_slots.specs.Cells.{room, row_index_of}
 use Rattle.node_slots.specs.Growth.{HasRoom, far_gain, lone_entry, one_if}
 use Rattle.node_slots.proofs.KeyLemmas.{known_entries, known_places}
-use Rattle.slot_store.specs.EditedCells.{HasHeldRow, PutsObject, held, held_far, held_row_index}
+use Rattle.slot_store.specs.EditedCells.{HasHeldRow, PutsObject, held_far, held_node, held_row_index}
 
 -- an end can have an object, even if it can have only objects
 pub can_have_node : (mixed : Bool) (n : Node) (v : Value) → IsObject n → v ≡ node_value n → CanHave mixed v
@@ -56,7 +56,7 @@ far_row t e i o (Some g) h has =
     let one : far_gain o (Some g) (far_end o g) ≡ 1 = ap one_if (same_end-self (far_end o g)) in
     known_places t (far_end o g) (omega (arith, has.places (far_end o g), one))
 
-pub held_row : (t : NodeSlots) (x : Edit) (e : End) (i : ℕ) (o : ObjectNo) (g h : Option FeatureNo) → x ≡ edit.Put e i o g h → HasRoom (room t) (x ∷ []) → HasHeldRow (held e o g h) (room t)
+pub held_row : (t : NodeSlots) (x : Edit) (e : End) (i : ℕ) (o : ObjectNo) (g h : Option FeatureNo) → x ≡ edit.Put e i o g h → HasRoom (room t) (x ∷ []) → HasHeldRow (held_node e o g h) (room t)
 held_row t x e i o g h is has = row h (subst (λ (y : Edit). HasRoom (room t) (y ∷ [])) is has)
   where
     row_far : (k : Option FeatureNo) (f : FeatureNo) → HasRoom (room t) (edit.Put e i o g h ∷ []) → HasHeldRow (held_far e o k f) (room t)
@@ -66,7 +66,7 @@ held_row t x e i o g h is has = row h (subst (λ (y : Edit). HasRoom (room t) (y
       | false ↦ tt
     ]
 
-    row : (c : Option FeatureNo) → HasRoom (room t) (edit.Put e i o g h ∷ []) → HasHeldRow (held e o g c) (room t)
+    row : (c : Option FeatureNo) → HasRoom (room t) (edit.Put e i o g h ∷ []) → HasHeldRow (held_node e o g c) (room t)
     row None has = tt
     row (Some f) has = elim (same_feature e.feature f) as (λ b. HasHeldRow (if b then Some (node.Object o, e) else held_far e o g f) (room t)) [
       | true ↦ far_row t e i o g h has
@@ -74,7 +74,7 @@ held_row t x e i o g h is has = row h (subst (λ (y : Edit). HasRoom (room t) (y
     ]
 
 -- the contained node has its row at the index that was looked up
-pub held_at : (t : NodeSlots) (p : PutPlaces) (e : End) (o : ObjectNo) (g h : Option FeatureNo) → row_index_of t e.node ≡ Some p.near → row_index_of t (node.Object o) ≡ Some p.far → IfSome {T = Node × End} (held e o g h) (λ q. row_index_of t q.0 ≡ Some (held_row_index p e h))
+pub held_at : (t : NodeSlots) (p : PutPlaces) (e : End) (o : ObjectNo) (g h : Option FeatureNo) → row_index_of t e.node ≡ Some p.near → row_index_of t (node.Object o) ≡ Some p.far → IfSome {T = Node × End} (held_node e o g h) (λ q. row_index_of t q.0 ≡ Some (held_row_index p e h))
 held_at t p e o g None near far = tt
 held_at t p e o g (Some f) near far = elim (same_feature e.feature f) as (λ b. IfSome {T = Node × End} (if b then Some (node.Object o, e) else held_far e o g f) (λ q. row_index_of t q.0 ≡ Some (if b then p.far else p.near))) [
   | true ↦ far

@@ -27,7 +27,7 @@ use Rattle.links.proofs.ScanLemmas.{same_links}
 use Rattle.node_slots.specs.declared.node_slots.NodeSlots.{NodeSlots}
 use Rattle.node_slots.specs.Cells.{Cells, HasKeys, cells, ends_of, no_cells}
 use Rattle.node_slots.proofs.KeyLemmas.{keys_of}
-use Rattle.slot_store.specs.CellLinks.{AreLists, IsKept, IsStore, RepeatNothing, Stands, all_links, cell_links, store_links}
+use Rattle.slot_store.specs.CellLinks.{AreLists, HasValue, IsKept, IsStore, RepeatNothing, all_links, cell_links, store_links}
 use Rattle.slot_store.proofs.LinkLemmas.{all_back, all_there, end-lists}
 
 ---------------------------------------------------------------- growth
@@ -94,13 +94,13 @@ module _ (t : NodeSlots) (kept : ∥ IsStore t ∥₁) where
   }
 
   -- an object is in no end without an opposite that is not among its entries
-  pub alone_absent : (e : End) (o : ObjectNo) → ((cells t).pairing e).opposite ≡ None → position (same_end e) ((cells t).entered (node.Object o)) ≡ None → Stands ((cells t).vals e) (value.Object o) → ⊥
+  pub alone_absent : (e : End) (o : ObjectNo) → ((cells t).pairing e).opposite ≡ None → position (same_end e) ((cells t).entered (node.Object o)) ≡ None → HasValue ((cells t).vals e) (value.Object o) → ⊥
   alone_absent e o q none at = ∥∥₁_elim kept (λ x y. absurd x) (λ ok.
       let b = has_end_at ((cells t).entered (node.Object o)) e ((ok.entered o e).1 (q, at)) in
       end_lacks ((cells t).entered (node.Object o)) e b.0 none b.1)
 
   -- if the opposite end of an object lacks the node, the object is not in the end
-  pub far_absent : (e : End) (o : ObjectNo) (g : FeatureNo) → ((cells t).pairing e).opposite ≡ Some g → position (same_value (node_value e.node)) ((cells t).vals (far_end o g)) ≡ None → Stands ((cells t).vals e) (value.Object o) → ⊥
+  pub far_absent : (e : End) (o : ObjectNo) (g : FeatureNo) → ((cells t).pairing e).opposite ≡ Some g → position (same_value (node_value e.node)) ((cells t).vals (far_end o g)) ≡ None → HasValue ((cells t).vals e) (value.Object o) → ⊥
   far_absent e o g q none at = ∥∥₁_elim kept (λ x y. absurd x) (λ ok.
       let b = (ok.lists.mutual_ e at.0 o g at.1 q).back in
       position_lacks ((cells t).vals (far_end o g)) (node_value e.node) b.0 none b.1)

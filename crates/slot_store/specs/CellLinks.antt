@@ -14,7 +14,7 @@ use Rattle.links.specs.declared.link.Far.TheVariants.{Alone, Proxy}
 use Rattle.links.specs.declared.link.Link.{Link}
 use Rattle.links.specs.Holders.{holder}
 use Rattle.links.specs.LegalSets.{AreKinds, AreOfKind, IsDistinct, IsHeldOnce, IsObject, Kinds, most}
-use Rattle.links.specs.Links.{Links, far_end, joined}
+use Rattle.links.specs.Links.{Links, far_end, joined_link}
 use Rattle.links.specs.Plans.{has_end}
 use Rattle.node_slots.specs.declared.node_slots.NodeSlots.{NodeSlots}
 use Rattle.node_slots.specs.Cells.{Cells, HasKeys, cells, ends_of}
@@ -24,7 +24,7 @@ use Rattle.node_slots.specs.Cells.{Cells, HasKeys, cells, ends_of}
 -- the link of an object at k in e, where g is the opposite; at the far end its position is the index of e's node
 abbrev pub link_to : Cells → End → ℕ → ObjectNo → Option FeatureNo → Link
 link_to c e k o None = record { end = e; index = k; far = Alone o; container = (c.pairing e).container }
-link_to c e k o (Some g) = joined e k (far_end o g) (index_in (c.vals (far_end o g)) (node_value e.node)) (c.pairing e).container
+link_to c e k o (Some g) = joined_link e k (far_end o g) (index_in (c.vals (far_end o g)) (node_value e.node)) (c.pairing e).container
 
 -- the link of a value at k in e; only objects and proxies are in an end
 abbrev pub link_from : Cells → End → ℕ → Value → Link
@@ -46,8 +46,8 @@ cell_links c es = set.from_list (all_links c es)
 
 ---------------------------------------------------------------- the invariant
 
-abbrev pub Stands : List Value → Value → Type 0
-Stands vs v = (k : ℕ) × (slice_get vs k ≡ Some v)
+abbrev pub HasValue : List Value → Value → Type 0
+HasValue vs v = (k : ℕ) × (slice_get vs k ≡ Some v)
 
 abbrev pub IsReference : Value → Type 0
 IsReference (value.Object o) = Unit {0}
@@ -58,7 +58,7 @@ IsReference _ = ⊥
 pub record IsMutual (c : Cells) (e : End) (o : ObjectNo) (g : FeatureNo) : Type 0 where
   pub apart : (g.0 ≡ e.feature.0) → ⊥
   pub object : IsObject e.node
-  pub back : Stands (c.vals (far_end o g)) (node_value e.node)
+  pub back : HasValue (c.vals (far_end o g)) (node_value e.node)
   pub opposite : (c.pairing (far_end o g)).opposite ≡ Some e.feature
   pub container : (c.pairing (far_end o g)).container ≡ (c.pairing e).container
 
@@ -72,7 +72,7 @@ pub record AreLists (c : Cells) (es : List End) : Type 0 where
 
 -- the object is in e, which has no opposite
 abbrev pub StandsAlone : Cells → ObjectNo → End → Type 0
-StandsAlone c o e = ((c.pairing e).opposite ≡ None) × Stands (c.vals e) (value.Object o)
+StandsAlone c o e = ((c.pairing e).opposite ≡ None) × HasValue (c.vals e) (value.Object o)
 
 -- the list repeats no end
 abbrev pub IsOnce : List End → Type 0

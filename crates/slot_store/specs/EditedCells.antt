@@ -26,22 +26,22 @@ held_far e o (Some g) h = if same_feature g h then Some (e.node, far_end o g) el
 
 -- the node that a link from e to an object contains, with the end that contains it; g is the opposite, and h the containing feature of the
 -- pair
-abbrev pub held : End → ObjectNo → Option FeatureNo → Option FeatureNo → Option (Node × End)
-held e o g None = None
-held e o g (Some h) = if same_feature e.feature h then Some (node.Object o, e) else held_far e o g h
+abbrev pub held_node : End → ObjectNo → Option FeatureNo → Option FeatureNo → Option (Node × End)
+held_node e o g None = None
+held_node e o g (Some h) = if same_feature e.feature h then Some (node.Object o, e) else held_far e o g h
 
 -- the index of the row of the node that a link contains: the row of its far node, or of its near node
 abbrev pub held_row_index : PutPlaces → End → Option FeatureNo → ℕ
 held_row_index p e None = p.near
 held_row_index p e (Some h) = if same_feature e.feature h then p.far else p.near
 
-abbrev pub holds : Option (Node × End) → Cells → Cells
-holds None c = c
-holds (Some p) c = cell_edit p.0 (Hold (Some p.1)) c
+abbrev pub cells_after_hold : Option (Node × End) → Cells → Cells
+cells_after_hold None c = c
+cells_after_hold (Some p) c = cell_edit p.0 (Hold (Some p.1)) c
 
-abbrev pub released : Option (Node × End) → Cells → Cells
-released None c = c
-released (Some p) c = cell_edit p.0 (Hold None) c
+abbrev pub cells_after_release : Option (Node × End) → Cells → Cells
+cells_after_release None c = c
+cells_after_release (Some p) c = cell_edit p.0 (Hold None) c
 
 ---------------------------------------------------------------- puts
 
@@ -54,7 +54,7 @@ abbrev pub put_near : End → ℕ → Value → Option Pairing → Cells → Cel
 put_near e i v p c = cell_edit e.node (Change e.feature (Insert i v p)) c
 
 abbrev pub put_cells : End → ℕ → ObjectNo → Option FeatureNo → Option FeatureNo → Cells → Cells
-put_cells e i o g h c = holds (held e o g h) (put_far e o g h (put_near e i (value.Object o) (Some (record { opposite = g; container = h })) c))
+put_cells e i o g h c = cells_after_hold (held_node e o g h) (put_far e o g h (put_near e i (value.Object o) (Some (record { opposite = g; container = h })) c))
 
 ---------------------------------------------------------------- cuts
 
@@ -71,7 +71,7 @@ cut_far e o None c = without_entry e o c
 cut_far e o (Some g) c = without_value (far_end o g) (node_value e.node) c
 
 abbrev pub cut_cells : End → ObjectNo → Option FeatureNo → Option FeatureNo → Cells → Cells
-cut_cells e o g h c = released (held e o g h) (without_value e (value.Object o) (cut_far e o g c))
+cut_cells e o g h c = cells_after_release (held_node e o g h) (without_value e (value.Object o) (cut_far e o g c))
 
 ---------------------------------------------------------------- edits
 

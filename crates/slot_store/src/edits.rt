@@ -6,11 +6,11 @@ ghost use Rattle.mm_types.specs.declared.numbers.Node.TheVariants as node;
 ghost use Rattle.links.specs.LegalSets.{IsDistinct};
 ghost use Rattle.links.specs.Plans.{put_edit};
 ghost use Rattle.node_slots.specs.Cells.{cells, room, row_index_of};
-ghost use Rattle.node_slots.specs.Targets.{CanHave};
+ghost use Rattle.node_slots.specs.EndValues.{CanHave};
 ghost use Rattle.node_slots.specs.Growth.{HasRoom, entry, far_gain, gain, lone_entry, no_ends, no_values, one_if};
 ghost use Rattle.links.specs.declared.plan.Edit.TheVariants as edit;
 ghost use Rattle.slot_store.specs.CellLinks.{IsOnce, RepeatNothing};
-ghost use Rattle.slot_store.specs.EditedCells.{FarHasRoom, HasHeldRow, PairsObject, PutsObject, TakesAtMost, cells_after, cut_far, held, held_far, held_row_index, holds, put_far, put_near, released, without_entry, without_value};
+ghost use Rattle.slot_store.specs.EditedCells.{FarHasRoom, HasHeldRow, PairsObject, PutsObject, TakesAtMost, cells_after, cells_after_hold, cells_after_release, cut_far, held_far, held_node, held_row_index, put_far, put_near, without_entry, without_value};
 
 use crate::search::{entry_from, found};
 use links::{Edit, NewLink};
@@ -50,7 +50,7 @@ fn held_by_far(
 
 /// The node that a link from an end to an object contains, and the end that contains it.
 fn held_by(end: End, object: ObjectNo, pairing: Pairing) -> Option<(Node, End)>
-    ensures { result ≡ held end object pairing.opposite pairing.container }
+    ensures { result ≡ held_node end object pairing.opposite pairing.container }
 {
     let container = pairing.container?;
     if end.feature == container {
@@ -105,7 +105,7 @@ fn take_out_far(
 
 /// Records that nothing contains a node.
 fn release(rows: &mut NodeSlots, pair: Option<(Node, End)>)
-    ensures cells { cells rows.new ≡ released pair (cells rows.old) }
+    ensures cells { cells rows.new ≡ cells_after_release pair (cells rows.old) }
     ensures room { TakesAtMost no_values no_ends (room rows.old) (room rows.new) }
 {
     if let Some((node, _)) = pair {
@@ -139,7 +139,7 @@ fn held_row_index(places: PutPlaces, end: End, container: Option<FeatureNo>) -> 
 fn hold(rows: &mut NodeSlots, row_index: usize, pair: Option<(Node, End)>)
     requires row { HasHeldRow pair (room rows.old) }
     requires at { IfSome pair (λ p. row_index_of rows.old p.0 ≡ Some row_index) }
-    ensures cells { cells rows.new ≡ holds pair (cells rows.old) }
+    ensures cells { cells rows.new ≡ cells_after_hold pair (cells rows.old) }
     ensures room { TakesAtMost no_values no_ends (room rows.old) (room rows.new) }
 {
     if let Some((node, end)) = pair {
@@ -204,7 +204,7 @@ fn put_in(
 fn put(rows: &mut NodeSlots, places: PutPlaces, link: NewLink)
     requires object { PairsObject link.end link.opposite }
     requires room { HasRoom (room rows.old) (put_edit link ∷ []) }
-    requires held { HasHeldRow (held link.end link.object link.opposite link.container) (room rows.old) }
+    requires held { HasHeldRow (held_node link.end link.object link.opposite link.container) (room rows.old) }
     requires near { row_index_of rows.old link.end.node ≡ Some places.near }
     requires far { row_index_of rows.old (node.Object link.object) ≡ Some places.far }
     ensures cells { cells rows.new ≡ cells_after (put_edit link) (cells rows.old) }

@@ -1,10 +1,10 @@
 //! The store of lists.
 ghost use Rattle.std.specs.Prelude.{◌≡◌, true};
 ghost use Rattle.mm_types.specs.declared.value.Value.TheVariants as value;
-ghost use Rattle.links.specs.Plans.{HasPlanOfKind, PlanFits, applied};
+ghost use Rattle.links.specs.Plans.{HasPlanOfKind, PlanFits, links_after_edits};
 ghost use Rattle.node_slots.specs.Cells.{cells, room};
 ghost use Rattle.node_slots.specs.Growth.{HasRoom};
-ghost use Rattle.slot_store.specs.CellLinks.{IsStore, IsStoreOfKind, Stands, store_links};
+ghost use Rattle.slot_store.specs.CellLinks.{HasValue, IsStore, IsStoreOfKind, store_links};
 
 use crate::edits::{edit_rows, put_with_room, value_of};
 use crate::incoming::{entering, places_of};
@@ -88,7 +88,7 @@ impl LinkStore for SlotStore {
 /// Whether the far side, if it is the shorter list, shows that an object is not in an end.
 fn far_lacks(rows: &NodeSlots, end: End, object: ObjectNo) -> bool
     requires { ∥ IsStore rows.now ∥₁ }
-    ensures { result ≡ true → Stands ((cells rows.now).vals end) (value.Object object) → ⊥ }
+    ensures { result ≡ true → HasValue ((cells rows.now).vals end) (value.Object object) → ⊥ }
 {
     match rows.pairing(end).opposite {
         Some(feature) => {
@@ -128,7 +128,7 @@ fn apply_rows(rows: &mut NodeSlots, plan: Plan)
     requires of_kind { HasPlanOfKind (IsStoreOfKind rows.old) plan }
     requires reserved { HasRoom (room rows.old) plan }
     ensures kept { ∥ IsStore rows.new ∥₁ }
-    ensures links { store_links rows.new ≡ applied (store_links rows.old) plan }
+    ensures links { store_links rows.new ≡ links_after_edits (store_links rows.old) plan }
 {
     for edit in plan.into_vec() {
         let guess = make_guess(rows, &edit);

@@ -1,4 +1,4 @@
-pub mod Edits
+pub mod ListReplay
 pub mod Order
 pub mod Replayed
 pub mod Snapshots

@@ -5,7 +5,7 @@
 //! `specs/Replayed.antt` how replaying changes it.
 #![tactic(auto)]
 
-mod edits;
+mod list_replay;
 mod replaying;
 mod snapshot;
 mod taking;

@@ -5,7 +5,7 @@ use Rattle.std.specs.List.{insert, remove, slice_get, list_any, position, positi
 use Rattle.std.proofs.lemmas.List.Sums.{sum_by-cons, sum_by-insert, sum_by-remove, sum_by_more, count_by-le-length}
 use Rattle.std.proofs.lemmas.Bool.Decides.{nat_tests}
 use Rattle.std.proofs.Math.Bool.{or-true}
-use Rattle.slot_lists.specs.Moved.{moved}
+use Rattle.slot_lists.specs.Moved.{list_after_move}
 use Rattle.mm_types.specs.Same.{same_value}
 use Rattle.mm_types.specs.SameValues.{same_value-true}
 use Rattle.mm_types.specs.declared.value.Value.{Value}
@@ -42,8 +42,8 @@ moved_sum f vs to from (Some v) lt is =
     let here : f (get_or vs from v) ≡ f v = ap f (get_or-slice_get vs from v is) in
     omega (arith, here, sum_by-insert f (remove vs from) to v, sum_by-remove f vs from v lt)
 
-pub counts-moved : (t : HashCounts) (vs : List Value) (to from : ℕ) → Counts t vs → from < length vs → Counts t (moved vs to from)
-counts-moved t vs to from counts lt h = counts h ∙ sym (moved_sum (one_of h) vs to from (slice_get vs from) lt refl)
+pub counts-list_after_move : (t : HashCounts) (vs : List Value) (to from : ℕ) → Counts t vs → from < length vs → Counts t (list_after_move vs to from)
+counts-list_after_move t vs to from counts lt h = counts h ∙ sym (moved_sum (one_of h) vs to from (slice_get vs from) lt refl)
 
 -- if no value has a hash, no value with this hash is in the list
 none_same : (w x : Value) (b : Bool) → same_value w x ≡ b → one_of (hash_of w) x ≡ 0 → b ≡ false

@@ -2,7 +2,7 @@
 ghost use Rattle.std.specs.Prelude.{◌≡◌, true, ℕ, ◌+◌, ◌<◌, ◌≤◌, [], length, Some, slice_get, position, option_copied, IfOk, IfSome, OnOk, OnErr};
 ghost use Rattle.std.specs.List.{insert, list_any, remove};
 ghost use Rattle.mm_types.specs.Same.{same_value};
-ghost use Rattle.slot_lists.specs.Moved.{moved};
+ghost use Rattle.slot_lists.specs.Moved.{list_after_move};
 ghost use Rattle.indexmap.specs.IndexMap.{spare as room_of};
 ghost use Rattle.value_lists.specs.Hashes.{hash_of, Counts};
 
@@ -164,7 +164,7 @@ impl CountedList {
     pub fn move_to(&mut self, to: usize, from: usize)
         requires to { to < length self.old.items }
         requires from { from < length self.old.items }
-        ensures items { self.new.items ≡ moved self.old.items to from }
+        ensures items { self.new.items ≡ list_after_move self.old.items to from }
         ensures spare { self.new.spare ≡ self.old.spare }
     {
         self.list.move_to(to, from);

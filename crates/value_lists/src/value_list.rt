@@ -2,7 +2,7 @@
 ghost use Rattle.std.specs.Prelude.{◌≡◌, ◌+◌, ◌<◌, ◌≤◌, [], ◌∷◌, length, slice_get, position, option_copied, vec_len, IfOk, OnErr, OnOk};
 ghost use Rattle.std.specs.List.{insert, list_any, remove};
 ghost use Rattle.mm_types.specs.Same.{same_value};
-ghost use Rattle.slot_lists.specs.Moved.{moved};
+ghost use Rattle.slot_lists.specs.Moved.{list_after_move};
 ghost use Rattle.value_lists.specs.ValueList.{places_of};
 
 use crate::counted_list::CountedList;
@@ -204,7 +204,7 @@ impl ValueList {
     pub fn move_to(&mut self, to: usize, from: usize)
         requires to { to < length self.old.items }
         requires from { from < length self.old.items }
-        ensures items { self.new.items ≡ moved self.old.items to from }
+        ensures items { self.new.items ≡ list_after_move self.old.items to from }
         ensures spare { self.new.spare ≡ self.old.spare }
     {
         match &mut self.layout {

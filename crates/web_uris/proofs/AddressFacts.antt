@@ -6,7 +6,7 @@ use Rattle.std.proofs.lemmas.List.Folds.{list_any-append}
 use Rattle.std.proofs.lemmas.Option.{option_and_then_some, same_Some}
 use Rattle.url.specs.Parts.{Parts, serialize}
 use Rattle.web_uris.specs.Addresses.{IsProxyText, IsSteadyProxy, address_text, fragment_part, has_mark, uri_part}
-use Rattle.web_uris.specs.Joined.{IsJoined, IsWebUri, is_mark, is_web, joined, parts_of, web_text}
+use Rattle.web_uris.specs.Joined.{IsJoined, IsWebUri, is_mark, is_web, joined_uri, parts_of, web_text}
 use Rattle.web_uris.specs.Paths.{parse}
 use Rattle.web_uris.specs.declared.path.Path.{Path}
 use Rattle.web_uris.proofs.CutLemmas.{after_around, before_around}
@@ -22,7 +22,7 @@ web_text-unmarked o t known = option_and_then_some web_text o t known (λ u is t
 
 -- a URI that joining gives has no `#`
 pub joined_unmarked : (uri : List ℕ) → IsJoined uri → has_mark uri ≡ false
-unfolding joined
+unfolding joined_uri
 joined_unmarked uri is = web_text-unmarked (parts_of is.base is.reference) uri is.gives
 
 either_true : (b c : Bool) → b || (true || c) ≡ true

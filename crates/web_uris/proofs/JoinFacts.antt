@@ -13,21 +13,21 @@ use Rattle.url.specs.Parser.{parse_url}
 use Rattle.url.specs.Parts.{Parts, IsValid, kind_of, serialize}
 use Rattle.url.specs.declared.scheme.SchemeType.TheVariants.{SpecialNotFile}
 use Rattle.url.proofs.Theorems.{parse_url-serialize_special}
-use Rattle.web_uris.specs.Joined.{GivesText, IsJoined, IsWebUri, if_parsed, is_mark, is_web, joined, web_text}
+use Rattle.web_uris.specs.Joined.{GivesText, IsJoined, IsWebUri, if_parsed, is_mark, is_web, joined_uri, web_text}
 
 -- a text that parses by itself is not joined with a base
 first_of : (a b : Option Parts) (u : List ℕ) → option_and_then web_text a ≡ Some u → option_and_then web_text (option_or a b) ≡ Some u
 first_of None b u known = absurd (true≢false (sym (ap is_some known)))
 first_of (Some p) b u known = known
 
-pub joined-web : (base u : List ℕ) → IsWebUri u → joined base u ≡ Some u
-unfolding joined
-joined-web base u known =
+pub joined_uri-web : (base u : List ℕ) → IsWebUri u → joined_uri base u ≡ Some u
+unfolding joined_uri
+joined_uri-web base u known =
     first_of (if_parsed (parse_url None u)) (option_and_then (λ b. if_parsed (parse_url (Some b) u)) (if_parsed (parse_url None base))) u known
 
 -- so joining gives the URI itself
 pub web_joined : (u : List ℕ) → IsWebUri u → IsJoined u
-web_joined u web = record { base = []; reference = u; gives = joined-web [] u web }
+web_joined u web = record { base = []; reference = u; gives = joined_uri-web [] u web }
 
 pub web-serialize : (p : Parts) → IsValid p → kind_of p ≡ SpecialNotFile → web_text p ≡ Some (serialize p) → IsWebUri (serialize p)
 web-serialize p valid special web = ap (λ r. option_and_then web_text (if_parsed r)) (parse_url-serialize_special p None valid special) ∙ web

@@ -10,7 +10,7 @@ use Rattle.std.proofs.lemmas.List.Splits.{length-slice_split, slice_split_first}
 use Rattle.std.proofs.lemmas.List.Sums.{prefix_len-le-length}
 use Rattle.std.proofs.Math.Nat.{eq-or-lt_of_le}
 use Rattle.std.proofs.lemmas.Str.Parse.{digits_value_short}
-use Rattle.mm_types.specs.Integers.{is_decimal, natural}
+use Rattle.mm_types.specs.Integers.{is_decimal, natural_number}
 use Rattle.mm_types.specs.Names.{is_name}
 use Rattle.mm_types.proofs.IntegerLemmas.{digits_model}
 use Rattle.web_uris.specs.Paths.{index_of, is_dot, is_slash, parse, path_of_segments, segments, step_of, step_of_parts, steps_of}
@@ -29,8 +29,8 @@ small_value w short h =
     grind (arith, nat_tests, v)
 
 -- a number of at most seven digits fits in 32 bits
-pub natural-short : (w : List ℕ) → length w ≤ 7 → natural w ≡ index_of w
-natural-short w short = both_tests (is_decimal w) (nat_le (length w) 7) (nat_lt (digits_value 10 w) (2 ^ 32)) (digits_value 10 w) (grind (arith, nat_tests)) (small_value w short)
+pub natural_number-short : (w : List ℕ) → length w ≤ 7 → natural_number w ≡ index_of w
+natural_number-short w short = both_tests (is_decimal w) (nat_le (length w) 7) (nat_lt (digits_value 10 w) (2 ^ 32)) (digits_value 10 w) (grind (arith, nat_tests)) (small_value w short)
 
 none_long : (d : Bool) (w : List ℕ) → 7 < length w → cond (d && nat_le (length w) 7) (Some (digits_value 10 w)) None ≡ None
 none_long true w long = let e : nat_le (length w) 7 ≡ false = grind (arith, nat_tests) in rw e refl

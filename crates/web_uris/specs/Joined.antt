@@ -13,12 +13,12 @@ if_parsed (Ok u) = Some u
 if_parsed (Err e) = None
 
 -- the reference read against the base; none if one of them can't be read
-abbrev pub based : List ℕ → List ℕ → Option Parts
-based base reference = option_and_then (λ b. if_parsed (parse_url (Some b) reference)) (if_parsed (parse_url None base))
+abbrev pub reference_parts : List ℕ → List ℕ → Option Parts
+reference_parts base reference = option_and_then (λ b. if_parsed (parse_url (Some b) reference)) (if_parsed (parse_url None base))
 
 -- the reference read by itself; if it can't be read by itself, read against the base
 abbrev pub parts_of : List ℕ → List ℕ → Option Parts
-parts_of base reference = option_or (if_parsed (parse_url None reference)) (based base reference)
+parts_of base reference = option_or (if_parsed (parse_url None reference)) (reference_parts base reference)
 
 abbrev pub is_web : Parts → Bool
 is_web u = bytes_eq u.scheme (codes "http") || bytes_eq u.scheme (codes "https")
@@ -40,14 +40,14 @@ abbrev pub IsWebUri : List ℕ → Type 0
 IsWebUri u = own_text u ≡ Some u
 
 -- the URI of a reference joined with a base; none if they give no URI of http or https without a fragment
-unfoldable pub joined : List ℕ → List ℕ → Option (List ℕ)
-joined base reference = option_and_then web_text (parts_of base reference)
+unfoldable pub joined_uri : List ℕ → List ℕ → Option (List ℕ)
+joined_uri base reference = option_and_then web_text (parts_of base reference)
 
 -- a URI is a result of joining: of some reference with some base
 pub record IsJoined (u : List ℕ) : Type 0 where
   pub base : List ℕ
   pub reference : List ℕ
-  pub gives : joined base reference ≡ Some u
+  pub gives : joined_uri base reference ≡ Some u
 
 -- the result is the text, or `Bad` if there is none; or `Memory`
 abbrev pub GivesText : Result (String Global) UriFault → Option (List ℕ) → Type 0
@@ -57,4 +57,4 @@ GivesText (Err Memory) text = Unit {0}
 
 -- the result of joining is the URI, or `Bad` if there is none; or `Memory`
 abbrev pub Joins : Result (String Global) UriFault → List ℕ → List ℕ → Type 0
-Joins result base reference = GivesText result (joined base reference)
+Joins result base reference = GivesText result (joined_uri base reference)

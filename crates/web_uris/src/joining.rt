@@ -1,7 +1,7 @@
 //! A reference is joined with a URI.
 ghost use Rattle.std.specs.Prelude.{◌≡◌, IfOk, MatchResult, option_and_then, string_bytes};
 ghost use Rattle.url.specs.Parser.{parse_url};
-ghost use Rattle.web_uris.specs.Joined.{GivesText, IsWebUri, Joins, based, if_parsed, is_web as is_of_web, parts_of, web_text};
+ghost use Rattle.web_uris.specs.Joined.{GivesText, IsWebUri, Joins, if_parsed, is_web as is_of_web, parts_of, reference_parts, web_text};
 ghost use Rattle.web_uris.specs.declared.joining.UriFault.TheVariants.{Memory};
 
 use crate::address::has_mark;
@@ -40,7 +40,7 @@ fn based_url(base: &Url, reference: &str) -> Result<Option<Url>, UriFault>
 }
 
 fn joined_url(alloc: Global, base: &str, reference: &str) -> Result<Option<Url>, UriFault>
-    ensures { MatchResult result (λ u. u ≡ based base.now reference.now) (λ e. e ≡ Memory) }
+    ensures { MatchResult result (λ u. u ≡ reference_parts base.now reference.now) (λ e. e ≡ Memory) }
 {
     match own_url(alloc, base)? {
         Some(base) => based_url(&base, reference),

@@ -3,13 +3,13 @@ ghost use Rattle.std.specs.Prelude.{◌≡◌, ℕ, List, Some, false};
 ghost use Rattle.url.specs.Parts.{Parts, IsValid, kind_of, serialize};
 ghost use Rattle.url.specs.declared.scheme.SchemeType.TheVariants.{SpecialNotFile};
 ghost use Rattle.web_uris.specs.Addresses.{address_text, fragment_part, has_mark, uri_part};
-ghost use Rattle.web_uris.specs.Joined.{IsWebUri, joined, web_text};
+ghost use Rattle.web_uris.specs.Joined.{IsWebUri, joined_uri, web_text};
 ghost use Rattle.web_uris.specs.Paths.{Writes, parse};
 ghost use Rattle.web_uris.specs.declared.path.Path.{Path};
 
 /// A URI that is written as `url` writes it is normalised: joining it with any base gives it back.
 pub fn web_uris_join_to_themselves()
-    ensures { (base uri : List ℕ) → IsWebUri uri → joined base uri ≡ Some uri }
+    ensures { (base uri : List ℕ) → IsWebUri uri → joined_uri base uri ≡ Some uri }
 {}
 
 /// The text of a valid URL of http or https without a fragment is normalised: `url` reads it, and writes it as it was.

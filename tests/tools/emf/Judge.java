@@ -22,16 +22,16 @@ import org.eclipse.emf.ecore.xmi.impl.XMIResourceFactoryImpl;
 import org.eclipse.emf.ecore.xmi.impl.XMIResourceImpl;
 
 /**
- * Asks EMF. Each line of the standard input is a command, its words with tabs between them:
+ * Runs commands by EMF. Each line of the standard input is a command: words with tabs between them.
  *
- * packages FILE ..        the packages of Ecore files are those of the next commands
- * read FILE ..            the objects of XMI files, as text
+ * packages FILE ..        uses the packages of Ecore files for the next commands
+ * read FILE ..            prints the objects of XMI files
  * sorted FILE ..          the same, with transient ends in the order of their texts
- * types FILE ..           the types of the features of Ecore files
+ * types FILE ..           prints the types of the features of Ecore files
  * write FROM TO OPTION .. loads a file and saves it
- * random SEED FOLDER      makes a metamodel and models at random
+ * random SEED FOLDER      makes a random metamodel and random models
  *
- * An answer is lines, and "." after them. A line "error .." is what EMF says of a file.
+ * An answer is lines, and "." after them. A line "error .." is an error that EMF reports for a file.
  */
 public final class Judge {
   private final List<EPackage> packages = new ArrayList<>();

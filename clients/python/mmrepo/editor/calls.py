@@ -13,9 +13,9 @@ from . import pictures, search
 from .edits import NotDone
 from .model import Model
 
-LONGEST_LIST = 5_000  # nodes that are asked for at once
-MOST_PROBLEMS = 500  # objects with problems that are listed
-GREATEST = 4_294_967_295  # number of an object, and index of a list
+LONGEST_LIST = 5_000  # nodes that one call may ask for
+MOST_PROBLEMS = 500  # the most objects with problems that are listed
+GREATEST = 4_294_967_295  # the greatest number of an object, and the greatest index of a list
 _RESOURCE = re.compile(r'r(0|[1-9][0-9]{0,9})')
 
 
@@ -115,7 +115,7 @@ def _below(model: Model, it: Dict[str, Any]) -> Any:
 
 
 def _import(model: Model, it: Dict[str, Any]) -> Any:
-    """Takes a file in, under a name of a folder."""
+    """Imports a file under a name of a folder."""
     try:
         content = base64.b64decode(it['data'], validate=True)
     except (binascii.Error, ValueError):
@@ -127,7 +127,7 @@ def _import(model: Model, it: Dict[str, Any]) -> Any:
 
 
 def _export(model: Model, it: Dict[str, Any]) -> Any:
-    """A resource as a file that goes out."""
+    """Exports a resource as a file."""
     with model.lock:
         resource = model.resource(it['node'])
         if resource is None:

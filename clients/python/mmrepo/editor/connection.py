@@ -18,9 +18,9 @@ from .edits import NotDone
 if TYPE_CHECKING:
     from .server import Server
 
-LONGEST = 24_000_000  # bytes of a body: a document of the longest line, in base64
-SECONDS = 10  # that a request may take to come in, and an answer to be taken
-BEAT = 15  # seconds after which a stream of events has a sign of life
+LONGEST = 24_000_000  # the most bytes of a body: a document as long as the longest line, in base64
+SECONDS = 10  # seconds that a request may take to arrive, and an answer to be read
+BEAT = 15  # seconds between two signs of life in a stream of events
 DRAINED = 256_000_000  # bytes of a refused body that are read, so that the answer is seen
 HEADERS = {
     'Cache-Control': 'no-store',

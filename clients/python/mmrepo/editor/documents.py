@@ -7,7 +7,7 @@ from typing import Any, Callable, Dict, Iterator, List, NamedTuple, Optional, Se
 from .forms import CONTENTS, Form, Id
 from .mirror import Entry, Mirror
 
-MOST = 20  # differences that are listed
+MOST = 20  # the most differences that are listed
 
 
 class Place(NamedTuple):

@@ -129,7 +129,7 @@ class Edits:
     # What an edit needs
 
     def _try(self, attempt: Attempt, command: Callable[[], Any]) -> Any:
-        """Gives a command; a NotDone if it is refused."""
+        """Gives a command. Raises a NotDone if it is refused."""
         try:
             return command()
         except Refused as refused:
@@ -186,7 +186,7 @@ class Edits:
             raise NotDone('CHANGED', f'CHANGED: {feature} was changed in the meantime; nothing was done')
 
     def _check_many(self, feature: EStructuralFeature) -> None:
-        """A NotDone for a feature of one value."""
+        """Raises a NotDone for a feature of one value."""
         if not feature.many:
             raise NotDone('NOT_MANY', f'NOT_MANY: {feature.name} is no list')
 

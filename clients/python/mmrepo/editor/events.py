@@ -7,7 +7,7 @@ import threading
 from collections import deque
 from typing import Any, Deque, Dict, List, Optional, Tuple
 
-KEPT = 10_000  # events that a window may have missed
+KEPT = 10_000  # events that are kept for windows that have missed them
 
 
 class Events:
@@ -37,7 +37,7 @@ class Events:
             return [it for it in self._kept if it[0] > number] if self.number > number else []
 
     def end(self) -> None:
-        """Nothing more happens."""
+        """Ends the events: none is added any more."""
         with self._condition:
             self.is_over = True
             self._condition.notify_all()

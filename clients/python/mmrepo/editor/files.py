@@ -84,9 +84,8 @@ class Files:
     # What comes in
 
     def converted(self, name: str, content: bytes) -> Converted:
-        """The document of a file that is brought in: XMI is converted by the tool, a document is taken as it is. It is tried
-        first, so that either all of it is taken or nothing.
-        """
+        """The document of an imported file: XMI is converted by the tool, a document is taken as it is. It is loaded on trial first, so
+        that either all of it is taken or nothing."""
         is_document = name.endswith(DOCUMENTS)
         made = Converted(content, []) if is_document else self._by_tool(name, content)
         try:

@@ -32,7 +32,7 @@ class Entry:
         return self.values.get(form.name, () if form.many else form.default)
 
     def put(self, form: Form, value: Any) -> None:
-        """Has a single value."""
+        """Sets a single value."""
         if value == form.default:
             self.values.pop(form.name, None)
         else:
@@ -78,7 +78,7 @@ class Mirror:
         return notice.kind.name, node, feature, old, encoded(form, notice.new), notice.position, kind
 
     def replay(self, notices: Sequence[Told]) -> Changes:
-        """Takes the notifications of a command in."""
+        """Applies the notifications of a command."""
         come: Dict[int, Tuple[Id, str]] = {}
         lost: List[int] = []
         for told in notices:

@@ -16,8 +16,8 @@ from .edits import NotDone
 from .forms import CONTENTS, Id
 from .mirror import Mirror
 
-OBJECTS = 40  # of a picture
-SECONDS = 60  # that the tool may take
+OBJECTS = 40  # the most objects of a picture
+SECONDS = 60  # seconds that the tool may take
 
 
 def picture_of_classes(metamodel: str, around: Optional[str], steps: int) -> str:

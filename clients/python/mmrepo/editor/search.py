@@ -8,7 +8,7 @@ from ..metamodel import EReference, EStructuralFeature
 from .forms import Id
 from .mirror import Entry, Mirror
 
-FOUND, PICKED = 200, 50  # hits that are shown
+FOUND, PICKED = 200, 50  # the most hits that a search and a picker show
 
 
 def hit(mirror: Mirror, number: Id) -> Dict[str, Any]:

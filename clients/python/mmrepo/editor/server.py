@@ -16,8 +16,8 @@ from .connection import SECONDS, Connection
 from .model import Model
 
 HOST = '127.0.0.1'
-CONNECTIONS = 200  # that are open at one time
-WINDOWS = 5  # that listen to events: a browser opens six connections to a server, and one is for calls
+CONNECTIONS = 200  # the most open connections
+WINDOWS = 5  # the most windows that get events: a browser opens six connections to a server, and one of them is for calls
 KINDS = {'.html': 'text/html; charset=utf-8', '.css': 'text/css; charset=utf-8', '.mjs': 'text/javascript; charset=utf-8',
          '.svg': 'image/svg+xml'}
 
@@ -67,12 +67,12 @@ class Server(ThreadingHTTPServer):
                 self._open -= 1
 
     def begin(self, connection: socket.socket, is_first: bool) -> None:
-        """A request is waited for."""
+        """Notes that a connection waits for a request."""
         with self._lock:
             self._coming[connection] = time.monotonic() + SECONDS, is_first
 
     def ready(self, connection: socket.socket) -> None:
-        """The request has come in."""
+        """Notes that the request of a connection has arrived."""
         with self._lock:
             self._coming.pop(connection, None)
 

@@ -2,7 +2,7 @@
 ghost use Rattle.std.specs.Prelude.{◌≡◌, ◌≤◌, ◌∷◌, [], None, is_some, length, map, vec_len, vec_capacity};
 ghost use Rattle.notice_chain.specs.Listed.{HaveTargets, is_target};
 ghost use Rattle.notice_chain.specs.View.{hear_all};
-ghost use Rattle.notice_chain.specs.Released.{all_released, released as released_of, removing};
+ghost use Rattle.notice_chain.specs.Released.{all_released, released_adapters as released_of, removing_notice};
 ghost use Rattle.adapter_list.specs.Attached.{IsRoomFor, views_of};
 ghost use Rattle.adapter_list.specs.Detached.{told_in, views_in};
 
@@ -96,7 +96,7 @@ impl<A: Adapter> AdapterList<A> {
 /// Notifies an adapter of its release from each of its targets, which no other adapter has any more.
 fn tell_all_last<A: Adapter>(adapter: &mut A, no: AdapterNo, targets: &VecDeque<Target>)
     requires reserve { length targets.now.items ≤ A.places adapter.old }
-    ensures { A.heard adapter.new ≡ hear_all (A.heard adapter.old) (map (λ t. removing no t.node 0) targets.now.items) }
+    ensures { A.heard adapter.new ≡ hear_all (A.heard adapter.old) (map (λ t. removing_notice no t.node 0) targets.now.items) }
 {
     for index in 0..targets.len() {
         adapter.notify_changed(last_notice(no, targets[index].node, 0));

@@ -2,12 +2,12 @@
 ghost use Rattle.std.specs.Prelude.{◌≡◌, ◌<◌, ◌++◌, List, length, slice_index, All, OnOk, IfOk};
 ghost use Rattle.links.specs.Holders.{HasNoCycle, above};
 ghost use Rattle.links.specs.LegalSets.{IsLegalSet};
-ghost use Rattle.notice_chain.specs.Listed.{Above, audience_numbers};
+ghost use Rattle.notice_chain.specs.Listed.{Above, audience_numbers, told_of};
 ghost use Rattle.notice_chain.specs.declared.notice.Notice.{Notice};
 ghost use Rattle.adapter_list.specs.Hearing.{AreKnown, copies_at};
 ghost use Rattle.adapter_list.specs.Reserved.{IsReserved, reserved_round};
 ghost use Rattle.adapter_list.specs.Targets.{targets_at};
-ghost use Rattle.adapter_list.specs.Rounds.{RoundFits, round_of, delivered, tell_at, told_by, use_place};
+ghost use Rattle.adapter_list.specs.Rounds.{RoundFits, copies_from, round_of, adapters_after_copies, tell_at, told_by, use_place};
 
 use super::AdapterList;
 use crate::hearers::Hearers;
@@ -45,13 +45,13 @@ impl<A: Adapter> AdapterList<A> {
     ///
     /// Refused with AdapterFull if an adapter can't count the notifications that it gets, or with Memory if memory is refused. The first
     /// adapter that refuses, in attach order, decides; with AdapterFull, each adapter before it has the capacity that it needs.
-    pub fn reserve_all<L: LinkStore>(&mut self, store: &L, chain: &Chain) -> Result<Round, Refused>
+    pub fn reserve_all<L: LinkStore>(&mut self, store: &L, chain: Chain) -> Result<Round, Refused>
         requires legal { IsLegalSet (L.links store.now) }
         requires no_cycle { HasNoCycle (L.links store.now) }
-        ensures { IsReserved (above (L.links store.now)) chain.now self.old self.new result }
+        ensures { IsReserved (above (L.links store.now)) chain self.old self.new result }
     {
         let mut hearers = Hearers::new(self.alloc);
-        let Ok(round) = self.round(store, chain.as_slice(), &mut hearers) else {
+        let Ok(round) = self.round(store, chain, &mut hearers) else {
             return Err(Refused::Memory);
         };
         match self.reserve_round(&round) {
@@ -78,9 +78,10 @@ impl<A: Adapter> AdapterList<A> {
     ///
     /// A round fits the adapters for which it was reserved. A round names the adapters by number and by index in attach order, so it
     /// need not fit after an adapter was attached or detached.
+    #[inline(always)]
     pub fn deliver(&mut self, round: Round) -> Vec<(AdapterNo, Notice)>
         requires reserved { RoundFits self.old.0 self.old.1 round }
-        ensures heard { self.new.0 ≡ delivered round.copies self.old.0 }
+        ensures heard { self.new.0 ≡ adapters_after_copies round.copies self.old.0 }
         ensures told { result.items ≡ round.told }
         ensures by_number { result.items ≡ told_by round.copies self.old.0 }
     {
@@ -105,41 +106,69 @@ impl<A: Adapter> AdapterList<A> {
     /// The copies of the notifications of a chain for the adapters that get them. If successive notifications have one notifier, its
     /// adapters are found once; the adapters of the node in `hearers` are not looked for again. Afterwards `hearers` has the adapters of
     /// the node of the last notification. Errs only if memory is refused.
+    #[inline(always)]
     pub fn round<L: LinkStore>(
         &self,
         store: &L,
-        chain: &[Notice],
+        chain: Chain,
         hearers: &mut Hearers,
     ) -> Result<Round, AllocError>
         requires legal { IsLegalSet (L.links store.now) }
         requires no_cycle { HasNoCycle (L.links store.now) }
         requires known { AreKnown (above (L.links store.now)) self.now.0 hearers.old }
         ensures known { AreKnown (above (L.links store.now)) self.now.0 hearers.new }
-        ensures round { IfOk result (λ r. r ≡ round_of (above (L.links store.now)) chain.now self.now.0) }
+        ensures round { IfOk result (λ r. r ≡ round_of (above (L.links store.now)) chain self.now.0) }
     {
         let mut round = Round::new(self.alloc);
-        for notice in chain {
-            self.find_hearers(store, notice.notifier, hearers)?;
-            self.add_copies(&hearers.ordinals, notice, &mut round)?;
+        let (first, rest) = chain.into_parts();
+        if let Some(notice) = first {
+            self.add_notice(store, notice, hearers, &mut round)?;
+        }
+        for notice in rest {
+            self.add_notice(store, notice, hearers, &mut round)?;
         }
         Ok(round)
     }
 
-    /// Adds the copies of a notification for the adapters at some indexes to a round.
+    /// Adds the copies of a notification for the adapters that get it to a round.
+    fn add_notice<L: LinkStore>(
+        &self,
+        store: &L,
+        notice: Notice,
+        hearers: &mut Hearers,
+        round: &mut Round,
+    ) -> Result<(), AllocError>
+        requires legal { IsLegalSet (L.links store.now) }
+        requires no_cycle { HasNoCycle (L.links store.now) }
+        requires known { AreKnown (above (L.links store.now)) self.now.0 hearers.old }
+        ensures known { AreKnown (above (L.links store.now)) self.now.0 hearers.new }
+        ensures copies { OnOk result (round.new.copies ≡ round.old.copies ++ copies_from (above (L.links store.now)) 0 notice self.now.0) }
+        ensures told { OnOk result (round.new.told ≡ round.old.told ++ told_of (above (L.links store.now)) notice self.now.0) }
+    {
+        self.find_hearers(store, notice.notifier, hearers)?;
+        self.add_copies(&hearers.ordinals, notice, round)?;
+        Ok(())
+    }
+
+    /// Adds the copies of a notification for the adapters at some indexes to a round. The last adapter gets the notification itself.
     fn add_copies(
         &self,
         ordinals: &[usize],
-        notice: &Notice,
+        notice: Notice,
         round: &mut Round,
     ) -> Result<(), AllocError>
         requires within { All (λ k. k < length self.now.0) ordinals.now }
-        ensures copies { OnOk result (round.new.copies ≡ round.old.copies ++ copies_at ordinals.now notice.now) }
-        ensures told { OnOk result (round.new.told ≡ round.old.told ++ told_by (copies_at ordinals.now notice.now) self.now.0) }
+        ensures copies { OnOk result (round.new.copies ≡ round.old.copies ++ copies_at ordinals.now notice) }
+        ensures told { OnOk result (round.new.told ≡ round.old.told ++ told_by (copies_at ordinals.now notice) self.now.0) }
     {
+        let Some((last, others)) = ordinals.split_last() else {
+            return Ok(());
+        };
         round.reserve(ordinals.len())?;
-        for ordinal in ordinals {
-            round.add(*ordinal, self.attached[*ordinal].no, notice)?;
+        for ordinal in others {
+            round.add(*ordinal, self.attached[*ordinal].no, notice.clone()?)?;
         }
+        round.add(*last, self.attached[*last].no, notice)?;
         Ok(())
     }
 }

@@ -4,7 +4,7 @@ ghost use Rattle.std.specs.BTreeSet.{contains};
 ghost use Rattle.std.specs.List.{list_any};
 ghost use Rattle.std.specs.Ordering.{nat_cmp};
 ghost use Rattle.mm_types.specs.declared.numbers.Node.TheVariants as node;
-ghost use Rattle.adapter_list.specs.Hearing.{touched as touched_by};
+ghost use Rattle.adapter_list.specs.Hearing.{touched_indexes as touched_by};
 ghost use Rattle.adapter_list.specs.Targets.{is_attached_at};
 
 use super::AdapterList;

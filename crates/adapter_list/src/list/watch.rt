@@ -2,7 +2,7 @@
 ghost use Rattle.std.specs.Prelude.{◌≡◌, ◌<◌, ◌≤◌, ℕ, None, Some, false, true, not, length, nat_lt, position, slice_index, take, OnErr, OnOk, IfOk, IfErr, if◌then◌else◌};
 ghost use Rattle.std.specs.Option.{option_map_or};
 ghost use Rattle.mm_types.specs.declared.limits.TheConstants.{TARGETS};
-ghost use Rattle.notice_chain.specs.Listed.{adapter, has_no, is_target, targets_len, watched};
+ghost use Rattle.notice_chain.specs.Listed.{adapter, adapters_after_watch, has_no, is_target, targets_len};
 ghost use Rattle.adapter_list.specs.Refusals.{but_memory, target_refusal, watch_refusal};
 ghost use Rattle.adapter_list.specs.Targets.{entries, targets_at};
 
@@ -24,7 +24,7 @@ impl<A: Adapter> AdapterList<A> {
     /// notified of nothing, and no adapter has less capacity.
     pub fn watch(&mut self, no: AdapterNo, node: Node, deep: bool) -> Result<bool, Refused>
         ensures added { IfOk result (λ added. added ≡ not (is_target no node self.old.0)) }
-        ensures ok { OnOk result (self.new.0 ≡ (if is_target no node self.old.0 then self.old.0 else watched no (record { node = node; deep = deep }) self.old.0)) }
+        ensures ok { OnOk result (self.new.0 ≡ (if is_target no node self.old.0 then self.old.0 else adapters_after_watch no (record { node = node; deep = deep }) self.old.0)) }
         ensures allowed { OnOk result (watch_refusal self.old.0 no node ≡ None) }
         ensures reason { IfErr result (λ e. but_memory e ≡ watch_refusal self.old.0 no node) }
         ensures unchanged { OnOk result (is_target no node self.old.0 ≡ true → self.new ≡ self.old) }
@@ -64,7 +64,7 @@ impl<A: Adapter> AdapterList<A> {
         requires within { ordinal < length self.old.0 }
         requires apart { is_target no node self.old.0 ≡ false }
         requires few { targets_len self.old.0 < TARGETS }
-        ensures ok { OnOk result (self.new.0 ≡ watched no (record { node = node; deep = deep }) self.old.0) }
+        ensures ok { OnOk result (self.new.0 ≡ adapters_after_watch no (record { node = node; deep = deep }) self.old.0) }
         ensures allowed { OnOk result (target_refusal (adapter no self.old.0) ≡ None) }
         ensures reason { IfErr result (λ e. but_memory e ≡ target_refusal (adapter no self.old.0)) }
         ensures kept { OnErr result (self.new.0 ≡ self.old.0) }
@@ -95,7 +95,7 @@ impl<A: Adapter> AdapterList<A> {
         requires apart { is_target no node self.old.0 ≡ false }
         requires few { targets_len self.old.0 < TARGETS }
         requires spare { targets_at self.old.0 ordinal < slice_index self.old.1 ordinal }
-        ensures ok { OnOk result (self.new.0 ≡ watched no (record { node = node; deep = deep }) self.old.0) }
+        ensures ok { OnOk result (self.new.0 ≡ adapters_after_watch no (record { node = node; deep = deep }) self.old.0) }
         ensures kept { OnErr result (self.new.0 ≡ self.old.0) }
         ensures places { OnErr result (self.new.1 ≡ self.old.1) }
     {

@@ -28,7 +28,7 @@ fn refused_to_three<A: Adapter>(
     let mut list = three(alloc, [1, 1, 1], first, second, third)?;
     let chain = three_notices(alloc)?;
     let store = without_links(alloc);
-    let refused = tell(alloc, &store, &mut *list, &chain).err();
+    let refused = tell(alloc, &store, &mut *list, chain).err();
     Ok((refused, told_of_three(&*list)))
 }
 
@@ -134,7 +134,7 @@ fn delivered<A: Adapter>(alloc: Global, first: A, second: A, third: A) -> Result
     let mut list = three(alloc, [1, 2, 1], first, second, third)?;
     let chain = three_notices(alloc)?;
     let store = without_links(alloc);
-    let told = told(alloc, &tell(alloc, &store, &mut *list, &chain)?)?;
+    let told = told(alloc, &tell(alloc, &store, &mut *list, chain)?)?;
     let (counts, kept) = (told_of_three(&*list), list.kept_len(AdapterNo(5)));
     Ok(format!(in alloc; "{told}told {counts:?} kept {kept:?}")?)
 }
@@ -157,7 +157,7 @@ fn a_window_of_two_in_a_list_keeps_two_of_three(rt: HostRuntime) -> Result<(), F
     attach(&mut list, 5, 1, Window::new(rt.alloc(), 2)?)?;
     let notices = vec![in rt.alloc(); added(1, 0), added(1, 1), added(1, 2)]?;
     let store = without_links(rt.alloc());
-    assert!(rt; tell(rt.alloc(), &store, &mut *list, &Chain::from_vec(notices)).is_ok());
+    assert!(rt; tell(rt.alloc(), &store, &mut *list, Chain::from_vec(notices)).is_ok());
     assert_eq!(rt; list.told(AdapterNo(5)), Some(3));
     assert_eq!(rt; list.kept_len(AdapterNo(5)), Some(2));
     Ok(())

@@ -16,7 +16,7 @@ fn refused_to_two<A: Adapter>(alloc: Global, first: A, second: A) -> Result<Opti
     attach(&mut *list, 6, 2, second)?;
     let chain = Chain::from_vec(vec![in alloc; added(2, 0), added(1, 0)]?);
     let store = without_links(alloc);
-    Ok(tell(alloc, &store, &mut *list, &chain).err())
+    Ok(tell(alloc, &store, &mut *list, chain).err())
 }
 
 /// Two adapters in attach order, and why the chain is refused.

@@ -29,9 +29,13 @@ fn a_chain_gives_its_notices_back(rt: HostRuntime) -> Result<(), Fail> {
     assert!(rt; chain.is_empty());
     chain.push(added(0, 0))?;
     chain.push(added(0, 1).clone()?)?;
-    assert_eq!(rt; chain.len(), 2);
-    let again = Chain::from_vec(chain.into_vec());
-    assert_eq!(rt; again.as_slice()[1].position, 1);
+    assert!(rt; !chain.is_empty());
+    let (first, rest) = chain.into_parts();
+    assert_eq!(rt; first.map(|notice| notice.position), Some(0));
+    assert_eq!(rt; rest.len(), 1);
+    let (none, again) = Chain::from_vec(rest).into_parts();
+    assert!(rt; none.is_none());
+    assert_eq!(rt; again.as_slice()[0].position, 1);
     Ok(())
 }
 

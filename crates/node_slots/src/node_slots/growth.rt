@@ -71,21 +71,24 @@ impl NodeSlots {
         }
     }
 
-    /// Takes back the capacity that is reserved at each end to which an edit adds something.
-    fn forget_edit(&mut self, edit: &Edit)
+    /// Takes back the capacity that is reserved at each end to which an edit adds something; at its own end only if that is not done yet.
+    fn forget_edit(&mut self, edit: &Edit, is_done: bool)
         ensures { cells self.new ≡ cells self.old }
     {
         match edit {
+            Edit::PutProxy { end, .. } if !is_done => self.forget(*end),
             Edit::Put {
                 end,
                 object,
                 opposite,
+                container: _,
                 ..
             } => {
-                self.forget(*end);
+                if !is_done {
+                    self.forget(*end);
+                }
                 self.forget_far(*object, *opposite);
             }
-            Edit::PutProxy { end, .. } => self.forget(*end),
             _ => {}
         }
     }
@@ -94,8 +97,12 @@ impl NodeSlots {
     fn forget_plan(&mut self, plan: &[Edit])
         ensures { cells self.new ≡ cells self.old }
     {
+        let mut forgotten = None;
         for edit in plan {
-            self.forget_edit(edit);
+            // Of consecutive edits of one end, the first takes back its capacity.
+            let end = edit.end();
+            self.forget_edit(edit, forgotten == Some(end));
+            forgotten = Some(end);
         }
     }
 

@@ -3,7 +3,7 @@ ghost use Rattle.std.specs.Prelude.{◌≡◌, length, map, Some, option_map, ok
 ghost use Rattle.mm_types.specs.declared.refused.Refused.TheVariants.{NoAdapter};
 ghost use Rattle.notice_chain.specs.Listed.{adapter};
 ghost use Rattle.repository.specs.Run.{Executed, change_outcome, read_outcome};
-ghost use Rattle.repository.specs.Step.{closed};
+ghost use Rattle.repository.specs.Step.{adapters_at_close};
 ghost use Rattle.repository.specs.Views.{changed_view, outcome_view};
 ghost use Rattle.repository.specs.declared.command.Command.TheVariants.{Attach, Detach, Unwatch, Watch};
 ghost use Rattle.repository.specs.Commands as commands;
@@ -153,7 +153,7 @@ impl<L: LinkStore, A: Adapter> Repository<L, A> {
     /// Gives every adapter back, in attach order: each is notified with REMOVING_ADAPTER from each of its targets, and is gone before the
     /// next adapter is notified. Takes no memory.
     pub fn close(self) -> Vec<(AdapterNo, A)>
-        ensures { map (λ b. (b.0, A.heard b.1)) result.items ≡ closed self }
+        ensures { map (λ b. (b.0, A.heard b.1)) result.items ≡ adapters_at_close self }
     {
         let Repository { adapters, .. } = self;
         adapters.close()
@@ -162,7 +162,7 @@ impl<L: LinkStore, A: Adapter> Repository<L, A> {
     /// Gives every adapter back as `close` does, for a process that is about to end. The memory of objects, values and links is not freed,
     /// since freeing it block by block takes about as long as allocating it. Takes no memory.
     pub fn close_at_exit(self) -> Vec<(AdapterNo, A)>
-        ensures { map (λ b. (b.0, A.heard b.1)) result.items ≡ closed self }
+        ensures { map (λ b. (b.0, A.heard b.1)) result.items ≡ adapters_at_close self }
     {
         let Repository {
             adapters,

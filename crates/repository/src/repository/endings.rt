@@ -37,7 +37,7 @@ impl<L: LinkStore, A: Adapter> Repository<L, A> {
             &mut self.adapters,
             &edits,
             &values,
-            &chain,
+            chain,
             spots,
             &mut self.hearers,
         ) {
@@ -65,6 +65,7 @@ impl<L: LinkStore, A: Adapter> Repository<L, A> {
 
     /// Makes a change that edits values alone. Capacity at the adapters of its notifications is reserved first; then the edits are made as
     /// their memory is taken, which is the last step that can be refused.
+    #[inline(always)]
     pub(super) fn tell_values(
         &mut self,
         answer: Answer,
@@ -74,10 +75,7 @@ impl<L: LinkStore, A: Adapter> Repository<L, A> {
         requires ready { (change : Change) × IsReady self.old [] change answer [] [] values chain }
         ensures { (change : Change) → IsReady self.old [] change answer [] [] values chain → Executed self.old (command_of [] change) (change_outcome (changed_view A.heard result)) self.new }
     {
-        let round = match self
-            .adapters
-            .round(&self.store, chain.as_slice(), &mut self.hearers)
-        {
+        let round = match self.adapters.round(&self.store, chain, &mut self.hearers) {
             Ok(round) => round,
             Err(_) => return Err(Refused::Memory),
         };

@@ -7,7 +7,7 @@ ghost use Rattle.repository.specs.declared.command.Command.TheVariants.{Load};
 ghost use Rattle.script_program.specs.Lists.{list_len_printed, list_value_printed};
 ghost use Rattle.script_program.specs.Script.{RunsCommand};
 ghost use Rattle.script_program.specs.Session.{session};
-ghost use Rattle.script_answers.specs.Turns.{printed};
+ghost use Rattle.script_answers.specs.Turns.{printed_line};
 
 use super::Interpreter;
 use crate::answers::{print_found, print_outcome, print_refusal};
@@ -39,7 +39,7 @@ impl<L: LinkStore, A: Adapter> Interpreter<L, A> {
     /// Errs only if memory is refused for the text.
     pub fn list_len(&mut self, node: Node, feature: &str) -> Result<Turn, AllocError>
         ensures kept { session self.new.repository self.new.pool ≡ session self.old.repository self.old.pool }
-        ensures text { IfOk result (λ t. printed self.new.output t ≡ list_len_printed self.old.repository node feature.now) }
+        ensures text { IfOk result (λ t. printed_line self.new.output t ≡ list_len_printed self.old.repository node feature.now) }
     {
         self.output.clear();
         let feature = feature_number(&self.repository, node, feature);
@@ -62,7 +62,7 @@ impl<L: LinkStore, A: Adapter> Interpreter<L, A> {
     /// Errs only if memory is refused for the text.
     pub fn list_value(&mut self, node: Node, feature: &str, index: u32) -> Result<Turn, AllocError>
         ensures kept { session self.new.repository self.new.pool ≡ session self.old.repository self.old.pool }
-        ensures text { IfOk result (λ t. printed self.new.output t ≡ list_value_printed self.old.repository node feature.now index) }
+        ensures text { IfOk result (λ t. printed_line self.new.output t ≡ list_value_printed self.old.repository node feature.now index) }
     {
         self.output.clear();
         let feature = feature_number(&self.repository, node, feature);
@@ -88,7 +88,7 @@ impl<L: LinkStore, A: Adapter> Interpreter<L, A> {
     ///
     /// Errs only if memory is refused for the text; then no contract determines the state of the interpreter.
     pub fn load(&mut self, resource: ResourceNo, document: &[u8]) -> Result<Turn, AllocError>
-        ensures { IfOk result (λ t. RunsCommand (session self.old.repository self.old.pool) (Load resource document.now) (printed self.new.output t)
+        ensures { IfOk result (λ t. RunsCommand (session self.old.repository self.old.pool) (Load resource document.now) (printed_line self.new.output t)
             (session self.new.repository self.new.pool)) }
     {
         self.output.clear();

@@ -6,7 +6,7 @@ import { byId, element, icon, iconButton } from './dom.mjs';
 const SECONDS = 8; // that a message stays
 
 /**
- * Says something short. What is wrong is read at once.
+ * Shows a short message. A screen reader reads an error at once.
  * @param {string} text
  * @param {boolean} [isWrong]
  */
@@ -20,7 +20,7 @@ export function say(text, isWrong = false) {
 }
 
 /**
- * Does something, and says it if it is refused.
+ * Does something, and shows a message if it is refused.
  * @template T
  * @param {() => Promise<T>} does
  * @returns {Promise<T | undefined>}
@@ -35,7 +35,7 @@ export async function attempt(does) {
 }
 
 /**
- * A dialog with a title. Its content is put in by the caller.
+ * A dialog with a title. The caller adds the content.
  * @param {string} title
  * @param {string} [kind] a class of its element
  * @returns {{box: HTMLDialogElement, body: HTMLElement, foot: HTMLElement}}
@@ -71,7 +71,7 @@ export function confirm(title, lines, yes) {
 }
 
 /**
- * Asks for what a form has. It stays open until what is typed is accepted.
+ * Asks for the values of a form. The dialog stays open until they are accepted.
  * @param {string} title
  * @param {HTMLElement[]} fields
  * @param {string} yes
@@ -98,7 +98,7 @@ export function fill(title, fields, yes, send) {
 }
 
 /**
- * Shows lines.
+ * Shows a list of lines.
  * @param {string} title
  * @param {string} first
  * @param {string[]} lines

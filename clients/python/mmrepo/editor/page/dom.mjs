@@ -1,5 +1,5 @@
 // @ts-check
-/** Elements of the page. A text is always put in as a text, and never read as HTML. */
+/** Makes elements of the page. A text always becomes a text node, and is never read as HTML. */
 
 const SVG = 'http://www.w3.org/2000/svg';
 
@@ -29,7 +29,7 @@ const ICONS = {
 };
 
 /**
- * Makes an element. A property that begins with `on` is a listener, any other one an attribute; one that is undefined or false is left out.
+ * Makes an element. A property that begins with `on` is a listener, any other property an attribute; undefined and false are left out.
  * @param {string} tag
  * @param {Record<string, any>} [properties]
  * @param {...(Node | string | null | undefined | false)} children
@@ -57,7 +57,7 @@ export function drawn(tag, properties = {}, ...children) {
 }
 
 /**
- * Gives properties to an element.
+ * Sets properties of an element.
  * @param {Element} made
  * @param {Record<string, any>} properties
  */
@@ -94,7 +94,7 @@ export function counted(count) {
 }
 
 /**
- * An icon, which says nothing to a reader.
+ * An icon, which a screen reader skips.
  * @param {string} name
  * @returns {SVGElement}
  */
@@ -103,7 +103,7 @@ export function icon(name) {
 }
 
 /**
- * A button with an icon alone, whose label is read.
+ * A button that shows only an icon; a screen reader reads its label.
  * @param {string} name
  * @param {string} label
  * @param {(event: MouseEvent) => void} press

@@ -6,8 +6,8 @@ const EDGE = 24; // pixels at the edge of a list in which it scrolls
 const STEP = 12; // pixels of a scroll
 
 /**
- * What is dragged, and where to: `grab` gives it from the element where the pointer went down, or null; `over` shows where it would go, or
- * nothing if it is given null; `drop` puts it there.
+ * What can be dragged, and where it can be dropped. `grab` returns the dragged thing for the element at which the pointer went down, or
+ * null; `over` shows where it would go, or nothing for null; `drop` puts it there.
  * @template T, P
  * @typedef {object} Dragging
  * @property {(from: Element) => {what: T, label: string} | null} grab
@@ -16,7 +16,7 @@ const STEP = 12; // pixels of a scroll
  */
 
 /**
- * Has things in an element be dragged.
+ * Makes things in an element draggable.
  * @template T, P
  * @param {HTMLElement} top which scrolls
  * @param {Dragging<T, P>} dragging
@@ -83,7 +83,7 @@ function follow(top, dragging, held, down) {
 }
 
 /**
- * The label that goes with the pointer.
+ * The label that follows the pointer.
  * @param {string} label
  * @returns {HTMLElement}
  */

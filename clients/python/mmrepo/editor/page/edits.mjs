@@ -33,10 +33,10 @@ export class TreeEdits {
     });
   }
 
-  // New and gone
+  // New and deleted objects
 
   /**
-   * Offers the classes of which a node can have a child, by feature.
+   * Offers the classes of the children that a node can have, by feature.
    * @param {Id | null} [id]
    * @param {HTMLElement} [anchor]
    */
@@ -92,7 +92,7 @@ export class TreeEdits {
     }
   }
 
-  /** Deletes what is selected, after it was said how many objects go. */
+  /** Deletes the selected object, after it has said how many objects are destroyed. */
   async delete() {
     const id = this.tree.selected;
     if (typeof id !== 'number') {
@@ -114,7 +114,7 @@ export class TreeEdits {
 
   // Moving
 
-  /** Marks what is selected, so that it can be put somewhere else. */
+  /** Marks the selected object to be moved (cut). */
   mark() {
     if (typeof this.tree.selected === 'number') {
       this.tree.marked = this.tree.selected;
@@ -128,7 +128,7 @@ export class TreeEdits {
     this.tree.drawSoon();
   }
 
-  /** Puts what is marked into what is selected. */
+  /** Moves the marked object into the selected node (paste). */
   put() {
     const { marked, selected } = this.tree;
     if (typeof marked === 'number' && selected !== null) {
@@ -138,7 +138,7 @@ export class TreeEdits {
   }
 
   /**
-   * Moves what is selected up or down among its siblings.
+   * Moves the selected object up or down among its siblings.
    * @param {number} step
    */
   async shift(step) {
@@ -162,7 +162,7 @@ export class TreeEdits {
   }
 
   /**
-   * Puts an object somewhere. If several features of the container take it, it is asked which.
+   * Moves an object to a place. If several features of the container can take it, the user is asked for one.
    * @param {number} what
    * @param {Place} place
    */
@@ -214,7 +214,7 @@ export class TreeEdits {
   }
 
   /**
-   * Shows where an object would go, and gives that: before or after a row at its edges, else into it.
+   * Shows where a dragged object would go, and returns that place: at the edges of a row before or after it, otherwise into it.
    * @param {number} what
    * @param {PointerEvent | null} event
    * @returns {Place | null}

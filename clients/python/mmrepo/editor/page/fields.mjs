@@ -32,7 +32,7 @@ export function fieldOf(row) {
   return row.model.metamodel.enums.has(feature.type) ? new ChoiceField(row) : new TextField(row);
 }
 
-/** A text or a number. What is typed is kept until it is accepted. */
+/** A text or a number. The typed text is kept until it is accepted. */
 class TextField {
   /** @param {Row} row */
   constructor(row) {
@@ -59,7 +59,7 @@ class TextField {
     }
   }
 
-  /** Is as high as its lines. */
+  /** Makes the field as high as its lines. */
   fit() {
     this.input.tagName === 'TEXTAREA' && (this.input.rows = Math.min(12, this.input.value.split('\n').length));
   }
@@ -69,7 +69,7 @@ class TextField {
     this.fit();
   }
 
-  /** Sends what is typed. What is typed in the meantime stays, and is sent later. */
+  /** Sends the typed text. A text that is typed in the meantime stays, and is sent later. */
   async send() {
     const sent = this.input.value;
     if (this.isTyped && (await this.row.edit('set', { value: sent })) && this.input.value === sent) {
@@ -140,7 +140,7 @@ class ChoiceField {
   }
 }
 
-/** An object, a proxy, or nothing. What contains, and what leads to the container, is changed in the tree. */
+/** An object, a proxy, or null. Containments and container references are changed in the tree. */
 class ReferenceField {
   /** @param {Row} row */
   constructor(row) {
@@ -191,7 +191,7 @@ export function pickButton(row, shown, label, verb) {
 }
 
 /**
- * A value of a reference: an object, to which it goes, or a proxy, which it resolves.
+ * A value of a reference: an object, which a click selects, or a proxy, which a click resolves.
  * @param {Row} row
  * @param {number | string} value
  * @param {number} at

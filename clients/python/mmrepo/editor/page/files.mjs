@@ -1,5 +1,5 @@
 // @ts-check
-/** Files: saving, new ones, and XMI and documents that come in and go out. */
+/** Files: saving, new files, and import and export of XMI and documents. */
 
 import { byId, element, option } from './dom.mjs';
 import { attempt, confirm, fill, say, showLines } from './dialogs.mjs';
@@ -37,7 +37,7 @@ export class Files {
     this.update();
   }
 
-  /** Marks that something is not saved. */
+  /** Marks the files that have unsaved edits. */
   update() {
     const { size } = this.model.changed;
     byId('save').classList.toggle('primary', size > 0);
@@ -46,7 +46,7 @@ export class Files {
   }
 
   /**
-   * Saves what has changed. What is in the way is shown, and overcome if it can be and that is wanted.
+   * Saves the changed files. Shows what prevents it, and saves by force if that is possible and the user wants it.
    * @param {boolean} force
    */
   async save(force) {
@@ -82,14 +82,14 @@ export class Files {
     });
   }
 
-  /** A Refused if there is no folder. */
+  /** Throws a Refused if there is no folder. */
   check() {
     if (this.folders.length === 0) {
       throw new Refused('NO_FOLDER', 'No folder is open: start the editor with one, as: python3 -m mmrepo edit META FOLDER');
     }
   }
 
-  /** Takes a file in. */
+  /** Imports a file. */
   takeIn() {
     const file = element('input', { id: 'file-in', type: 'file', accept: this.hasEcore ? undefined : '.json' });
     const kinds = this.hasEcore ? 'An XMI file, or a document (.json)' : 'A document (.json). For XMI start the editor with --ecore FILE';
@@ -107,7 +107,7 @@ export class Files {
     });
   }
 
-  /** Gives a file out, which the browser saves. */
+  /** Exports a file, which the browser saves. */
   giveOut() {
     const path = this.selectedFile();
     const kind = element('select', { id: 'kind' }, this.hasEcore && option('xmi', 'XMI'), option('json', 'document (.json)'));

@@ -9,7 +9,7 @@ import { HEIGHT } from './tree.mjs';
 const SECONDS = 0.8; // within which letters belong together
 
 /**
- * Has a tree go by keys. The keys that edit are those of `edits`.
+ * Moves through a tree by keys. The keys that edit call `edits`.
  * @param {Tree} tree
  * @param {Record<string, () => void>} edits
  */
@@ -45,7 +45,7 @@ export function goByKeys(tree, edits) {
 }
 
 /**
- * The name of a key with what is held down.
+ * The name of a key with its modifiers.
  * @param {KeyboardEvent} event
  * @returns {string}
  */
@@ -54,7 +54,7 @@ function named(event) {
 }
 
 /**
- * The rows of a page.
+ * The number of rows that fit on the screen.
  * @param {Tree} tree
  * @returns {number}
  */
@@ -76,7 +76,7 @@ function inward(tree, at) {
 }
 
 /**
- * Closes a row, or goes to what contains it.
+ * Closes a row, or goes to its container.
  * @param {Tree} tree
  * @param {number} at
  * @returns {number | void}
@@ -90,7 +90,7 @@ function outward(tree, at) {
 }
 
 /**
- * Goes to the next row that begins with the letters that were typed. Of the rows that were not seen the label is not known.
+ * Goes to the next row whose label begins with the typed letters. The labels of rows that were never visible are not known.
  * @param {Tree} tree
  * @param {KeyboardEvent} event
  * @returns {boolean} whether the key was a letter

@@ -1,7 +1,7 @@
 // @ts-check
 /**
- * Lays boxes out in layers: what is above, and what contains, comes first. Lines that pass a layer have a point there. The order in a layer
- * follows the neighbours, and so do the places.
+ * Lays boxes out in layers: supertypes and containers come first. A line that passes a layer has a point there. The order in a layer, and
+ * the positions, follow the neighbours.
  */
 
 /** @typedef {import('./mermaid.mjs').Picture} Picture */
@@ -51,7 +51,7 @@ export function layOut(picture, sizes) {
 }
 
 /**
- * Turns lines that would close a circle.
+ * Reverses lines that would close a cycle.
  * @param {number} count
  * @param {number[][]} ends
  * @returns {{from: number, to: number, isTurned: boolean}[]}
@@ -83,7 +83,7 @@ function downward(count, ends) {
 }
 
 /**
- * Puts each box below all that lines lead from.
+ * Puts each box into a layer below all boxes from which lines lead to it.
  * @param {Spot[]} spots
  * @param {{from: number, to: number}[]} lines
  */
@@ -101,7 +101,7 @@ function setLayers(spots, lines) {
 }
 
 /**
- * Adds a point for each layer that a line passes. Gives the spots of each line.
+ * Adds a point for each layer that a line passes. Returns the points of each line.
  * @param {Spot[]} spots
  * @param {{from: number, to: number}[]} lines
  * @returns {number[][]}
@@ -123,7 +123,7 @@ function addPoints(spots, lines) {
 }
 
 /**
- * The spots of each layer.
+ * The boxes and points of each layer.
  * @param {Spot[]} spots
  * @param {Set<number>} lone
  * @returns {number[][]}
@@ -140,7 +140,7 @@ function inLayers(spots, lone) {
 }
 
 /**
- * Orders each layer by the middle of the neighbours on a side.
+ * Orders each layer by the middle of the neighbours in the layer above or below.
  * @param {number[][]} layers
  * @param {Spot[]} spots
  * @param {'up' | 'down'} side
@@ -157,7 +157,7 @@ function order(layers, spots, side) {
 }
 
 /**
- * The middle of some spots.
+ * The middle of some boxes and points.
  * @param {number[]} some
  * @param {Spot[]} spots
  * @returns {number | null}
@@ -167,7 +167,7 @@ function middle(some, spots) {
 }
 
 /**
- * Gives each spot its place: in its order, as near to its neighbours as it can be.
+ * Gives each box and point its position: in its order, as near to its neighbours as possible.
  * @param {number[][]} layers
  * @param {Spot[]} spots
  */
@@ -194,7 +194,7 @@ function setPlaces(layers, spots) {
 }
 
 /**
- * Pulls the spots of a layer to their neighbours, and then apart from each other: from the left, from the right, and half way between.
+ * Moves the boxes and points of a layer to their neighbours, and then apart: from the left, from the right, and to the middle of both.
  * @param {number[]} layer
  * @param {Spot[]} spots
  * @param {'up' | 'down'} side
@@ -214,8 +214,8 @@ function pull(layer, spots, side) {
 }
 
 /**
- * Gives each line its own place at the lower side of the box that it begins at, and at the upper side of the one where it ends, in the order
- * in which its next points are.
+ * Gives each line its own position at the lower side of its first box and at the upper side of its last box, in the order of the next
+ * points.
  * @param {number[][]} chains
  * @param {Spot[]} spots
  * @returns {Point[][]}
@@ -244,7 +244,7 @@ function setPorts(chains, spots) {
 }
 
 /**
- * Puts boxes without lines in columns on the right of the others. Gives the whole size.
+ * Puts boxes without lines in columns on the right of the others. Returns the size of the diagram.
  * @param {Spot[]} lone
  * @param {number} width of the others
  * @param {number} height of the others

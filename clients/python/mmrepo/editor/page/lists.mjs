@@ -10,7 +10,7 @@ import { pickButton, valueElement } from './fields.mjs';
 
 const SOME = 50; // values that are shown, and that each press of `more` shows further
 
-/** A list: its values, each with what moves it and takes it out, and what adds one. @implements {Field} */
+/** A list: its values, each with buttons that move and remove it, and a field that adds a value. @implements {Field} */
 export class ListField {
   /** @param {Row} row */
   constructor(row) {
@@ -91,7 +91,7 @@ export class ListField {
     return this.row.edit('move', words);
   }
 
-  // What adds a value
+  // Adding a value
 
   /** What adds an object. @returns {HTMLElement} */
   picks() {
@@ -114,7 +114,7 @@ export class ListField {
     return element('div', { class: 'adding' }, this.input, add);
   }
 
-  /** Sends what is typed. It comes back if it is refused, unless more was typed in the meantime. */
+  /** Sends the typed text. If it is refused, the field gets the text back, unless something was typed in the meantime. */
   async send() {
     const typed = this.input.value;
     const isText = this.input.tagName === 'INPUT';
@@ -128,7 +128,7 @@ export class ListField {
   // Dragging
 
   /**
-   * The value at a grip.
+   * The value of a grip.
    * @param {Element} from
    * @returns {{what: number, label: string} | null}
    */
@@ -138,7 +138,7 @@ export class ListField {
   }
 
   /**
-   * Shows where a value would go, and gives the index.
+   * Shows where a dragged value would go, and returns the index.
    * @param {number} at
    * @param {PointerEvent | null} event
    * @returns {number | null}

@@ -1,5 +1,5 @@
 // @ts-check
-/** The page: joins its parts, and receives the events. */
+/** The page: makes its parts, and receives the events. */
 
 import { byId, element } from './dom.mjs';
 import { showLines } from './dialogs.mjs';
@@ -16,7 +16,7 @@ import { showVerified, verify } from './verify.mjs';
 /** @typedef {import('./model.mjs').Id} Id */
 
 /**
- * Joins the parts of the page.
+ * Makes the parts of the page.
  * @param {any} start what the server says at first
  */
 function begin(start) {
@@ -48,7 +48,7 @@ function begin(start) {
 }
 
 /**
- * Says whether the server is there.
+ * Shows whether the server answers.
  * @param {'open' | 'waiting' | 'lost' | 'ended'} state
  */
 function connected(state) {
@@ -64,7 +64,7 @@ function connected(state) {
 }
 
 /**
- * Offers what could not be opened.
+ * Offers a list of what could not be opened.
  * @param {string[]} lines
  */
 function findings(lines) {
@@ -73,7 +73,7 @@ function findings(lines) {
   byId('findings').replaceChildren(element('button', { type: 'button', class: 'small', onclick: show }, says));
 }
 
-/** Has the border between the tree and the properties be moved, by a pointer and by keys. */
+/** Makes the border between the tree and the properties movable, by pointer and by keys. */
 function splitter() {
   const bar = byId('splitter');
   const set = (/** @type {number} */ part) => {

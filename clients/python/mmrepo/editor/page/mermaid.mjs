@@ -2,12 +2,12 @@
 /** Reads the class diagrams of `tools/diagram`, which are Mermaid. */
 
 /**
- * A box, as the tool writes it.
+ * A box of a diagram.
  * @typedef {{name: string, title: string, above: string, rows: string[]}} Box
  */
 
 /**
- * A line between two boxes: inherits, contains, refers, or both; with what is at its ends.
+ * A line between two boxes: inheritance, containment or reference; with the texts at its ends.
  * @typedef {{kind: 'inherits' | 'contains' | 'refers' | 'both', from: string, to: string, near: string, far: string, label: string}} Line
  */
 
@@ -51,7 +51,7 @@ export function readMermaid(text) {
 }
 
 /**
- * A text with the characters that are written by number.
+ * A text in which characters that are written by number are decoded.
  * @param {string} text
  * @returns {string}
  */

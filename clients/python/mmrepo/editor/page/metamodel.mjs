@@ -68,7 +68,7 @@ export class Metamodel {
   }
 
   /**
-   * The features of a class that contain.
+   * The containment features of a class.
    * @param {string | null} name
    * @returns {Feature[]}
    */
@@ -85,7 +85,7 @@ export class Metamodel {
   }
 
   /**
-   * Whether an object of a class may be where one of another class is wanted.
+   * Whether an object of a class can be used as an object of another class.
    * @param {string} name
    * @param {string} wanted empty for any class
    * @returns {boolean}
@@ -103,7 +103,7 @@ export class Metamodel {
   }
 
   /**
-   * The classes whose objects may be where one of a class is wanted, by name.
+   * The classes that conform to a class, by name.
    * @param {string} wanted
    * @returns {string[]}
    */

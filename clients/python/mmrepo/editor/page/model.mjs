@@ -1,5 +1,5 @@
 // @ts-check
-/** What this window knows of the model: what it has asked for once, kept by notifications alone. */
+/** What this window knows of the model: nodes that it has asked for once, and has kept up to date by notifications alone. */
 
 import { call } from './server.mjs';
 import { Metamodel } from './metamodel.mjs';
@@ -14,7 +14,7 @@ import { Metamodel } from './metamodel.mjs';
 /** @typedef {{resource: string, name: string, uri: string, folder: number | null}} File */
 
 /**
- * What a node has that is not the default. `number` is the event after which it was asked for.
+ * The values of a node other than defaults. `number` is the last event before the answer.
  * @typedef {object} State
  * @property {string | null} class null for a resource
  * @property {Record<string, any>} values
@@ -66,10 +66,10 @@ export class Model {
     this.users = [];
   }
 
-  // What is asked
+  // Asking the server
 
   /**
-   * What a node has. If it is not known, it is asked for, and the listeners are called when it came.
+   * The state of a node. If it is not known, the node is asked for, and the listeners are called when the answer comes.
    * @param {Id} id
    * @returns {State | undefined}
    */
@@ -84,7 +84,7 @@ export class Model {
     return found;
   }
 
-  /** Asks for what is wanted. */
+  /** Asks for the nodes that are wanted. */
   async ask() {
     const ids = [...this.wanted].slice(0, TOGETHER);
     this.pending += 1;
@@ -108,7 +108,7 @@ export class Model {
   }
 
   /**
-   * Takes what was asked for, and what has happened to it since.
+   * Takes the answer for some nodes, and replays the later events on them.
    * @param {Id[]} ids
    * @param {any} found
    */
@@ -132,7 +132,7 @@ export class Model {
     this.hearers.forEach((hear) => hear(came, null));
   }
 
-  /** Forgets nodes that are not seen, if there are many. */
+  /** Forgets nodes that are not visible, if there are many. */
   forget() {
     if (this.nodes.size > MOST) {
       const seen = new Set(this.users.flatMap((use) => [...use()]));
@@ -149,7 +149,7 @@ export class Model {
   // Events
 
   /**
-   * Takes an event in.
+   * Handles an event.
    * @param {Event} event
    */
   hear(event) {
@@ -172,7 +172,7 @@ export class Model {
   }
 
   /**
-   * Replays an event at all nodes that were asked for before it, or at some of them. Gives those that it has touched.
+   * Replays an event on all nodes that were asked for before it, or on some of them. Returns the nodes that it has changed.
    * @param {Event} event
    * @param {Set<Id> | null} only
    * @returns {Set<Id>}
@@ -209,7 +209,7 @@ export class Model {
   }
 
   /**
-   * Follows what leaves a container, and what gets one.
+   * Follows objects that leave a container, and objects that get one.
    * @param {Notice} notice
    * @param {(id: Id) => State | undefined} at
    */
@@ -227,10 +227,10 @@ export class Model {
     }
   }
 
-  // What is known
+  // Known nodes
 
   /**
-   * What a node has under a feature, its default included.
+   * The value of a feature of a node; its default if it has no value.
    * @param {State} state
    * @param {Feature} feature
    * @returns {any}
@@ -285,7 +285,7 @@ export class Model {
 }
 
 /**
- * Changes the one end that a notification names, as docs/ADAPTERS.md says. One that can't be true is passed over.
+ * Changes the end that a notification names, as docs/ADAPTERS.md says. A notification that can't be true is skipped.
  * @param {State} state
  * @param {Feature} feature
  * @param {Notice} notice

@@ -1,15 +1,15 @@
 // @ts-check
-/** A list from which one thing is picked, filtered as one types: the combobox pattern of ARIA. */
+/** A list from which one choice is picked, filtered by the typed text: the combobox pattern of ARIA. */
 
 import { badge, change, counted, element } from './dom.mjs';
 
 /**
- * Something to pick: its label, its class if it has one, and a text after it.
+ * A choice: its label, its class if it has one, and a text after it.
  * @typedef {{label: string, class?: string | null, more?: string, value: any}} Choice
  */
 
 /**
- * Gives what there is to pick for a text, and how many more there are.
+ * Returns the choices for a text, and how many more there are.
  * @typedef {(text: string) => Promise<{choices: Choice[], count: number}>} Source
  */
 
@@ -57,7 +57,7 @@ class Picker {
     this.ask();
   }
 
-  /** Puts the box beside its anchor, inside of the window. */
+  /** Puts the box beside its anchor, within the window. */
   position() {
     const at = this.anchor.getBoundingClientRect();
     const { offsetWidth: width, offsetHeight: height } = this.box;
@@ -66,7 +66,7 @@ class Picker {
     this.box.style.top = `${Math.max(8, Math.min(below ? at.bottom + 4 : at.top - height - 4, innerHeight - height - 8))}px`;
   }
 
-  /** Asks for what there is to pick. An answer that comes too late is left out. */
+  /** Asks for the choices. An answer that comes too late is dropped. */
   async ask() {
     this.asked += 1;
     const number = this.asked;
@@ -135,7 +135,7 @@ class Picker {
 }
 
 /**
- * A source of choices that are known.
+ * A source of known choices.
  * @param {Choice[]} choices
  * @returns {Source}
  */

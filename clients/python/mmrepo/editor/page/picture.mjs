@@ -1,5 +1,5 @@
 // @ts-check
-/** Pictures of the metamodel and of objects: the text of `tools/diagram` as SVG. */
+/** Draws the metamodel and objects: the text of `tools/diagram` as SVG. */
 
 import { drawn, element, icon, iconButton, option } from './dom.mjs';
 import { attempt, makeDialog } from './dialogs.mjs';
@@ -64,7 +64,7 @@ function widthOf(text, isBold = false) {
 }
 
 /**
- * The size of a box: as large as its texts need, and the lines at its upper and lower side.
+ * The size of a box: what its texts need, and what the lines at its upper and lower side need.
  * @param {Box} box
  * @param {Line[]} lines
  * @returns {{width: number, height: number}}
@@ -102,7 +102,7 @@ function drawBox(box, at, press) {
 }
 
 /**
- * A line, and its label with what is at its ends.
+ * A line with its label and the texts at its ends.
  * @param {Line} line
  * @param {Point[]} points
  * @param {Map<string, Spot>} places
@@ -165,7 +165,7 @@ function markers() {
   return drawn('defs', {}, marker('inherits', 'M2 1L18 6L2 11z'), diamond, marker('refers', 'M8 1L18 6L8 11'));
 }
 
-/** A dialog with pictures of the metamodel and of what is selected. */
+/** A dialog with diagrams of the metamodel and of the selection. */
 export class Pictures {
   /**
    * @param {import('./model.mjs').Model} model
@@ -208,7 +208,7 @@ export class Pictures {
     return this.draw();
   }
 
-  /** Draws what is chosen. */
+  /** Draws the chosen diagram. */
   async draw() {
     const isSelection = this.what.value === 'selected';
     this.around.hidden = isSelection;
@@ -231,7 +231,7 @@ export class Pictures {
     }
   }
 
-  /** Has the picture be as large as the window, and not larger than it is. */
+  /** Scales the diagram to the window, and never above its own size. */
   fit() {
     const box = /** @type {any} */ (this.picture)?.viewBox.baseVal;
     box && this.scale(Math.min(1, (this.room.clientWidth - 8) / box.width, Math.max(0.35, (this.room.clientHeight - 8) / box.height)));

@@ -1,5 +1,5 @@
 // @ts-check
-/** The properties of what is selected: a field for each feature. */
+/** The properties of the selected node: a field for each feature. */
 
 import { badge, element, icon, iconButton } from './dom.mjs';
 import { call } from './server.mjs';
@@ -11,7 +11,7 @@ import { ListField } from './lists.mjs';
 /** @typedef {import('./metamodel.mjs').Feature} Feature */
 
 /**
- * What shows the values of a feature and changes them.
+ * A field: shows the values of a feature, and changes them.
  * @typedef {object} Field
  * @property {HTMLElement} element
  * @property {() => void} update shows what the feature has now
@@ -75,7 +75,7 @@ export class Properties {
     }
   }
 
-  /** Shows what the node has now. Fields that are there stay, with what is typed in them. */
+  /** Shows the present values of the node. The fields stay, with the text that is typed in them. */
   update() {
     const { id } = this;
     const state = id === null ? undefined : this.model.need(id);
@@ -122,7 +122,7 @@ export class Properties {
   }
 }
 
-/** A feature of the node: its name, its field, what is wrong with it, and what was refused. */
+/** A feature of the node: its name, its field, its problems, and the last refusal. */
 export class Row {
   /**
    * @param {Properties} panel
@@ -168,7 +168,7 @@ export class Row {
     return state ? this.model.get(state, this.feature) : this.feature.many ? [] : null;
   }
 
-  /** Shows what the feature has now. */
+  /** Shows the present values of the feature. */
   update() {
     const state = this.model.nodes.get(this.id);
     if (!state) {
@@ -184,7 +184,7 @@ export class Row {
   }
 
   /**
-   * Does something to the feature. A refusal is shown here.
+   * Makes an edit of the feature, and shows its refusal here.
    * @param {string} name
    * @param {Record<string, any>} [words]
    * @returns {Promise<boolean>} whether it was done
@@ -223,7 +223,7 @@ function typeText(feature) {
 }
 
 /**
- * In which way a feature has fewer values than it should.
+ * How a feature has fewer values than its lower bound, in words.
  * @param {Feature} feature
  * @param {any} value
  * @returns {string}

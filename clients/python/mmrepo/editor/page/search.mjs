@@ -40,7 +40,7 @@ export class Search {
     this.search();
   }
 
-  /** Shows what has the text and the class. */
+  /** Shows the objects that have the text and the class. */
   async search() {
     clearTimeout(this.timer);
     const words = { text: this.text.value, class: this.kind.value || null };

@@ -1,7 +1,7 @@
 // @ts-check
-/** The server: calls, and the events that it sends. */
+/** The server: makes calls, and receives its events. */
 
-/** A call that is refused: `name` says for which reason, and `message` says it in words. */
+/** A refused call: `name` is the name of the refusal, and `message` its reason in words. */
 export class Refused extends Error {
   /**
    * @param {string} name
@@ -14,7 +14,7 @@ export class Refused extends Error {
 }
 
 /**
- * Asks the server for something, or to do it. A Refused comes if it refuses.
+ * Makes a call, and returns its answer. Throws a Refused if the server refuses it.
  * @param {string} name
  * @param {Record<string, any>} [words]
  * @returns {Promise<any>}
@@ -36,7 +36,7 @@ export async function call(name, words = {}) {
 }
 
 /**
- * Receives the events after one.
+ * Receives the events after the event of a number.
  * @param {number} after
  * @param {(event: any) => void} hear
  * @param {(is: 'open' | 'waiting' | 'lost' | 'ended') => void} tell

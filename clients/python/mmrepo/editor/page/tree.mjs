@@ -1,5 +1,5 @@
 // @ts-check
-/** The tree of all resources. Of its rows only those that are seen are elements of the page. */
+/** The tree of all resources. The page has elements only for the visible rows. */
 
 import { badge, change, element, icon, iconButton } from './dom.mjs';
 import { CONTENTS } from './metamodel.mjs';
@@ -9,7 +9,7 @@ import { CONTENTS } from './metamodel.mjs';
 /** @typedef {import('./metamodel.mjs').Feature} Feature */
 
 /**
- * A row: a node, its level, and where it is.
+ * A row: a node, its level, and its feature and index in its container.
  * @typedef {object} Row
  * @property {Id} id
  * @property {number} level
@@ -71,7 +71,7 @@ export class Tree {
   }
 
   /**
-   * Is called with the nodes that have changed. The rows are made again if a node that is open came, or has different parts.
+   * Is called with the nodes that have changed. Makes the rows again if an open node has arrived, or has different contents.
    * @param {Set<Id>} touched
    * @param {import('./model.mjs').Event | null} event
    */
@@ -84,7 +84,7 @@ export class Tree {
     isDifferent ? this.change() : this.drawSoon();
   }
 
-  /** Has the rows made again, before they are drawn the next time. */
+  /** Lets the rows be made again before they are drawn next. */
   change() {
     this.isStale = true;
     this.drawSoon();
@@ -101,7 +101,7 @@ export class Tree {
     }
   }
 
-  /** Makes the list of all rows of nodes that are open. The rows that there are get new values, since there may be very many. */
+  /** Makes the list of the rows of all open nodes. Existing row objects are used again, since there may be very many. */
   remake() {
     this.isStale = false;
     const { files } = this.model;
@@ -129,9 +129,9 @@ export class Tree {
     this.rows.length = count;
   }
 
-  // What is drawn
+  // Drawing
 
-  /** Draws the rows that are seen. An element stays as long as it shows what its row is. */
+  /** Draws the visible rows. An element stays as long as it shows what its row has. */
   draw() {
     if (this.isStale) {
       this.remake();
@@ -155,7 +155,7 @@ export class Tree {
   }
 
   /**
-   * The element of a row: the one that there is, if it shows the same.
+   * The element of a row: the present one, if it shows the same.
    * @param {Row} row
    * @param {number} at its number from the top
    * @param {Drawn | undefined} before
@@ -218,7 +218,7 @@ export class Tree {
     return made;
   }
 
-  // What is selected
+  // The selection
 
   /**
    * Selects a node, and brings its row into sight.
@@ -240,7 +240,7 @@ export class Tree {
   }
 
   /**
-   * Opens all that is above a node, and selects it.
+   * Opens all nodes above a node, and selects it.
    * @param {Id[]} path the nodes from the resource down to it
    */
   async reveal(path) {
@@ -273,7 +273,7 @@ export class Tree {
   }
 
   /**
-   * The row at which an event is.
+   * The row at which an event of the pointer happened.
    * @param {Event} event
    * @returns {Row | undefined}
    */
@@ -283,7 +283,7 @@ export class Tree {
   }
 
   /**
-   * A click opens or closes a node at its mark, and selects it elsewhere; there a second one opens or closes it.
+   * A click on the mark of a row opens or closes its node, and a click elsewhere selects the node; a double click there opens or closes it.
    * @param {MouseEvent} event
    */
   press(event) {

@@ -1,5 +1,5 @@
 // @ts-check
-/** Asks for everything once, and compares it with what this window knows by notifications. */
+/** Asks for all nodes again, and compares them with what this window knows by notifications. */
 
 import { call } from './server.mjs';
 import { counted, element } from './dom.mjs';
@@ -14,7 +14,7 @@ const TRIES = 20; // at a part of the model that others edit at the same time
 const MOST = 20; // differences that are listed
 
 /**
- * What differs, and how much was compared.
+ * The differences, and how much was compared.
  * @typedef {{nodes: number, values: number, objects: number, differences: string[]}} Verified
  */
 
@@ -37,7 +37,7 @@ export async function verify(model) {
 }
 
 /**
- * Compares some nodes, at a moment at which the window has received all events up to the answer.
+ * Compares some nodes, when the window has received all events up to the answer.
  * @param {Model} model
  * @param {Id[]} ids
  * @param {Verified} done

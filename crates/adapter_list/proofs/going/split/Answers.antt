@@ -2,8 +2,8 @@ use Rattle.std.proofs.Common.{◌≡◌, ◌≤◌, ◌<◌, ◌+◌, ◌-◌, �
 use Rattle.std.proofs.lemmas.Grind.{common_steps}
 use Rattle.std.proofs.lemmas.List.{map-append, take_all}
 use Rattle.mm_types.specs.declared.numbers.AdapterNo.{AdapterNo}
-use Rattle.notice_chain.specs.Released.{leaving}
-use Rattle.adapter_list.specs.Attached.{listed, views_of}
+use Rattle.notice_chain.specs.Released.{leaving_adapters}
+use Rattle.adapter_list.specs.Attached.{listed_adapters, views_of}
 use Rattle.adapter_list.proofs.SplitLemmas.{bare, front-taken, has, leaving-gone, leaving-kept, leaving_of, turn, turn-all, turn-gone, turn-kept}
 use Rattle.adapter_list.proofs.going.split.Goals as goal
 
@@ -59,7 +59,7 @@ loop-left-init g c =
     let xs = c.from_vec-waiting.result.items in
     let all : xs ≡ c.args.attached.items = c.from_vec-waiting.ensures.items in
     let count : c.len-left.result ≡ length xs = omega (arith, c.len-left.ensures, c.from_vec-waiting.ensures.len, ap (λ ys. length ys) all) in
-    let whole : leaving_of heard c.len-left.result xs ≡ leaving (listed heard c.args.attached.items) = ap (λ ys. leaving (listed heard ys)) (take_all c.len-left.result xs (omega (arith, count)) ∙ all) in
+    let whole : leaving_of heard c.len-left.result xs ≡ leaving_adapters (listed_adapters heard c.args.attached.items) = ap (λ ys. leaving_adapters (listed_adapters heard ys)) (take_all c.len-left.result xs (omega (arith, count)) ∙ all) in
     record {
       many = omega (arith, count);
       room = omega (arith, c.requires.released_room, ap (λ vs. length vs) whole);

@@ -156,13 +156,12 @@ read_members-returns-in_err-name-clause-syntax t c refused =
 
 pub read_members-returns-in_err-member-clause-syntax : goal.read_members-returns-in_err-member-clause-syntax
 read_members-returns-in_err-member-clause-syntax t c refused =
-    let p = value c.args.depth in
     let l = c.members in
     let (found, n, enough, far, near, base, members_are, items_are) = l.invariant in
     let k = c.in-Some.name.now in
     let s = c.next_key.new.self in
     let named : read_key l.reader ≡ Some (Some k, s) = grind arith in
-    far ∙ member_refused p (members_view found) n k l.reader s named (c.read.ensures.syntax (grind arith))
+    far ∙ member_refused (value c.args.depth) (members_view found) n k l.reader s named (c.read.ensures.syntax (grind arith))
 
 pub read_members-members-preserved : goal.read_members-members-preserved
 read_members-members-preserved t c =

@@ -1,5 +1,5 @@
 use Rattle.std.proofs.Common.{◌≡◌, map, take}
-use Rattle.mm_values.specs.declared.edit.ValueEdit.TheVariants.{DropObject}
+use Rattle.mm_values.specs.declared.value_edit.ValueEdit.TheVariants.{DropObject}
 use Rattle.change_plans.proofs.edits.drop_each.Given as goal
 
 -- the edits of the objects so far

@@ -1,5 +1,5 @@
 use Rattle.std.proofs.Common.{◌≡◌, IfOk, List, subst}
-use Rattle.mm_values.specs.declared.edit.ValueEdit.{ValueEdit}
+use Rattle.mm_values.specs.declared.value_edit.ValueEdit.{ValueEdit}
 use Rattle.models.specs.Model.{reading}
 use Rattle.handshake.proofs.RemovalLemmas.{dropped}
 use Rattle.change_plans.proofs.edits.value_edits.Goals as goal

@@ -7,7 +7,7 @@ use Rattle.models.specs.Reading.{Reading}
 use Rattle.removal.specs.TreeLinkEnds.{link_end}
 use Rattle.removal.specs.declared.link_end.LinkEnd.{LinkEnd}
 use Rattle.handshake.specs.Displaced.{counter_link_end, link_end_in}
-use Rattle.handshake.specs.Edits.{cut_of, joining}
+use Rattle.handshake.specs.Edits.{cut_of, joining_edits}
 use Rattle.change_plans.specs.Joining.{edits_by}
 use Rattle.proxies.specs.Proxies.{end_of}
 use Rattle.change_plans.specs.declared.joining.Joint.{Joint}
@@ -16,15 +16,15 @@ use Rattle.change_plans.proofs.resolving_all.push_edits.Goals as goal
 -- the cuts, and then the puts
 pushed : (r : Reading) (j : Joint) (e : End) → e ≡ end_of j.site → (old mid : List Edit) (none ts us : List LinkEnd) (v : Option Value) → none ≡ [] → v ≡ slice_get (r.values e) j.site.index
     → ts ≡ none ++ option_to_list (option_map (link_end e) v) → us ≡ ts ++ counter_link_end r j.target → mid ≡ old ++ map cut_of us
-    → mid ++ joining r e j.site.index j.target ≡ old ++ edits_by r j
+    → mid ++ joining_edits r e j.site.index j.target ≡ old ++ edits_by r j
 pushed r j e is old mid none ts us v empty found here both cut =
     let i = j.site.index in
     let d = end_of j.site in
     let near : ts ≡ link_end_in r e i = here ∙ (λ k. empty k ++ option_to_list (option_map (link_end e) (found k))) in
     let cuts : us ≡ link_end_in r d i ++ counter_link_end r j.target = both ∙ ap (λ (xs : List LinkEnd). xs ++ counter_link_end r j.target) (near ∙ ap (λ (y : End). link_end_in r y i) is) in
-    ap (λ (y : End). mid ++ joining r y i j.target) is
-    ∙ ap (λ (xs : List Edit). xs ++ joining r d i j.target) (cut ∙ ap (λ (xs : List LinkEnd). old ++ map cut_of xs) cuts)
-    ∙ append_assoc old (map cut_of (link_end_in r d i ++ counter_link_end r j.target)) (joining r d i j.target)
+    ap (λ (y : End). mid ++ joining_edits r y i j.target) is
+    ∙ ap (λ (xs : List Edit). xs ++ joining_edits r d i j.target) (cut ∙ ap (λ (xs : List LinkEnd). old ++ map cut_of xs) cuts)
+    ∙ append_assoc old (map cut_of (link_end_in r d i ++ counter_link_end r j.target)) (joining_edits r d i j.target)
 
 pub returns : goal.returns
 returns g c =

@@ -4,7 +4,7 @@ use Rattle.borrowed_json.specs.View.{members_view, view}
 use Rattle.doc_parts.specs.FoundParts.{parts_at, parts_under}
 use Rattle.doc_parts.specs.Parts.{parts_from}
 use Rattle.doc_parts.specs.Keys.{key_of}
-use Rattle.doc_parts.proofs.WalkLemmas.{added_known, child, features_next, finds_after, finds_as, finds_nothing, finds_then, no_class_entries, no_feature_entries, no_parts_at, ok_more, parts_at_some, values_next, walked_known, walked_nothing, walks_below}
+use Rattle.doc_parts.proofs.WalkLemmas.{added_known, child, features_next, finds_after, finds_as, finds_nothing, finds_then, no_class_entries, no_feature_entries, no_parts_at, ok_more, parts_at_some, values_next, walked_childless, walked_known, walked_nothing, walks_below}
 use Rattle.doc_parts.proofs.walk.+walk.Goals as goal
 
 pub walk-returns-in-Some-features : goal.walk-returns-in-Some-features
@@ -14,6 +14,12 @@ walk-returns-in-Some-features t c =
     (omega (arith, c.if-levels-eq0.false)) (added_known c.args.meta.now _ _ (key_of c.args.key) c.args.level (view c.args.json.now) _ c.in_ok-part.part c.known-seen.ensures c.in_ok-part.ensures)
     (let e = c.in-Some.ensures.1 in omega (arith, e)) (ap (option_map (λ k. (k.0, members_view k.1.now))) (sym c.in-Some-seen.is) ∙ c.known-seen.ensures) c.in-Some-features.ensures)
     c.walk_features.ensures
+
+pub walk-returns-then-not-has_containment : goal.walk-returns-then-not-has_containment
+walk-returns-then-not-has_containment t c =
+    walked_childless c.args.meta.now c.args.levels (c.args.levels - 1) _ _ (key_of c.args.key) c.args.level (view c.args.json.now) _ c.in-Some-seen.class (members_view c.in-Some-seen.members.now) (omega (arith, c.if-levels-eq0.false))
+    (added_known c.args.meta.now _ _ (key_of c.args.key) c.args.level (view c.args.json.now) _ c.in_ok-part.part c.known-seen.ensures c.in_ok-part.ensures)
+    (ap (option_map (λ k. (k.0, members_view k.1.now))) (sym c.in-Some-seen.is) ∙ c.known-seen.ensures) (sym c.has_containment.ensures ∙ c.if-not-has_containment.true)
 
 pub walk-returns-in-None-features : goal.walk-returns-in-None-features
 walk-returns-in-None-features t c =

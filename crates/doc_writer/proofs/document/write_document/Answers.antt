@@ -8,7 +8,7 @@ use Rattle.serde_json.specs.View.{items_of}
 use Rattle.doc_writer.specs.Added.{Adds}
 use Rattle.doc_writer.specs.Document.{document, object_data}
 use Rattle.fragment_paths.specs.Finding.{roots}
-use Rattle.doc_writer.proofs.AddedLemmas.{keyed, two-added}
+use Rattle.doc_writer.proofs.AddedLemmas.{keyed, two_members-added}
 use Rattle.doc_writer.proofs.document.write_document.Goals as goal
 
 pub returns : goal.returns
@@ -20,5 +20,5 @@ returns g c =
     let opened : c.begin_object.new.self.tokens ≡ c.args.out.now.tokens ++ begin_object ∷ [] = search rules in
     let named : c.key.new.self.tokens ≡ c.write_format.new.out.tokens ++ key (codes "roots") ∷ [] = search rules in
     let listed = subst (λ os. Adds (value os) c.key.new.self c.write_roots.new.out) c.requires.roots c.in_ok-write_roots.ensures in
-    two-added c.end_object.result (codes "format") (codes "roots") (number (unsigned DOCUMENT_FORMAT)) (value (roots r k)) c.args.out.now c.begin_object.new.self c.write_format.new.out c.write_roots.new.out c.end_object.new.self refl
+    two_members-added c.end_object.result (codes "format") (codes "roots") (number (unsigned DOCUMENT_FORMAT)) (value (roots r k)) c.args.out.now c.begin_object.new.self c.write_format.new.out c.write_roots.new.out c.end_object.new.self refl
     c.begin_object.ensures.room.0 opened c.in_ok-write_format.ensures (keyed (codes "roots") (value (roots r k)) c.write_format.new.out c.key.new.self c.write_roots.new.out c.key.ensures.room.0 named listed) c.end_object.ensures

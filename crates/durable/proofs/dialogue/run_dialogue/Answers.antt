@@ -76,55 +76,40 @@ returns-in_err-take-clause-any_moment g c =
 
 pub returns-in_err-settle_if_full-clause-stopped : goal.returns-in_err-settle_if_full-clause-stopped
 returns-in_err-settle_if_full-clause-stopped g c =
-    let read = c.in_ok-end.ensures in
-    let took = c.take.ensures in
-    let goes = goes_waited _ _ _ _ _ _ _ _ c.lines.invariant c.read_line_waiting.new.waits read.waited in
-    let some = c.is_over-over.ensures.some (search rules) in
-    let taken = goes_on _ _ _ _ _ _ _ _ goes _ c.take.new.session c.take.new.self _ _ _ c.in_ok-end.end read.ok c.as_slice.ensures.value some
-    c.as_slice-in-lines.ensures.value c.in_ok-take.ensures.ok took.disk took.writer took.at_rest in
+    let goes = goes_waited _ _ _ _ _ _ _ _ c.lines.invariant c.read_line_waiting.new.waits c.in_ok-end.ensures.waited in
+    let taken = goes_on _ _ _ _ _ _ _ _ goes _ c.take.new.session c.take.new.self _ _ _ c.in_ok-end.end c.in_ok-end.ensures.ok c.as_slice.ensures.value (c.is_over-over.ensures.some (search rules))
+    c.as_slice-in-lines.ensures.value c.in_ok-take.ensures.ok c.take.ensures.disk c.take.ensures.writer c.take.ensures.at_rest in
     let e = err_from_is_err_and c.from_residual-in_err-settle_if_full.result c.from_residual-in_err-settle_if_full.ensures.1 in
     rw (e.1, e.2) (stopped_within _ _ _ _ _ _ _ _ taken _ c.settle_if_full.new.self c.in_err-settle_if_full.ensures.stopped c.settle_if_full.ensures.any_moment)
 
 pub returns-in_err-settle_if_full-clause-long : goal.returns-in_err-settle_if_full-clause-long
 returns-in_err-settle_if_full-clause-long g c =
-    let read = c.in_ok-end.ensures in
-    let took = c.take.ensures in
-    let goes = goes_waited _ _ _ _ _ _ _ _ c.lines.invariant c.read_line_waiting.new.waits read.waited in
-    let some = c.is_over-over.ensures.some (search rules) in
-    let taken = goes_on _ _ _ _ _ _ _ _ goes _ c.take.new.session c.take.new.self _ _ _ c.in_ok-end.end read.ok c.as_slice.ensures.value some
-    c.as_slice-in-lines.ensures.value c.in_ok-take.ensures.ok took.disk took.writer took.at_rest in
+    let goes = goes_waited _ _ _ _ _ _ _ _ c.lines.invariant c.read_line_waiting.new.waits c.in_ok-end.ensures.waited in
+    let taken = goes_on _ _ _ _ _ _ _ _ goes _ c.take.new.session c.take.new.self _ _ _ c.in_ok-end.end c.in_ok-end.ensures.ok c.as_slice.ensures.value (c.is_over-over.ensures.some (search rules))
+    c.as_slice-in-lines.ensures.value c.in_ok-take.ensures.ok c.take.ensures.disk c.take.ensures.writer c.take.ensures.at_rest in
     let e = err_from_is_err_and c.from_residual-in_err-settle_if_full.result c.from_residual-in_err-settle_if_full.ensures.1 in
     rw (e.1, e.2) (λ is. absurd (never_too_long _ _ _ _ _ _ _ _ taken _ (cc is) c.settle_if_full.new.self c.in_err-settle_if_full.ensures.stopped))
 
 pub returns-in_err-settle_if_full-clause-disk : goal.returns-in_err-settle_if_full-clause-disk
 returns-in_err-settle_if_full-clause-disk g c =
-    let read = c.in_ok-end.ensures in
-    let took = c.take.ensures in
-    let goes = goes_waited _ _ _ _ _ _ _ _ c.lines.invariant c.read_line_waiting.new.waits read.waited in
-    let some = c.is_over-over.ensures.some (search rules) in
-    let taken = goes_on _ _ _ _ _ _ _ _ goes _ c.take.new.session c.take.new.self _ _ _ c.in_ok-end.end read.ok c.as_slice.ensures.value some
-    c.as_slice-in-lines.ensures.value c.in_ok-take.ensures.ok took.disk took.writer took.at_rest in
+    let goes = goes_waited _ _ _ _ _ _ _ _ c.lines.invariant c.read_line_waiting.new.waits c.in_ok-end.ensures.waited in
+    let taken = goes_on _ _ _ _ _ _ _ _ goes _ c.take.new.session c.take.new.self _ _ _ c.in_ok-end.end c.in_ok-end.ensures.ok c.as_slice.ensures.value (c.is_over-over.ensures.some (search rules))
+    c.as_slice-in-lines.ensures.value c.in_ok-take.ensures.ok c.take.ensures.disk c.take.ensures.writer c.take.ensures.at_rest in
     let e = err_from_is_err_and c.from_residual-in_err-settle_if_full.result c.from_residual-in_err-settle_if_full.ensures.1 in
     rw (e.1, e.2) (λ is. disk_fails _ _ _ _ _ _ _ _ taken _ (cc is) c.settle_if_full.new.self c.in_err-settle_if_full.ensures.stopped)
 
 pub returns-in_err-settle_if_full-clause-any_moment : goal.returns-in_err-settle_if_full-clause-any_moment
 returns-in_err-settle_if_full-clause-any_moment g c =
-    let read = c.in_ok-end.ensures in
-    let took = c.take.ensures in
-    let goes = goes_waited _ _ _ _ _ _ _ _ c.lines.invariant c.read_line_waiting.new.waits read.waited in
-    let some = c.is_over-over.ensures.some (search rules) in
-    let taken = goes_on _ _ _ _ _ _ _ _ goes _ c.take.new.session c.take.new.self _ _ _ c.in_ok-end.end read.ok c.as_slice.ensures.value some
-    c.as_slice-in-lines.ensures.value c.in_ok-take.ensures.ok took.disk took.writer took.at_rest in
+    let goes = goes_waited _ _ _ _ _ _ _ _ c.lines.invariant c.read_line_waiting.new.waits c.in_ok-end.ensures.waited in
+    let taken = goes_on _ _ _ _ _ _ _ _ goes _ c.take.new.session c.take.new.self _ _ _ c.in_ok-end.end c.in_ok-end.ensures.ok c.as_slice.ensures.value (c.is_over-over.ensures.some (search rules))
+    c.as_slice-in-lines.ensures.value c.in_ok-take.ensures.ok c.take.ensures.disk c.take.ensures.writer c.take.ensures.at_rest in
     leaves_on _ _ _ _ _ _ _ _ taken c.settle_if_full.new.self c.settle_if_full.ensures.any_moment
 
 pub lines-preserved : goal.lines-preserved
 lines-preserved g c =
-    let read = c.in_ok-end.ensures in
-    let took = c.take.ensures in
-    let goes = goes_waited _ _ _ _ _ _ _ _ c.lines.invariant c.read_line_waiting.new.waits read.waited in
-    let some = c.is_over-over.ensures.some (search rules) in
-    let taken = goes_on _ _ _ _ _ _ _ _ goes _ c.take.new.session c.take.new.self _ _ _ c.in_ok-end.end read.ok c.as_slice.ensures.value some
-    c.as_slice-in-lines.ensures.value c.in_ok-take.ensures.ok took.disk took.writer took.at_rest in
+    let goes = goes_waited _ _ _ _ _ _ _ _ c.lines.invariant c.read_line_waiting.new.waits c.in_ok-end.ensures.waited in
+    let taken = goes_on _ _ _ _ _ _ _ _ goes _ c.take.new.session c.take.new.self _ _ _ c.in_ok-end.end c.in_ok-end.ensures.ok c.as_slice.ensures.value (c.is_over-over.ensures.some (search rules))
+    c.as_slice-in-lines.ensures.value c.in_ok-take.ensures.ok c.take.ensures.disk c.take.ensures.writer c.take.ensures.at_rest in
     goes_given _ _ _ _ _ _ _ _ taken c.settle_if_full.new.self c.in_ok-settle_if_full.ensures.ok c.settle_if_full.ensures.any_moment c.settle_if_full.ensures.later
 
 -- ---- there are too many lines

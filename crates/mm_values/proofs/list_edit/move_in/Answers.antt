@@ -1,9 +1,9 @@
 use Rattle.std.proofs.Common.{◌∙◌, arith}
-use Rattle.mm_values.proofs.ListLemmas.{moved-shifted, shifted_past}
+use Rattle.mm_values.proofs.ListLemmas.{list_after_move-values_after_move, shifted_past}
 use Rattle.mm_values.proofs.list_edit.move_in.Goals as goal
 
 pub returns-then-from-len-clause-items : goal.returns-then-from-len-clause-items
-returns-then-from-len-clause-items c = rw (c.min.ensures, c.len-len.ensures) at c.move_to.ensures.items ∙ moved-shifted c.args.list.now.items c.args.to c.args.from (omega arith)
+returns-then-from-len-clause-items c = rw (c.min.ensures, c.len-len.ensures) at c.move_to.ensures.items ∙ list_after_move-values_after_move c.args.list.now.items c.args.to c.args.from (omega arith)
 
 pub returns-else-from-len-clause-items : goal.returns-else-from-len-clause-items
 returns-else-from-len-clause-items c = shifted_past c.args.list.now.items c.args.to c.args.from (omega arith)

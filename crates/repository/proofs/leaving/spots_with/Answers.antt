@@ -2,7 +2,7 @@ use Rattle.std.proofs.Common.{◌≡◌, ◌++◌, ℕ, List, [], ap, get_or, sl
 use Rattle.std.specs.Option.{option_map_or}
 use Rattle.std.specs.List.{flat_map}
 use Rattle.std.proofs.lemmas.List.{append-nil}
-use Rattle.adapter_list.specs.Hearing.{touched}
+use Rattle.adapter_list.specs.Hearing.{touched_indexes}
 use Rattle.notice_chain.specs.Listed.{Listed}
 use Rattle.notice_chain.specs.Released.{Spot, is_gone_at, spots_of}
 use Rattle.removal.specs.Ranks.{is_in}
@@ -28,4 +28,4 @@ returns g c =
     let rs : List Listed = c.args.adapters.now.0 in
     let f : ℕ → List Spot = λ k. option_map_or (spots_of (is_gone_at (is_in c.args.removal.now.numbers))) (slice_get rs k) [] in
     spots-end f ks c.loop-ordinal.ordinal-index c.loop-ordinal.spots.items (flat_map f ks) c.loop-ordinal-test.false c.loop-ordinal.invariant
-    ∙ ap (flat_map f) (c.deref-ordinal-items.ensures.value ∙ c.in_ok-places.ensures ∙ ap (λ os. touched os rs) c.deref.ensures.value) ∙ gone-spots (c.requires.0) c.args.removal.now rs c.requires.1
+    ∙ ap (flat_map f) (c.deref-ordinal-items.ensures.value ∙ c.in_ok-places.ensures ∙ ap (λ os. touched_indexes os rs) c.deref.ensures.value) ∙ gone-spots (c.requires.0) c.args.removal.now rs c.requires.1

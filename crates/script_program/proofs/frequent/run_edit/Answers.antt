@@ -1,13 +1,10 @@
-use Rattle.std.proofs.Common.{◌≡◌, None, Ok, true, refl}
-use Rattle.std.proofs.lemmas.List.Elements.{All-nil}
+use Rattle.std.proofs.Common.{◌≡◌, None, true, refl}
 use Rattle.mm_types.specs.declared.numbers.Node.TheVariants as node
-use Rattle.notice_chain.specs.Listed.{Listed}
 use Rattle.repository.specs.Run.{read_outcome}
 use Rattle.notice_chain.specs.View.{View}
 use Rattle.repository.specs.Commands.{set, add}
 use Rattle.repository.specs.declared.command.Command.{Command}
 use Rattle.repository.specs.declared.reply.Answer.TheVariants as answer
-use Rattle.script_program.specs.Pool.{box_of}
 use Rattle.script_program.specs.Script.{RunsCommand, command_printed}
 use Rattle.script_program.specs.Session.{Session, session}
 use Rattle.script_program.proofs.SessionLemmas.{adds-run, unheard-pool}
@@ -29,9 +26,8 @@ returns-in-Ok-clause-ok g c =
 -- nothing was done before
 pub returns-in-Err-clause-ok : goal.returns-in-Err-clause-ok
 returns-in-Err-clause-ok g c =
-    let pool = c.args.pool.now in
     rw (c.in-Set.is, ← c.bound-value.ensures.value, ← c.bound-value.ensures.feature)
-    (rw (c.in-Err.ensures.left.0, c.in-Err.ensures.left.1) at (c.run_command.ensures.ok pool refl (All-nil (λ (a : Listed). box_of pool a.no ≡ Ok a.view))))
+    (rw (c.in-Err.ensures.left.0, c.in-Err.ensures.left.1) at c.run_set.ensures.ok)
 
 pub returns-in-Ok-add_unheard-clause-ok : goal.returns-in-Ok-add_unheard-clause-ok
 returns-in-Ok-add_unheard-clause-ok g c =
@@ -48,9 +44,8 @@ returns-in-Ok-add_unheard-clause-ok g c =
 
 pub returns-in-Err-add_unheard-clause-ok : goal.returns-in-Err-add_unheard-clause-ok
 returns-in-Err-add_unheard-clause-ok g c =
-    let pool = c.args.pool.now in
     rw (c.in-Add.is, ← c.bound-value.ensures.value, ← c.bound-value.ensures.feature)
-    (rw (c.in-Err-add_unheard.ensures.left.0, c.in-Err-add_unheard.ensures.left.1) at (c.run_command-in-Err-add_unheard.ensures.ok pool refl (All-nil (λ (a : Listed). box_of pool a.no ≡ Ok a.view))))
+    (rw (c.in-Err-add_unheard.ensures.left.0, c.in-Err-add_unheard.ensures.left.1) at c.run_add.ensures.ok)
 
 -- ---- what is left if the answer could not be added
 
@@ -64,7 +59,7 @@ returns-in-Ok-clause-left g c =
 pub returns-in-Err-clause-left : goal.returns-in-Err-clause-left
 returns-in-Err-clause-left g c =
     rw (c.in-Set.is, ← c.bound-value.ensures.value, ← c.bound-value.ensures.feature)
-    (rw (c.in-Err.ensures.left.0, c.in-Err.ensures.left.1) at (c.run_command.ensures.left c.args.pool.now))
+    (rw (c.in-Err.ensures.left.0, c.in-Err.ensures.left.1) at c.run_set.ensures.left)
 
 pub returns-in-Ok-add_unheard-clause-left : goal.returns-in-Ok-add_unheard-clause-left
 returns-in-Ok-add_unheard-clause-left g c =
@@ -76,4 +71,4 @@ returns-in-Ok-add_unheard-clause-left g c =
 pub returns-in-Err-add_unheard-clause-left : goal.returns-in-Err-add_unheard-clause-left
 returns-in-Err-add_unheard-clause-left g c =
     rw (c.in-Add.is, ← c.bound-value.ensures.value, ← c.bound-value.ensures.feature)
-    (rw (c.in-Err-add_unheard.ensures.left.0, c.in-Err-add_unheard.ensures.left.1) at (c.run_command-in-Err-add_unheard.ensures.left c.args.pool.now))
+    (rw (c.in-Err-add_unheard.ensures.left.0, c.in-Err-add_unheard.ensures.left.1) at c.run_add.ensures.left)

@@ -1,7 +1,7 @@
 use Rattle.std.proofs.Common.{◌≡◌, ◌∙◌, Err, Some, ap, inl}
 use Rattle.std.proofs.lemmas.Result.{on_ok_weaker}
 use Rattle.std.specs.Io.Buffered.{reader_remaining}
-use Rattle.journal.specs.Lines.{recovered}
+use Rattle.journal.specs.Lines.{recovered_lines}
 use Rattle.script_program.specs.Kept.{model_of, session_of}
 use Rattle.script_program.proofs.DurableLemmas.{leaves_weaker}
 use Rattle.script_program.proofs.KeptRunLemmas.{ends_kept, leaves_both, stops_kept}

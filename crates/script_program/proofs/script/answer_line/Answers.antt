@@ -4,7 +4,7 @@ use Rattle.script_lines.specs.Forms.{form}
 use Rattle.script_lines.specs.Source.{bytes_of}
 use Rattle.script_program.specs.Script.{RunsLine}
 use Rattle.script_program.specs.Session.{session}
-use Rattle.script_answers.specs.Turns.{printed}
+use Rattle.script_answers.specs.Turns.{printed_line}
 use Rattle.script_program.proofs.LeftLemmas.{unanswered}
 use Rattle.script_program.proofs.script.answer_line.Goals as goal
 
@@ -13,10 +13,10 @@ returns-in_err-write_dressed-clause-err g c =
     let line = rw c.clear.ensures at c.in-Ok.ensures.ok in
     let e = err_from_is_err_and c.from_residual.result c.from_residual.ensures.1 in
     rw e.1 (inr (record {
-      printed = printed c.run_line.new.output c.in-Ok.turn;
+      printed = printed_line c.run_line.new.output c.in-Ok.turn;
       after = session c.run_line.new.repository c.run_line.new.pool;
       left = refl;
-      ran = subst (λ (x : List ℕ). RunsLine (session c.args.repository.now c.args.pool.now) (form (bytes_of c.args.source)) (printed x c.in-Ok.turn) (session c.run_line.new.repository c.run_line.new.pool)) (sym line.added) line.said;
+      ran = subst (λ (x : List ℕ). RunsLine (session c.args.repository.now c.args.pool.now) (form (bytes_of c.args.source)) (printed_line x c.in-Ok.turn) (session c.run_line.new.repository c.run_line.new.pool)) (sym line.added) line.said;
       written = rw (c.as_bytes-line.ensures, c.as_bytes.ensures) at c.in_err-write_dressed.ensures.err;
     }))
 

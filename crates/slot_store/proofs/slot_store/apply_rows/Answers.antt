@@ -2,7 +2,7 @@ use Rattle.std.proofs.Common.{List, [], ◌∷◌, ◌∙◌, sym, ap, subst}
 use Rattle.std.specs.Vec.Iter.{into_iter_items}
 use Rattle.links.specs.declared.plan.Edit.{Edit}
 use Rattle.links.specs.Links.{Links}
-use Rattle.links.specs.Plans.{HasPlanOfKind, PlanFits, applied}
+use Rattle.links.specs.Plans.{HasPlanOfKind, PlanFits, links_after_edits}
 use Rattle.node_slots.specs.Cells.{Room, room}
 use Rattle.node_slots.specs.Growth.{HasRoom}
 use Rattle.slot_store.specs.CellLinks.{IsStoreOfKind, store_links}
@@ -54,5 +54,5 @@ loop-edit-preserved c =
       fits = edit_fits t u kept x rest fits kind now;
       kind = edit_kind t u kept x rest fits kind now;
       room = room_rest (room t) (room u) x rest has c.edit_rows.ensures.room;
-      rest = edit_rest t u kept x rest fits kind now ∙ ap (λ (ls : Links). applied ls (x ∷ rest)) same ∙ ap (λ (es : List Edit). applied (store_links s) es) (sym steps) ∙ v.rest;
+      rest = edit_rest t u kept x rest fits kind now ∙ ap (λ (ls : Links). links_after_edits ls (x ∷ rest)) same ∙ ap (λ (es : List Edit). links_after_edits (store_links s) es) (sym steps) ∙ v.rest;
     }

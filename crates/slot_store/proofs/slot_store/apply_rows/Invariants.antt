@@ -1,6 +1,6 @@
 use Rattle.std.proofs.Common.{◌≡◌}
 use Rattle.std.specs.Vec.Iter.{into_iter_items}
-use Rattle.links.specs.Plans.{HasPlanOfKind, PlanFits, applied}
+use Rattle.links.specs.Plans.{HasPlanOfKind, PlanFits, links_after_edits}
 use Rattle.node_slots.specs.Cells.{room}
 use Rattle.node_slots.specs.Growth.{HasRoom}
 use Rattle.slot_store.specs.CellLinks.{IsStore, IsStoreOfKind, store_links}
@@ -15,5 +15,5 @@ invariant-loop-edit l = record {
   fits : PlanFits (store_links l.rows) (into_iter_items l.edit-iterator);
   kind : HasPlanOfKind (IsStoreOfKind l.rows) (into_iter_items l.edit-iterator);
   room : HasRoom (room l.rows) (into_iter_items l.edit-iterator);
-  rest : applied (store_links l.rows) (into_iter_items l.edit-iterator) ≡ applied (store_links l.fn.rows) l.fn.plan;
+  rest : links_after_edits (store_links l.rows) (into_iter_items l.edit-iterator) ≡ links_after_edits (store_links l.fn.rows) l.fn.plan;
 }

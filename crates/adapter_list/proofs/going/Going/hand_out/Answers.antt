@@ -2,7 +2,7 @@ use Rattle.std.proofs.Common.{◌≡◌, refl, ap, sym, subst, ◌∙◌, arith,
 use Rattle.std.specs.List.{IsDistinct}
 use Rattle.std.proofs.lemmas.List.{length-map}
 use Rattle.notice_chain.specs.Listed.{same_no}
-use Rattle.notice_chain.specs.Released.{staying}
+use Rattle.notice_chain.specs.Released.{staying_adapters}
 use Rattle.adapter_list.specs.Attached.{numbers_of}
 use Rattle.adapter_list.proofs.SplitLemmas.{has, stays}
 use Rattle.adapter_list.proofs.going.Going.hand_out.Goals as goal
@@ -40,4 +40,4 @@ invariant_of-self g c =
 pub returns-clause-others : goal.returns-clause-others
 returns-clause-others g c =
     let stay = stays c.self.invariant c.split.result.items (c.split.ensures.stay ∙ ap (λ v. filter (has g.A.Adapter.heard) v.items) c.replace-attached.ensures.value) in
-    stay.now ∙ ap staying c.self.view_is
+    stay.now ∙ ap staying_adapters c.self.view_is

@@ -4,20 +4,20 @@ use Rattle.mm_types.specs.Same.{same_node}
 use Rattle.mm_types.specs.declared.numbers.Node.{Node}
 use Rattle.mm_types.specs.declared.numbers.Node.TheVariants as node
 use Rattle.notice_chain.specs.Listed.{HasDistinctTargets, HaveTargets, is_target}
-use Rattle.notice_chain.specs.Released.{removing, told_of_leaving, without}
+use Rattle.notice_chain.specs.Released.{adapters_without_target, removing_notice, told_of_leaving}
 use Rattle.notice_chain.specs.View.{hear}
-use Rattle.adapter_list.specs.Attached.{listed, listed_one}
+use Rattle.adapter_list.specs.Attached.{listed_adapters, listed_one}
 use Rattle.adapter_list.specs.declared.attached.Attached.{Attached}
 use Rattle.adapter_list.specs.Targets.{IsOnce, entries_in, is_any}
 use Rattle.adapter_list.specs.Detached.{last_told}
-use Rattle.adapter_list.proofs.GoingLemmas.{absent, going, listed-put, no-spot, some-target, standing, told-none, told-one, without-none, once-of}
+use Rattle.adapter_list.proofs.GoingLemmas.{absent, going, listed_adapters-put, no-spot, some-target, standing, told-none, told-one, adapters_without_target-none, once-of}
 use Rattle.adapter_list.proofs.ListedLemmas.{AreReady-at, AreReady-set, numbers_of-set}
 use Rattle.adapter_list.proofs.MarkLemmas.{mark-removed, mark-room}
 use Rattle.adapter_list.proofs.TableLemmas.{is_any-some}
 use Rattle.adapter_list.proofs.going.Going.let_go.Goals as goal
 
 pub returns-in_err-ordinal-clause-others : goal.returns-in_err-ordinal-clause-others
-returns-in_err-ordinal-clause-others g c = without-none c.args.node c.args.no c.args.self.now (absent c.args.node c.args.no c.args.self.now c.in_err-ordinal.ensures.ordinal)
+returns-in_err-ordinal-clause-others g c = adapters_without_target-none c.args.node c.args.no c.args.self.now (absent c.args.node c.args.no c.args.self.now c.in_err-ordinal.ensures.ordinal)
 
 pub returns-in_err-ordinal-clause-told : goal.returns-in_err-ordinal-clause-told
 returns-in_err-ordinal-clause-told g c =
@@ -27,7 +27,7 @@ returns-in_err-ordinal-clause-told g c =
 pub returns-in_err-index-clause-others : goal.returns-in_err-index-clause-others
 returns-in_err-index-clause-others g c =
     let rs = c.args.self.now in
-    without-none c.args.node c.args.no rs (no-spot c.self.invariant rs c.self.view_is c.args.node c.args.no c.in_err-index.ensures)
+    adapters_without_target-none c.args.node c.args.no rs (no-spot c.self.invariant rs c.self.view_is c.args.node c.args.no c.in_err-index.ensures)
 
 pub returns-in_err-index-clause-told : goal.returns-in_err-index-clause-told
 returns-in_err-index-clause-told g c =
@@ -81,7 +81,7 @@ returns-clause-others g c =
     let after : Attached g.row.A.Denot = record { no = one.no; targets = c.drop_target.new.targets; adapter = c.notify_changed.new.self } in
     let stands = standing c.self.invariant rs seen c.args.node c.args.no c.in_ok-ordinal.ordinal c.in_ok-index.index c.in_ok-ordinal.ensures.ordinal c.in_ok-ordinal.ensures.within c.in_ok-index.ensures in
     let goes = going c.self.invariant rs seen c.args.node c.args.no c.in_ok-ordinal.ordinal c.in_ok-index.index stands one c.index_mut-one.ensures.value after refl c.drop_target.ensures (c.notify_changed.ensures.view ∙ ap (hear (heard one.adapter)) c.last_notice.ensures) in
-    goes.others ∙ ap (without (c.args.no, c.args.node)) seen
+    goes.others ∙ ap (adapters_without_target (c.args.no, c.args.node)) seen
 
 pub returns-clause-told : goal.returns-clause-told
 returns-clause-told g c =
@@ -89,8 +89,8 @@ returns-clause-told g c =
     let seen = c.self.view_is in
     let items = c.self.inside.attached.items in
     let stands = standing c.self.invariant rs seen c.args.node c.args.no c.in_ok-ordinal.ordinal c.in_ok-index.index c.in_ok-ordinal.ensures.ordinal c.in_ok-ordinal.ensures.within c.in_ok-index.ensures in
-    ap (λ n. (c.args.no, n) ∷ []) (c.last_notice-2.ensures ∙ ap (removing c.args.no c.args.node) stands.index_is)
-    ∙ told-one [] (is_target c.args.no c.args.node (listed g.A.Adapter.heard items)) _ stands.there ∙ ap (told_of_leaving (c.args.no, c.args.node)) seen
+    ap (λ n. (c.args.no, n) ∷ []) (c.last_notice-2.ensures ∙ ap (removing_notice c.args.no c.args.node) stands.index_is)
+    ∙ told-one [] (is_target c.args.no c.args.node (listed_adapters g.A.Adapter.heard items)) _ stands.there ∙ ap (told_of_leaving (c.args.no, c.args.node)) seen
 
 pub returns-clause-some : goal.returns-clause-some
 returns-clause-some g c = λ kept some.
@@ -98,7 +98,7 @@ returns-clause-some g c = λ kept some.
     let items = c.self.inside.attached.items in
     let after : Attached g.row.A.Denot = record { no = c.index_mut-one.result.now.no; targets = c.drop_target.new.targets; adapter = c.notify_changed.new.self } in
     let left : 0 < length c.drop_target.new.targets.items = search rules in
-    subst HaveTargets (sym (listed-put heard items c.in_ok-ordinal.ordinal after)) (All-set (λ r. 0 < length r.targets) (listed heard items) c.in_ok-ordinal.ordinal (listed_one heard after) left (subst HaveTargets (sym c.self.view_is) some))
+    subst HaveTargets (sym (listed_adapters-put heard items c.in_ok-ordinal.ordinal after)) (All-set (λ r. 0 < length r.targets) (listed_adapters heard items) c.in_ok-ordinal.ordinal (listed_one heard after) left (subst HaveTargets (sym c.self.view_is) some))
 
 pub invariant_of-self : goal.invariant_of-self
 invariant_of-self g c =
@@ -118,7 +118,7 @@ invariant_of-self g c =
       ready = AreReady-set heard g.A.Adapter.places items c.in_ok-ordinal.ordinal after c.self.invariant.ready (record { reserve = omega (arith, ready.reserve, goes.fewer, c.notify_changed.ensures.one_place_used); countable = c.notify_changed.ensures.countable });
       numbered = c.self.invariant.numbered ∙ sym (numbers_of-set items c.in_ok-ordinal.ordinal one after c.index_mut-one.ensures.value refl);
       distinct = c.self.invariant.distinct;
-      once = subst HasDistinctTargets (sym (listed-put heard items c.in_ok-ordinal.ordinal after)) (All-set IsOnce (listed heard items) c.in_ok-ordinal.ordinal (listed_one heard after) goes.once c.self.invariant.once);
+      once = subst HasDistinctTargets (sym (listed_adapters-put heard items c.in_ok-ordinal.ordinal after)) (All-set IsOnce (listed_adapters heard items) c.in_ok-ordinal.ordinal (listed_one heard after) goes.once c.self.invariant.once);
       tied = λ y. c.remove.ensures.removed y ∙ ap (λ es. if same_node c.args.node y then remove es c.in_ok-index.index else es) (c.self.invariant.tied y) ∙ goes.tied y;
       none_empty = c.remove.ensures.none_empty c.self.invariant.none_empty;
       marked = λ o.

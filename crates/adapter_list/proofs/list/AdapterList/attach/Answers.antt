@@ -10,7 +10,7 @@ use Rattle.mm_types.specs.declared.numbers.Node.TheVariants as node
 use Rattle.mm_types.specs.declared.limits.TheConstants.{TARGETS}
 use Rattle.notice_chain.specs.Listed.{HasDistinctTargets, HaveTargets, same_no, targets_len}
 use Rattle.notice_chain.specs.declared.target.Target.{Target}
-use Rattle.adapter_list.specs.Attached.{listed, listed_one}
+use Rattle.adapter_list.specs.Attached.{listed_adapters, listed_one}
 use Rattle.adapter_list.specs.Targets.{entries, entries_in, is_any}
 use Rattle.adapter_list.specs.declared.attached.Attached.{Attached}
 use Rattle.adapter_list.specs.declared.target_lists.Entry.{Entry}
@@ -26,7 +26,7 @@ pub invariant_of-self-2 : goal.invariant_of-self-2
 invariant_of-self-2 g c =
     let heard = g.A.Adapter.heard in
     let items = c.self.inside.attached.items in
-    let rs = listed heard items in
+    let rs = listed_adapters heard items in
     let keys = c.self.inside.numbers.keys in
     let t : Target = record { node = c.args.target; deep = c.args.deep } in
     let e : Entry = record { no = c.args.no; deep = c.args.deep } in
@@ -34,7 +34,7 @@ invariant_of-self-2 g c =
     let same : c.reserve-3.new.self.items ≡ items = c.reserve-3.ensures.items in
     let pushed : c.push_reserved.new.self.items ≡ items ++ x ∷ [] = c.push_reserved.ensures.items ∙ ap (λ ys. ys ++ x ∷ []) same in
     let only : c.push_back_reserved.new.self.items ≡ t ∷ [] = c.push_back_reserved.ensures.items ∙ ap (λ ts. ts ++ t ∷ []) c.in-Ok.ensures.items in
-    let now : listed heard c.push_reserved.new.self.items ≡ rs ++ listed_one heard x ∷ [] = ap (listed heard) pushed ∙ map-append (listed_one heard) items (x ∷ []) in
+    let now : listed_adapters heard c.push_reserved.new.self.items ≡ rs ++ listed_one heard x ∷ [] = ap (listed_adapters heard) pushed ∙ map-append (listed_one heard) items (x ∷ []) in
     let ordinal : 1 ≤ g.A.Adapter.places c.reserve.new.self = grind (arith, common_steps) in
     let allowed = allowed_from_none rs c.args.no (rw (← c.self.view_is) at c.in_default.ensures) in
     let few : targets_len rs < TARGETS = allowed.0 in

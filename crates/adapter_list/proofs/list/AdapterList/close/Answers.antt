@@ -5,7 +5,7 @@ use Rattle.std.proofs.lemmas.List.Elements.{All-head}
 use Rattle.std.specs.Vec.Iter.{into_iter_items}
 use Rattle.notice_chain.specs.Listed.{Listed}
 use Rattle.notice_chain.specs.Released.{all_released}
-use Rattle.adapter_list.specs.Attached.{AreReady, IsReady, listed, views_of}
+use Rattle.adapter_list.specs.Attached.{AreReady, IsReady, listed_adapters, views_of}
 use Rattle.adapter_list.specs.declared.attached.Attached.{Attached}
 use Rattle.adapter_list.proofs.ListedLemmas.{AreReady-rest}
 use Rattle.adapter_list.proofs.ReleaseLemmas.{closed-more}
@@ -49,4 +49,4 @@ pub returns : goal.returns
 returns g c =
     let heard = g.A.Adapter.heard in
     let none : into_iter_items c.loop-one.one-iterator ≡ [] = grind (arith, common_steps) in
-    sym (append-nil (views_of heard c.loop-one.released.items)) ∙ ap (λ (xs : List (Attached g.row.A.Denot)). views_of heard c.loop-one.released.items ++ all_released (listed heard xs)) (sym none) ∙ c.loop-one.invariant.released
+    sym (append-nil (views_of heard c.loop-one.released.items)) ∙ ap (λ (xs : List (Attached g.row.A.Denot)). views_of heard c.loop-one.released.items ++ all_released (listed_adapters heard xs)) (sym none) ∙ c.loop-one.invariant.released

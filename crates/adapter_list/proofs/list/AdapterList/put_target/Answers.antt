@@ -12,7 +12,7 @@ use Rattle.adapter_list.proofs.ListedLemmas.{places_of-same, slice_index-map}
 use Rattle.adapter_list.proofs.ReleaseLemmas.{from_err, from_ok}
 use Rattle.adapter_list.proofs.TableLemmas.{on_err-all}
 use Rattle.adapter_list.proofs.TargetLemmas.{targets_at-here}
-use Rattle.adapter_list.proofs.WatchLemmas.{before-low, listed-same, listed-watched, whole-same, whole-watched}
+use Rattle.adapter_list.proofs.WatchLemmas.{before-low, listed-watched, listed_adapters-same, whole-same, whole-watched}
 use Rattle.adapter_list.proofs.list.AdapterList.put_target.Goals as goal
 
 pub insert-requires : goal.insert-requires
@@ -67,21 +67,21 @@ returns-in_err-reserve-clause-kept g c =
     let items = c.self.inside.attached.items in
     let one = c.index_mut-one.result.now in
     let after : Attached g.row.A.Denot = record { no = one.no; targets = c.reserve.new.self; adapter = one.adapter } in
-    on_err-all c.from_residual.result (listed-same g.A.Adapter.heard items c.args.ordinal one after c.index_mut-one.ensures.value refl c.reserve.ensures.items refl ∙ ap (λ v. v.0) c.self.view_is)
+    on_err-all c.from_residual.result (listed_adapters-same g.A.Adapter.heard items c.args.ordinal one after c.index_mut-one.ensures.value refl c.reserve.ensures.items refl ∙ ap (λ v. v.0) c.self.view_is)
 
 pub returns-in_err-reserve_mark-clause-kept : goal.returns-in_err-reserve_mark-clause-kept
 returns-in_err-reserve_mark-clause-kept g c =
     let items = c.self.inside.attached.items in
     let one = c.index_mut-one.result.now in
     let after : Attached g.row.A.Denot = record { no = one.no; targets = c.reserve.new.self; adapter = one.adapter } in
-    on_err-all c.from_residual-in_err-reserve_mark.result (listed-same g.A.Adapter.heard items c.args.ordinal one after c.index_mut-one.ensures.value refl c.reserve.ensures.items refl ∙ ap (λ v. v.0) c.self.view_is)
+    on_err-all c.from_residual-in_err-reserve_mark.result (listed_adapters-same g.A.Adapter.heard items c.args.ordinal one after c.index_mut-one.ensures.value refl c.reserve.ensures.items refl ∙ ap (λ v. v.0) c.self.view_is)
 
 pub returns-in_err-insert-clause-kept : goal.returns-in_err-insert-clause-kept
 returns-in_err-insert-clause-kept g c =
     let items = c.self.inside.attached.items in
     let one = c.index_mut-one.result.now in
     let after : Attached g.row.A.Denot = record { no = one.no; targets = c.reserve.new.self; adapter = one.adapter } in
-    on_err-all c.from_residual-in_err-insert.result (listed-same g.A.Adapter.heard items c.args.ordinal one after c.index_mut-one.ensures.value refl c.reserve.ensures.items refl ∙ ap (λ v. v.0) c.self.view_is)
+    on_err-all c.from_residual-in_err-insert.result (listed_adapters-same g.A.Adapter.heard items c.args.ordinal one after c.index_mut-one.ensures.value refl c.reserve.ensures.items refl ∙ ap (λ v. v.0) c.self.view_is)
 
 pub returns-in_err-reserve-clause-places : goal.returns-in_err-reserve-clause-places
 returns-in_err-reserve-clause-places g c =

@@ -1,6 +1,6 @@
 use Rattle.std.proofs.Common.{rules, ◌<◌, ◌∙◌, ap, arith, length, refl, subst, sym}
 use Rattle.std.proofs.lemmas.List.{length-map}
-use Rattle.adapter_list.proofs.ListedLemmas.{AreReady-at, AreReady-set, places_of-grow, slice_index-map_set, numbers_of-set, listed-set_same, slice_index-told}
+use Rattle.adapter_list.proofs.ListedLemmas.{AreReady-at, AreReady-set, places_of-grow, slice_index-map_set, numbers_of-set, listed_adapters-set_same, slice_index-told}
 use Rattle.notice_chain.specs.Listed.{HasDistinctTargets, HaveTargets, targets_len}
 use Rattle.adapter_list.specs.Targets.{AreTied}
 use Rattle.adapter_list.proofs.list.AdapterList.reserve_at.Goals as goal
@@ -11,7 +11,7 @@ invariant_of-self g c =
     let within : c.args.ordinal < length items = rw (length-map) at (rw (← c.self.view_is) at c.requires.within) in
     let one = AreReady-at g.A.Adapter.heard g.A.Adapter.places items _ _ c.self.invariant.sound.ready within c.index_mut-one.ensures.value in
     let more = c.reserve.ensures.no_fewer in
-    let same = listed-set_same g.A.Adapter.heard items c.args.ordinal _ _ c.index_mut-one.ensures.value (rw c.reserve.ensures.same_view) in
+    let same = listed_adapters-set_same g.A.Adapter.heard items c.args.ordinal _ _ c.index_mut-one.ensures.value (rw c.reserve.ensures.same_view) in
     record {
       sound = record {
         few = c.self.invariant.sound.few;
@@ -30,7 +30,7 @@ invariant_of-self g c =
     }
 
 pub returns-clause-kept : goal.returns-clause-kept
-returns-clause-kept g c = rw (← c.self.view_is) (listed-set_same g.A.Adapter.heard c.self.inside.attached.items _ _ _ c.index_mut-one.ensures.value (rw c.reserve.ensures.same_view))
+returns-clause-kept g c = rw (← c.self.view_is) (listed_adapters-set_same g.A.Adapter.heard c.self.inside.attached.items _ _ _ c.index_mut-one.ensures.value (rw c.reserve.ensures.same_view))
 
 pub returns-clause-ok : goal.returns-clause-ok
 returns-clause-ok g c =

@@ -4,7 +4,7 @@ use Rattle.std.specs.List.{list_any}
 use Rattle.std.specs.Ordering.{is_eq, nat_cmp}
 use Rattle.mm_types.specs.declared.numbers.Node.TheVariants as node
 use Rattle.adapter_list.specs.Targets.{is_attached_at}
-use Rattle.adapter_list.proofs.PlaceLemmas.{places-touched}
+use Rattle.adapter_list.proofs.PlaceLemmas.{places-touched_indexes}
 use Rattle.adapter_list.proofs.list.AdapterList.touched.Goals as goal
 
 pub returns : goal.returns
@@ -13,4 +13,4 @@ returns g c =
     let os = c.args.objects.now in
     let has : (k : ℕ) → contains nat_cmp c.add_objects.new.ordinals k ≡ list_any (λ o. is_attached_at rs (node.Object o) false k) os =
     λ k. c.in_ok-add_objects.ensures k ∙ ap (λ (ks : List ℕ). list_any (λ y. is_eq (nat_cmp k y)) ks || list_any (λ o. is_attached_at rs (node.Object o) false k) os) c.new-ordinals.ensures.empty in
-    c.in_ok-found.ensures.items ∙ places-touched os rs c.add_objects.new.ordinals c.in_ok-found.ensures.order has
+    c.in_ok-found.ensures.items ∙ places-touched_indexes os rs c.add_objects.new.ordinals c.in_ok-found.ensures.order has

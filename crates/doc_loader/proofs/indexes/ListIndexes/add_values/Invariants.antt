@@ -2,12 +2,12 @@ use Rattle.std.proofs.Common.{◌≡◌, drop}
 use Rattle.std.specs.Prelude.{flat_map}
 use Rattle.std.specs.List.{enumerate_from}
 use Rattle.std.specs.Option.{option_or}
-use Rattle.doc_loader.specs.ListIndexes.{last_index, index_at, placed}
+use Rattle.doc_loader.specs.ListIndexes.{last_index, index_at, key_and_index}
 use Rattle.doc_loader.specs.declared.indexes.ReferenceKey.{ReferenceKey}
 use Rattle.doc_loader.proofs.indexes.ListIndexes.add_values.Given as goal
 
 -- what is noted, and then what is left to note
 abbrev pub invariant-values : goal.invariant-values
 invariant-values l =
-    let made = placed l.object l.feature in
+    let made = key_and_index l.object l.feature in
     (k : ReferenceKey) → option_or (last_index (flat_map made (enumerate_from l.i (drop l.i l.values))) k) (index_at l.self k) ≡ option_or (last_index (flat_map made (enumerate_from 0 l.values)) k) (index_at l.initial.self k)

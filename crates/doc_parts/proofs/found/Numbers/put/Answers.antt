@@ -1,17 +1,9 @@
-use Rattle.std.proofs.Common.{◌≡◌, ◌∙◌, ap, refl}
+use Rattle.std.proofs.Common.{◌∙◌, ap}
 use Rattle.std.specs.Map.{lookup}
 use Rattle.doc_parts.specs.Keys.{is_at, key_of}
-use Rattle.doc_parts.specs.declared.found.PartKey.{PartKey}
-use Rattle.doc_parts.specs.declared.found.PartKey.TheVariants.{Root, Under}
 use Rattle.doc_parts.specs.contracts.found.PartKeyPartialEq.TheImpl.{ghosts}
-use Rattle.doc_parts.proofs.PlaceLemmas.{lookup_congr, lookup_insert}
+use Rattle.doc_parts.proofs.PlaceLemmas.{derived, lookup_congr, lookup_insert}
 use Rattle.doc_parts.proofs.found.Numbers.put.Goals as goal
-
-derived : (p q : PartKey) → ghosts.eq p q ≡ is_at (key_of p) q
-derived (Root i) (Root j) = refl
-derived (Root i) (Under n w j) = refl
-derived (Under n w i) (Root j) = refl
-derived (Under n w i) (Under k v j) = refl
 
 pub returns : goal.returns
 returns c =

@@ -1,12 +1,12 @@
 use Rattle.std.proofs.Common.{◌∙◌, ap, subst, sym}
-use Rattle.journal.specs.Lines.{AreEntries, recovered}
-use Rattle.journal.proofs.JournalLemmas.{entries_more, recovered-append-entry}
+use Rattle.journal.specs.Lines.{AreEntries, recovered_lines}
+use Rattle.journal.proofs.JournalLemmas.{entries_more, recovered_lines-append-entry}
 use Rattle.journal.proofs.journal.Journal.note.Goals as goal
 
 pub returns-in-Ok-clause-ok : goal.returns-in-Ok-clause-ok
 returns-in-Ok-clause-ok g c =
-    ap recovered c.in-Ok.ensures.ok
-    ∙ recovered-append-entry c.args.self.now.pending.items c.args.line.now c.requires.settled.pending c.requires.line
+    ap recovered_lines c.in-Ok.ensures.ok
+    ∙ recovered_lines-append-entry c.args.self.now.pending.items c.args.line.now c.requires.settled.pending c.requires.line
 
 pub returns-in-Ok-clause-settled : goal.returns-in-Ok-clause-settled
 returns-in-Ok-clause-settled g c =

@@ -3,7 +3,7 @@ use Rattle.std.specs.Vec.Iter.{into_iter_items}
 use Rattle.links.specs.declared.plan.Edit.{Edit}
 use Rattle.links.specs.LegalSets.{IsLegalSet}
 use Rattle.links.specs.Links.{Links}
-use Rattle.links.specs.Plans.{PlanFits, applied}
+use Rattle.links.specs.Plans.{PlanFits, links_after_edits}
 use Rattle.links.proofs.LegalLemmas.{edited_legal}
 use Rattle.link_store.proofs.RowLemmas.{of_rows}
 use Rattle.link_store.proofs.row_store.RowStoreLinkStore.apply.Goals as goal
@@ -24,5 +24,5 @@ loop-edit-preserved c =
       legal = subst IsLegalSet (sym now) (edited_legal s c.in-Some.edit c.loop-edit.invariant.legal fits.0);
       fits = subst (λ (t : Links). PlanFits t rest) (sym now) fits.1;
       room = omega (arith, c.edit_rows.ensures.len, c.edit_rows.ensures.capacity, c.loop-edit.invariant.room, ap length steps);
-      rest = ap (λ (t : Links). applied t rest) now ∙ ap (λ es. applied s es) (sym steps) ∙ c.loop-edit.invariant.rest;
+      rest = ap (λ (t : Links). links_after_edits t rest) now ∙ ap (λ es. links_after_edits s es) (sym steps) ∙ c.loop-edit.invariant.rest;
     }

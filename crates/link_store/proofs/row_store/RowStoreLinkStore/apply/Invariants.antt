@@ -1,7 +1,7 @@
 use Rattle.std.proofs.Common.{◌≡◌, ◌+◌, ◌≤◌, length, vec_len, vec_capacity}
 use Rattle.std.specs.Vec.Iter.{into_iter_items}
 use Rattle.links.specs.LegalSets.{IsLegalSet}
-use Rattle.links.specs.Plans.{PlanFits, applied}
+use Rattle.links.specs.Plans.{PlanFits, links_after_edits}
 use Rattle.link_store.proofs.RowLemmas.{of_rows}
 use Rattle.link_store.proofs.row_store.RowStoreLinkStore.apply.Given as goal
 
@@ -13,5 +13,5 @@ invariant-loop-edit l = record {
   legal : IsLegalSet (of_rows l.self.rows.items);
   fits : PlanFits (of_rows l.self.rows.items) (into_iter_items l.edit-iterator);
   room : vec_len l.self.rows + length (into_iter_items l.edit-iterator) ≤ vec_capacity l.self.rows;
-  rest : applied (of_rows l.self.rows.items) (into_iter_items l.edit-iterator) ≡ applied (of_rows l.fn.self.rows.items) l.fn.plan;
+  rest : links_after_edits (of_rows l.self.rows.items) (into_iter_items l.edit-iterator) ≡ links_after_edits (of_rows l.fn.self.rows.items) l.fn.plan;
 }

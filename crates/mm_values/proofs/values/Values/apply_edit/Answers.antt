@@ -1,5 +1,5 @@
 use Rattle.std.proofs.Common.{arith}
-use Rattle.mm_values.specs.declared.edit.ValueEdit.TheVariants.{NewObject, DropObject, PutList, InsertValue, RemoveValue, MoveValue, NewUri}
+use Rattle.mm_values.specs.declared.value_edit.ValueEdit.TheVariants.{NewObject, DropObject, PutList, InsertValue, RemoveValue, MoveValue, NewUri}
 use Rattle.mm_values.proofs.RoomLemmas.{insert_has_place, put_has_place, room_rest}
 use Rattle.mm_values.proofs.SlotLemmas.{kept_none, kept_same}
 use Rattle.mm_values.proofs.values.Values.apply_edit.Goals as goal

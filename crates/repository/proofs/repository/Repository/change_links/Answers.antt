@@ -1,6 +1,6 @@
 use Rattle.std.proofs.Common.{◌≡◌, [], List, length, nat_lt, ap, subst, sym}
 use Rattle.links.specs.declared.plan.Edit.{Edit}
-use Rattle.mm_values.specs.declared.edit.ValueEdit.{ValueEdit}
+use Rattle.mm_values.specs.declared.value_edit.ValueEdit.{ValueEdit}
 use Rattle.models.specs.Model.{Model}
 use Rattle.notice_chain.specs.Released.{Spot}
 use Rattle.notice_chain.specs.declared.notice.Notice.{Notice}

@@ -1,6 +1,6 @@
 use Rattle.std.proofs.Common.{◌≡◌, ◌∙◌, ◌∷◌, [], false, refl, sym, ap, subst}
 use Rattle.mm_values.specs.Room.{values_of}
-use Rattle.mm_values.specs.declared.edit.ValueEdit.TheVariants as edit
+use Rattle.mm_values.specs.declared.value_edit.ValueEdit.TheVariants as edit
 use Rattle.models.specs.Model.{Model, model_of, reading}
 use Rattle.handshake.specs.declared.change.Change.{Change}
 use Rattle.handshake.specs.declared.change.Change.TheVariants.{Create}

@@ -1,18 +1,18 @@
 use Rattle.std.proofs.Common.{◌≡◌, ◌∙◌, ◌++◌, ℕ, true, false, List, [], Option, Some, None, is_some, refl, sym, ap, subst}
-use Rattle.mm_values.specs.Values.{ValuesState, applied}
+use Rattle.mm_values.specs.Values.{ValuesState, values_after_edits}
 use Rattle.mm_values.specs.Room.{values_of}
 use Rattle.notice_chain.specs.Listed.{Listed, tell_chain, told_list}
-use Rattle.notice_chain.specs.Released.{Released, Spot, released}
+use Rattle.notice_chain.specs.Released.{Released, Spot, released_adapters}
 use Rattle.notice_chain.specs.declared.notice.Notice.{Notice}
 use Rattle.adapter_list.specs.Attached.{views_of}
 use Rattle.adapter_list.specs.Hearing.{AreKnown}
-use Rattle.adapter_list.specs.Rounds.{RoundView, delivered, round_copies}
+use Rattle.adapter_list.specs.Rounds.{RoundView, adapters_after_copies, round_copies}
 use Rattle.links.specs.Holders.{above}
 use Rattle.repository.specs.declared.leaving.Leaving.{Leaving}
-use Rattle.adapter_list.proofs.RoundLemmas.{delivered-round_copies}
+use Rattle.adapter_list.proofs.RoundLemmas.{adapters_after_copies-round_copies}
 use Rattle.links.specs.Links.{Links}
 use Rattle.links.specs.declared.plan.Edit.{Edit}
-use Rattle.mm_values.specs.declared.edit.ValueEdit.{ValueEdit}
+use Rattle.mm_values.specs.declared.value_edit.ValueEdit.{ValueEdit}
 use Rattle.links.specs.Plans as links
 use Rattle.std.specs.FinMap as map
 use Rattle.std.specs.Prelude.{if◌then◌else◌}
@@ -21,7 +21,7 @@ use Rattle.models.specs.Legal as models
 use Rattle.models.specs.Legal.{kinds_of}
 use Rattle.models.specs.Model.{Model, model_of, reading}
 use Rattle.models.specs.Steady.{HasSteadyTexts}
-use Rattle.handshake.specs.Effects.{after}
+use Rattle.handshake.specs.Effects.{model_after}
 use Rattle.handshake.specs.declared.change.Change.{Change}
 use Rattle.handshake.proofs.ProxyLemmas.{change-keeps-steady}
 use Rattle.repository.specs.Leaving.{going_with, leavers, spots_in}
@@ -30,7 +30,7 @@ use Rattle.repository.specs.declared.reply.Answer.{Answer}
 use Rattle.repository.specs.Views.{command_of}
 use Rattle.repository.specs.Repository.{KeepsFragments, state}
 use Rattle.repository.specs.State.{IsLegal, State, reads}
-use Rattle.repository.proofs.RememberedLemmas.{hearers-kept, kept-after, known-delivered}
+use Rattle.repository.proofs.RememberedLemmas.{hearers-kept, kept-after, known-adapters_after_copies}
 use Rattle.repository.proofs.PlanLemmas.{chain_err, changed_to, releases_of}
 use Rattle.repository.proofs.LegalLemmas.{stepped-legal}
 use Rattle.repository.proofs.LoadLemmas.{proper-steady}
@@ -62,15 +62,15 @@ returns g c =
     let p = seen s c.args.self.now text change c.args.answer c.args.spots.items c.args.edits c.args.values c.args.chain c.self.view_is given in
     let up = (reads s).above in
     let ns : List Notice = c.args.chain in
-    let values = c.apply-2.ensures ∙ ap (λ (v : ValuesState). applied v c.args.values) c.reserve.ensures.values ∙ p.values_made in
-    let made_links = c.apply.ensures.links ∙ ap (λ (l : Links). links.applied l c.args.edits) c.reserve.ensures.links ∙ p.links_made in
+    let values = c.apply-2.ensures ∙ ap (λ (v : ValuesState). values_after_edits v c.args.values) c.reserve.ensures.values ∙ p.values_made in
+    let made_links = c.apply.ensures.links ∙ ap (λ (l : Links). links.links_after_edits l c.args.edits) c.reserve.ensures.links ∙ p.links_made in
     let answered = p.answered in
     let rs : List Listed = c.reserve.new.adapters.0 in
     let round : RoundView = c.in-Ok.reserved.0 in
-    let delivery : delivered round.copies rs ≡ tell_chain up ns s.adapters = ap (λ (r : RoundView). delivered r.copies rs) c.in-Ok.ensures.round ∙ ap (delivered (round_copies up ns s.adapters)) c.reserve.ensures.adapters ∙ delivered-round_copies up ns s.adapters in
+    let delivery : adapters_after_copies round.copies rs ≡ tell_chain up ns s.adapters = ap (λ (r : RoundView). adapters_after_copies r.copies rs) c.in-Ok.ensures.round ∙ ap (adapters_after_copies (round_copies up ns s.adapters)) c.reserve.ensures.adapters ∙ adapters_after_copies-round_copies up ns s.adapters in
     let ss = spots_in c.in-Ok.reserved.1 in
     let go : ss ≡ going_with (reads s) s.adapters change = c.in-Ok.ensures.spots ∙ p.spots in
-    let left : leavers ss round.copies rs ≡ releases_of s change ns = λ i. released (go i) (delivery i) in
+    let left : leavers ss round.copies rs ≡ releases_of s change ns = λ i. released_adapters (go i) (delivery i) in
     let told = c.from_vec.ensures ∙ c.notify-told.ensures.told ∙ ap (λ (r : RoundView). r.told ++ (leavers ss round.copies rs).told) c.in-Ok.ensures.round ∙ ap (λ (x : Released). told_list up ns s.adapters ++ x.told) left in
     let views = ap (views_of g.A.Adapter.heard) c.from_vec-2.ensures ∙ c.notify-told.ensures.released ∙ ap (λ (x : Released). x.views) left in
     let adapters = c.notify-told.ensures.others ∙ ap (λ (x : Released). x.others) left in
@@ -103,10 +103,10 @@ invariant_of-self-2 g c =
     let edits = c.args.edits in
     let m = c.self.inside.meta in
     let w = values_of c.apply-2.new.self in
-    let applied_links = c.apply.ensures.links ∙ ap (λ (l : Links). links.applied l edits) c.reserve.ensures.links in
-    let values = c.apply-2.ensures ∙ ap (λ (v : ValuesState). applied v c.args.values) c.reserve.ensures.values ∙ p.values_made in
+    let applied_links = c.apply.ensures.links ∙ ap (λ (l : Links). links.links_after_edits l edits) c.reserve.ensures.links in
+    let values = c.apply-2.ensures ∙ ap (λ (v : ValuesState). values_after_edits v c.args.values) c.reserve.ensures.values ∙ p.values_made in
     let made_links = applied_links ∙ p.links_made in
-    let made : model_of m w (g.L.LinkStore.links c.apply.new.self) ≡ after s.model change = λ i. model_of m (values i) (made_links i) in
+    let made : model_of m w (g.L.LinkStore.links c.apply.new.self) ≡ model_after s.model change = λ i. model_of m (values i) (made_links i) in
     let legal = stepped-legal _ _ (command_of text change) _ (subst IsLegal c.self.view_is c.self.invariant.legal) (returns g c text change c.requires.ready.2) in
     let legal_after = subst (λ (l : Links). models.IsLegal (model_of m w l)) applied_links legal.model in
     record {
@@ -121,10 +121,10 @@ invariant_of-self-2 g c =
           let rs : List Listed = c.reserve.new.adapters.0 in
           let copies = c.in-Ok.reserved.0.copies in
           let known : AreKnown (above old) rs c.reserve.new.hearers = subst (λ (qs : List Listed). AreKnown (above old) qs c.reserve.new.hearers) (sym c.reserve.ensures.adapters) c.reserve.ensures.known in
-          let told = known-delivered (above old) copies rs c.reserve.new.hearers known in
-          let moved = hearers-kept m (values_of c.self.inside.values) w old edits c.self.invariant.legal.model legal_after p.fits p.of_kind (delivered copies rs) c.reserve.new.hearers told out in
+          let told = known-adapters_after_copies (above old) copies rs c.reserve.new.hearers known in
+          let moved = hearers-kept m (values_of c.self.inside.values) w old edits c.self.invariant.legal.model legal_after p.fits p.of_kind (adapters_after_copies copies rs) c.reserve.new.hearers told out in
           let nobody : spots_in c.in-Ok.reserved.1 ≡ [] = none-go c.in-Ok.reserved.1 (sym c.is_some.ensures ∙ stay) in
-          let others : c.notify-told.new.adapters.0 ≡ delivered copies rs = c.notify-told.ensures.others ∙ ap (λ (ss : List Spot). (leavers ss copies rs).others) nobody in
+          let others : c.notify-told.new.adapters.0 ≡ adapters_after_copies copies rs = c.notify-told.ensures.others ∙ ap (λ (ss : List Spot). (leavers ss copies rs).others) nobody in
           subst (λ (l : Links). AreKnown (above l) c.notify-told.new.adapters.0 c.reserve.new.hearers) (sym applied_links)
-          (subst (λ (qs : List Listed). AreKnown (above (links.applied old edits)) qs c.reserve.new.hearers) (sym others) moved));
+          (subst (λ (qs : List Listed). AreKnown (above (links.links_after_edits old edits)) qs c.reserve.new.hearers) (sym others) moved));
     }

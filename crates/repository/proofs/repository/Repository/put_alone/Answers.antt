@@ -12,7 +12,7 @@ use Rattle.models.specs.Legal.{kinds_of}
 use Rattle.models.specs.Model.{Model, model_of, reading}
 use Rattle.models.specs.Steady.{HasSteadyTexts}
 use Rattle.fragment_paths.specs.Kept.{Kept}
-use Rattle.handshake.specs.Effects.{after}
+use Rattle.handshake.specs.Effects.{model_after}
 use Rattle.handshake.specs.FeatureChanges.{destroyed_by}
 use Rattle.change_plans.specs.LonePuts.{of_put}
 use Rattle.change_plans.specs.Plans.{IsPlanOf}
@@ -93,7 +93,7 @@ invariant_of-self-2 g c =
     let new = g.L.LinkStore.links c.put.new.self in
     let is = c.in-Ok.ensures.links in
     let links = is ∙ plan.links_made in
-    let made : model_of m v new ≡ after s.model change = λ i. model_of m (plan.values_made i) (links i) in
+    let made : model_of m v new ≡ model_after s.model change = λ i. model_of m (plan.values_made i) (links i) in
     let legal = stepped-legal _ _ (command_of [] change) _ (subst IsLegal c.self.view_is c.self.invariant.legal) (returns g c change c.requires.alone.1 c.requires.alone.2) in
     let legal_after = subst (λ (l : Links). models.IsLegal (model_of m v l)) is legal.model in
     let kept = kept-after m v v old (put_edit put ∷ []) c.self.invariant.legal.model legal_after plan.fits plan.of_kind c.self.inside.paths c.self.invariant.paths in

@@ -32,10 +32,12 @@ returns-in-Err g c =
 
 pub tell_values-requires : goal.tell_values-requires
 tell_values-requires g c =
-    let asked = subst (λ (m : Model). early_refusal (reading m) (At c.args.end (Set c.args.value)) ≡ None) c.model-model.ensures (none-else_by _ _ (sym c.attribute_refusal.ensures ∙ c.in_default.is)).0 in
-    record { ready = (At c.args.end (Set c.args.value), values-ready c.args.self.now c.model-model.result (At c.args.end (Set c.args.value)) answer.Done c.model-model.ensures asked tt (λ rs text _. refl) true c.in-Ok.values c.in-Ok.chain (ap not c.requires.attribute) c.in-Ok.ensures (λ (no : true ≡ false). absurd (false≢true (sym no)))) }
+    let change : Change = At c.args.end (Set c.args.value) in
+    let asked = subst (λ (m : Model). early_refusal (reading m) change ≡ None) c.model-model.ensures (none-else_by _ _ (sym c.attribute_refusal.ensures ∙ c.in_default.is)).0 in
+    record { ready = (change, values-ready c.args.self.now c.model-model.result change answer.Done c.model-model.ensures asked tt (λ rs text _. refl) true c.in-Ok.values c.in-Ok.chain (ap not c.requires.attribute) c.in-Ok.ensures (λ (no : true ≡ false). absurd (false≢true (sym no)))) }
 
 pub returns-in-Ok : goal.returns-in-Ok
 returns-in-Ok g c =
-    let asked = subst (λ (m : Model). early_refusal (reading m) (At c.args.end (Set c.args.value)) ≡ None) c.model-model.ensures (none-else_by _ _ (sym c.attribute_refusal.ensures ∙ c.in_default.is)).0 in
-    c.tell_values.ensures (At c.args.end (Set c.args.value)) (values-ready c.args.self.now c.model-model.result (At c.args.end (Set c.args.value)) answer.Done c.model-model.ensures asked tt (λ rs text _. refl) true c.in-Ok.values c.in-Ok.chain (ap not c.requires.attribute) c.in-Ok.ensures (λ (no : true ≡ false). absurd (false≢true (sym no))))
+    let change : Change = At c.args.end (Set c.args.value) in
+    let asked = subst (λ (m : Model). early_refusal (reading m) change ≡ None) c.model-model.ensures (none-else_by _ _ (sym c.attribute_refusal.ensures ∙ c.in_default.is)).0 in
+    c.tell_values.ensures change (values-ready c.args.self.now c.model-model.result change answer.Done c.model-model.ensures asked tt (λ rs text _. refl) true c.in-Ok.values c.in-Ok.chain (ap not c.requires.attribute) c.in-Ok.ensures (λ (no : true ≡ false). absurd (false≢true (sym no))))

@@ -16,5 +16,5 @@ returns c =
     let back = to_z-of_z c.ranges.n in
     let same : 45 ∷ decimal c.unsigned_abs-2.result ≡ signed_decimal c.args.n = rw (c.unsigned_abs-2.ensures.value, back) (minus_first c.args.n (rw back at c.if-n-ge0.false)) in
     record {
-      ok = on_ok_weaker c.natural-2.result (λ h. h ∙ ap (λ x. x ++ decimal c.unsigned_abs-2.result) c.in_ok-byte.ensures.ok ∙ append_assoc c.args.self.now (45 ∷ []) (decimal c.unsigned_abs-2.result) ∙ ap (λ x. c.args.self.now ++ x) same) c.natural-2.ensures.ok;
+      ok = on_ok_weaker c.brief.result (λ h. h ∙ ap (λ x. x ++ decimal c.unsigned_abs-2.result) c.in_ok-byte.ensures.ok ∙ append_assoc c.args.self.now (45 ∷ []) (decimal c.unsigned_abs-2.result) ∙ ap (λ x. c.args.self.now ++ x) same) c.brief.ensures.ok;
     }

@@ -10,8 +10,8 @@ use Rattle.repository.specs.declared.command.Command.{Command}
 use Rattle.repository.specs.declared.command.Command.TheVariants.{Load}
 use Rattle.script_program.specs.Answers.{feature_of, outcome_text}
 use Rattle.script_program.specs.Pool.{box_of}
-use Rattle.script_answers.specs.Turns.{printed}
-use Rattle.script_program.proofs.SessionLemmas.{returned-after}
+use Rattle.script_answers.specs.Turns.{printed_line}
+use Rattle.script_program.proofs.SessionLemmas.{pool_after_return-after}
 use Rattle.script_program.proofs.interpreter.Interpreter.load.Goals as goal
 
 pub returns : goal.returns
@@ -33,6 +33,6 @@ returns g c =
     record {
       outcome = o;
       executed = executed;
-      pool = c.give_back.ensures ∙ returned-after before s t v o given executed;
-      printed = ap₂ printed text (c.turn_of-turn.ensures heard);
+      pool = c.give_back.ensures ∙ pool_after_return-after before s t v o given executed;
+      printed = ap₂ printed_line text (c.turn_of-turn.ensures heard);
     }

@@ -1,11 +1,11 @@
 use Rattle.std.proofs.Common.{arith, ap, sym, ◌∙◌}
-use Rattle.slot_lists.specs.Pieces.{joined}
+use Rattle.slot_lists.specs.Pieces.{joined_values}
 use Rattle.slot_lists.proofs.LayoutLemmas.{len-view}
 use Rattle.slot_lists.proofs.PositionLemmas.{passed-none, passed-more, passed-found, passed-within, passed-all, position-within}
 use Rattle.slot_lists.proofs.pieces.Pieces.position.Goals as goal
 
 pub loop-piece-init : goal.loop-piece-init
-loop-piece-init g c = passed-none _ _ _ (ap joined c.deref-piece-items.ensures.value ∙ ap (λ w. w.items) c.self.view_is)
+loop-piece-init g c = passed-none _ _ _ (ap joined_values c.deref-piece-items.ensures.value ∙ ap (λ w. w.items) c.self.view_is)
 
 pub overflow_add-result : goal.overflow_add-result
 overflow_add-result g c =

@@ -1,0 +1,242 @@
+//! A script is watched while it runs.
+use crate::answer::{Printed, printed_as};
+use crate::resources::resource_of;
+use crate::scene::Scene;
+use adapters::Adapter;
+use explain_scripts::{RefusedDocument, explain_bad_line, explain_document};
+use links::LinkStore;
+use mm_types::{DocFault, Refused, ResourceNo};
+use repository::Repository;
+use script_lines::{Form, Line, parse_line};
+use std::alloc::{AllocError, Global};
+use std::mem;
+use web_uris::{UriFault, joined};
+
+/// Which lines of a script are commented on.
+#[derive(Clone, Copy)]
+pub struct Talk {
+    /// Whether each bad line and each refusal is explained.
+    pub explains: bool,
+    /// Whether a person types. Then a line says what to type instead of `help`, `quit` and `exit`.
+    pub guides: bool,
+}
+
+/// What is known of a script while it runs, and the comments on its lines.
+#[derive(Drop)]
+pub struct Commentary {
+    alloc: Global,
+    talk: Talk,
+    /// The number of the last adapter that a line can attach.
+    adapters: u32,
+    /// The number of the last line that was run, from 1.
+    number: u64,
+    /// How many objects were made.
+    objects: u64,
+    /// The URIs of the resources.
+    uris: Vec<String>,
+    /// The comments that were not taken yet.
+    said: String,
+    /// Whether memory was refused. Then the URIs are not known any more, and nothing is said.
+    is_lost: bool,
+}
+
+impl Commentary {
+    /// The comments on a script that can attach adapters up to a number. Takes no memory.
+    pub fn new(alloc: Global, talk: Talk, adapters: u32) -> Self {
+        Commentary {
+            alloc,
+            talk,
+            adapters,
+            number: 0,
+            objects: 0,
+            uris: Vec::new(alloc),
+            said: String::new(alloc),
+            is_lost: false,
+        }
+    }
+
+    /// Notes that the lines of a script begin. The lines before, which a journal had kept, are not counted.
+    pub fn begin(&mut self) {
+        self.number = 0;
+    }
+
+    /// The resource of the URI that a text gives.
+    ///
+    /// Refused, the first that applies: `Memory`, also if memory was refused for the URI of a resource before, `BadUri`, `NoResource`.
+    pub fn resource_named(&self, text: &str) -> Result<ResourceNo, Refused> {
+        if self.is_lost {
+            return Err(Refused::Memory);
+        }
+        match joined(self.alloc, "", text) {
+            Ok(uri) => match resource_of(self.uris.as_slice(), uri.as_str()) {
+                Some(resource) => Ok(resource),
+                None => Err(Refused::NoResource),
+            },
+            Err(UriFault::Bad) => Err(Refused::BadUri),
+            Err(UriFault::Memory) => Err(Refused::Memory),
+        }
+    }
+
+    /// Takes the comments that were made since the last call: lines, each ended by a newline.
+    pub fn take(&mut self) -> String {
+        mem::replace(&mut self.said, String::new(self.alloc))
+    }
+
+    /// Notes a line that was run and its output, and comments on it.
+    pub fn line_was_run<L: LinkStore, A: Adapter>(
+        &mut self,
+        repository: &Repository<L, A>,
+        line: &[u8],
+        printed: &[u8],
+    ) {
+        self.number = self.number.saturating_add(1);
+        if self.is_lost {
+            return;
+        }
+        let noted = self.note(repository, line, printed_as(printed));
+        self.is_lost = noted.is_err();
+    }
+
+    /// Notes that a resource was made and loaded, as it notes the lines `resource` and `load`.
+    pub fn resource_was_loaded(&mut self, uri: &str, objects: u64) {
+        let noted = self.note_uri(uri);
+        self.is_lost = self.is_lost || noted.is_err();
+        self.objects = self.objects.saturating_add(objects);
+    }
+
+    fn note<L: LinkStore, A: Adapter>(
+        &mut self,
+        repository: &Repository<L, A>,
+        line: &[u8],
+        printed: Printed,
+    ) -> Result<(), AllocError> {
+        match printed {
+            Printed::Object(number) => {
+                self.objects = self.objects.max(u64::from(number).saturating_add(1));
+                Ok(())
+            }
+            Printed::Loaded(count) => {
+                self.objects = self.objects.saturating_add(u64::from(count));
+                Ok(())
+            }
+            Printed::Resource(number) if number as usize == self.uris.len() => {
+                self.note_resource(line)
+            }
+            Printed::Bad => self.speak_of_bad(line),
+            Printed::Refused(refused) if self.talk.explains => {
+                self.explain_line(repository, line, refused)
+            }
+            _ => Ok(()),
+        }
+    }
+
+    /// Notes the URI that a text gives.
+    fn note_uri(&mut self, text: &str) -> Result<(), AllocError> {
+        match joined(self.alloc, "", text) {
+            Ok(uri) => Ok(self.uris.push(uri)?),
+            // No resource was made of such a text.
+            Err(UriFault::Bad) => Ok(()),
+            Err(UriFault::Memory) => Err(AllocError),
+        }
+    }
+
+    /// Notes the URI of the resource that a line made.
+    fn note_resource(&mut self, line: &[u8]) -> Result<(), AllocError> {
+        match parse_line(self.alloc, line)? {
+            Line::Form(Form::Resource(text)) => self.note_uri(text.as_str()),
+            _ => Ok(()),
+        }
+    }
+
+    /// Says what is wrong with a bad line, or what to type in its place.
+    fn speak_of_bad(&mut self, line: &[u8]) -> Result<(), AllocError> {
+        if self.talk.guides
+            && let Some(advice) = advice_for(line)
+        {
+            return writeln!(self.said, "{advice}");
+        }
+        if self.talk.explains {
+            explain_bad_line(self.alloc, &mut self.said, self.number, line)?;
+        }
+        Ok(())
+    }
+
+    /// Explains why the command of a line was refused.
+    fn explain_line<L: LinkStore, A: Adapter>(
+        &mut self,
+        repository: &Repository<L, A>,
+        line: &[u8],
+        refused: Refused,
+    ) -> Result<(), AllocError> {
+        let Line::Form(form) = parse_line(self.alloc, line)? else {
+            return Ok(());
+        };
+        let prefix = format!(in self.alloc; "line {}", self.number)?;
+        let text = self.explained(repository, prefix.as_str(), &form, refused)?;
+        self.said.push_str(text.as_str())
+    }
+
+    /// Why a line of a form was refused, in lines that begin with the prefix. The repository has to be as it was then. Errs only if memory
+    /// is refused.
+    pub fn explained<L: LinkStore, A: Adapter>(
+        &self,
+        repository: &Repository<L, A>,
+        prefix: &str,
+        form: &Form<'_>,
+        refused: Refused,
+    ) -> Result<String, AllocError> {
+        let mut text = String::new(self.alloc);
+        if let Refused::Document(cause) = refused {
+            self.explain_load(&mut text, repository, prefix, form, cause)?;
+            return Ok(text);
+        }
+        let scene = Scene {
+            alloc: self.alloc,
+            prefix,
+            repository,
+            uris: self.uris.as_slice(),
+            objects: self.objects,
+            adapters: self.adapters,
+        };
+        scene.explain_refusal(&mut text, form, refused)?;
+        Ok(text)
+    }
+
+    /// Explains why the document of a line is refused.
+    fn explain_load<L: LinkStore, A: Adapter>(
+        &self,
+        out: &mut String,
+        repository: &Repository<L, A>,
+        prefix: &str,
+        form: &Form<'_>,
+        cause: DocFault,
+    ) -> Result<(), AllocError> {
+        let Form::Load { resource, text } = form else {
+            return Ok(());
+        };
+        let refused = RefusedDocument {
+            prefix,
+            uri: uri_of(self.uris.as_slice(), *resource),
+            text: text.as_str(),
+            cause,
+        };
+        explain_document(self.alloc, out, repository.meta(), &refused)
+    }
+}
+
+/// The URI of a resource.
+fn uri_of(uris: &[String], resource: ResourceNo) -> &str {
+    match uris.get(resource.0 as usize) {
+        Some(uri) => uri.as_str(),
+        None => "",
+    }
+}
+
+/// The line for a person who types a word that is no command.
+fn advice_for(line: &[u8]) -> Option<&'static str> {
+    match line.trim_ascii() {
+        b"help" => Some("mmrepo --help shows what can be typed; Ctrl-D ends the program"),
+        b"quit" | b"exit" => Some("Ctrl-D ends the program"),
+        _ => None,
+    }
+}

@@ -1,0 +1,64 @@
+//! Which sets and additions make no link.
+ghost use Rattle.std.specs.Prelude.{◌≡◌, false, true};
+ghost use Rattle.std.specs.Option.{option_map_or};
+ghost use Rattle.mm_types.specs.Same.{same_end};
+ghost use Rattle.mm_types.specs.Shapes.{shape};
+ghost use Rattle.mm_types.specs.declared.numbers.Node.TheVariants as node;
+ghost use Rattle.models.specs.Model.{reading};
+ghost use Rattle.models.specs.Reading.{is_repeat as is_repeat_of};
+ghost use Rattle.handshake.specs.Displaced as d;
+
+use links::LinkStore;
+use mm_types::{End, Node, ObjectNo, Value};
+use models::ModelRef;
+
+/// Whether an addition makes no link: it is to an attribute, or the list is unique and has the value already.
+pub fn is_plain_add<L: LinkStore>(model: &ModelRef<L>, end: End, value: &Value) -> bool
+    ensures { result ≡ d.is_plain_add (reading model.now) end value.now }
+{
+    !model.meta().is_reference(end.feature) || is_repeat(model, end, value)
+}
+
+/// Whether an end is a unique list that has a value already. A containment has an object if it contains the object, so it is not searched.
+pub fn is_repeat<L: LinkStore>(model: &ModelRef<L>, end: End, value: &Value) -> bool
+    ensures { result ≡ is_repeat_of (reading model.now) end value.now }
+{
+    model.lemma_is_legal();
+    match value {
+        Value::Object(object) if model.meta().is_containment(end.feature) => {
+            model.meta().is_unique(end.feature) && is_contained_by(model, *object, end)
+        }
+        _ => model.is_repeat(end, value),
+    }
+}
+
+/// Whether an end contains an object.
+fn is_contained_by<L: LinkStore>(model: &ModelRef<L>, object: ObjectNo, end: End) -> bool
+    ensures { result ≡ option_map_or (same_end end) ((reading model.now).holder (node.Object object)) false }
+{
+    match model.holder(Node::Object(object)) {
+        Some(holder) => end == holder,
+        None => false,
+    }
+}
+
+/// Whether a set makes and cuts no link: the feature is an attribute, or the end has that value already.
+pub fn is_plain_set<L: LinkStore>(model: &ModelRef<L>, end: End, value: &Value) -> bool
+    ensures { result ≡ d.is_plain_set (reading model.now) end value.now }
+{
+    if !model.meta().is_reference(end.feature) {
+        return true;
+    }
+    has_already(model, end, value)
+}
+
+/// Whether a single reference has a value already.
+pub fn has_already<L: LinkStore>(model: &ModelRef<L>, end: End, value: &Value) -> bool
+    requires reference { (shape model.now.metamodel end.feature).is_reference ≡ true }
+    ensures { result ≡ d.has_already (reading model.now) end value.now }
+{
+    match model.value_at(end) {
+        Some(found) => found.is(value),
+        None => matches!(value, Value::Null),
+    }
+}
