@@ -1,18 +1,14 @@
-"""Faults of a metamodel, of a view's callable and of the program. If the program dies or breaks the protocol, its process is ended."""
+"""Faults of a metamodel and of the program. If the program dies or breaks the protocol, its process is ended."""
 
 import os
 import pickle
 import signal
-import subprocess
-import sys
-import time
 from unittest import mock
 
-from support import CLIENT, LIBRARY, PROGRAM, ClientTest, LibraryTest
+from support import LIBRARY, PROGRAM, ClientTest
 
 from mmrepo import (
     BadLine,
-    CallableFailed,
     MetamodelRefused,
     MmrepoError,
     NotStarted,
@@ -277,117 +273,6 @@ class Dying(ClientTest):
                 repo.create('Book')
 
 
-class Callables(LibraryTest):
-    """Callables of views that raise errors."""
-
-    def setUp(self):
-        super().setUp()
-        self.book, = self.made('Book')
-
-    def test_error(self):
-        """The other views are notified, then CallableFailed is raised, and the change stays."""
-        def wrong(notice):
-            raise KeyError('x')
-
-        heard = []
-        self.repo.attach(wrong, self.book)
-        self.repo.attach(heard.append, self.book)
-        with self.assertRaises(CallableFailed) as found:
-            self.book.pages = 1
-        error = found.exception
-        self.assertIs(error.callable, wrong)
-        self.assertEqual((error.notice.feature, error.notice.new), ('pages', 1))
-        self.assertIsInstance(error.__cause__, KeyError)
-        self.assertIn("KeyError('x')", str(error))
-        self.assertEqual([notice.new for notice in heard], [1])
-        with self.assertRaises(CallableFailed):
-            self.book.pages = 2
-        self.assertEqual((self.book.pages, len(heard)), (2, 2))
-
-    def test_refused_in_a_callable(self):
-        def wrong(notice):
-            self.book.pages = 'many'
-
-        self.repo.attach(wrong, self.book)
-        with self.assertRaises(CallableFailed) as found:
-            self.book.pages = 1
-        self.assertIsInstance(found.exception.__cause__, Refused)
-
-    def test_refused_and_caught_in_a_callable(self):
-        def right(notice):
-            with self.refused(8, 'TYPE'):
-                self.book.pages = 'many'
-
-        self.repo.attach(right, self.book)
-        self.book.pages = 1
-        self.assertEqual(self.book.pages, 1)
-
-    def test_interrupted(self):
-        def stopped(notice):
-            raise KeyboardInterrupt
-
-        self.repo.attach(stopped, self.book)
-        with self.assertRaises(KeyboardInterrupt):
-            self.book.pages = 1
-        self.assertEqual(self.book.pages, 1)
-
-    def test_closes_in_a_callable(self):
-        heard = []
-        self.repo.attach(lambda notice: self.repo.close(), self.book)
-        self.repo.attach(heard.append, self.book)
-        self.book.pages = 1
-        self.assertEqual(len(heard), 1)
-        with self.assertRaises(RepositoryClosed):
-            self.book.pages = 2
-
-
-class Closing(ClientTest):
-    """How a repository is closed, and its process with it."""
-
-    def test_closed(self):
-        with Repository(LIBRARY, PROGRAM) as repo:
-            book = repo.create('Book')
-        self.assertEqual(repo._session.engine._process.returncode, 0)
-        for call in (lambda: repo.create('Book'), lambda: book.name, lambda: list(book.tags), lambda: repo.attach(print, book)):
-            with self.assertRaises(RepositoryClosed):
-                call()
-        repo.close()
-
-    def test_error_inside(self):
-        """An error in a `with` block closes the repository."""
-        with self.assertRaises(ZeroDivisionError):
-            with Repository(LIBRARY, PROGRAM) as repo:
-                1 / 0
-        self.assertIsNotNone(repo._session.engine._process.returncode)
-
-    def test_interrupted_in_an_exchange(self):
-        # The fake program presses Ctrl-C twice, and does not answer.
-        """A second Ctrl-C kills a program that does not answer."""
-        body = 'import time\nnext(lines())\nos.kill(os.getppid(), 2)\ntime.sleep(1.5)\nos.kill(os.getppid(), 2)\ntime.sleep(60)'
-        self.addCleanup(signal.signal, signal.SIGINT, signal.signal(signal.SIGINT, signal.default_int_handler))
-        with self.assertRaises(KeyboardInterrupt):
-            with Repository(LIBRARY, self.fake(body)) as repo:
-                repo.create('Book')
-        self.assertEqual(repo._session.engine._process.returncode, -signal.SIGKILL)
-
-    def test_the_program_goes_with_its_client(self):
-        """The program ends if the process of the client ends without closing."""
-        code = f'import os, mmrepo\nrepo = mmrepo.Repository({str(LIBRARY)!r}, {str(PROGRAM)!r})\nrepo.create("Book")\n'
-        code += 'print(repo._session.engine._process.pid, flush=True)\nos._exit(0)'
-        done = subprocess.run(
-            [sys.executable, '-c', code], env={**os.environ, 'PYTHONPATH': str(CLIENT)}, stdout=subprocess.PIPE, check=True
-        )
-        until = time.monotonic() + 30
-        while is_running(int(done.stdout)):
-            self.assertLess(time.monotonic(), until)
-            time.sleep(0.01)
-
-    def test_two_at_once(self):
-        with Repository(LIBRARY, PROGRAM) as first, Repository(LIBRARY, PROGRAM) as second:
-            first.close()
-            self.assertEqual(repr(second.create('Book')), '<Book #0>')
-
-
 class Errors(ClientTest):
     """The errors as values: their texts, and pickling."""
 
@@ -400,12 +285,3 @@ class Errors(ClientTest):
         for error in (Refused('new X', 3, 'NO_CLASS'), ProgramEnded('why', 3, 'said'), MetamodelRefused('a', '1 SYNTAX'), BadLine('x')):
             again = pickle.loads(pickle.dumps(error))
             self.assertEqual((type(again), str(again), vars(again)), (type(error), str(error), vars(error)))
-
-
-def is_running(process):
-    """Whether a process runs and is no zombie."""
-    try:
-        with open(f'/proc/{process}/stat') as file:
-            return file.read().rpartition(')')[2].split()[0] != 'Z'
-    except FileNotFoundError:
-        return False

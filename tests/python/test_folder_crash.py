@@ -13,8 +13,8 @@ from collections import Counter
 from pathlib import Path
 from unittest import mock
 
+from folder_support import FolderTest
 from support import CLIENT, LIBRARY, PROGRAM
-from test_folders import FolderTest
 
 from mmrepo import NotSaved
 

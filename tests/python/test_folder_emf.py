@@ -1,7 +1,6 @@
 """XMI files in folders: the files of Debian's EMF packages are opened, edited and saved, and EMF reads them again."""
 
 import os
-import shutil
 import subprocess
 import sys
 import tempfile
@@ -13,11 +12,13 @@ from unittest import mock
 
 from support import CLIENT, LIBRARY, PROGRAM, TOP, ClientTest
 
-from mmrepo import NotSaved, Repository
+sys.path.insert(0, str(TOP / 'bench'))
 
-JARS = [Path(f'/usr/share/java/eclipse-{name}.jar') for name in ('emf-common', 'emf-ecore', 'emf-ecore-xmi')]
+from java_emf import JARS, MISSING, WHY, compiled  # noqa: E402
+
+from mmrepo import NotSaved, Repository  # noqa: E402
+
 MODELS, WORKBENCH = [Path(f'/usr/share/java/eclipse-{name}.jar') for name in ('e4-ui-model-workbench', 'ui-workbench')]
-NO_EMF = 'the package libeclipse-emf-ecore-xmi-java, or a JDK, is not installed'
 NO_MODELS = 'the packages libeclipse-e4-ui-model-workbench-java and libeclipse-ui-workbench-java are not installed'
 READER = Path(__file__).parent / 'ReadModels.java'
 
@@ -42,22 +43,21 @@ SECOND = """<?xml version="1.0" encoding="UTF-8"?>
 
 @lru_cache()
 def reader():
-    """The folder of the compiled class of ReadModels.java; it is compiled once."""
+    """The folder of the compiled class of ReadModels.java, and its class path; it is compiled once."""
     room = tempfile.TemporaryDirectory()
-    subprocess.run(['javac', '-cp', ':'.join(map(str, JARS)), '-d', room.name, str(READER)], check=True)
-    return room
+    return room, compiled([READER], room.name)
 
 
 def read_by_emf(ecore, models):
     """What EMF reads of models: for each file the counts of its objects, errors and proxies, and its first value."""
-    command = ['java', '-cp', ':'.join(map(str, [reader().name, *JARS])), 'ReadModels', *map(str, ecore), '--', *map(str, models)]
+    command = ['java', '-cp', reader()[1], 'ReadModels', *map(str, ecore), '--', *map(str, models)]
     done = subprocess.run(command, stdout=subprocess.PIPE, stderr=subprocess.PIPE)
     assert done.returncode == 0, done.stderr.decode()
     rows = (line.split(' ', 4) for line in done.stdout.decode().splitlines())
     return {name: (int(objects), int(errors), int(proxies), first) for name, objects, errors, proxies, first in rows}
 
 
-@unittest.skipUnless(shutil.which('javac') and all(jar.exists() for jar in JARS), NO_EMF)
+@unittest.skipIf(MISSING, WHY)
 class Emf(ClientTest):
     """A folder of XMI files."""
 

@@ -6,7 +6,7 @@ import shutil
 from pathlib import Path
 from unittest import mock
 
-from test_folders import FolderTest
+from folder_support import FolderTest
 
 from mmrepo import NotSaved
 from mmrepo.directory import LINK, Directory

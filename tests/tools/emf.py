@@ -1,16 +1,16 @@
 """EMF as the reference: a program in Java (folder emf) that reads and writes XMI by EMF, and prints what EMF has read. It is compiled at
 its first use."""
 
-import shutil
 import subprocess
+import sys
 import tempfile
-from pathlib import Path
 
-from support import HERE
+from support import HERE, TOP
 
-JARS = [Path('/usr/share/java', f'eclipse-emf-{name}.jar') for name in ('common', 'ecore', 'ecore-xmi')]
-MISSING = [str(it) for it in JARS if not it.exists()] + [name for name in ('javac', 'java') if shutil.which(name) is None]
-WHY = f'no {" and no ".join(MISSING)}: a JDK and the package libeclipse-emf-ecore-xmi-java are needed'
+sys.path.insert(0, str(TOP / 'bench'))
+
+from java_emf import MISSING, WHY, compiled  # noqa: E402, F401
+
 SOURCES = HERE / 'emf'
 
 
@@ -21,10 +21,9 @@ class Emf:
 
     def __init__(self):
         self.room = tempfile.TemporaryDirectory()
-        path = ':'.join(map(str, JARS))
-        subprocess.run(['javac', '-cp', path, '-d', self.room.name, *map(str, SOURCES.glob('*.java'))], check=True)
+        path = compiled(SOURCES.glob('*.java'), self.room.name)
         self.process = subprocess.Popen(
-            ['java', '-Xshare:auto', '-XX:TieredStopAtLevel=1', '-cp', f'{path}:{self.room.name}', 'Judge'],
+            ['java', '-Xshare:auto', '-XX:TieredStopAtLevel=1', '-cp', path, 'Judge'],
             stdin=subprocess.PIPE, stdout=subprocess.PIPE,
         )
 

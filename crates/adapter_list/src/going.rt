@@ -241,8 +241,8 @@ pub(crate) fn last_notice(no: AdapterNo, target: Node, index: usize) -> Notice
     Notice {
         notifier: target,
         feature: None,
-        kind: NoticeKind::RemovingAdapter,
-        old_value: Value::Adapter(no),
+        kind: NoticeKind::RemovingAdapter(no),
+        old_value: Value::Null,
         new_value: Value::Null,
         position: index as i64,
         was_set: false,

@@ -29,7 +29,7 @@ impl<A> Model for Release<A> {
 }
 
 impl<A> Release<A> {
-    /// Reserves capacity for releasing some targets. Errs only if memory is refused.
+    /// Reserves capacity for releasing some targets. Fails only if memory is refused.
     pub fn new(alloc: Global, spots: Vec<(AdapterNo, Node)>) -> Result<Self, AllocError>
         ensures { IfOk result (λ r. r ≡ spots.items) }
     {

@@ -18,7 +18,7 @@ pub struct Window {
 }
 
 impl Window {
-    /// A window that keeps the last `n` notifications, from 1 to `limits::WINDOW_NOTICES` of them, and was notified of nothing yet. Errs
+    /// A window that keeps the last `n` notifications, from 1 to `limits::WINDOW_NOTICES` of them, and was notified of nothing yet. Fails
     /// only if memory is refused.
     pub fn new(alloc: Global, n: u64) -> Result<Window, AllocError>
         requires some { 1 ≤ n }

@@ -8,8 +8,8 @@ ghost use Rattle.borrowed_json.specs.View.{members_view, view};
 use crate::value::{Json, Members};
 use std::alloc::AllocError;
 
-/// The number of last members among which a key is searched before it is added. An object with at most so many keys has each key once,
-/// however often the key is written.
+/// The number of last members among which a key is searched before it is added. An object with at most this number of keys has each key
+/// once, however often the key is written.
 const SEARCHED: usize = 256;
 
 /// The last index of a key among the last members.

@@ -1,7 +1,7 @@
 //! Marks in a case's text, which write long or invisible text in a short way.
 //!
-//! `<<xFF>>` is a byte by its two hexadecimal digits. `<<3* ab%,>>` is a text so many times, each `%` in it being how often
-//! it came before: `ab0,ab1,ab2,`. A `^` in it is one more than that, and a `|` ends a line.
+//! `<<xFF>>` is a byte by its two hexadecimal digits. `<<3* ab%,>>` repeats a text three times, and replaces each `%` in it by the number
+//! of repetitions before: `ab0,ab1,ab2,`. A `^` is replaced by one more than that, and a `|` ends a line.
 use crate::fault::Fault;
 use std::io::Write;
 

@@ -31,7 +31,7 @@ fn do_all<L: LinkStore, A: Adapter, W: Write>(
     }
 }
 
-/// Does the list of commands, and prints what that gives and what the repository has then.
+/// Does the list of commands, and prints their outcomes and what the repository has then.
 fn do_list<L: LinkStore, A: Adapter, W: Write>(
     alloc: Global,
     writer: &mut W,
@@ -75,7 +75,7 @@ fn run<L: LinkStore, A: Adapter, W: Write>(
     outcome
 }
 
-/// Does the list of commands, and prints what each of them gives; or, if there is no memory for what they give, the commands that come
+/// Does the list of commands, and prints the outcome of each command; if there is no memory for the outcomes, prints the commands that come
 /// back. Then it prints what the repository has.
 pub(crate) fn run_list<W: Write>(alloc: Global, writer: &mut W) -> Result<(), Fault> {
     // A recorder takes memory when it is attached.
@@ -84,7 +84,7 @@ pub(crate) fn run_list<W: Write>(alloc: Global, writer: &mut W) -> Result<(), Fa
     run::<SlotStore, _, W>(alloc, writer, first, second)
 }
 
-/// Follows so many books, and prints how many nodes the view has.
+/// Follows `count` books by notifications, and prints how many nodes the view has.
 pub(crate) fn follow<W: Write>(alloc: Global, writer: &mut W, count: u32) -> Result<(), Fault> {
     let meta = check_document(alloc, BOOKS.as_bytes())?;
     let mut repository: Repository<SlotStore, Counter> = Repository::new(alloc, meta);

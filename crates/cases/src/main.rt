@@ -4,9 +4,10 @@
 //! A script is run over each store of links. A case that differs is printed with the store, what was expected and what it
 //! gave, and the status is then 1. The last line counts the cases.
 //!
-//! The word `commands` does a list of commands by one call of a repository, and prints what each of them gives; or, if there is no memory
-//! for what they give, the commands that come back. Then it prints what the repository has. `tests/run_refused_memory` runs the program
-//! with that word once for each of its allocations, which is refused. No script makes this call, and no test function can refuse memory.
+//! The word `commands` does a list of commands by one call of a repository, and prints the outcome of each command. If there is no memory
+//! for the outcomes, it prints the commands that come back. Then it prints what the repository has. `tests/run_refused_memory` runs the
+//! program with this word once for each of its allocations, and refuses that allocation. No script makes this call, and no test function
+//! can refuse memory.
 //!
 //! A number N follows N books: it takes a snapshot, names each book, and replays the notifications. `bench/measure` runs the program so.
 #![tactic(auto)]

@@ -35,7 +35,7 @@ fn printed<L: LinkStore, A: Adapter>(
     }
 }
 
-/// What a script gives with adapters: its metamodel's fault, or what it prints, and the fault that stopped it.
+/// The outcome of a script with adapters: the fault of its metamodel, or what the script prints and the fault that stopped it.
 fn given<L: LinkStore, A: Adapter>(
     alloc: Global,
     metamodel: &[u8],
@@ -53,7 +53,7 @@ fn recorder(alloc: Global) -> Result<Box<Recorder>, AllocError> {
     Ok(Box::new(alloc, Recorder::new(alloc))?)
 }
 
-/// An adapter that keeps the last notifications, so many.
+/// An adapter that keeps the last `room` notifications.
 fn window(alloc: Global, room: u64) -> Result<Box<Window>, AllocError>
     requires some { 1 ≤ room }
     requires within { room ≤ WINDOW_NOTICES }
@@ -66,8 +66,8 @@ fn counter(alloc: Global, told: u64) -> Result<Box<Counter>, AllocError> {
     Ok(Box::new(alloc, Counter::starting_at(told))?)
 }
 
-/// What a script gives over a store of links, with the adapters of the program: its metamodel's fault, or what it prints, and the fault
-/// that stopped it.
+/// The outcome of a script over a store of links, with the adapters of the program: the fault of its metamodel, or what the script prints
+/// and the fault that stopped it.
 pub(crate) fn script_outcome<L: LinkStore>(
     alloc: Global,
     metamodel: &[u8],

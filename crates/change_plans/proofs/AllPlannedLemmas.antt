@@ -10,7 +10,7 @@ use Rattle.handshake.specs.Edits.{edits_of}
 use Rattle.change_plans.specs.Joining.{IsDone, edits_by, joint_of, told_by}
 use Rattle.proxies.specs.Keys.{has, key_of}
 use Rattle.proxies.specs.Leads.{lead, leads}
-use Rattle.change_plans.specs.Plans.{IsPlanOf}
+use Rattle.change_plans.specs.Plans.{IsPlanOf, removal_in, resolved_in, target_in}
 use Rattle.handshake.specs.Changes.{IsRemovalOf}
 use Rattle.proxies.specs.Proxies.{sites}
 use Rattle.proxies.specs.ResolvingAll.{resolutions, resolved_count, unresolved_count}
@@ -21,6 +21,7 @@ use Rattle.change_plans.specs.declared.joining.Joint.{Joint}
 use Rattle.change_plans.specs.declared.joining.Progress.{Progress}
 use Rattle.proxies.specs.declared.lead.Lead.{Lead}
 use Rattle.proxies.specs.declared.site.ProxySite.{ProxySite}
+use Rattle.change_plans.specs.declared.planned.Finding.TheVariants.{Counts}
 use Rattle.change_plans.specs.declared.planned.Planned.{Planned}
 use Rattle.handshake.proofs.ResolveAllLemmas.{all-lead}
 use Rattle.change_plans.proofs.StepLemmas.{chain-all, edits-all, resolved_count-count, unresolved_count-count}
@@ -36,11 +37,10 @@ count-leads r N (p ∷ ps) =
 
 -- the result of planning that resolves all proxies, by its parts
 pub all-planned : (is_heard : Bool) (s : Model) (p : Planned) → IsLegal s → (g : Progress) → IsDone (reading s) g → (ls : List Lead) → ls ≡ leads (reading s) → (js : List Joint) → js ≡ g.joints.items
-    → p.removal ≡ None → p.target ≡ None
-    → p.resolved ≡ Some (record { done = length js; left = length (filter (λ (x : Lead). not (has g.gone (key_of x.site))) ls) })
+    → p.finding ≡ Counts (record { done = length js; left = length (filter (λ (x : Lead). not (has g.gone (key_of x.site))) ls) })
     → p.edits ≡ flat_map (edits_by (reading s)) js → p.values ≡ []
     → p.chain ≡ (if is_heard then map (notice_at (reading s)) (flat_map told_by js) else []) → IsPlanOf is_heard s ResolveAll p
-all-planned is_heard s p legal g known ls all js joints removal target resolved edits lists tells =
+all-planned is_heard s p legal g known ls all js joints finds edits lists tells =
     let r = reading s in
     let ps = sites r in
     let lead_on = all-lead ps s legal in
@@ -52,9 +52,9 @@ all-planned is_heard s p legal g known ls all js joints removal target resolved 
     let rest : length (filter (λ (x : Lead). N x.site) ls) ≡ unresolved_count r = ap (λ (xs : List Lead). length (filter (λ (x : Lead). N x.site) xs)) all ∙ count-leads r N ps ∙ sym (unresolved_count-count s legal g known) in
     record {
       allowed = refl;
-      removed = subst (IsRemovalOf r ResolveAll) (sym removal) (record { whose = refl; found = tt });
-      found = target;
-      resolved = resolved ∙ (λ i. Some (record { done = many i; left = rest i }));
+      removed = subst (IsRemovalOf r ResolveAll) (sym (ap removal_in finds)) (record { whose = refl; found = tt });
+      found = ap target_in finds;
+      resolved = ap resolved_in finds ∙ (λ i. Some (record { done = many i; left = rest i }));
       fits = subst (PlanFits s.links) (sym plan) lead_on.fits;
       of_kind = subst (IsPlanOfKind (kinds_of s.metamodel)) (sym plan) lead_on.of_kind;
       links_made = ap (links_after_edits s.links) plan ∙ lead_on.makes;

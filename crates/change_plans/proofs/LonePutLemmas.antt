@@ -1,5 +1,6 @@
 -- The plan of a change that puts one link and edits nothing else.
 use Rattle.std.proofs.Common.{arith, eq-eqb, not, ◌≡◌, ◌++◌, ◌||◌, ◌&&◌, ℕ, suc, Bool, true, false, List, [], ◌∷◌, length, map, flat_map, nat_lt, is_some, option_map, option_to_list, IfSome, Option, Some, None, if◌then◌else◌, refl, sym, ap, subst, ◌∙◌}
+use Rattle.links.specs.declared.plan.Edit.TheVariants as edit
 use Rattle.std.specs.List.{AllByRecursion}
 use Rattle.std.specs.Option.{option_map_or}
 use Rattle.std.proofs.Math.Bool.{and-false}
@@ -18,7 +19,6 @@ use Rattle.mm_types.specs.declared.value.Value.{Value}
 use Rattle.mm_types.specs.declared.value.Value.TheVariants as value
 use Rattle.links.specs.Holders.{holder, node_contained}
 use Rattle.links.specs.Links.{far_end}
-use Rattle.links.specs.Plans.{put_edit}
 use Rattle.models.specs.Legal.{IsLegal}
 use Rattle.models.specs.Model.{Model, reading, values_at}
 use Rattle.models.proofs.PlaceLemmas.{index-at}
@@ -140,10 +140,10 @@ set-planned s n f (value.Object o) p legal early h =
     let k = chosen (displaces r e o) (is_plain_set r e v) (is_some (late_refusal r c)) (put_at r e 0 o) p h in
     let late = nothing (late_refusal r c) k.refused in
     let reference = (plain-not (shape_at r e).is_reference (has_already r e v) k.plain).0 in
-    let edits : put_edit p ∷ [] ≡ link_edits r c =
+    let edits : edit.Put p ∷ [] ≡ link_edits r c =
     sym (ap (λ (b : Bool). map cut_of (if b then [] else cut_by_set r e v) ++ option_to_list (if b then None else new_put r e 0 v)) k.plain
-    ∙ ap (λ (ts : List LinkEnd). map cut_of ts ++ put_edit (put_at r e 0 o) ∷ []) (displaced_link_ends-none r e o k.displaced)
-    ∙ ap (λ (q : NewLink). put_edit q ∷ []) k.is) in
+    ∙ ap (λ (ts : List LinkEnd). map cut_of ts ++ edit.Put (put_at r e 0 o) ∷ []) (displaced_link_ends-none r e o k.displaced)
+    ∙ ap (λ (q : NewLink). edit.Put q ∷ []) k.is) in
     let lists : [] ≡ value_edits r c = sym (ap (λ (b : Bool). if b then [] else put_values e (v ∷ []) (shape_at r e).is_unsettable) reference) in
     planned false s c (of_put p) refl legal early late tt (record { whose = refl; found = tt }) refl refl edits lists refl
 set-planned s n f _ p legal early h = absurd (none-some p h)
@@ -158,10 +158,10 @@ add-planned s n f (value.Object o) i p legal early h =
     let k = chosen (displaces r e o) (is_plain_add r e v) (is_some (late_refusal r c)) (put_at r e at o) p h in
     let late = nothing (late_refusal r c) k.refused in
     let reference = (plain-not (shape_at r e).is_reference (is_repeat r e v) k.plain).0 in
-    let edits : put_edit p ∷ [] ≡ link_edits r c =
+    let edits : edit.Put p ∷ [] ≡ link_edits r c =
     sym (ap (λ (b : Bool). map cut_of (if b then [] else cut_by_new r e v) ++ option_to_list (if b then None else new_put r e at v)) k.plain
-    ∙ ap (λ (ts : List LinkEnd). map cut_of ts ++ put_edit (put_at r e at o) ∷ []) (displaced_link_ends-none r e o k.displaced)
-    ∙ ap (λ (q : NewLink). put_edit q ∷ []) k.is) in
+    ∙ ap (λ (ts : List LinkEnd). map cut_of ts ++ edit.Put (put_at r e at o) ∷ []) (displaced_link_ends-none r e o k.displaced)
+    ∙ ap (λ (q : NewLink). edit.Put q ∷ []) k.is) in
     let lists : [] ≡ value_edits r c = sym (ap (λ (b : Bool). if b then [] else add_value r e v i) reference) in
     planned false s c (of_put p) refl legal early late tt (record { whose = refl; found = tt }) refl refl edits lists refl
 add-planned s n f _ i p legal early h = absurd (none-some p h)

@@ -2,7 +2,7 @@
 use Rattle.std.proofs.Common.{◌≡◌, ℕ, Bool, true, false, not, ◌&&◌, List, length, Option, Some, None, nat_le, nat_lt, if◌then◌else◌, refl, sym, ap, subst, ◌∙◌}
 use Rattle.std.specs.Prelude.{◌+◌, is_some}
 use Rattle.std.specs.Option.{option_map_or}
-use Rattle.mm_types.specs.Conditions.{◌else_by◌, ◌unless◌, ◌where_so◌}
+use Rattle.mm_types.specs.Conditions.{◌else_by◌, ◌unless◌, ◌where_so◌, is_memory_refusal}
 use Rattle.mm_types.specs.declared.limits.TheConstants.{OBJECTS, RESOURCES}
 use Rattle.mm_types.specs.declared.refused.Refused.{Refused}
 use Rattle.mm_types.specs.declared.refused.Refused.TheVariants.{WrongType, TextLength, Index, Duplicate, Bound, Recursive, Limit, ResourceExists, NotEmpty, NotProxy, Unloaded, Unresolved, Unmatched}
@@ -16,7 +16,6 @@ use Rattle.models.specs.Legal.{is_short, is_short_text}
 use Rattle.models.specs.Reading.{Reading, has_uri, is_repeat, position_for, takes}
 use Rattle.doc_loader.specs.Loading.{is_empty_resource}
 use Rattle.handshake.specs.Displaced.{has_already}
-use Rattle.change_plans.specs.Plans.{is_memory_refusal}
 use Rattle.handshake.specs.Refusals.{count_at, gain_refusal, is_at_limit, is_full_at, is_recursive, late_refusal, link_refusal, of_either, set_refusal, type_refusal, uri_refusal}
 use Rattle.proxies.specs.Refusals.{is_mistyped, is_there_already, target_refusal}
 use Rattle.handshake.specs.declared.change.Change.{Change}
@@ -81,7 +80,6 @@ module _ (q : Refused → Bool) (never : IsNeverLate q) where
   gain-not r e (value.Text t) = value-not r e
   gain-not r e (value.Literal i) = value-not r e
   gain-not r e (value.Proxy t) = value-not r e
-  gain-not r e (value.Adapter a) = value-not r e
 
   set-not : (r : Reading) (e : End) (v : Value) → IsNot q (set_refusal r e v)
   set-not r e (value.Object o) = either-not q (has_already r e (value.Object o)) None (link_refusal r e o) refl (link-not r e o)
@@ -91,7 +89,6 @@ module _ (q : Refused → Bool) (never : IsNeverLate q) where
   set-not r e (value.Text t) = refl
   set-not r e (value.Literal i) = refl
   set-not r e (value.Proxy t) = refl
-  set-not r e (value.Adapter a) = refl
 
   type-not : (r : Reading) (f : FeatureNo) (v : Value) → IsNot q (type_refusal r f v)
   type-not r f v = later-not q _ _ (unless-not q WrongType (takes r f v) never.wrong_type) (unless-not q TextLength (is_short v) never.text_length)

@@ -1,15 +1,16 @@
 -- Changes that put one link, and edit nothing else.
 use Rattle.std.specs.Prelude.{ℕ, [], ◌∷◌, Option, Some, None, is_some, if◌then◌else◌}
+use Rattle.links.specs.declared.plan.Edit.TheVariants as edit
 use Rattle.mm_types.specs.declared.end.End.{End}
 use Rattle.mm_types.specs.declared.numbers.ObjectNo.{ObjectNo}
 use Rattle.mm_types.specs.declared.value.Value.{Value}
 use Rattle.mm_types.specs.declared.value.Value.TheVariants as value
-use Rattle.links.specs.Plans.{put_edit}
 use Rattle.links.specs.declared.link.NewLink.{NewLink}
 use Rattle.models.specs.Reading.{Reading, position_for, shape_at}
 use Rattle.handshake.specs.declared.change.Change.{Change}
 use Rattle.handshake.specs.declared.change.Change.TheVariants.{At}
 use Rattle.handshake.specs.declared.act.Act.TheVariants.{Set, Add}
+use Rattle.change_plans.specs.declared.planned.Finding.TheVariants as finding
 use Rattle.change_plans.specs.declared.planned.Planned.{Planned}
 use Rattle.handshake.specs.Displaced.{displaces, is_plain_add, is_plain_set}
 use Rattle.handshake.specs.Refusals.{late_refusal}
@@ -42,4 +43,4 @@ lone_put r _ = None
 
 -- the plan that puts one link and notifies no adapter
 abbrev pub of_put : NewLink → Planned
-of_put p = record { removal = None; target = None; resolved = None; edits = put_edit p ∷ []; values = []; chain = [] }
+of_put p = record { finding = finding.Nothing; edits = edit.Put p ∷ []; values = []; chain = [] }

@@ -1,7 +1,6 @@
 -- What planning a change gives.
-use Rattle.std.specs.Prelude.{◌≡◌, ◌&&◌, Bool, true, false, IsFalse, List, [], Some, None, Result, Ok, Err, if◌then◌else◌}
+use Rattle.std.specs.Prelude.{◌≡◌, ◌&&◌, Bool, true, false, IsFalse, List, [], Option, Some, None, Result, Ok, Err, if◌then◌else◌}
 use Rattle.mm_types.specs.declared.refused.Refused.{Refused}
-use Rattle.mm_types.specs.declared.refused.Refused.TheVariants.{Memory}
 use Rattle.mm_values.specs.Values as values
 use Rattle.mm_values.specs.declared.value_edit.ValueEdit.{ValueEdit}
 use Rattle.links.specs.Plans as links
@@ -9,24 +8,41 @@ use Rattle.links.specs.declared.plan.Edit.{Edit}
 use Rattle.models.specs.Legal.{kinds_of}
 use Rattle.models.specs.Model.{Model, reading}
 use Rattle.notice_chain.specs.declared.notice.Notice.{Notice}
+use Rattle.proxies.specs.declared.resolved.Resolved.{Resolved}
+use Rattle.proxies.specs.declared.resolved_proxy.ResolvedProxy.{ResolvedProxy}
+use Rattle.removal.specs.declared.gone.Removal.{Removal}
 use Rattle.handshake.specs.declared.change.Change.{Change}
 use Rattle.handshake.specs.Changes.{IsRemovalOf}
 use Rattle.handshake.specs.Effects.{model_after}
 use Rattle.handshake.specs.Refusals.{late_refusal}
 use Rattle.handshake.specs.FeatureChanges.{chain, resolved_by, resolves_one, target_of}
+use Rattle.change_plans.specs.declared.planned.Finding.{Finding}
+use Rattle.change_plans.specs.declared.planned.Finding.TheVariants as finding
 use Rattle.change_plans.specs.declared.planned.Planned.{Planned}
+use Rattle.mm_types.specs.Conditions.{is_memory_refusal}
 
-abbrev pub is_memory_refusal : Refused → Bool
-is_memory_refusal Memory = true
-is_memory_refusal _ = false
+-- the objects that a deletion destroys, among what planning finds
+abbrev pub removal_in : Finding → Option Removal
+removal_in (finding.Removal x) = Some x
+removal_in _ = None
+
+-- the target of a proxy that is resolved, among what planning finds
+abbrev pub target_in : Finding → Option ResolvedProxy
+target_in (finding.Target x) = Some x
+target_in _ = None
+
+-- how many of all proxies are resolved, among what planning finds
+abbrev pub resolved_in : Finding → Option Resolved
+resolved_in (finding.Counts n) = Some n
+resolved_in _ = None
 
 -- the plan of a change that is not refused: the objects that it destroys, the target that it finds, the proxies that it resolves, the edits
 -- that make it, and its chain if an adapter may have to get it
 pub record IsPlanOf (is_heard : Bool) (s : Model) (c : Change) (p : Planned) : Type 0 where
   pub allowed : late_refusal (reading s) c ≡ None
-  pub removed : IsRemovalOf (reading s) c p.removal
-  pub found : p.target ≡ target_of (reading s) c
-  pub resolved : p.resolved ≡ resolved_by (reading s) c
+  pub removed : IsRemovalOf (reading s) c (removal_in p.finding)
+  pub found : target_in p.finding ≡ target_of (reading s) c
+  pub resolved : resolved_in p.finding ≡ resolved_by (reading s) c
   pub fits : links.PlanFits s.links p.edits
   pub of_kind : links.IsPlanOfKind (kinds_of s.metamodel) p.edits
   pub links_made : links.links_after_edits s.links p.edits ≡ (model_after s c).links
@@ -35,11 +51,11 @@ pub record IsPlanOf (is_heard : Bool) (s : Model) (c : Change) (p : Planned) : T
 
 -- the plan that edits only values, with the notifications that an adapter may have to get
 abbrev pub of_values : List ValueEdit → List Notice → Planned
-of_values vs ns = record { removal = None; target = None; resolved = None; edits = []; values = vs; chain = ns }
+of_values vs ns = record { finding = finding.Nothing; edits = []; values = vs; chain = ns }
 
 -- the plan that edits only links, with the notifications that an adapter may have to get
 abbrev pub of_links : List Edit → List Notice → Planned
-of_links es ns = record { removal = None; target = None; resolved = None; edits = es; values = []; chain = ns }
+of_links es ns = record { finding = finding.Nothing; edits = es; values = []; chain = ns }
 
 -- whether planning looks for something with memory before it looks for refusals: for the target of a proxy
 abbrev pub looks_first : Change → Bool

@@ -17,6 +17,7 @@ ghost use Rattle.handshake.specs.declared.act.Act.TheVariants.{Add, Set};
 ghost use Rattle.handshake.specs.declared.change.Change.TheVariants.{At};
 
 use crate::cuts::push_cuts;
+use crate::link_planning::put_at;
 use handshake::{Act, Change, is_plain_add, is_plain_set};
 use links::{Edit, LinkStore, Plan};
 use mm_types::{End, Node, ObjectNo, Seq, Value};
@@ -86,7 +87,7 @@ pub(crate) fn push_joining<L: LinkStore>(
     let Some(target) = target else {
         return Ok(());
     };
-    edits.push(put_object(model, end, index, target.object))?;
+    edits.push(Edit::Put(put_at(model, end, index, target.object)))?;
     if let Some(other) = target.counterpart {
         edits.push(back_edit(model, other))?;
     }
@@ -154,20 +155,8 @@ fn new_put<L: LinkStore>(model: &ModelRef<L>, end: End, index: u32, value: &Valu
     ensures { result ≡ e.new_put (reading model.now) end index value.now }
 {
     match value {
-        Value::Object(object) => Some(put_object(model, end, index, *object)),
+        Value::Object(object) => Some(Edit::Put(put_at(model, end, index, *object))),
         _ => None,
-    }
-}
-
-fn put_object<L: LinkStore>(model: &ModelRef<L>, end: End, index: u32, object: ObjectNo) -> Edit
-    ensures { Some result ≡ e.new_put (reading model.now) end index (value.Object object) }
-{
-    Edit::Put {
-        end,
-        index,
-        object,
-        opposite: model.meta().opposite(end.feature),
-        container: model.meta().containing(end.feature),
     }
 }
 

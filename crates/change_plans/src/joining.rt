@@ -28,7 +28,7 @@ pub(crate) struct Progress {
     linked: Keys,
 }
 
-/// Resolves all proxies of a model. Errs only if memory is refused.
+/// Resolves all proxies of a model. Fails only if memory is refused.
 pub(crate) fn resolve_all<L: LinkStore>(
     alloc: Global,
     model: &ModelRef<L>,

@@ -16,6 +16,6 @@ mod resolving_all;
 mod value_planning;
 
 pub use link_planning::{lone_add, lone_set, plan_links};
-pub use planned::Planned;
+pub use planned::{Finding, Planned};
 pub use planning::plan;
 pub use value_planning::{attribute_refusal, create_refusal, plan_set, plan_values};

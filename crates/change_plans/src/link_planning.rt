@@ -5,11 +5,12 @@ ghost use Rattle.mm_types.specs.declared.value.Value.TheVariants.{Object};
 ghost use Rattle.models.specs.Model.{reading};
 ghost use Rattle.handshake.specs.Displaced.{displaces, is_plain_add};
 ghost use Rattle.change_plans.specs.LonePuts as lone;
-ghost use Rattle.change_plans.specs.Plans.{IsPlanOf, is_memory_refusal, of_links};
+ghost use Rattle.change_plans.specs.Plans.{IsPlanOf, of_links};
 ghost use Rattle.handshake.specs.Changes.{edits_links_alone};
 ghost use Rattle.handshake.specs.Refusals.{early_refusal, late_refusal};
 ghost use Rattle.handshake.specs.declared.act.Act.TheVariants.{Add, Set};
 ghost use Rattle.handshake.specs.declared.change.Change.TheVariants.{At};
+ghost use Rattle.mm_types.specs.Conditions.{is_memory_refusal};
 
 use crate::planning::{self, add_late_refusal, links_and_notices, new_set_refusal};
 use handshake::{Change, displaces, is_plain_add};
@@ -132,7 +133,13 @@ fn adds_no_link<L: LinkStore>(
     is_plain_add(model, end, value)
 }
 
-fn put_at<L: LinkStore>(model: &ModelRef<L>, end: End, index: u32, object: ObjectNo) -> NewLink
+/// The put of an object at a position of an end.
+pub(crate) fn put_at<L: LinkStore>(
+    model: &ModelRef<L>,
+    end: End,
+    index: u32,
+    object: ObjectNo,
+) -> NewLink
     ensures { result ≡ lone.put_at (reading model.now) end index object }
 {
     NewLink {

@@ -5,13 +5,23 @@ use notice_chain::Chain;
 use proxies::{Resolved, ResolvedProxy};
 use removal::Removal;
 
-/// The plan of a change that is not refused. It has the removal of the object that the change destroys, the target of the proxy that it
-/// resolves, or the counts of a resolve of all proxies, if it does one of these; its edits of links and of values; and its notifications.
+/// What planning finds besides edits. The answers of some changes are made of it.
+#[derive(Drop)]
+pub enum Finding {
+    /// Nothing: the answer does not depend on the plan.
+    Nothing,
+    /// The objects that a deletion destroys.
+    Removal(Removal),
+    /// The object that a proxy finds, and the proxy at the opposite end.
+    Target(ResolvedProxy),
+    /// How many of all proxies are resolved, and how many are left.
+    Counts(Resolved),
+}
+
+/// The plan of a change that is not refused: what planning finds, the edits of links and of values, and the notifications.
 #[derive(Drop)]
 pub struct Planned {
-    pub removal: Option<Removal>,
-    pub target: Option<ResolvedProxy>,
-    pub resolved: Option<Resolved>,
+    pub finding: Finding,
     pub edits: Plan,
     pub values: ValuePlan,
     pub chain: Chain,

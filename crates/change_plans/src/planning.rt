@@ -1,5 +1,5 @@
 //! The plan of a change: its edits, and its notifications.
-ghost use Rattle.std.specs.Prelude.{◌≡◌, [], true, false, not, nat_le, nat_lt, None, IfOk, if◌then◌else◌};
+ghost use Rattle.std.specs.Prelude.{◌≡◌, [], true, false, not, nat_le, nat_lt, None, is_some, IfOk, if◌then◌else◌};
 ghost use Rattle.mm_types.specs.Conditions.{◌unless◌, ◌else_by◌};
 ghost use Rattle.mm_types.specs.declared.limits.TheConstants.{OBJECTS};
 ghost use Rattle.mm_types.specs.declared.refused.Refused.TheVariants.{Index, Limit};
@@ -9,7 +9,7 @@ ghost use Rattle.handshake.specs.Displaced as d;
 ghost use Rattle.handshake.specs.Edits as e;
 ghost use Rattle.handshake.specs.Effects.{value_edits as value_edits_of};
 ghost use Rattle.handshake.specs.Changes.{HasFittingDocument, HasReadDocument, IsRemovalOf};
-ghost use Rattle.change_plans.specs.Plans.{IsPlanOf, Plans};
+ghost use Rattle.change_plans.specs.Plans.{IsPlanOf, Plans, removal_in, resolved_in, target_in};
 ghost use Rattle.handshake.specs.Refusals as refusals;
 ghost use Rattle.handshake.specs.FeatureChanges as t;
 ghost use Rattle.handshake.specs.declared.act.Act.TheVariants.{Add};
@@ -18,7 +18,7 @@ ghost use Rattle.handshake.specs.declared.change.Change.TheVariants.{At};
 use crate::destroyed::removal_of;
 use crate::edits::{link_edits, value_edits};
 use crate::loads::{load_refusal, root_notices};
-use crate::planned::Planned;
+use crate::planned::{Finding, Planned};
 use crate::resolved_proxy::target_of;
 use crate::resolving_all::all_resolved;
 use handshake::{
@@ -62,7 +62,7 @@ pub fn plan<L: LinkStore>(
     Ok(made(alloc, model, change, target, is_heard)?)
 }
 
-/// The plan of a change that is not refused. Errs only if memory is refused.
+/// The plan of a change that is not refused. Fails only if memory is refused.
 fn made<L: LinkStore>(
     alloc: Global,
     model: &ModelRef<L>,
@@ -85,16 +85,28 @@ fn made<L: LinkStore>(
         alloc, model, change, &removal, target, is_heard,
     )?;
     Ok(Planned {
-        removal,
-        target,
-        resolved: None,
+        finding: finding(removal, target),
         edits,
         values,
         chain,
     })
 }
 
-/// The edits of links and of values, and the notifications, of a change that is not refused and doesn't resolve all proxies. Errs only if
+/// What was found for a change that doesn't resolve all proxies. A change that destroys objects resolves no proxy.
+fn finding(removal: Option<Removal>, target: Option<ResolvedProxy>) -> Finding
+    requires one { is_some removal ≡ true → target ≡ None }
+    ensures removal { removal_in result ≡ removal }
+    ensures target { target_in result ≡ target }
+    ensures resolved { resolved_in result ≡ None }
+{
+    match (removal, target) {
+        (Some(removal), _) => Finding::Removal(removal),
+        (None, Some(target)) => Finding::Target(target),
+        (None, None) => Finding::Nothing,
+    }
+}
+
+/// The edits of links and of values, and the notifications, of a change that is not refused and doesn't resolve all proxies. Fails only if
 /// memory is refused.
 fn edits_and_notices<L: LinkStore>(
     alloc: Global,

@@ -11,7 +11,7 @@ ghost use Rattle.handshake.specs.declared.change.Change.TheVariants.{ResolveAll}
 use crate::cuts::push_cuts;
 use crate::edits::push_joining;
 use crate::joining::{Joint, Progress, resolve_all};
-use crate::planned::Planned;
+use crate::planned::{Finding, Planned};
 use handshake::{FeatureChange, add_counterpart, notices, push_link_end, push_resolved};
 use links::{Edit, LinkStore};
 use mm_types::Seq;
@@ -21,7 +21,7 @@ use notice_chain::Chain;
 use proxies::{Key, Keys, Lead, Resolved, far_end, leads};
 use std::alloc::{AllocError, Global};
 
-/// The plan that resolves all proxies; the notifications are made only if an adapter may have to get them. Errs only if memory is refused.
+/// The plan that resolves all proxies; the notifications are made only if an adapter may have to get them. Fails only if memory is refused.
 pub(crate) fn all_resolved<L: LinkStore>(
     alloc: Global,
     model: &ModelRef<L>,
@@ -55,9 +55,7 @@ fn planned<L: LinkStore>(
         Chain::new(alloc)
     };
     Ok(Planned {
-        removal: None,
-        target: None,
-        resolved: Some(Resolved {
+        finding: Finding::Counts(Resolved {
             done: joints.len(),
             left: left(leads, &progress.gone),
         }),

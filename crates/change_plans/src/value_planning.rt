@@ -1,12 +1,12 @@
 //! The plans of changes that edit only values.
 ghost use Rattle.std.specs.Prelude.{◌≡◌, [], None, Some, IfErr, IfOk, OnOk, if◌then◌else◌, false, true};
-ghost use Rattle.mm_types.specs.Conditions.{◌else_by◌};
+ghost use Rattle.mm_types.specs.Conditions.{◌else_by◌, is_memory_refusal};
 ghost use Rattle.mm_types.specs.Shapes.{shape};
 ghost use Rattle.models.specs.Model.{reading};
 ghost use Rattle.handshake.specs.Effects.{value_edits as value_edits_of};
 ghost use Rattle.handshake.specs.FeatureChanges.{chain};
 ghost use Rattle.handshake.specs.Changes.{edits_values_alone};
-ghost use Rattle.change_plans.specs.Plans.{IsPlanOf, is_memory_refusal, of_values};
+ghost use Rattle.change_plans.specs.Plans.{IsPlanOf, of_values};
 ghost use Rattle.handshake.specs.Refusals as refusals;
 ghost use Rattle.handshake.specs.declared.act.Act.TheVariants.{Set};
 ghost use Rattle.handshake.specs.declared.change.Change.TheVariants.{At, Create};

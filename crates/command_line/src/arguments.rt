@@ -83,7 +83,7 @@ fn flag<'a>(alloc: Global, name: &'a str, help: &'a str) -> Arg<'a>
         .action(ArgAction::SetTrue)
 }
 
-/// The command line of the program. Errs only if memory is refused.
+/// The command line of the program. Fails only if memory is refused.
 fn command<'a>(alloc: Global) -> Result<Command<'a>, AllocError>
     ensures { IfOk result (λ c. app_of c ≡ program) }
 {
@@ -114,7 +114,7 @@ fn is_set(matches: &ArgMatches<'_>, name: &str) -> bool
     }
 }
 
-/// The values of an option, in the order of the words. Errs only if memory is refused.
+/// The values of an option, in the order of the words. Fails only if memory is refused.
 fn values_of<'a>(
     alloc: Global,
     matches: &ArgMatches<'a>,
@@ -128,14 +128,14 @@ fn values_of<'a>(
     }
 }
 
-/// The usage of the program: a line, with its title. Errs only if memory is refused.
+/// The usage of the program: a line, with its title. Fails only if memory is refused.
 pub fn usage_of(alloc: Global) -> Result<String, AllocError> {
     command(alloc)?.render_usage()
 }
 
 /// The options that the words of a command line give; the first word is the program's name.
 ///
-/// Errs as `clap` does: with the text of `--help` or `--version`, with what is wrong in the words, or if memory is refused.
+/// Fails as `clap` does: with the text of `--help` or `--version`, with what is wrong in the words, or if memory is refused.
 pub fn options_of<'a>(alloc: Global, words: &'a [&'a str]) -> Result<Options<'a>, Error>
     // The options have what the words give.
     ensures value { IfOk result (λ o. AreGiven o (matches_of program (texts words.entry.now))) }
@@ -164,7 +164,7 @@ pub fn options_of<'a>(alloc: Global, words: &'a [&'a str]) -> Result<Options<'a>
 
 /// The value of `--meta` among the words of the command line, the first of which is the program's name.
 ///
-/// Errs as `clap` does: with the text of `--help`, with what is wrong in the words, or if memory is refused.
+/// Fails as `clap` does: with the text of `--help`, with what is wrong in the words, or if memory is refused.
 pub fn meta_file<'a>(alloc: Global, words: &'a [&'a str]) -> Result<&'a str, Error>
     // The file is the first value that the words give `--meta`.
     ensures value { IfOk result (λ file. first_of (codes "meta") (matches_of program (texts words.entry.now)) ≡ Some file.now) }

@@ -11,10 +11,10 @@ abbrev pub root_of : (Node → List Node) → Node → Node
 root_of up n = unwrap_or (last_or (Some n) (up n)) n
 
 -- the resource that a node is, if it is one
-abbrev pub resource_node : Node → Option ResourceNo
-resource_node (node.Object o) = None
-resource_node (node.Resource r) = Some r
+abbrev pub resource_of_node : Node → Option ResourceNo
+resource_of_node (node.Object o) = None
+resource_of_node (node.Resource r) = Some r
 
 -- the resource that an object is in
 abbrev pub resource_of : (Node → List Node) → ObjectNo → Option ResourceNo
-resource_of up o = resource_node (root_of up (node.Object o))
+resource_of up o = resource_of_node (root_of up (node.Object o))

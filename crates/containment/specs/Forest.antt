@@ -26,15 +26,15 @@ has_parts_at r n f = is_containment r.metamodel f && nat_lt 0 (length (r.values 
 abbrev pub has_parts : Reading → Node → Bool
 has_parts r n = list_any (has_parts_at r n) (all_features_of r n)
 
-abbrev pub object_node : Node → Option ObjectNo
-object_node (node.Object o) = Some o
-object_node (node.Resource k) = None
+abbrev pub object_of_node : Node → Option ObjectNo
+object_of_node (node.Object o) = Some o
+object_of_node (node.Resource k) = None
 
--- the object that contains another, if an object does
+-- the object that contains an object, if there is one
 abbrev pub container : Reading → ObjectNo → Option ObjectNo
-container r o = option_and_then (λ (e : End). object_node e.node) (r.holder (node.Object o))
+container r o = option_and_then (λ (e : End). object_of_node e.node) (r.holder (node.Object o))
 
--- an object and all objects below it, for so many levels; each object comes before its contents
+-- an object and the objects below it, down to a number of levels; each object comes before its contents
 abbrev pub tree : Reading → ℕ → ObjectNo → List ObjectNo
 tree r zero o = []
 tree r (suc k) o = o ∷ flat_map (tree r k) (contents r (node.Object o))

@@ -35,7 +35,7 @@ fn may_contain<L: LinkStore>(model: &ModelRef<L>, node: Node) -> bool
 }
 
 /// The objects that a node directly contains, by feature in the order of all features, and then by position (EMF:
-/// EObject.eContents). Errs only if memory is refused.
+/// EObject.eContents). Fails only if memory is refused.
 pub fn contents<L: LinkStore>(
     alloc: Global,
     model: &ModelRef<L>,

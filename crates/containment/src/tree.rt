@@ -15,7 +15,7 @@ use models::{ModelRef, at_end};
 use std::alloc::{AllocError, Global};
 
 /// An object and all objects below it, each before its contents (EMF: the object, then EObject.eAllContents). For a number that no object
-/// has, just the number. Errs only if memory is refused.
+/// has, just the number. Fails only if memory is refused.
 pub fn subtree<L: LinkStore>(
     alloc: Global,
     model: &ModelRef<L>,
@@ -27,7 +27,7 @@ pub fn subtree<L: LinkStore>(
     all_below(alloc, model, waiting)
 }
 
-/// All objects of a node: an object and all objects below it, or all objects in a resource; each before its contents. Errs only if memory
+/// All objects of a node: an object and all objects below it, or all objects in a resource; each before its contents. Fails only if memory
 /// is refused.
 pub fn node_subtree<L: LinkStore>(
     alloc: Global,
@@ -46,7 +46,7 @@ pub fn node_subtree<L: LinkStore>(
     }
 }
 
-/// Objects and all objects below them; the last of these objects comes first. Errs only if memory is refused.
+/// Objects and all objects below them; the last of these objects comes first. Fails only if memory is refused.
 fn all_below<L: LinkStore>(
     alloc: Global,
     model: &ModelRef<L>,

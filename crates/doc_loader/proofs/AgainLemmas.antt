@@ -36,6 +36,7 @@ use Rattle.doc_loader.proofs.SourceLemmas.{loaded-at, loaded_values}
 use Rattle.doc_loader.proofs.TotalLemmas.{add-eq, nested}
 use Rattle.mm_meta.proofs.ByNameLemmas.{numbered_alike}
 use Rattle.mm_meta.proofs.OwnerLemmas.{nat_eq-turned}
+use Rattle.links.specs.Plans.{put_of}
 
 ---------------------------------------------------------------- values of pairs
 
@@ -54,7 +55,6 @@ reference-target a (value.Bool x) reference sort = absurd (true≢false (sym ref
 reference-target a (value.Int x) reference sort = absurd (true≢false (sym reference ∙ sort))
 reference-target a (value.Text x) reference sort = absurd (true≢false (sym reference ∙ sort))
 reference-target a (value.Literal x) reference sort = absurd (true≢false (sym reference ∙ sort))
-reference-target a (value.Adapter x) reference sort = absurd (true≢false (sym reference ∙ sort))
 
 -- a value of a reference that is no proxy is an object
 pub target-object : (v : Value) → IsTarget v → is_no_proxy v ≡ true → (a : ObjectNo) × (v ≡ value.Object a)
@@ -65,7 +65,6 @@ target-object (value.Bool x) target plain = absurd target
 target-object (value.Int x) target plain = absurd target
 target-object (value.Text x) target plain = absurd target
 target-object (value.Literal x) target plain = absurd target
-target-object (value.Adapter x) target plain = absurd target
 
 module _ (m : Metamodel) (doc : Doc) (sound : IsSound m doc) where
   pub answered-in : (a : ObjectNo) (f g : FeatureNo) (b : ObjectNo) (i : ℕ) → (shape m f).containing ≡ None → (shape m f).opposite ≡ Some g → slice_get (values_in doc a f) i ≡ Some (value.Object b)
@@ -100,14 +99,13 @@ module _ (m : Metamodel) (n : ℕ) (doc : Doc) (sound : IsSound m doc) where
   value-edits f g b [] = refl
   value-edits f g b (value.Object a ∷ vs) =
       let e = object_end n a f in
-      ap (λ (es : List Edit). edit.Cut e (loaded_number n b) ∷ edit.Put e (index_among m doc.objects (reference_key a f b)) (loaded_number n b) (shape m f).opposite (shape m f).containing ∷ es) (value-edits f g b vs)
+      ap (λ (es : List Edit). edit.Cut e (loaded_number n b) ∷ put_of e (index_among m doc.objects (reference_key a f b)) (loaded_number n b) (shape m f).opposite (shape m f).containing ∷ es) (value-edits f g b vs)
   value-edits f g b (value.Proxy t ∷ vs) = value-edits f g b vs
   value-edits f g b (value.Null ∷ vs) = value-edits f g b vs
   value-edits f g b (value.Bool x ∷ vs) = value-edits f g b vs
   value-edits f g b (value.Int x ∷ vs) = value-edits f g b vs
   value-edits f g b (value.Text x ∷ vs) = value-edits f g b vs
   value-edits f g b (value.Literal x ∷ vs) = value-edits f g b vs
-  value-edits f g b (value.Adapter x ∷ vs) = value-edits f g b vs
 
   content-edits : (b : ObjectNo) (c : Content) → flat_map (again_edits (kinds_of m)) (content_again b c) ≡ far_edits m n (index_among m doc.objects) b c
   content-edits b c = by (lower_of (shape m c.feature) c.feature)
@@ -169,7 +167,6 @@ module _ (m : Metamodel) (n : ℕ) (doc : Doc) (sound : IsSound m doc) where
     value-good o c s f high j (value.Int x) at = tt
     value-good o c s f high j (value.Text x) at = tt
     value-good o c s f high j (value.Literal x) at = tt
-    value-good o c s f high j (value.Adapter x) at = tt
 
     content-good : (o : ObjectNo) (c : Content) → IsSoundContent m doc o c → AllByRecursion Good (content_again o c)
     content-good o c s = by (lower_of (shape m c.feature) c.feature) refl
@@ -204,7 +201,6 @@ module _ (m : Metamodel) (n : ℕ) (doc : Doc) (sound : IsSound m doc) where
   values-last d f g o (value.Int x ∷ vs) all = absurd all.0
   values-last d f g o (value.Text x ∷ vs) all = absurd all.0
   values-last d f g o (value.Literal x ∷ vs) all = absurd all.0
-  values-last d f g o (value.Adapter x ∷ vs) all = absurd all.0
   values-last d f g o (value.Object a ∷ vs) all =
       ap (λ (xs : List Value). (if same_end (object_end n o g) d then value.Object (loaded_number n a) ∷ [] else []) ++ xs) (values-last d f g o vs all.1) ∙ step (same_end (object_end n o g) d) (value.Object (loaded_number n a)) (loaded_values n (others vs))
     where

@@ -74,7 +74,6 @@ plain-sort m f g t unique unsettable default (value.Bool b) h = refl
 plain-sort m f g t unique unsettable default (value.Int n) h = refl
 plain-sort m f g t unique unsettable default (value.Text p) h = refl
 plain-sort m f g t unique unsettable default (value.Literal i) h = refl
-plain-sort m f g t unique unsettable default (value.Adapter a) h = refl
 
 -- an object or a proxy
 abbrev IsLinked : Value → Type 0
@@ -116,7 +115,6 @@ linked-sort m f g class opposite (value.Bool b) plain h = absurd h
 linked-sort m f g class opposite (value.Int n) plain h = absurd h
 linked-sort m f g class opposite (value.Text p) plain h = absurd h
 linked-sort m f g class opposite (value.Literal i) plain h = absurd h
-linked-sort m f g class opposite (value.Adapter a) plain h = absurd h
 
 ---------------------------------------------------------------- one content
 

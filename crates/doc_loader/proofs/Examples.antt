@@ -10,7 +10,7 @@ use Rattle.mm_types.specs.declared.value.Value.TheVariants as value
 use Rattle.mm_values.specs.declared.value_edit.ValueEdit.TheVariants.{NewObject, PutList}
 use Rattle.links.specs.declared.link.Link.{Link}
 use Rattle.links.specs.declared.plan.Edit.{Edit}
-use Rattle.links.specs.declared.plan.Edit.TheVariants.{Cut, Put}
+use Rattle.links.specs.declared.plan.Edit.TheVariants.{Cut}
 use Rattle.links.specs.Links.{values}
 use Rattle.models.specs.Reading.{at_end}
 use Rattle.resource_docs.specs.declared.doc.Content.{Content}
@@ -18,6 +18,7 @@ use Rattle.resource_docs.specs.declared.doc.Doc.{Doc}
 use Rattle.mm_meta.proofs.Library.{attribute, class, fid, oid, reference, v}
 use Rattle.doc_loader.specs.LoadEdits.{load_edits}
 use Rattle.doc_loader.specs.Loading.{loaded_links, loaded_values, roots_loaded}
+use Rattle.links.specs.Plans.{put_of}
 
 -- 0 name, 1 knows, 2 known; 3 contents
 abbrev people : Metamodel
@@ -54,14 +55,14 @@ abbrev roots : End
 roots = at_end (node.Resource (record { 0 = 0 })) (fid 3)
 
 abbrev knows : ℕ → ℕ → ℕ → Edit
-knows a i b = Put (under a 1) i (oid b) (Some (fid 2)) None
+knows a i b = put_of (under a 1) i (oid b) (Some (fid 2)) None
 
 its-values : loaded_values people 5 doc ≡ NewObject (record { 0 = 0 }) ∷ NewObject (record { 0 = 0 }) ∷ PutList (oid 5) (fid 0) ann true ∷ []
 its-values = refl
 
 -- all links are put in the order of the first ends, and then the links to the first person once more, in the order in which she is known
 its-edits : load_edits people 5 (record { 0 = 0 }) doc ≡
-    Put roots 0 (oid 5) None (Some (fid 3)) ∷ Put roots 1 (oid 6) None (Some (fid 3))
+    put_of roots 0 (oid 5) None (Some (fid 3)) ∷ put_of roots 1 (oid 6) None (Some (fid 3))
     ∷ knows 5 0 6 ∷ knows 5 1 5 ∷ knows 6 0 5 ∷ knows 6 1 6
     ∷ Cut (under 6 1) (oid 5) ∷ knows 6 0 5 ∷ Cut (under 5 1) (oid 5) ∷ knows 5 1 5 ∷ []
 its-edits = refl

@@ -50,7 +50,6 @@ without_proxies i (value.Bool b ∷ vs) is = ap (λ (xs : List Value). value.Boo
 without_proxies i (value.Int b ∷ vs) is = ap (λ (xs : List Value). value.Int b ∷ xs) (without_proxies (i + 1) vs is)
 without_proxies i (value.Text b ∷ vs) is = ap (λ (xs : List Value). value.Text b ∷ xs) (without_proxies (i + 1) vs is)
 without_proxies i (value.Literal b ∷ vs) is = ap (λ (xs : List Value). value.Literal b ∷ xs) (without_proxies (i + 1) vs is)
-without_proxies i (value.Adapter b ∷ vs) is = ap (λ (xs : List Value). value.Adapter b ∷ xs) (without_proxies (i + 1) vs is)
 
 -- the first proxy of a list, and the values before and after it
 record IsFirst (k i : ℕ) (p : List ℕ) (rest : List (ℕ × List ℕ)) (zs : List Value) : Type 0 where
@@ -94,7 +93,6 @@ first-proxy k i p rest (value.Bool b ∷ zs) is = first-more k i p rest (value.B
 first-proxy k i p rest (value.Int b ∷ zs) is = first-more k i p rest (value.Int b) zs refl (first-proxy (k + 1) i p rest zs is)
 first-proxy k i p rest (value.Text b ∷ zs) is = first-more k i p rest (value.Text b) zs refl (first-proxy (k + 1) i p rest zs is)
 first-proxy k i p rest (value.Literal b ∷ zs) is = first-more k i p rest (value.Literal b) zs refl (first-proxy (k + 1) i p rest zs is)
-first-proxy k i p rest (value.Adapter b ∷ zs) is = first-more k i p rest (value.Adapter b) zs refl (first-proxy (k + 1) i p rest zs is)
 
 -- none of the other values is a proxy
 others-plain : (vs : List Value) (j : ℕ) (t : List ℕ) → slice_get (others vs) j ≡ Some (value.Proxy t) → ⊥
@@ -144,7 +142,6 @@ others-ascending k (value.Bool b ∷ vs) = others-ascending k vs
 others-ascending k (value.Int b ∷ vs) = others-ascending k vs
 others-ascending k (value.Text b ∷ vs) = others-ascending k vs
 others-ascending k (value.Literal b ∷ vs) = others-ascending k vs
-others-ascending k (value.Adapter b ∷ vs) = others-ascending k vs
 
 -- leaving proxies out does not change which numbers the objects get
 pub others-loaded : (n : ℕ) (vs : List Value) → others (loaded_values n vs) ≡ loaded_values n (others vs)
@@ -156,7 +153,6 @@ others-loaded n (value.Bool b ∷ vs) = ap (λ (xs : List Value). value.Bool b �
 others-loaded n (value.Int b ∷ vs) = ap (λ (xs : List Value). value.Int b ∷ xs) (others-loaded n vs)
 others-loaded n (value.Text b ∷ vs) = ap (λ (xs : List Value). value.Text b ∷ xs) (others-loaded n vs)
 others-loaded n (value.Literal b ∷ vs) = ap (λ (xs : List Value). value.Literal b ∷ xs) (others-loaded n vs)
-others-loaded n (value.Adapter b ∷ vs) = ap (λ (xs : List Value). value.Adapter b ∷ xs) (others-loaded n vs)
 
 -- loading keeps proxies where they are
 pub proxies-loaded : (n i : ℕ) (vs : List Value) → proxies_from i (loaded_values n vs) ≡ proxies_from i vs
@@ -168,7 +164,6 @@ proxies-loaded n i (value.Bool b ∷ vs) = proxies-loaded n (i + 1) vs
 proxies-loaded n i (value.Int b ∷ vs) = proxies-loaded n (i + 1) vs
 proxies-loaded n i (value.Text b ∷ vs) = proxies-loaded n (i + 1) vs
 proxies-loaded n i (value.Literal b ∷ vs) = proxies-loaded n (i + 1) vs
-proxies-loaded n i (value.Adapter b ∷ vs) = proxies-loaded n (i + 1) vs
 
 insert-mid : (xs ys : List Value) (v : Value) → insert (xs ++ ys) (length xs) v ≡ xs ++ v ∷ ys
 insert-mid [] [] v = refl
@@ -184,7 +179,6 @@ others-few (value.Bool b ∷ vs) = let less = others-few vs in omega (arith, les
 others-few (value.Int b ∷ vs) = let less = others-few vs in omega (arith, less)
 others-few (value.Text b ∷ vs) = let less = others-few vs in omega (arith, less)
 others-few (value.Literal b ∷ vs) = let less = others-few vs in omega (arith, less)
-others-few (value.Adapter b ∷ vs) = let less = others-few vs in omega (arith, less)
 
 split-at : (xs ys : List Value) (k : ℕ) (v : Value) → slice_get (xs ++ ys) k ≡ Some v → ((slice_get xs k ≡ Some v) → ⊥) → (j : ℕ) × (slice_get ys j ≡ Some v)
 split-at [] ys k v at other = (k, at)
@@ -205,7 +199,7 @@ IsFill m _ = ⊥
 pub fills-kinds : (m : Kinds) (ys : List Edit) → AllByRecursion (IsFill m) ys → IsPlanOfKind m ys
 fills-kinds m [] all = tt
 fills-kinds m (edit.PutProxy e i t ∷ ys) all = (all.0, fills-kinds m ys all.1)
-fills-kinds m (edit.Put e i o g c ∷ ys) all = absurd all.0
+fills-kinds m (edit.Put l ∷ ys) all = absurd all.0
 fills-kinds m (edit.Cut e o ∷ ys) all = absurd all.0
 fills-kinds m (edit.CutProxy e p ∷ ys) all = absurd all.0
 fills-kinds m (edit.Shift e to from ∷ ys) all = absurd all.0
@@ -324,7 +318,7 @@ all_filled m (edit.PutProxy e i p ∷ ys) t legal all ready =
     let fit = fill-fits t legal ys e i p r.last r.distinct r.few r.waits in
     let rest = all_filled m ys (put_proxy t e i p) (edited_legal t (edit.PutProxy e i p) legal fit) all.1 (λ d. (let x = ready d in record { last = x.last; distinct = x.distinct; few = x.few; waits = next-ready t legal ys e i p fit d x })) in
     record { fits = (fit, rest.fits); no_cycle = (tt, rest.no_cycle) }
-all_filled m (edit.Put e i o g c ∷ ys) t legal all ready = absurd all.0
+all_filled m (edit.Put l ∷ ys) t legal all ready = absurd all.0
 all_filled m (edit.Cut e o ∷ ys) t legal all ready = absurd all.0
 all_filled m (edit.CutProxy e p ∷ ys) t legal all ready = absurd all.0
 all_filled m (edit.Shift e to from ∷ ys) t legal all ready = absurd all.0
@@ -334,7 +328,7 @@ pub end_filled : (m : Kinds) (ys : List Edit) (t : Links) → IsLegalSet t → A
 end_filled m [] t legal all fits d r = let w = r.waits in w.now ∙ ap (λ (xs : List Value). w.there ++ xs) (without_proxies (length w.there) w.waiting (sym w.next)) ∙ sym w.whole
 end_filled m (edit.PutProxy e i p ∷ ys) t legal all fits d r =
     end_filled m ys (put_proxy t e i p) (edited_legal t (edit.PutProxy e i p) legal fits.0) all.1 fits.1 d (record { last = r.last; distinct = r.distinct; few = r.few; waits = next-ready t legal ys e i p fits.0 d r })
-end_filled m (edit.Put e i o g c ∷ ys) t legal all fits d r = absurd all.0
+end_filled m (edit.Put l ∷ ys) t legal all fits d r = absurd all.0
 end_filled m (edit.Cut e o ∷ ys) t legal all fits d r = absurd all.0
 end_filled m (edit.CutProxy e p ∷ ys) t legal all fits d r = absurd all.0
 end_filled m (edit.Shift e to from ∷ ys) t legal all fits d r = absurd all.0

@@ -17,7 +17,7 @@ use Rattle.links.specs.Holders.{HasNoCycle, IsUnder, above, climb, end_containin
 use Rattle.links.specs.Laws.{IsPutOutside, is_far}
 use Rattle.links.specs.LegalSets.{AreKinds, AreOfKind, IsDistinct, IsLegalSet, IsObject, Kinds, most}
 use Rattle.links.specs.Links.{Links, end, far_end, put, put_proxy}
-use Rattle.links.specs.Plans.{EditFits, FarFitsIn, IsFree, IsPlanOfKind, MakesNoCycle, PlanFits, PlanMakesNoCycle, PutFits, links_after_edit, links_after_edits}
+use Rattle.links.specs.Plans.{EditFits, FarFitsIn, IsFree, IsPlanOfKind, MakesNoCycle, PlanFits, PlanMakesNoCycle, PutFits, links_after_edit, links_after_edits, put_of}
 use Rattle.links.specs.declared.plan.Edit.TheVariants as edit
 use Rattle.links.specs.declared.plan.Edit.{Edit}
 use Rattle.mm_types.proofs.SameLemmas.{same_end-self, same_end-true, same_node-true}
@@ -64,7 +64,7 @@ module _ (xs : List Value) (v : Value) (ys all : List Value) (is : xs ++ v ∷ y
 
 -- the values that an edit appends to an end
 abbrev pub gains : End → Edit → List Value
-gains d (edit.Put e i o g c) = if same_end e d then value.Object o ∷ [] else (if is_far o g d then node_value e.node ∷ [] else [])
+gains d (edit.Put l) = if same_end l.end d then value.Object l.object ∷ [] else (if is_far l.object l.opposite d then node_value l.end.node ∷ [] else [])
 gains d (edit.PutProxy e i t) = if same_end e d then value.Proxy t ∷ [] else []
 gains d _ = []
 
@@ -91,26 +91,26 @@ pub record IsGoodPut (m : Kinds) (n : ℕ) (T : End → List Value) (e : End) (i
   pub at : slice_get (T e) i ≡ Some (value.Object o)
 
 abbrev pub IsGood : Kinds → ℕ → (End → List Value) → Edit → Type 0
-IsGood m n T (edit.Put e i o g c) = IsGoodPut m n T e i o g c
+IsGood m n T (edit.Put l) = IsGoodPut m n T l.end l.index l.object l.opposite l.container
 IsGood m n T (edit.PutProxy e i t) = (m.container e.feature ≡ None) × (slice_get (T e) i ≡ Some (value.Proxy t))
 IsGood m n T _ = ⊥
 
 -- these edits agree with the kinds of their features
 pub good_kinds : (m : Kinds) (n : ℕ) (T : End → List Value) (ys : List Edit) → AllByRecursion (IsGood m n T) ys → IsPlanOfKind m ys
 good_kinds m n T [] all = tt
-good_kinds m n T (edit.Put e i o g c ∷ ys) all = ((all.0.opposite, all.0.container), good_kinds m n T ys all.1)
+good_kinds m n T (edit.Put l ∷ ys) all = ((all.0.opposite, all.0.container), good_kinds m n T ys all.1)
 good_kinds m n T (edit.PutProxy e i t ∷ ys) all = (all.0.0, good_kinds m n T ys all.1)
 good_kinds m n T (edit.Cut e o ∷ ys) all = absurd all.0
 good_kinds m n T (edit.CutProxy e t ∷ ys) all = absurd all.0
 good_kinds m n T (edit.Shift e to from ∷ ys) all = absurd all.0
 
-gains-near : (e : End) (i : ℕ) (o : ObjectNo) (g c : Option FeatureNo) → gains e (edit.Put e i o g c) ≡ value.Object o ∷ []
+gains-near : (e : End) (i : ℕ) (o : ObjectNo) (g c : Option FeatureNo) → gains e (put_of e i o g c) ≡ value.Object o ∷ []
 gains-near e i o g c = let self = same_end-self e in rw self refl
 
 gains-near_proxy : (e : End) (i : ℕ) (t : List ℕ) → gains e (edit.PutProxy e i t) ≡ value.Proxy t ∷ []
 gains-near_proxy e i t = let self = same_end-self e in rw self refl
 
-gains-far : (e : End) (i : ℕ) (o : ObjectNo) (g : FeatureNo) (c : Option FeatureNo) → ((g.0 ≡ e.feature.0) → ⊥) → gains (far_end o g) (edit.Put e i o (Some g) c) ≡ node_value e.node ∷ []
+gains-far : (e : End) (i : ℕ) (o : ObjectNo) (g : FeatureNo) (c : Option FeatureNo) → ((g.0 ≡ e.feature.0) → ⊥) → gains (far_end o g) (put_of e i o (Some g) c) ≡ node_value e.node ∷ []
 gains-far e i o g c apart =
     let other = ne-same_end e (far_end o g) (λ q. apart (sym (ap (λ (x : End). x.feature.0) q))) in
     let self = same_end-self (far_end o g) in
@@ -150,7 +150,7 @@ module _ (m : Kinds) (ok : AreKinds m) (n : ℕ) (T : End → List Value) (good 
   ---------------------------------------------------------------- a put
 
   module _ (t : Links) (legal : IsLegalSet t) (kinds : AreOfKind m t) (free : HasNoCycle t) (ys : List Edit) (e : End) (i : ℕ) (o : ObjectNo) (g c : Option FeatureNo)
-      (comes : Comes t (edit.Put e i o g c ∷ ys)) (put_good : IsGoodPut m n T e i o g c) where
+      (comes : Comes t (put_of e i o g c ∷ ys)) (put_good : IsGoodPut m n T e i o g c) where
     at_near : end t e ++ value.Object o ∷ flat_map (gains e) ys ≡ T e
     at_near = ap (λ (vs : List Value). end t e ++ (vs ++ flat_map (gains e) ys)) (sym (gains-near e i o g c)) ∙ comes e
 
@@ -172,7 +172,7 @@ module _ (m : Kinds) (ok : AreKinds m) (n : ℕ) (T : End → List Value) (good 
     far-fits (Some h) is =
         let apart = ok.two e.feature h (sym put_good.opposite ∙ is) in
         let there : end t (far_end o h) ++ node_value e.node ∷ flat_map (gains (far_end o h)) ys ≡ T (far_end o h) =
-        ap (λ (vs : List Value). end t (far_end o h) ++ (vs ++ flat_map (gains (far_end o h)) ys)) (sym (gains-far e i o h c apart) ∙ ap (λ (x : Option FeatureNo). gains (far_end o h) (edit.Put e i o x c)) (sym is)) ∙ comes (far_end o h) in
+        ap (λ (vs : List Value). end t (far_end o h) ++ (vs ++ flat_map (gains (far_end o h)) ys)) (sym (gains-far e i o h c apart) ∙ ap (λ (x : Option FeatureNo). gains (far_end o h) (put_of e i o x c)) (sym is)) ∙ comes (far_end o h) in
         record {
           apart = apart;
           object = put_good.object h is;
@@ -189,7 +189,7 @@ module _ (m : Kinds) (ok : AreKinds m) (n : ℕ) (T : End → List Value) (good 
           | None ↦ λ q. refl
           | Some d ↦ λ q.
               let at = holder_end m ok t legal kinds (node.Object o) d q in
-              let same = good.one d e o at.0 i put_good.new at.2 (contains h is) (later t legal kinds (edit.Put e i o g c ∷ ys) comes d at.0 (value.Object o) at.1) put_good.at in
+              let same = good.one d e o at.0 i put_good.new at.2 (contains h is) (later t legal kinds (put_of e i o g c ∷ ys) comes d at.0 (value.Object o) at.1) put_good.at in
               absurd (not_before (end t e) (value.Object o) (flat_map (gains e) ys) (T e) at_near (good.distinct e) at.0 (subst (λ (x : End). slice_get (end t x) at.0 ≡ Some (value.Object o)) same at.1))
         ] refl
 
@@ -203,7 +203,7 @@ module _ (m : Kinds) (ok : AreKinds m) (n : ℕ) (T : End → List Value) (good 
     free-fits None is = tt
     free-fits (Some h) is = subst (λ (y : Option Node). IsFree t y) (sym (contained-is h is)) (is-free h is)
 
-    fits : EditFits t (edit.Put e i o g c)
+    fits : EditFits t (put_of e i o g c)
     fits = (put-fits, far-fits g refl, free-fits c refl)
 
     outside : IsPutOutside t e o c
@@ -218,13 +218,13 @@ module _ (m : Kinds) (ok : AreKinds m) (n : ℕ) (T : End → List Value) (good 
             subst (λ (y : End). (same_node y.node x ≡ false) × (list_any (same_node x) (above t y.node) ≡ false)) sd
             (subst (λ (y : Node). (same_node e.node y ≡ false) × (list_any (same_node y) (above t e.node) ≡ false)) sx (
               false_from_ne_true (same_node e.node (node.Object o)) (λ same. (let z = subst (λ (y : Node). IsBefore n y o) (same_node-true e.node (node.Object o) same) less in omega (arith, z.1))),
-              false_from_ne_true (list_any (same_node (node.Object o)) (above t e.node)) (λ found. not-above t legal kinds (edit.Put e i o g c ∷ ys) comes e.node o less (above-under t e.node (node.Object o) found)),
+              false_from_ne_true (list_any (same_node (node.Object o)) (above t e.node)) (λ found. not-above t legal kinds (put_of e i o g c ∷ ys) comes e.node o less (above-under t e.node (node.Object o) found)),
             ))
 
-    no_cycle : MakesNoCycle t (edit.Put e i o g c)
+    no_cycle : MakesNoCycle t (put_of e i o g c)
     no_cycle = put_outside t e i o g c legal fits free outside
 
-    adds : (d : End) → end (put t e i o g c) d ≡ end t d ++ gains d (edit.Put e i o g c)
+    adds : (d : End) → end (put t e i o g c) d ≡ end t d ++ gains d (put_of e i o g c)
     adds d =
         end-put t e i o g c legal fits d
         ∙ elim (same_end e d) as (λ b. same_end e d ≡ b → (if b then insert (end t d) i (value.Object o) else (if is_far o g d then end t d ++ node_value e.node ∷ [] else end t d)) ≡ end t d ++ (if b then value.Object o ∷ [] else (if is_far o g d then node_value e.node ∷ [] else []))) [
@@ -274,14 +274,14 @@ module _ (m : Kinds) (ok : AreKinds m) (n : ℕ) (T : End → List Value) (good 
 
   pub plan_made : (ys : List Edit) (t : Links) → IsLegalSet t → AreOfKind m t → HasNoCycle t → Comes t ys → AllByRecursion (IsGood m n T) ys → IsMade t ys
   plan_made [] t legal kinds free comes all = record { fits = tt; no_cycle = tt; ends = λ d. sym (append-nil (end t d)) ∙ comes d }
-  plan_made (edit.Put e i o g c ∷ ys) t legal kinds free comes all =
-      let fit = fits t legal kinds free ys e i o g c comes all.0 in
-      let clear = no_cycle t legal kinds free ys e i o g c comes all.0 in
-      let u = put t e i o g c in
-      made-more t (edit.Put e i o g c) ys fit clear
-      (plan_made ys u (edited_legal t (edit.Put e i o g c) legal fit) (plan_keeps_kinds m ok t (edit.Put e i o g c ∷ []) kinds ((all.0.opposite, all.0.container), tt))
-      (plan_makes_no_cycle t (edit.Put e i o g c ∷ []) legal (fit, tt) (clear, tt) free)
-      (comes-next t u (edit.Put e i o g c) ys (adds t legal kinds free ys e i o g c comes all.0) comes) all.1)
+  plan_made (edit.Put l ∷ ys) t legal kinds free comes all =
+      let fit = fits t legal kinds free ys l.end l.index l.object l.opposite l.container comes all.0 in
+      let clear = no_cycle t legal kinds free ys l.end l.index l.object l.opposite l.container comes all.0 in
+      let u = put t l.end l.index l.object l.opposite l.container in
+      made-more t (edit.Put l) ys fit clear
+      (plan_made ys u (edited_legal t (edit.Put l) legal fit) (plan_keeps_kinds m ok t (edit.Put l ∷ []) kinds ((all.0.opposite, all.0.container), tt))
+      (plan_makes_no_cycle t (edit.Put l ∷ []) legal (fit, tt) (clear, tt) free)
+      (comes-next t u (edit.Put l) ys (adds t legal kinds free ys l.end l.index l.object l.opposite l.container comes all.0) comes) all.1)
   plan_made (edit.PutProxy e i p ∷ ys) t legal kinds free comes all =
       let fit = proxy-fits t legal ys e i p comes all.0.1 in
       let u = put_proxy t e i p in

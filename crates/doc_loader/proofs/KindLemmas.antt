@@ -64,7 +64,6 @@ anywhere (value.Int n) = tt
 anywhere (value.Text t) = tt
 anywhere (value.Literal i) = tt
 anywhere (value.Object o) = tt
-anywhere (value.Adapter a) = tt
 
 all-anywhere : (vs : List Value) → All (Place None) vs
 all-anywhere [] = All-nil (Place None)
@@ -123,7 +122,6 @@ value-kind m n e i (value.Bool b) index_of = tt
 value-kind m n e i (value.Int k) index_of = tt
 value-kind m n e i (value.Text t) index_of = tt
 value-kind m n e i (value.Literal k) index_of = tt
-value-kind m n e i (value.Adapter a) index_of = tt
 
 values-kind : (m : Metamodel) (n : ℕ) (e : End) (i : ℕ) (vs : List Value) → All (Place (shape m e.feature).containing) vs → IsPlanOfKind (kinds_of m) (flat_map (value_puts m n e) (enumerate_from i vs))
 values-kind m n e i [] all = tt
@@ -158,7 +156,6 @@ again-kind m n index_of b f (value.Bool x ∷ vs) = again-kind m n index_of b f 
 again-kind m n index_of b f (value.Int x ∷ vs) = again-kind m n index_of b f vs
 again-kind m n index_of b f (value.Text t ∷ vs) = again-kind m n index_of b f vs
 again-kind m n index_of b f (value.Literal x ∷ vs) = again-kind m n index_of b f vs
-again-kind m n index_of b f (value.Adapter x ∷ vs) = again-kind m n index_of b f vs
 
 ordered-kind : (m : Metamodel) (n : ℕ) (index_of : ReferenceKey → ℕ) (b : ObjectNo) (vs : List Value) (o : Option FeatureNo) → IsPlanOfKind (kinds_of m) (option_map_or (in_order m n index_of b vs) o [])
 ordered-kind m n index_of b vs None = tt
@@ -189,7 +186,6 @@ puts-kind m e plain i (value.Bool x ∷ vs) = puts-kind m e plain (i + 1) vs
 puts-kind m e plain i (value.Int x ∷ vs) = puts-kind m e plain (i + 1) vs
 puts-kind m e plain i (value.Text t ∷ vs) = puts-kind m e plain (i + 1) vs
 puts-kind m e plain i (value.Literal x ∷ vs) = puts-kind m e plain (i + 1) vs
-puts-kind m e plain i (value.Adapter x ∷ vs) = puts-kind m e plain (i + 1) vs
 
 -- neither feature of a pair with a lower one is a containment
 lower-contains : (o c h : Option FeatureNo) → (if is_some c then None else h) ≡ o → is_some o ≡ true → c ≡ None

@@ -236,7 +236,6 @@ module _ (m : Metamodel) (n : ℕ) (k : ResourceNo) (doc : Doc) (sound : IsSound
   link-in o c w i (value.Int x) l at sort is = absurd (none-some l is)
   link-in o c w i (value.Text x) l at sort is = absurd (none-some l is)
   link-in o c w i (value.Literal x) l at sort is = absurd (none-some l is)
-  link-in o c w i (value.Adapter x) l at sort is = absurd (none-some l is)
 
   content-in : (o : ObjectNo) (c : Content) → IsSoundContent m doc o c → AllByRecursion (λ l. In l t) (content_links m n doc o c)
   content-in o c w =

@@ -250,7 +250,6 @@ module _ (m : Metamodel) (n : ℕ) (k : ResourceNo) (doc : Doc) (sound : IsSound
   value-good o c s side i (value.Int x) sort at = tt
   value-good o c s side i (value.Text x) sort at = tt
   value-good o c s side i (value.Literal x) sort at = tt
-  value-good o c s side i (value.Adapter x) sort at = tt
 
   content-good : (o : ObjectNo) (c : Content) → IsSoundContent m doc o c → AllByRecursion (IsGood (kinds_of m) n near_end) (near_edits m n o c)
   content-good o c s =

@@ -73,7 +73,6 @@ module _ (m : Metamodel) (doc : Doc) (sound : IsSound m doc) (a : ObjectNo) (f :
   value-key_and_index o c s j (value.Int x) there = tt
   value-key_and_index o c s j (value.Text x) there = tt
   value-key_and_index o c s j (value.Literal x) there = tt
-  value-key_and_index o c s j (value.Adapter x) there = tt
 
   content-placed : (o : ObjectNo) (c : Content) → IsSoundContent m doc o c → AllByRecursion (IsPlaced (reference_key a f b) i) (content_indexes m o c)
   content-placed o c s =

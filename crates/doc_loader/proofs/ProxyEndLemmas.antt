@@ -53,7 +53,6 @@ values-filled d e i (value.Bool b ∷ vs) = values-filled d e (i + 1) vs
 values-filled d e i (value.Int b ∷ vs) = values-filled d e (i + 1) vs
 values-filled d e i (value.Text b ∷ vs) = values-filled d e (i + 1) vs
 values-filled d e i (value.Literal b ∷ vs) = values-filled d e (i + 1) vs
-values-filled d e i (value.Adapter b ∷ vs) = values-filled d e (i + 1) vs
 
 module _ (m : Metamodel) (n : ℕ) (doc : Doc) (sound : IsSound m doc) where
   abbrev puts_if : ObjectNo → Content → Option FeatureNo → List Edit
@@ -97,7 +96,6 @@ module _ (m : Metamodel) (n : ℕ) (doc : Doc) (sound : IsSound m doc) where
   puts-fill e plain (i, value.Int b) = tt
   puts-fill e plain (i, value.Text b) = tt
   puts-fill e plain (i, value.Literal b) = tt
-  puts-fill e plain (i, value.Adapter b) = tt
 
   content-fills : (o : ObjectNo) (c : Content) → AllByRecursion (IsFill (kinds_of m)) (proxy_edits m n o c)
   content-fills o c = by (lower_of (shape m c.feature) c.feature) refl

@@ -18,7 +18,7 @@ use Rattle.links.specs.Holders.{HasNoCycle}
 use Rattle.links.specs.Laws.{names, names_far}
 use Rattle.links.specs.LegalSets.{AreKinds, AreOfKind, IsDistinct, IsLegalSet, IsObject, Kinds, most}
 use Rattle.links.specs.Links.{Links, cut_value, end, far_end, put}
-use Rattle.links.specs.Plans.{EditFits, IsPlanOfKind, MakesNoCycle, PlanFits, PlanMakesNoCycle, links_after_edits}
+use Rattle.links.specs.Plans.{EditFits, IsPlanOfKind, MakesNoCycle, PlanFits, PlanMakesNoCycle, links_after_edits, put_of}
 use Rattle.links.specs.declared.plan.Edit.TheVariants as edit
 use Rattle.links.specs.declared.plan.Edit.{Edit}
 use Rattle.mm_types.proofs.SameLemmas.{same_end-self, same_end-true}
@@ -163,7 +163,7 @@ module _ (m : Kinds) (ok : AreKinds m) (t : Links) (legal : IsLegalSet t) (kinds
       let few = legal.placed.few (far_end o g) in
       omega (arith, same, low, few)
 
-  fits : EditFits one (edit.Put e i o (Some g) None)
+  fits : EditFits one (put_of e i o (Some g) None)
   fits =
       let same = ap length cut_near in
       let inside = slice_get_within (end t e) i (value.Object o) at in
@@ -186,7 +186,7 @@ module _ (m : Kinds) (ok : AreKinds m) (t : Links) (legal : IsLegalSet t) (kinds
         tt,
       )
 
-  no_cycle : MakesNoCycle one (edit.Put e i o (Some g) None)
+  no_cycle : MakesNoCycle one (put_of e i o (Some g) None)
   no_cycle = put_outside one e i o (Some g) None one_legal fits one_free (λ x d q r. absurd (none-some x q))
 
   abbrev two : Links
@@ -217,7 +217,7 @@ pub record Again : Type 0 where
   pub far : FeatureNo
 
 abbrev pub again_edits : Kinds → Again → List Edit
-again_edits m x = edit.Cut x.near x.object ∷ edit.Put x.near x.index x.object (m.opposite x.near.feature) (m.container x.near.feature) ∷ []
+again_edits m x = edit.Cut x.near x.object ∷ put_of x.near x.index x.object (m.opposite x.near.feature) (m.container x.near.feature) ∷ []
 
 abbrev pub all_again : Kinds → List Again → List Edit
 all_again m xs = flat_map (again_edits m) xs
@@ -250,10 +250,10 @@ last-more false v us vs = refl
 module _ (m : Kinds) (ok : AreKinds m) (Near : End → Type 0) (N : End → List Value) where
   again-more : (t : Links) → IsLegalSet t → AreOfKind m t → HasNoCycle t → (x : Again) (xs : List Again) → IsGoodAgain m Near N x → slice_get (end t x.near) x.index ≡ Some (value.Object x.object)
       → ((u : Links) → IsLegalSet u → AreOfKind m u → HasNoCycle u → ((d : End) → Near d → end u d ≡ end t d) → ArePutAgain m u xs (all_again m xs))
-      → (p c : Option FeatureNo) → p ≡ Some x.far → c ≡ None → ArePutAgain m t (x ∷ xs) (edit.Cut x.near x.object ∷ edit.Put x.near x.index x.object p c ∷ all_again m xs)
+      → (p c : Option FeatureNo) → p ≡ Some x.far → c ≡ None → ArePutAgain m t (x ∷ xs) (edit.Cut x.near x.object ∷ put_of x.near x.index x.object p c ∷ all_again m xs)
   again-more t legal kinds free x xs good at rest p c is_pair is_plain =
-      subst (λ (z : Option FeatureNo). ArePutAgain m t (x ∷ xs) (edit.Cut x.near x.object ∷ edit.Put x.near x.index x.object z c ∷ all_again m xs)) (sym is_pair)
-      (subst (λ (z : Option FeatureNo). ArePutAgain m t (x ∷ xs) (edit.Cut x.near x.object ∷ edit.Put x.near x.index x.object (Some x.far) z ∷ all_again m xs)) (sym is_plain) (
+      subst (λ (z : Option FeatureNo). ArePutAgain m t (x ∷ xs) (edit.Cut x.near x.object ∷ put_of x.near x.index x.object z c ∷ all_again m xs)) (sym is_pair)
+      (subst (λ (z : Option FeatureNo). ArePutAgain m t (x ∷ xs) (edit.Cut x.near x.object ∷ put_of x.near x.index x.object (Some x.far) z ∷ all_again m xs)) (sym is_plain) (
       let cut_out = cut_value t x.near (value.Object x.object) in
       let fit = fits m ok t legal kinds free x.near x.index x.object x.far good.pair good.plain good.object at in
       let clear = no_cycle m ok t legal kinds free x.near x.index x.object x.far good.pair good.plain good.object at in
@@ -261,7 +261,7 @@ module _ (m : Kinds) (ok : AreKinds m) (Near : End → Type 0) (N : End → List
       let legal_one = one_legal m ok t legal kinds free x.near x.index x.object x.far good.pair good.plain good.object at in
       let kinds_one = one_kinds m ok t legal kinds free x.near x.index x.object x.far good.pair good.plain good.object at in
       let free_one = one_free m ok t legal kinds free x.near x.index x.object x.far good.pair good.plain good.object at in
-      let step = edit.Put x.near x.index x.object (Some x.far) None in
+      let step = put_of x.near x.index x.object (Some x.far) None in
       let next = rest (put cut_out x.near x.index x.object (Some x.far) None) (edited_legal cut_out step legal_one fit) (plan_keeps_kinds m ok cut_out (step ∷ []) kinds_one ((sym good.pair, sym good.plain), tt))
       (plan_makes_no_cycle cut_out (step ∷ []) legal_one (fit, tt) (clear, tt) free_one)
       (λ d near. is d ∙ ap (λ (b : Bool). if b then put_last (node_value x.near.node) (end t d) else end t d) (ne-same_end (far_end x.object x.far) d (good.apart d near))) in

@@ -134,7 +134,6 @@ module _ (m : Metamodel) (n : ℕ) (k : ResourceNo) (doc : Doc) (sound : IsSound
   link-near o f i (value.Int x) reference sort = absurd (true≢false (sym reference ∙ sort))
   link-near o f i (value.Text x) reference sort = absurd (true≢false (sym reference ∙ sort))
   link-near o f i (value.Literal x) reference sort = absurd (true≢false (sym reference ∙ sort))
-  link-near o f i (value.Adapter x) reference sort = absurd (true≢false (sym reference ∙ sort))
 
   value-link-in : (a : ObjectNo) (f : FeatureNo) (i : ℕ) (v : Value) → (shape m f).is_reference ≡ true → slice_get (values_in doc a f) i ≡ Some v → (x : Link) × In x w × ((u : Value) × (indexed_value x (object_end n a f) ≡ Some (i, u)))
   value-link-in a f i v reference at =

@@ -86,7 +86,6 @@ loaded_number-value-object n (value.Int x) b h = cc
 loaded_number-value-object n (value.Text x) b h = cc
 loaded_number-value-object n (value.Literal x) b h = cc
 loaded_number-value-object n (value.Proxy x) b h = cc
-loaded_number-value-object n (value.Adapter x) b h = cc
 
 pub loaded-value-same : (n : ℕ) (v w : Value) → loaded_value n v ≡ loaded_value n w → v ≡ w
 loaded-value-same n (value.Object a) w h = let r = loaded_number-value-object n w (loaded_number n a) (sym h) in ap value.Object (loaded_number-same n a r.0 r.2) ∙ sym r.1
@@ -96,7 +95,6 @@ loaded-value-same n (value.Int x) (value.Object b) h = cc
 loaded-value-same n (value.Text x) (value.Object b) h = cc
 loaded-value-same n (value.Literal x) (value.Object b) h = cc
 loaded-value-same n (value.Proxy x) (value.Object b) h = cc
-loaded-value-same n (value.Adapter x) (value.Object b) h = cc
 loaded-value-same n v w h = h
 
 pub loaded-at : (n : ℕ) (vs : List Value) (k : ℕ) (v : Value) → slice_get vs k ≡ Some v → slice_get (loaded_values n vs) k ≡ Some (loaded_value n v)
@@ -128,7 +126,6 @@ ascending-less j k (value.Int x ∷ vs) le h = absurd h
 ascending-less j k (value.Text x ∷ vs) le h = absurd h
 ascending-less j k (value.Literal x ∷ vs) le h = absurd h
 ascending-less j k (value.Proxy x ∷ vs) le h = absurd h
-ascending-less j k (value.Adapter x ∷ vs) le h = absurd h
 
 -- each element of an ascending list
 pub ascending-at : (k : ℕ) (vs : List Value) (j : ℕ) (v : Value) → IsAscending k vs → slice_get vs j ≡ Some v → (a : ObjectNo) × (v ≡ value.Object a) × (k ≤ a.0)
@@ -141,7 +138,6 @@ ascending-at k (value.Int x ∷ vs) j v h at = absurd h
 ascending-at k (value.Text x ∷ vs) j v h at = absurd h
 ascending-at k (value.Literal x ∷ vs) j v h at = absurd h
 ascending-at k (value.Proxy x ∷ vs) j v h at = absurd h
-ascending-at k (value.Adapter x ∷ vs) j v h at = absurd h
 
 not-again : (a : ObjectNo) (vs : List Value) (j : ℕ) (v : Value) → IsAscending (suc a.0) vs → slice_get vs j ≡ Some v → v ≡ value.Object a → ⊥
 not-again a vs j v h at is = let r = ascending-at (suc a.0) vs j v h at in let same = ap (λ (x : ObjectNo). x.0) (object_value r.0 a (sym r.1 ∙ is)) in let low = r.2 in omega (arith, same, low)
@@ -158,7 +154,6 @@ ascending-distinct k (value.Int x ∷ vs) h i j v a b = absurd h
 ascending-distinct k (value.Text x ∷ vs) h i j v a b = absurd h
 ascending-distinct k (value.Literal x ∷ vs) h i j v a b = absurd h
 ascending-distinct k (value.Proxy x ∷ vs) h i j v a b = absurd h
-ascending-distinct k (value.Adapter x ∷ vs) h i j v a b = absurd h
 
 abbrev AreIn : List Value → List Value → Type 0
 AreIn vs ws = (k : ℕ) (v : Value) → slice_get vs k ≡ Some v → (j : ℕ) × (slice_get ws j ≡ Some v)

@@ -80,7 +80,6 @@ module _ (m : Metamodel) (n : ℕ) (e d : End) where
   values-own t is not_far reference i (value.Int x ∷ vs) sorts = absurd (true≢false (sym reference ∙ sorts.0))
   values-own t is not_far reference i (value.Text x ∷ vs) sorts = absurd (true≢false (sym reference ∙ sorts.0))
   values-own t is not_far reference i (value.Literal x ∷ vs) sorts = absurd (true≢false (sym reference ∙ sorts.0))
-  values-own t is not_far reference i (value.Adapter x ∷ vs) sorts = absurd (true≢false (sym reference ∙ sorts.0))
 
   -- the end of an object under the opposite gains the node for each value that is the object
   values-far : same_end e d ≡ false → (b : ObjectNo) → ((o : ObjectNo) → is_far (loaded_number n o) (shape m e.feature).opposite d ≡ same_value (value.Object b) (value.Object o))
@@ -94,7 +93,6 @@ module _ (m : Metamodel) (n : ℕ) (e d : End) where
   values-far other b far i (value.Int x ∷ vs) = values-far other b far (i + 1) vs
   values-far other b far i (value.Text x ∷ vs) = values-far other b far (i + 1) vs
   values-far other b far i (value.Literal x ∷ vs) = values-far other b far (i + 1) vs
-  values-far other b far i (value.Adapter x ∷ vs) = values-far other b far (i + 1) vs
 
   -- another end gains nothing
   values-none : same_end e d ≡ false → ((o : ObjectNo) → is_far (loaded_number n o) (shape m e.feature).opposite d ≡ false) → (i : ℕ) (vs : List Value) → gained i vs ≡ []
@@ -107,7 +105,6 @@ module _ (m : Metamodel) (n : ℕ) (e d : End) where
   values-none other far i (value.Int x ∷ vs) = values-none other far (i + 1) vs
   values-none other far i (value.Text x ∷ vs) = values-none other far (i + 1) vs
   values-none other far i (value.Literal x ∷ vs) = values-none other far (i + 1) vs
-  values-none other far i (value.Adapter x ∷ vs) = values-none other far (i + 1) vs
 
 absent-later : (u v : Value) (vs : List Value) → same_value u v ≡ true → IsDistinct (v ∷ vs) → AllByRecursion (λ w. same_value u w ≡ false) vs
 absent-later u v vs same d = all-from_at (λ w. same_value u w ≡ false) vs (λ k w at. false_from_ne_true (same_value u w) (λ q. (

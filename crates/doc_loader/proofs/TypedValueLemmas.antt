@@ -124,7 +124,6 @@ typed-value m doc f (value.Bool b) sort taken = taken
 typed-value m doc f (value.Int n) sort taken = taken
 typed-value m doc f (value.Text t) sort taken = taken
 typed-value m doc f (value.Literal i) sort taken = taken
-typed-value m doc f (value.Adapter a) sort taken = taken
 
 conforms-read : (m : Metamodel) (target : ClassNo) (o : Option ClassNo) → option_map_or (λ c. lookups.conforms m c target) o false ≡ true → lookups.conforms m (unwrap_or o (record { 0 = 0 })) target ≡ true
 conforms-read m target None h = absurd (false≢true h)
@@ -146,7 +145,6 @@ module _ (m : Metamodel) (doc : Doc) (f : FeatureNo) (g : Feature) (known : look
   kept-taken t unique unsettable default (value.Int n) kind kept = kept-legal t unique unsettable default (value.Int n) kind kept
   kept-taken t unique unsettable default (value.Text p) kind kept = kept-legal t unique unsettable default (value.Text p) kind kept
   kept-taken t unique unsettable default (value.Literal i) kind kept = kept-legal t unique unsettable default (value.Literal i) kind kept
-  kept-taken t unique unsettable default (value.Adapter a) kind kept = kept-legal t unique unsettable default (value.Adapter a) kind kept
 
   if-kept : (t : DataType) (unique unsettable : Bool) (default : Value) (o : Option Value) → g.kind ≡ Attribute t unique unsettable default → IfSome o (IsKept m (shape m f).is_single t) → IfSome o (IsTaken m doc f)
   if-kept t unique unsettable default None kind kept = tt

@@ -1,7 +1,7 @@
 -- The edits that make a document's links and proxies, in an order in which each gets the position that the document says. Of two opposites
--- that contain nothing, one feature has the lower number. First come the roots, then the lists of all references but the higher of each
--- pair: each value is put after the values before it, so each list becomes as it is written. Meanwhile the ends of the higher features gain
--- objects, by number. If the document has another order at such an end, its links are cut and put again in that order, each at the position
+-- that contain nothing, one feature has the lower number. First come the roots, then the lists of all references except the higher one of
+-- each pair: each value is put after the values before it, so each list is as it is written. By these links the ends of the higher features
+-- gain objects, by number. If the document has another order at an end, its links are cut and put again in that order, each at the position
 -- that it had at its lower end. Last come the proxies at the ends of the higher features, each at its position: by then the objects are
 -- there in their order.
 use Rattle.std.specs.Prelude.{ℕ, suc, ◌&&◌, Bool, true, not, List, [], ◌∷◌, ◌++◌, flat_map, map, nat_le, is_some, if◌then◌else◌}
@@ -16,7 +16,7 @@ use Rattle.mm_types.specs.declared.end.End.{End}
 use Rattle.mm_types.specs.declared.value.Value.{Value}
 use Rattle.mm_types.specs.declared.value.Value.TheVariants as value
 use Rattle.links.specs.declared.plan.Edit.{Edit}
-use Rattle.links.specs.declared.plan.Edit.TheVariants.{Cut, Put, PutProxy}
+use Rattle.links.specs.declared.plan.Edit.TheVariants.{Cut, PutProxy}
 use Rattle.resource_docs.specs.declared.doc.Content.{Content}
 use Rattle.resource_docs.specs.declared.doc.Doc.{Doc}
 use Rattle.doc_loader.specs.Loading.{loaded_number, object_end, of_contents}
@@ -26,10 +26,11 @@ use Rattle.doc_loader.specs.declared.passes.Pass.{Pass}
 use Rattle.doc_loader.specs.declared.passes.Pass.TheVariants.{Near, Proxies}
 use Rattle.doc_loader.specs.declared.indexes.ReferenceKey.{ReferenceKey}
 use Rattle.models.specs.Reading.{contents_end}
+use Rattle.links.specs.Plans.{put_of}
 
 -- puts an object of the document at a position
 abbrev pub put_at : Metamodel → ℕ → End → ℕ → ObjectNo → Edit
-put_at m n e i b = Put e i (loaded_number n b) (shape m e.feature).opposite (shape m e.feature).containing
+put_at m n e i b = put_of e i (loaded_number n b) (shape m e.feature).opposite (shape m e.feature).containing
 
 abbrev pub root_puts : Metamodel → ℕ → ResourceNo → Doc → List Edit
 root_puts m n k doc = map (λ x. put_at m n (contents_end m k) x.0 x.1) (enumerate_from 0 doc.roots)

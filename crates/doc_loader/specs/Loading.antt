@@ -1,4 +1,4 @@
--- The objects of a document that is loaded, numbered on from the next number, their values, and their links and proxies, which have at both
+-- The objects of a document that is loaded, with numbers from the next one on; their values; and their links and proxies, which have at both
 -- ends the positions that the document says.
 use Rattle.std.specs.Prelude.{ℕ, ◌+◌, ◌&&◌, Bool, List, [], ◌∷◌, ◌++◌, filter_map, flat_map, fold, map, position, Option, Some, None, unwrap_or, if◌then◌else◌}
 use Rattle.std.specs.List.{enumerate_from}

@@ -55,7 +55,7 @@ impl ListIndexes {
         }
     }
 
-    /// The index of each object in the lists of a document. Errs only if memory is refused.
+    /// The index of each object in the lists of a document. Fails only if memory is refused.
     pub fn of(alloc: Global, meta: &Meta, objects: &[DocObject]) -> Result<Self, AllocError>
         requires room { length objects.now ≤ OBJECTS }
         requires short { All IsShortObject objects.now }

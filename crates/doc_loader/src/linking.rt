@@ -16,7 +16,7 @@ use resource_docs::Doc;
 use std::alloc::{AllocError, Global};
 
 /// The edits that put the roots of a document into a resource, and its links and proxies. Its objects are made before; the first one got
-/// the number `next`. Errs only if memory is refused.
+/// the number `next`. Fails only if memory is refused.
 pub fn link_edits(
     alloc: Global,
     meta: &Meta,

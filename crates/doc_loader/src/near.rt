@@ -6,7 +6,7 @@ ghost use Rattle.doc_loader.specs.Fits.{IsNumbered, IsValueNumbered};
 ghost use Rattle.doc_loader.specs.LoadEdits as e;
 
 use crate::numbers::loaded;
-use links::Edit;
+use links::{Edit, NewLink};
 use mm_meta::Meta;
 use mm_types::{End, ObjectNo, Value};
 use std::alloc::AllocError;
@@ -16,13 +16,13 @@ pub(crate) fn put_at(meta: &Meta, next: usize, end: End, index: u32, object: Obj
     requires fits { IsNumbered next object }
     ensures { result ≡ e.put_at meta.now next end index object }
 {
-    Edit::Put {
+    Edit::Put(NewLink {
         end,
         index,
         object: loaded(next, object),
         opposite: meta.opposite(end.feature),
         container: meta.containing(end.feature),
-    }
+    })
 }
 
 /// Adds the edits that put values into an end, in their order.

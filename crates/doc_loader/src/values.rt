@@ -14,7 +14,7 @@ use resource_docs::{Content, ContentParts, Contents, Doc, DocObject, DocValues};
 use std::alloc::{AllocError, Global};
 
 /// The edits that make the objects of a document, the first of which gets the number `next`, and give them the values of their
-/// attributes, which are moved. Errs only if memory is refused.
+/// attributes, which are moved. Fails only if memory is refused.
 pub fn value_edits(
     alloc: Global,
     meta: &Meta,

@@ -83,7 +83,7 @@ abbrev pub FindsBelow : Metamodel → FoundParts → FoundParts → ℕ → ℕ 
 FindsBelow m old new number level more =
     (ps : List Part) (p : Part) → Knows m old ps → number_of ps p.path ≡ Some number → level ≡ suc (level_of p) → Knows m new (ps ++ more p.path)
 
--- the part at a key was found, and all parts below it, for so many levels
+-- the part at a key was found, and the parts below it, down to a number of levels
 abbrev pub Walks : Metamodel → ℕ → FoundParts → FoundParts → Key → ℕ → Data → Type 0
 Walks m n old new k level d =
     (ps : List Part) (p : Part) → Knows m old ps → IsPlaced ps k p.path → level ≡ level_of p → d ≡ p.json → Knows m new (ps ++ parts_from m n p)

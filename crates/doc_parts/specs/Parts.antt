@@ -78,7 +78,7 @@ parts_in m p e =
     then map (λ v. record { path = with_step p (step_to m e.feature v.0); json = v.1 }) (enumerate_from 0 (values_of m e))
     else []
 
--- a part and all parts in it, for so many levels; each part comes before the parts in it
+-- a part and the parts in it, down to a number of levels; each part comes before the parts in it
 abbrev pub parts_from : Metamodel → ℕ → Part → List Part
 parts_from m zero p = []
 parts_from m (suc n) p = p ∷ flat_map (parts_from m n) (flat_map (parts_in m p.path) (entries m p.json))

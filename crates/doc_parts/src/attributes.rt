@@ -34,7 +34,7 @@ fn int_value(json: &Json) -> Option<Value>
 }
 
 /// The value of a data type that JSON writes, under a single or a many-valued attribute; `None` if JSON writes none of
-/// that type. Errs only if memory is refused.
+/// that type. Fails only if memory is refused.
 pub fn attribute_value(
     alloc: Global,
     meta: &Meta,

@@ -11,7 +11,7 @@ use mm_meta::Meta;
 use mm_types::{ClassNo, FeatureNo};
 use std::slice;
 
-/// The class that an object names. Takes no memory.
+/// The class whose name an object has under `class`. Takes no memory.
 pub fn class_of(meta: &Meta, json: &Json) -> Option<ClassNo>
     ensures { result ≡ class_meant meta.now (view json.now) }
 {

@@ -18,7 +18,7 @@ pub enum PartKey<'m> {
     },
 }
 
-/// A position as a key has it. Takes no memory; errs if it does not fit 32 bits.
+/// A position as a key has it. Takes no memory; fails if it does not fit 32 bits.
 pub fn index_of(position: usize) -> Result<u32, AllocError>
     ensures index { IfOk result (λ i. i ≡ position) }
     ensures refused { IfErr result (λ _. 2 ^ 32 ≤ position) }
@@ -79,7 +79,7 @@ impl<'m> Numbers<'m> {
         }
     }
 
-    /// Reserves capacity for so many more numbers. The numbers stay.
+    /// Reserves capacity for `count` more numbers. The numbers stay.
     fn reserve(&mut self, count: usize) -> Result<(), AllocError>
         ensures { self.new.numbers.entries ≡ self.old.numbers.entries }
     {
@@ -173,7 +173,7 @@ impl<'t, 'm> FoundParts<'t, 'm> {
         }
     }
 
-    /// Reserves capacity for so many parts more. What was found stays, also if memory is refused.
+    /// Reserves capacity for `count` more parts. What was found stays, even if memory is refused.
     pub(crate) fn reserve(&mut self, count: usize) -> Result<(), AllocError>
         ensures { (m : Metamodel) (ps : List Part) → Knows m self.old ps → Knows m self.new ps }
     {
@@ -181,8 +181,8 @@ impl<'t, 'm> FoundParts<'t, 'm> {
         self.numbers.reserve(count)
     }
 
-    /// Adds a part, and returns the number of the first part of its path. If memory is refused, or if there are 2^32
-    /// parts already, it errs, and the parts may not be used any more.
+    /// Adds a part, and returns the number of the first part of its path. Fails if memory is refused, or if there are 2^32 parts already;
+    /// then the parts may not be used any more.
     pub fn add(
         &mut self,
         key: PartKey<'m>,

@@ -19,7 +19,7 @@ struct Below {
     level: u32,
 }
 
-/// Finds the part at a key and the parts below it, for so many levels.
+/// Finds the part at a key and the parts below it, down to `levels` levels.
 #[cycle(walk)]
 pub(crate) fn walk<'t, 'm>(
     found: &mut FoundParts<'t, 'm>,
@@ -158,7 +158,7 @@ fn walk_roots<'t, 'm>(
     Ok(())
 }
 
-/// Finds the parts of the roots of a document, for so many levels, in loading order.
+/// Finds the parts of the roots of a document in loading order, down to `levels` levels.
 pub fn find_parts<'t, 'm>(
     alloc: Global,
     meta: &'m Meta,

@@ -145,7 +145,6 @@ typed-plain m single t (value.Bool b) h = refl
 typed-plain m single t (value.Int z) h = refl
 typed-plain m single t (value.Text u) h = refl
 typed-plain m single t (value.Literal i) h = refl
-typed-plain m single t (value.Adapter a) h = refl
 
 keeps-plain : (m : Metamodel) (f : FeatureNo) (v : Value) → lookups.keeps m f v ≡ true → is_plain v ≡ true
 keeps-plain m f v = by (lookups.feature m f)

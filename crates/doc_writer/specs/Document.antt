@@ -49,7 +49,6 @@ plain_data m f (value.Text t) = string t
 plain_data m f (value.Literal i) = string (lookups.literal_text m f i)
 plain_data m f (value.Object o) = null
 plain_data m f (value.Proxy t) = string t
-plain_data m f (value.Adapter a) = null
 
 -- the JSON value of an object under a feature: a part is written by a given function, any other object as a reference
 abbrev pub object_under : Reading → ResourceNo → (ObjectNo → Data) → FeatureNo → ObjectNo → Data
@@ -75,7 +74,7 @@ feature_member r k part o f = (lookups.feature_name r.metamodel f, content_data 
 abbrev pub class_name : Reading → ObjectNo → List ℕ
 class_name r o = option_map_or (λ c. c.name) (option_and_then (lookups.class r.metamodel) (r.class o)) []
 
--- the JSON value of an object with all that it contains, for so many levels
+-- the JSON value of an object with all that it contains, down to a number of levels
 abbrev pub object_data : Reading → ResourceNo → ℕ → ObjectNo → Data
 object_data r k zero o = null
 object_data r k (suc n) o =

@@ -4,7 +4,7 @@ use Rattle.std.specs.List.{list_any}
 use Rattle.std.specs.declared.alloc.Global.{Global}
 use Rattle.serde_json.specs.Data.{depth}
 use Rattle.serde_json.specs.Read.{max_depth, read}
-use Rattle.mm_types.specs.Conditions.{◌where_so◌, ◌else_by◌}
+use Rattle.mm_types.specs.Conditions.{◌where_so◌, ◌else_by◌, is_memory_refusal}
 use Rattle.mm_types.specs.Shapes.{is_containment}
 use Rattle.mm_types.specs.declared.limits.TheConstants.{LEVELS}
 use Rattle.mm_types.specs.declared.numbers.FeatureNo.{FeatureNo}
@@ -12,7 +12,7 @@ use Rattle.mm_types.specs.declared.numbers.ObjectNo.{ObjectNo}
 use Rattle.mm_types.specs.declared.numbers.ResourceNo.{ResourceNo}
 use Rattle.mm_types.specs.declared.numbers.Node.TheVariants as node
 use Rattle.mm_types.specs.declared.refused.Refused.{Refused}
-use Rattle.mm_types.specs.declared.refused.Refused.TheVariants.{Dangling, Memory, TooDeep}
+use Rattle.mm_types.specs.declared.refused.Refused.TheVariants.{Dangling, TooDeep}
 use Rattle.models.specs.Reading.{Reading, at_end, objects_of}
 use Rattle.containment.specs.Above.{resource_of}
 use Rattle.doc_writer.specs.Document.{document, saved_text}
@@ -45,10 +45,6 @@ save_refusal r k =
     Dangling where_so list_any (has_dangling r) (objects_in r k) else_by
     TooDeep where_so list_any (is_too_deep r) (objects_in r k)
 
-abbrev pub is_memory : Refused → Bool
-is_memory Memory = true
-is_memory _ = false
-
 -- a text is read as the document of a resource, if the document is not deeper than JSON that can be read
 abbrev pub IsReadAs : Reading → ResourceNo → List ℕ → Type 0
 IsReadAs r k text = depth (document r k) ≤ max_depth → read text ≡ Some (document r k)
@@ -56,4 +52,4 @@ IsReadAs r k text = depth (document r k) ≤ max_depth → read text ≡ Some (d
 -- the result of writing a document: its text, the refusal, or `Memory`
 abbrev pub Writes : Result (String Global) Refused → Reading → ResourceNo → Type 0
 Writes (Ok text) r k = (save_refusal r k ≡ None) × (string_bytes text ≡ saved_text r k)
-Writes (Err e) r k = MatchBool (is_memory e) (Unit {0}) (save_refusal r k ≡ Some e)
+Writes (Err e) r k = MatchBool (is_memory_refusal e) (Unit {0}) (save_refusal r k ≡ Some e)

@@ -70,7 +70,7 @@ fn text_of(out: Writer) -> String
     }
 }
 
-/// The text of the document of a resource that has these roots. Errs only if memory is refused.
+/// The text of the document of a resource that has these roots. Fails only if memory is refused.
 pub(crate) fn document_text<L: LinkStore>(
     alloc: Global,
     positions: &Positions<L>,

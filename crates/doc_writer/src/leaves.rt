@@ -62,7 +62,7 @@ pub(crate) fn write_plain(
     ensures { OnOk result (Adds (spec.plain_data meta.now feature value.now) out.old out.new) }
 {
     match value {
-        Value::Null | Value::Object(_) | Value::Adapter(_) => write_null(out),
+        Value::Null | Value::Object(_) => write_null(out),
         Value::Bool(truth) => write_boolean(*truth, out),
         Value::Int(number) => write_integer(*number, out),
         Value::Text(text) => write_text(text.as_str(), out),

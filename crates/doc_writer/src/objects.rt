@@ -12,7 +12,7 @@ use mm_types::{ObjectNo, ResourceNo};
 use models::{ModelRef, roots_end};
 use std::alloc::{AllocError, Global};
 
-/// The roots of a resource (EMF: Resource.getContents). Errs only if memory is refused.
+/// The roots of a resource (EMF: Resource.getContents). Fails only if memory is refused.
 pub(crate) fn roots<L: LinkStore>(
     alloc: Global,
     model: &ModelRef<L>,
@@ -30,7 +30,7 @@ pub(crate) fn roots<L: LinkStore>(
     Ok(found)
 }
 
-/// Roots and all objects below them, root by root, each object before its contents (EMF: Resource.getAllContents). Errs only if memory is
+/// Roots and all objects below them, root by root, each object before its contents (EMF: Resource.getAllContents). Fails only if memory is
 /// refused.
 pub(crate) fn objects_below<L: LinkStore>(
     alloc: Global,

@@ -13,7 +13,7 @@ use mm_types::{ObjectNo, Refused};
 use std::alloc::AllocError;
 
 /// The first reason why a resource of these objects can't be saved: an object that is referred to is in no resource, or an object is too
-/// deep. If there is no reason, the ways to all objects that are referred to are noted. Errs only if memory is refused.
+/// deep. If there is no reason, the ways to all objects that are referred to are noted. Fails only if memory is refused.
 pub(crate) fn refusal<L: LinkStore>(
     positions: &mut Positions<L>,
     objects: &[ObjectNo],

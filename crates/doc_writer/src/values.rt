@@ -172,7 +172,7 @@ fn write_members<L: LinkStore>(
     write_features(source, levels, object, features.as_slice(), out)
 }
 
-/// Writes an object with all that it contains, for so many levels. Errs only if memory is refused; then a part of it may be written.
+/// Writes an object with all that it contains, down to `levels` levels. Fails only if memory is refused; then a part of it may be written.
 #[cycle(object)]
 pub(crate) fn write_object<L: LinkStore>(
     source: &WriteContext<L>,

@@ -128,7 +128,7 @@ fn note_object<L: LinkStore>(
 }
 
 /// Notes the ways to the objects that any of some objects refers to, up to the first that is in no resource. Returns whether there is such
-/// an object. Errs only if memory is refused.
+/// an object. Fails only if memory is refused.
 pub(crate) fn note_ways<L: LinkStore>(
     positions: &mut Positions<L>,
     objects: &[ObjectNo],

@@ -57,7 +57,7 @@ fn written_below<L: LinkStore>(
 /// no container references. A reference inside the resource is written as a fragment, a reference into another resource as URI, `#` and
 /// fragment. The other end of a reference with an opposite is written in its own resource. A resource that does not exist has no roots.
 ///
-/// The whole resource is checked before anything is written. Errs with `Dangling` if an object of the resource refers to an object that is
+/// The whole resource is checked before anything is written. Fails with `Dangling` if an object of the resource refers to an object that is
 /// in no resource; else with `TooDeep` if an object is below level 40; and with `Memory` if memory is refused.
 pub fn write_doc<L: LinkStore>(
     alloc: Global,

@@ -1,5 +1,5 @@
 //! Texts, values and sequences by their calls.
-use mm_types::{AdapterNo, ObjectNo, Seq, Text, Value};
+use mm_types::{ObjectNo, Seq, Text, Value};
 use std::alloc::{AllocError, Global};
 use std::test::Fail;
 
@@ -32,7 +32,7 @@ fn value(at: u32) -> Value {
         2 => Value::Int(-5),
         3 => Value::Literal(7),
         4 => Value::Object(ObjectNo(3)),
-        _ => Value::Adapter(AdapterNo(9)),
+        _ => Value::Object(ObjectNo(9)),
     }
 }
 
@@ -43,7 +43,7 @@ const VALUES: [&str; 6] = [
     "Int(-5) Int(-5)",
     "Literal(7) Literal(7)",
     "Object(ObjectNo(3)) Object(ObjectNo(3))",
-    "Adapter(AdapterNo(9)) Adapter(AdapterNo(9))",
+    "Object(ObjectNo(9)) Object(ObjectNo(9))",
 ];
 
 #[test]

@@ -30,8 +30,8 @@ fn is_over(end: LineEnd, line: &[u8]) -> bool
 /// lines that are to be kept are put on the disk, and then the answers are written. So lines that come in together are put on the disk
 /// together.
 ///
-/// Errs with `Read` if a read errs, with `TooLong` if a line has more than `INPUT_BYTES` bytes or the input more than
-/// `u64::MAX - 1` lines, with `Journal` if the disk fails or the file is full, with `Write` if a write or a flush errs or a write
+/// Fails with `Read` if a read fails, with `TooLong` if a line has more than `INPUT_BYTES` bytes or the input more than
+/// `u64::MAX - 1` lines, with `Journal` if the disk fails or the file is full, with `Write` if a write or a flush fails or a write
 /// takes no byte, and with `Memory` if memory is refused to the run itself.
 pub fn run_dialogue<R: Read, S: Session, D: Disk, W: Write>(
     alloc: Global,

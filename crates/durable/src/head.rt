@@ -14,7 +14,7 @@ const HEAD: &[u8] = b"mmrepo-journal 1 ";
 /// The byte that ends a line.
 const NEWLINE: u8 = b'\n';
 
-/// The first line of a journal, by a digest of the document of its metamodel. Errs only if memory is refused.
+/// The first line of a journal, by a digest of the document of its metamodel. Fails only if memory is refused.
 pub fn head_of(alloc: Global, digest: &[u8]) -> Result<Vec<u8>, AllocError>
     ensures head { IfOk result (λ v. v.items ≡ codes "mmrepo-journal 1 " ++ encode_lower digest.now) }
     ensures line { IfOk result (λ v. IsLine v.items) }
@@ -42,7 +42,7 @@ fn is_unbegun(bytes: &[u8], head: &[u8]) -> bool {
 
 /// The bytes of a file after its head; `None` if the journal is still to be begun.
 ///
-/// Errs with `NoJournal` or `OtherMetamodel` if the file does not begin with the head.
+/// Fails with `NoJournal` or `OtherMetamodel` if the file does not begin with the head.
 pub fn behind_head<'a>(bytes: &'a [u8], head: &[u8]) -> Result<Option<&'a [u8]>, JournalFault>
     ensures found { IfOk result (λ found. FindsLines found bytes.now head.now) }
     ensures kind { IfErr result IsOfHead }

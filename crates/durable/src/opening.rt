@@ -58,7 +58,7 @@ fn begin<D: Disk + Drop>(
 
 /// Opens the journal in a file that has these bytes, and begins it with the head if it has no line.
 ///
-/// Errs with `Failed` if the disk fails, and with `Memory` if memory is refused. An error returns the disk too.
+/// Fails with `Failed` if the disk fails, and with `Memory` if memory is refused. An error returns the disk too.
 pub fn open_journal<D: Disk + Drop>(
     alloc: Global,
     disk: D,

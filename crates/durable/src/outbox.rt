@@ -71,7 +71,7 @@ impl<D: Disk, W> Outbox<D, W> {
 impl<D: Disk, W: Write> Outbox<D, W> {
     /// Runs a line and holds its answer back. Notes the line if it is to be kept. Writes nothing.
     ///
-    /// Errs only with `Memory`. Then the answer may be held back in part.
+    /// Fails only with `Memory`. Then the answer may be held back in part.
     pub(crate) fn take<S: Session>(&mut self, session: &mut S, line: &[u8]) -> Result<(), RunFault>
         requires line { IsLine line.now }
         requires at_rest { IsAtRest D.seen D.may_leave self.old }
@@ -91,7 +91,7 @@ impl<D: Disk, W: Write> Outbox<D, W> {
 
     /// Puts the lines that were noted on the disk, and then writes the answers that were held back.
     ///
-    /// Errs with `Journal` if the disk fails or the file is full, with `Write` if a write or the flush fails, and with `Memory` if
+    /// Fails with `Journal` if the disk fails or the file is full, with `Write` if a write or the flush fails, and with `Memory` if
     /// memory is refused.
     pub fn settle(&mut self) -> Result<(), RunFault>
         requires { IsAtRest D.seen D.may_leave self.old }

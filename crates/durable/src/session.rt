@@ -37,7 +37,7 @@ pub trait Session {
     /// How the session runs a line: what the line prints and how it ends, and the session after it.
     ghost runs: { Self → List ℕ → Printed → Self → Type 0 };
 
-    /// Runs a line, and appends what it prints to a text. Errs only if memory is refused for that.
+    /// Runs a line, and appends what it prints to a text. Fails only if memory is refused for that.
     fn answer(&mut self, line: &[u8], text: &mut Vec<u8>) -> Result<JournalTurn, AllocError>
         ensures { IfOk result (λ turn. AddsRun runs self.old line.now text.old.items text.new.items turn self.new) };
 }
@@ -50,7 +50,7 @@ pub trait Twin: Session {
     /// The session has nothing that concerns only this session.
     ghost is_alone: { Self → Type 0 };
 
-    /// A line that is not to be kept changes nothing but what is the session's own.
+    /// A line that is not to be kept changes only the part of the session that a journal does not bring back.
     ghost others: { (s t x : Self) (l : List ℕ) (p : Printed) → Self.Session.runs s l p t → is_kept_turn p.turn ≡ false → alike s x → alike t x };
 
     /// A line that is kept does the same to both sessions.

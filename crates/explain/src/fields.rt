@@ -3,7 +3,7 @@ use mm_types::limits;
 
 /// How the value of a key is written.
 pub enum Sort {
-    /// A text of at most so many bytes.
+    /// A text of at most this number of bytes.
     Text(usize),
     /// `true` or `false`.
     Flag,
@@ -11,9 +11,9 @@ pub enum Sort {
     Number,
     /// `"attribute"` or `"reference"`.
     Kind,
-    /// An array of at most so many texts, each of at most as many bytes as a name may have.
+    /// An array of at most this number of texts, each of at most as many bytes as a name may have.
     Texts(usize),
-    /// An array of at most so many objects.
+    /// An array of at most this number of objects.
     Objects(usize),
     /// An object.
     Object,

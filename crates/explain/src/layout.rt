@@ -108,7 +108,7 @@ fn explain_listed(
 }
 
 /// Adds a line for each key of an object that is unknown or absent, and for each value that is not written as its field says. The text
-/// explains one document; if it has more than 4,096 bytes already, nothing is added. Errs only if memory is refused.
+/// explains one document; if it has more than 4,096 bytes already, nothing is added. Fails only if memory is refused.
 pub fn explain_object(
     alloc: Global,
     out: &mut String,

@@ -44,7 +44,7 @@ fn explain_place(
 ///
 /// `Syntax` has the line and the column, counted from 1. `Layout` and `Limit` have a line for each key and each value that is wrong, until
 /// the text has 4,096 bytes; an object is named by positions in arrays, as `classes[3].features[2]`. The lines of the other faults have the
-/// names of classes and features. Errs only if memory is refused.
+/// names of classes and features. Fails only if memory is refused.
 pub fn explain_meta(alloc: Global, bytes: &[u8], fault: MetaFault) -> Result<String, AllocError> {
     let mut out = String::new(alloc);
     match fault {

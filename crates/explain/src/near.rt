@@ -8,7 +8,7 @@ const LONGEST: usize = 64;
 /// How many edits at most turn a word into a near one.
 const MOST_EDITS: usize = 2;
 
-/// The nearest of some words to a word: the one that the fewest edits lead to, at most two and fewer than the word has letters. Errs only
+/// The nearest of some words to a word: the one that the fewest edits lead to, at most two and fewer than the word has letters. Fails only
 /// if memory is refused.
 pub fn nearest<'a>(
     alloc: Global,

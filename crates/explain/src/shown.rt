@@ -34,7 +34,7 @@ impl fmt::Display for Listed<'_> {
     }
 }
 
-/// The beginning of a text: at most so many bytes, and whole characters.
+/// The beginning of a text: at most `most` bytes, and whole characters.
 pub fn front_of(text: &str, most: usize) -> &str {
     if text.len() <= most {
         return text;

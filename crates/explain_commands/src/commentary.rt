@@ -82,7 +82,7 @@ impl Commentary {
         mem::replace(&mut self.said, String::new(self.alloc))
     }
 
-    /// Notes a line that was run and its output, and comments on it.
+    /// Records a line that was run, with its output, and explains it if it is to be explained.
     pub fn line_was_run<L: LinkStore, A: Adapter>(
         &mut self,
         repository: &Repository<L, A>,
@@ -176,7 +176,7 @@ impl Commentary {
         self.said.push_str(text.as_str())
     }
 
-    /// Why a line of a form was refused, in lines that begin with the prefix. The repository has to be as it was then. Errs only if memory
+    /// Why a line of a form was refused, in lines that begin with the prefix. The repository has to be as it was then. Fails only if memory
     /// is refused.
     pub fn explained<L: LinkStore, A: Adapter>(
         &self,

@@ -27,7 +27,7 @@ fn above(index: u32, count: u32) -> Option<TooHigh> {
     })
 }
 
-/// The index of a line that is too high for a list of so many values.
+/// The index that a line names, if it is too high for a list of `len` values.
 fn too_high(form: &Form<'_>, len: u32) -> Option<TooHigh> {
     let Form::At { form, .. } = form else {
         return None;

@@ -5,7 +5,7 @@ use mm_types::{End, FeatureNo, Node};
 use repository::Repository;
 use std::alloc::{AllocError, Global};
 
-/// Errs only if memory is refused.
+/// Fails only if memory is refused.
 pub(crate) type Written = Result<(), AllocError>;
 
 /// The data from which a refusal is explained, and the text with which its line begins.

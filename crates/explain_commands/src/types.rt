@@ -28,7 +28,7 @@ impl<L: LinkStore, A: Adapter> Scene<'_, L, A> {
         )
     }
 
-    /// The values that a data type takes, in words for a reader. Errs only if memory is refused.
+    /// The values that a data type takes, in words for a reader. Fails only if memory is refused.
     fn taken_by_type(&self, data_type: DataType) -> Result<String, AllocError> {
         match data_type {
             DataType::EString => {
@@ -47,7 +47,7 @@ impl<L: LinkStore, A: Adapter> Scene<'_, L, A> {
         }
     }
 
-    /// The values that a feature takes, in words for a reader. Errs only if memory is refused.
+    /// The values that a feature takes, in words for a reader. Fails only if memory is refused.
     fn taken(&self, feature: FeatureNo) -> Result<String, AllocError> {
         let meta = self.repository.meta();
         let Some(found) = meta.feature(feature) else {

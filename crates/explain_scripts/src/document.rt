@@ -131,7 +131,7 @@ fn explain_json(
     }
 }
 
-/// Adds a line for each fault in a document that belongs to the cause with which it is refused. Errs only if memory is refused.
+/// Adds a line for each fault in a document that belongs to the cause with which it is refused. Fails only if memory is refused.
 pub fn explain_document(
     alloc: Global,
     out: &mut String,

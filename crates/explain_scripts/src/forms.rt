@@ -101,7 +101,7 @@ pub(crate) fn sort_of(word: &str) -> Option<&'static Sort> {
     None
 }
 
-/// Whether a word of a line is of a kind. Errs only if memory is refused.
+/// Whether a word of a line is of a kind. Fails only if memory is refused.
 pub(crate) fn is_of(alloc: Global, sort: &Sort, word: &str) -> Result<bool, AllocError> {
     let before = sort.before;
     let line = format!(in alloc; "{before} {word}")?;
@@ -119,7 +119,7 @@ pub(crate) fn count_of(form: &str) -> usize {
     form.split(' ').count()
 }
 
-/// The form of a verb that has so many words, or else the first form of the verb.
+/// The form of a verb that has `count` words, or else the first form of the verb.
 pub(crate) fn form_of(verb: &str, count: usize) -> Option<&'static str> {
     let mut found = None;
     for form in FORMS.iter() {

@@ -17,7 +17,7 @@ pub(crate) enum Led {
     Elsewhere(String),
 }
 
-/// The numbers of parts by their fragments.
+/// The number of each part, by the fragment of the part.
 pub(crate) type Fragments<'p> = BTreeMap<&'p str, usize>;
 
 /// The numbers of parts by their fragments.
@@ -51,7 +51,7 @@ fn led_elsewhere(
     }
 }
 
-/// What the text of a reference leads to, in the resource of a URI. Errs only if memory is refused.
+/// What the text of a reference leads to, in the resource of a URI. Fails only if memory is refused.
 pub(crate) fn led_by(
     alloc: Global,
     uri: &str,

@@ -84,7 +84,7 @@ fn links_in<'e>(
     Ok(links)
 }
 
-/// The references that are written in a document, in the resource of a URI. Errs only if memory is refused.
+/// The references that are written in a document, in the resource of a URI. Fails only if memory is refused.
 pub(crate) fn links_of<'e>(
     alloc: Global,
     meta: &Meta,

@@ -6,7 +6,7 @@ use mm_types::{ClassNo, DataType, FeatureNo, limits};
 use serde_json::{Map, Value};
 use std::slice;
 
-/// The class that an object names.
+/// The class whose name an object has under `class`.
 pub(crate) fn class_of(meta: &Meta, json: &Value) -> Option<ClassNo> {
     let (class, _) = known(meta, json)?;
     Some(class)

@@ -13,7 +13,7 @@ use Rattle.links.proofs.AboveLemmas.{above_held, above_is, resource_top}
 use Rattle.links.specs.Holders.{above, holder}
 use Rattle.models.specs.Legal.{IsLegal}
 use Rattle.models.specs.Model.{Model, reading}
-use Rattle.containment.specs.Above.{resource_node, resource_of}
+use Rattle.containment.specs.Above.{resource_of_node, resource_of}
 use Rattle.web_uris.specs.Paths.{new_path, with_step}
 use Rattle.web_uris.specs.declared.path.Path.{Path}
 use Rattle.web_uris.specs.declared.path.Step.{Step}
@@ -48,7 +48,7 @@ module _ (s : Model) (legal : IsLegal s) where
 
   pub resource-root : (o : ObjectNo) (e : End) (k : ResourceNo) → holder s.links (node.Object o) ≡ Some e → e.node ≡ node.Resource k → resource_of (reading s).above o ≡ Some k
   resource-root o e k h is =
-      ap (λ (ns : List Node). resource_node (unwrap_or (last_or (Some (node.Object o)) ns) (node.Object o))) (above-node o e (node.Resource k) h is ∙ ap (λ (ns : List Node). node.Resource k ∷ ns) (above-resource k))
+      ap (λ (ns : List Node). resource_of_node (unwrap_or (last_or (Some (node.Object o)) ns) (node.Object o))) (above-node o e (node.Resource k) h is ∙ ap (λ (ns : List Node). node.Resource k ∷ ns) (above-resource k))
 
   last-is : (a b : Node) (n : Node) (ns : List Node) → unwrap_or (last_or (Some n) ns) a ≡ unwrap_or (last_or (Some n) ns) b
   last-is a b n [] = refl
@@ -56,11 +56,11 @@ module _ (s : Model) (legal : IsLegal s) where
 
   pub resource-part : (o : ObjectNo) (e : End) (p : ObjectNo) → holder s.links (node.Object o) ≡ Some e → e.node ≡ node.Object p → resource_of (reading s).above o ≡ resource_of (reading s).above p
   resource-part o e p h is =
-      ap (λ (ns : List Node). resource_node (unwrap_or (last_or (Some (node.Object o)) ns) (node.Object o))) (above-node o e (node.Object p) h is)
-      ∙ ap resource_node (last-is (node.Object o) (node.Object p) (node.Object p) (above s.links (node.Object p)))
+      ap (λ (ns : List Node). resource_of_node (unwrap_or (last_or (Some (node.Object o)) ns) (node.Object o))) (above-node o e (node.Object p) h is)
+      ∙ ap resource_of_node (last-is (node.Object o) (node.Object p) (node.Object p) (above s.links (node.Object p)))
 
   pub resource-none : (o : ObjectNo) → holder s.links (node.Object o) ≡ None → resource_of (reading s).above o ≡ None
-  resource-none o h = ap (λ (ns : List Node). resource_node (unwrap_or (last_or (Some (node.Object o)) ns) (node.Object o))) (above-none o h)
+  resource-none o h = ap (λ (ns : List Node). resource_of_node (unwrap_or (last_or (Some (node.Object o)) ns) (node.Object o))) (above-none o h)
 
   ---------------------------------------------------------------- paths
 

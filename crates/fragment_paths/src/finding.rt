@@ -82,7 +82,7 @@ fn found_by<L: LinkStore>(
 
 /// The object at an address (EMF: ResourceSet.getEObject, without loading): the object to which the fragment after the first `#` leads in
 /// the resource whose URI comes before it. `None` if there is no `#`, no resource of exactly that URI, no fragment after it, or no object
-/// at its path. Errs only if memory is refused.
+/// at its path. Fails only if memory is refused.
 pub fn object_at<L: LinkStore>(
     alloc: Global,
     model: &ModelRef<L>,

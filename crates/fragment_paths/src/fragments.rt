@@ -43,7 +43,7 @@ fn fragment_by<L: LinkStore>(
 }
 
 /// The fragment of an object in its resource (EMF: Resource.getURIFragment): the position of its root, which is left out if the resource
-/// has one root, and then a step for each object on the way. `None` if the object is in no resource. Errs only if memory is refused.
+/// has one root, and then a step for each object on the way. `None` if the object is in no resource. Fails only if memory is refused.
 pub fn write<L: LinkStore>(
     alloc: Global,
     model: &ModelRef<L>,
@@ -76,7 +76,7 @@ fn address_by<L: LinkStore>(
 }
 
 /// The address of an object (EMF: EcoreUtil.getURI): the URI of its resource, `#`, and its fragment. `None` if the object is in no
-/// resource. Errs only if memory is refused.
+/// resource. Fails only if memory is refused.
 pub fn address<L: LinkStore>(
     alloc: Global,
     model: &ModelRef<L>,
@@ -91,7 +91,7 @@ pub fn address<L: LinkStore>(
 }
 
 /// How a resource refers to an object (EMF: XMLHelper.getHREF): by the object's fragment if it is in that resource too, and else by
-/// its address. `None` if the object is in no resource. Errs only if memory is refused.
+/// its address. `None` if the object is in no resource. Fails only if memory is refused.
 pub fn reference<L: LinkStore>(
     alloc: Global,
     positions: &Positions<L>,

@@ -63,7 +63,7 @@ fn path_by<L: LinkStore>(
     }
 }
 
-/// The resource and the path of an object; `None` if it is in no resource. Errs only if memory is refused.
+/// The resource and the path of an object; `None` if it is in no resource. Fails only if memory is refused.
 pub(crate) fn locate<L: LinkStore>(
     alloc: Global,
     positions: &Positions<L>,

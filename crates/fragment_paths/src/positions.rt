@@ -140,7 +140,7 @@ impl<'m, 'a, L: LinkStore> Positions<'m, 'a, L> {
     }
 
     /// Notes the positions of an object, of the objects above it, and of all other objects in their ends. If the object is known, the
-    /// others are known too, and this takes no time. Errs only if memory is refused; the model is the same in any case.
+    /// others are known too, and this takes no time. Fails only if memory is refused; the model is the same in any case.
     pub fn note_way(&mut self, object: ObjectNo) -> Result<(), AllocError>
         ensures { self.new ≡ self.old }
     {

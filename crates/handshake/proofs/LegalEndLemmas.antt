@@ -254,7 +254,6 @@ has-class g x y kept (value.Int i) stays = tt
 has-class g x y kept (value.Text t) stays = tt
 has-class g x y kept (value.Literal i) stays = tt
 has-class g x y kept (value.Proxy t) stays = tt
-has-class g x y kept (value.Adapter a) stays = tt
 
 test-kept : (x y : Option ClassNo) (p : ClassNo → Bool) → ((c : ClassNo) → x ≡ Some c → y ≡ Some c) → option_map_or p x false ≡ true → option_map_or p y false ≡ true
 test-kept None y p kept h = absurd (false≢true h)
@@ -303,7 +302,6 @@ none-gone (value.Text t) = refl
 none-gone (value.Literal i) = refl
 none-gone (value.Object o) = refl
 none-gone (value.Proxy t) = refl
-none-gone (value.Adapter a) = refl
 
 all-stay : (vs : List Value) → AllByRecursion (λ (w : Value). goes none_goes w ≡ false) vs
 all-stay [] = tt

@@ -26,7 +26,7 @@ use Rattle.links.specs.Holders.{above, end_containing, holder, node_contained}
 use Rattle.links.specs.Laws.{without_all}
 use Rattle.links.specs.LegalSets.{IsObject, most}
 use Rattle.links.specs.Links.{Links, end, far_end}
-use Rattle.links.specs.Plans.{EditFits, FarFitsIn, Has, IsFree, Lacks, MakesNoCycle}
+use Rattle.links.specs.Plans.{EditFits, FarFitsIn, Has, IsFree, Lacks, MakesNoCycle, put_of}
 use Rattle.links.specs.declared.plan.Edit.TheVariants as edit
 use Rattle.links.proofs.CutNamedLemmas.{lacks-without_all, length-without_all, without_all_above, without_all_legal, without_all_no_cycle}
 use Rattle.mm_types.specs.SameValues.{same_value-self}
@@ -107,7 +107,7 @@ abbrev pub without_displaced : Model → End → ObjectNo → Links
 without_displaced s e o = without_all s.links (names_of (displaced_link_ends (reading s) e o))
 
 abbrev pub new_edit : Model → End → ℕ → ObjectNo → Edit
-new_edit s e i o = edit.Put e i o (shape s.metamodel e.feature).opposite (shape s.metamodel e.feature).containing
+new_edit s e i o = put_of e i o (shape s.metamodel e.feature).opposite (shape s.metamodel e.feature).containing
 
 -- a test that fails for both ends of a new link
 pub near-of : (p : End → Bool) (r : Reading) (e : End) (o : ObjectNo) → of_either p r e o ≡ false → p e ≡ false

@@ -158,7 +158,6 @@ module _ (s : Model) (k : ResourceNo) (doc : Doc) (legal : IsLegal s) (late : la
         by (value.Int i) reference h = absurd (true≢false (sym reference ∙ keeps-attribute m f (value.Int i) (and_parts _ _ h).0))
         by (value.Text t) reference h = absurd (true≢false (sym reference ∙ keeps-attribute m f (value.Text t) (and_parts _ _ h).0))
         by (value.Literal i) reference h = absurd (true≢false (sym reference ∙ keeps-attribute m f (value.Literal i) (and_parts _ _ h).0))
-        by (value.Adapter a) reference h = absurd (true≢false (sym reference ∙ keeps-attribute m f (value.Adapter a) (and_parts _ _ h).0))
 
     targets-legal : (f : FeatureNo) (vs : List Value) → (shape m f).is_reference ≡ true → AllByRecursion (IsTypedValue m doc f) vs → list_all (is_legal_target r f) (loaded_values n vs) ≡ true
     targets-legal f [] reference all = refl

@@ -24,7 +24,7 @@ use Rattle.links.specs.Holders.{node_contained}
 use Rattle.links.specs.Laws.{IsPutOutside, is_far, is_named, put_end, without_all}
 use Rattle.links.specs.LegalSets.{IsLegalSet}
 use Rattle.links.specs.Links.{Links, end, far_end, put, shift}
-use Rattle.links.specs.Plans.{EditFits, FarFitsIn, IsFree, Lacks, MakesNoCycle, PutFits}
+use Rattle.links.specs.Plans.{EditFits, FarFitsIn, IsFree, Lacks, MakesNoCycle, PutFits, put_of}
 use Rattle.links.specs.declared.plan.Edit.TheVariants as edit
 use Rattle.models.proofs.PlaceLemmas.{has-at}
 use Rattle.models.specs.Legal.{IsLegal, is_legal_end, is_legal_target, kinds_of, takes_proxies}
@@ -203,8 +203,8 @@ module _ (s : Model) (legal : IsLegal s) (e : End) (i : ℕ) (x : ResolvedProxy)
     free : IsFree rest (node_contained e x.object a.containing)
     free = subst (λ (q : Option FeatureNo). IsFree rest (node_contained e x.object q)) (sym contains-none) tt
 
-    module _ (fits : EditFits rest (edit.Put e i x.object a.opposite a.containing)) where
-      outside : MakesNoCycle rest (edit.Put e i x.object a.opposite a.containing)
+    module _ (fits : EditFits rest (put_of e i x.object a.opposite a.containing)) where
+      outside : MakesNoCycle rest (put_of e i x.object a.opposite a.containing)
       outside =
           put_outside rest e i x.object a.opposite a.containing left-legal fits (without_all_no_cycle s.links ((e, proxy) ∷ ms) legal.links.set legal.links.forest)
           (subst (λ (q : Option FeatureNo). IsPutOutside rest e x.object q) (sym contains-none) (λ y d at_y at_d. absurd (none-some y at_y)))
@@ -229,10 +229,10 @@ module _ (s : Model) (legal : IsLegal s) (e : End) (i : ℕ) (x : ResolvedProxy)
     alone-apart : (w : Value) → is_named (kinds_of s.metamodel) [] e w ≡ false
     alone-apart w = refl
 
-    pub alone-fits : EditFits (left []) (edit.Put e i x.object a.opposite a.containing)
+    pub alone-fits : EditFits (left []) (put_of e i x.object a.opposite a.containing)
     alone-fits = (near-fits [] alone-apart, subst (λ (q : Option FeatureNo). FarFitsIn (left []) e x.object q) (sym alone) tt, free [] alone-apart)
 
-    pub alone-outside : MakesNoCycle (left []) (edit.Put e i x.object a.opposite a.containing)
+    pub alone-outside : MakesNoCycle (left []) (put_of e i x.object a.opposite a.containing)
     alone-outside = outside [] alone-apart alone-fits
 
     -- the object is at the position of the proxy, and each other end is as it was
@@ -318,10 +318,10 @@ module _ (s : Model) (legal : IsLegal s) (e : End) (i : ℕ) (x : ResolvedProxy)
           room = omega (arith, less, few, long);
         }
 
-    pub joint-fits : EditFits (left both) (edit.Put e i x.object a.opposite a.containing)
+    pub joint-fits : EditFits (left both) (put_of e i x.object a.opposite a.containing)
     joint-fits = (near-fits both both-apart, subst (λ (q : Option FeatureNo). FarFitsIn (left both) e x.object q) (sym opposite) far-fits, free both both-apart)
 
-    pub joint-outside : MakesNoCycle (left both) (edit.Put e i x.object a.opposite a.containing)
+    pub joint-outside : MakesNoCycle (left both) (put_of e i x.object a.opposite a.containing)
     joint-outside = outside both both-apart joint-fits
 
     far-placed : end (placed both) far ≡ remove met j ++ self ∷ []

@@ -5,7 +5,7 @@ use Rattle.mm_types.specs.declared.end.End.{End}
 use Rattle.mm_types.specs.declared.value.Value.{Value}
 use Rattle.mm_types.specs.declared.value.Value.TheVariants as value
 use Rattle.links.specs.declared.plan.Edit.{Edit}
-use Rattle.links.specs.declared.plan.Edit.TheVariants.{Put, Shift}
+use Rattle.links.specs.declared.plan.Edit.TheVariants.{Shift}
 use Rattle.links.specs.Laws.{cut_edit}
 use Rattle.models.specs.Reading.{Reading, position_for, shape_at}
 use Rattle.handshake.specs.declared.change.Change.{Change}
@@ -19,13 +19,14 @@ use Rattle.handshake.specs.Displaced.{cut_link_ends, is_plain_add, is_plain_set,
 use Rattle.proxies.specs.Proxies.{end_of, sites}
 use Rattle.proxies.specs.ResolvingAll.{Resolution, resolutions}
 use Rattle.proxies.specs.Resolving.{target_at}
+use Rattle.links.specs.Plans.{put_of}
 
 abbrev pub cut_of : LinkEnd → Edit
 cut_of t = cut_edit t.end t.value
 
 -- the edit that puts an object at a position of an end; no other value is put
 abbrev pub new_put : Reading → End → ℕ → Value → Option Edit
-new_put r e i (value.Object o) = Some (Put e i o (shape_at r e).opposite (shape_at r e).containing)
+new_put r e i (value.Object o) = Some (put_of e i o (shape_at r e).opposite (shape_at r e).containing)
 new_put r e i v = None
 
 -- the edit after the cuts, if there is one: it makes a link, or moves a value in a list. The old value of a single end is cut by then

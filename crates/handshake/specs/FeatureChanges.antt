@@ -58,7 +58,7 @@ other_losses r e o t = filter (λ x. not (is_replaced r e o x.at)) (losses r t)
 abbrev pub far_gain : Reading → End → ObjectNo → List FeatureChange
 far_gain r e o = option_map_or (λ d. feature_change d (Gains (node_value e.node)) ∷ []) (opposite_end r e o) []
 
--- a list of so many values loses each, from the last to the first
+-- the losses of a list of a given length: it loses each value, from the last to the first
 abbrev pub all_lost : End → ℕ → List FeatureChange
 all_lost e zero = []
 all_lost e (suc n) = feature_change e (LosesAt n) ∷ all_lost e n
@@ -119,7 +119,7 @@ abbrev pub resolves_all : Change → Bool
 resolves_all ResolveAll = true
 resolves_all _ = false
 
--- how many proxies a change that resolves all resolves, and how many remain
+-- for a change that resolves all proxies: how many proxies it resolves, and how many are left
 abbrev pub resolved_by : Reading → Change → Option Resolved
 resolved_by r c = if resolves_all c then Some (record { done = resolved_count r; left = unresolved_count r }) else None
 

@@ -163,7 +163,7 @@ fn report_of<L: LinkStore>(
     }
 }
 
-/// RESOLVE, from the proxy that is at an index.
+/// The RESOLVE notification of the proxy at an index.
 fn resolved<L: LinkStore>(
     alloc: Global,
     model: &ModelRef<L>,

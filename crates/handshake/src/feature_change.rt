@@ -211,7 +211,7 @@ fn push_cuts<L: LinkStore>(
 {
     match value {
         Value::Object(object) => {
-            let link = NewLink {
+            let link = AddedLink {
                 end,
                 object: *object,
             };
@@ -254,7 +254,7 @@ fn push_far_loss<L: LinkStore>(
 
 /// A new link between an end and an object.
 #[derive(Clone, Copy)]
-struct NewLink {
+struct AddedLink {
     end: End,
     object: ObjectNo,
 }
@@ -262,7 +262,7 @@ struct NewLink {
 /// Adds the losses of displaced links at each end that a new link doesn't replace.
 fn push_other_losses<L: LinkStore>(
     model: &ModelRef<L>,
-    link: NewLink,
+    link: AddedLink,
     link_ends: &[LinkEnd],
     out: &mut Vec<FeatureChange>,
 ) -> Result<(), AllocError>
@@ -277,7 +277,7 @@ fn push_other_losses<L: LinkStore>(
 /// Adds the losses at both ends of a link; an end that contains comes first.
 fn push_losses<L: LinkStore>(
     model: &ModelRef<L>,
-    link: NewLink,
+    link: AddedLink,
     link_end: &LinkEnd,
     out: &mut Vec<FeatureChange>,
 ) -> Result<(), AllocError>
@@ -296,7 +296,7 @@ fn push_losses<L: LinkStore>(
 /// Adds the losses at both ends of a link; a loss is left out if a new link replaces the lost value.
 fn push_both<L: LinkStore>(
     model: &ModelRef<L>,
-    link: NewLink,
+    link: AddedLink,
     first: &LinkEnd,
     second: &LinkEnd,
     out: &mut Vec<FeatureChange>,
@@ -311,7 +311,7 @@ fn push_both<L: LinkStore>(
 /// Adds a loss, unless a new link replaces the lost value.
 fn push_other_loss<L: LinkStore>(
     model: &ModelRef<L>,
-    link: NewLink,
+    link: AddedLink,
     link_end: &LinkEnd,
     out: &mut Vec<FeatureChange>,
 ) -> Result<(), AllocError>
@@ -324,7 +324,7 @@ fn push_other_loss<L: LinkStore>(
 }
 
 /// Whether a new link replaces the value of another end.
-fn is_replaced<L: LinkStore>(model: &ModelRef<L>, link: NewLink, other: End) -> bool
+fn is_replaced<L: LinkStore>(model: &ModelRef<L>, link: AddedLink, other: End) -> bool
     ensures { result ≡ t.is_replaced (reading model.now) link.end link.object other }
 {
     if !model.meta().is_single(other.feature) {

@@ -28,7 +28,8 @@ Follows step old new = (c : List ℕ) → new c → (d : List ℕ) × old d × s
 abbrev pub IsDurable : List ℕ → (List ℕ → Type 0) → Type 0
 IsDurable bytes may_leave = (c : List ℕ) → may_leave c → c ≡ bytes
 
--- The clock of a disk moved on. A file that a crash may have left since a moment could have been left before, or may be left now.
+-- The clock of a disk moved on. A file that a crash at any moment since then may leave is one that a crash before may have left, or one
+-- that a crash now may leave.
 pub record Elapses (before now : ℕ) (past since : ℕ → List ℕ → Type 0) (may_leave : List ℕ → Type 0) : Type 0 where
   pub later : before ≤ now
   pub no_other : (t : ℕ) (c : List ℕ) → t ≤ before → since t c → past t c ⊎ may_leave c

@@ -96,7 +96,7 @@ fn settle<D: Disk>(disk: &mut D, bytes: &[u8], end: usize) -> Result<(), DiskFau
 /// Opens the journal in a file that has these bytes, which may be any bytes, also those that a crash left. The file keeps the lines that it
 /// stands for, and the bytes after them are cut off. An empty file stands for no line.
 ///
-/// Errs with `Failed` if the disk fails. An error returns the disk too; a crash at any moment of the call leaves the same lines.
+/// Fails with `Failed` if the disk fails. An error returns the disk too; a crash at any moment of the call leaves the same lines.
 pub fn open<D: Disk>(alloc: Global, mut disk: D, bytes: &[u8]) -> Result<Journal<D>, (DiskFault, D)>
     requires bytes { D.seen disk ≡ bytes.now }
     // After a restart, the bytes that are read are those on the disk.
@@ -143,7 +143,7 @@ impl<D: Disk> Journal<D> {
     /// Puts the lines that were noted on the disk, all of them or none. `Ok` acknowledges them: from then on a crash leaves a file that has
     /// them. After an error the file is to be opened again.
     ///
-    /// Errs with `Failed` if the disk fails, and with `Full` if the entries of the file have 2^62 bytes.
+    /// Fails with `Failed` if the disk fails, and with `Full` if the entries of the file have 2^62 bytes.
     pub fn commit(&mut self) -> Result<(), DiskFault>
         requires { IsSettled D.seen D.may_leave self.old }
         ensures settled { OnOk result (IsSettled D.seen D.may_leave self.new) }

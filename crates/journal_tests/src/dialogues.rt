@@ -51,7 +51,7 @@ const FILE: &[u8] = b" +a\n +b\n +e\n\n";
 /// How many calls of the disk a new file takes.
 const NEW: u64 = 4;
 
-/// The first so many lines of the input that are kept.
+/// The first `count` kept lines of the input.
 fn lines_kept(count: u8) -> &'static [u8] {
     match count {
         0 => b"",
@@ -80,7 +80,7 @@ struct Left {
     calls_left: u64,
 }
 
-/// Runs a dialogue over a new file on a disk that makes so many calls. Each read gives so many bytes of the input.
+/// Runs a dialogue over a new file on a disk that stops after `calls` calls. Each read gives at most `size` bytes of the input.
 fn run(alloc: Global, size: usize, calls: u64, seed: u64) -> Result<Left, Fail> {
     let disk = TornDisk::new(alloc, b"", calls, seed)?;
     let Ok(journal) = open(alloc, disk, b"") else {
@@ -131,7 +131,7 @@ fn lines_that_come_in_together_are_put_on_the_disk_together(rt: HostRuntime) -> 
     Ok(())
 }
 
-/// Stops a dialogue after so many calls of the disk. The answered lines are in the file, and come back from it.
+/// Stops a dialogue after a number of calls of the disk. The answered lines are in the file, and come back from it.
 fn check(
     rt: &impl Abort,
     alloc: Global,

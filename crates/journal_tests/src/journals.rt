@@ -62,7 +62,7 @@ fn commits(journal: &mut Journal<TornDisk>) -> Result<usize, AllocError>
 /// The file after the three commits: a script.
 const WHOLE: &[u8] = b" new Book\n set #0 name \"Emma\"\n set #0 pages 100\n  unset #0 pages\n\n";
 
-/// The lines after so many commits.
+/// The lines after `commits` commits.
 fn lines_after(commits: usize) -> &'static [u8] {
     match commits {
         0 => b"",
@@ -75,7 +75,8 @@ fn lines_after(commits: usize) -> &'static [u8] {
 /// How many calls of a disk three commits take: four for a new file, and four a commit.
 const CALLS: u64 = 16;
 
-/// Opens a new file on a disk that makes so many calls, and commits. Returns how many commits succeeded, and the file that a crash leaves.
+/// Opens a new file on a disk that stops after `calls` calls, and commits. Returns how many commits succeeded, and the file that a crash
+/// leaves.
 fn run(alloc: Global, calls: u64, seed: u64) -> Result<(usize, Vec<u8>), AllocError> {
     let disk = TornDisk::new(alloc, b"", calls, seed)?;
     match open(alloc, disk, b"") {
@@ -87,7 +88,7 @@ fn run(alloc: Global, calls: u64, seed: u64) -> Result<(usize, Vec<u8>), AllocEr
     }
 }
 
-/// Opens a file that a crash left, on a disk that makes so many calls, and returns the file that a second crash leaves.
+/// Opens a file that a crash left, on a disk that stops after `calls` calls, and returns the file that a second crash leaves.
 fn left_again(alloc: Global, left: &[u8], calls: u64, seed: u64) -> Result<Vec<u8>, AllocError> {
     let disk = TornDisk::new(alloc, left, calls, seed)?;
     match open(alloc, disk, left) {
@@ -123,7 +124,7 @@ fn check_recovery(
     Ok(())
 }
 
-/// Crashes after so many calls, and returns whether the file has the lines of a commit that did not succeed.
+/// Crashes after `calls` calls, and returns whether the file has the lines of a commit that did not succeed.
 fn has_more(rt: &impl Abort, alloc: Global, calls: u64, seed: u64) -> Result<bool, Fail> {
     let (done, left) = run(alloc, calls, seed)?;
     let lines = lines_of(alloc, left.as_slice())?;

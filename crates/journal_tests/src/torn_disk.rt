@@ -31,7 +31,7 @@ fn torn(old: Option<u8>, new: Option<u8>, pick: u64) -> u8 {
 }
 
 impl TornDisk {
-    /// A disk with these bytes, all of them synced, that makes so many calls.
+    /// A disk with the bytes, all of them synced, that stops after `calls` calls.
     pub(crate) fn new(
         alloc: Global,
         bytes: &[u8],

@@ -6,7 +6,7 @@ use std::alloc::Global;
 use std::io::{BufReader, Read};
 use std::test::Fail;
 
-/// Gives so many bytes of a text at each read.
+/// A reader that gives at most `size` bytes of a text at each read.
 #[derive(Drop)]
 pub(crate) struct Pieces<'a> {
     rest: &'a [u8],
@@ -54,7 +54,7 @@ impl Waits for Counted {
     }
 }
 
-/// How often a read may wait until a line of two bytes is read, if each read gives so many bytes.
+/// How often a read may wait until a line of two bytes is read, if each read gives at most `size` bytes.
 fn waits_for_a_line(alloc: Global, size: usize) -> Result<u64, Fail> {
     let mut reader = BufReader::new(alloc, Pieces::new(b"+a\n+b\n", size))?;
     let mut counted = Counted { waits: 0 };

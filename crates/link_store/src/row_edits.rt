@@ -1,11 +1,12 @@
 //! Edits of rows of links.
 ghost use Rattle.std.specs.FinSet as set;
+ghost use Rattle.links.specs.declared.plan.Edit.TheVariants as edit;
 ghost use Rattle.std.specs.List.{All};
 ghost use Rattle.std.specs.Prelude.{◌≡◌, ◌+◌, ◌<◌, ◌≤◌, not, map, filter, vec_len, vec_capacity};
 ghost use Rattle.links.specs.LegalSets.{IsPlaced};
 ghost use Rattle.links.specs.Links.{cut_value, joined_link, new_link, put_proxy, shift};
 ghost use Rattle.links.specs.Indexed.{has_value, renumbered_link};
-ghost use Rattle.links.specs.Plans.{links_after_edit, put_edit};
+ghost use Rattle.links.specs.Plans.{links_after_edit};
 ghost use Rattle.link_store.specs.Rows.{CanMove, changed_index};
 
 use crate::renumbering::Renumbering;
@@ -125,7 +126,7 @@ fn new_row(rows: &[Link], link: NewLink) -> Link
 pub(crate) fn put_row(rows: &mut Vec<Link>, link: NewLink)
     requires placed { IsPlaced (set.from_list rows.old.items) }
     requires room { vec_len rows.old < vec_capacity rows.old }
-    ensures put { set.from_list rows.new.items ≡ links_after_edit (set.from_list rows.old.items) (put_edit link) }
+    ensures put { set.from_list rows.new.items ≡ links_after_edit (set.from_list rows.old.items) (edit.Put link) }
     ensures len { vec_len rows.new ≡ vec_len rows.old + 1 }
     ensures capacity { vec_capacity rows.new ≡ vec_capacity rows.old }
 {
@@ -172,22 +173,7 @@ pub(crate) fn edit_rows(rows: &mut Vec<Link>, edit: Edit)
 {
     match edit {
         Edit::Cut { end, object } => cut_row(rows, end, &Value::Object(object)),
-        Edit::Put {
-            end,
-            object,
-            index,
-            container,
-            opposite,
-        } => put_row(
-            rows,
-            NewLink {
-                end,
-                index,
-                object,
-                opposite,
-                container,
-            },
-        ),
+        Edit::Put(link) => put_row(rows, link),
         Edit::Shift { end, to, from } => shift_rows(rows, end, to, from),
         Edit::PutProxy { end, index, text } => put_proxy_row(rows, end, index, text),
         Edit::CutProxy { end, text } => cut_row(rows, end, &Value::Proxy(text)),

@@ -40,6 +40,10 @@ impl LinkStore for RowStore {
         text_in(&self.rows, end, index)
     }
 
+    fn proxy_start(&self, _end: End) -> usize {
+        0
+    }
+
     fn position(&self, end: End, object: ObjectNo) -> Option<u32> {
         position_of(&self.rows, end, &Value::Object(object))
     }

@@ -13,7 +13,7 @@ use Rattle.links.specs.LegalSets.{AreOfKind, IsLegalSet, Kinds}
 use Rattle.links.specs.Links.{In, Links, cut_some, cut_value, end, no_links, put, put_proxy, shift}
 use Rattle.links.specs.Order.{link_cmp}
 use Rattle.links.specs.Indexed.{has_value}
-use Rattle.links.specs.Plans.{EditFits, IsPlanOfKind, PlanFits, PlanMakesNoCycle, PutFits, links_after_edit, links_after_edits}
+use Rattle.links.specs.Plans.{EditFits, IsPlanOfKind, PlanFits, PlanMakesNoCycle, PutFits, links_after_edit, links_after_edits, put_of}
 use Rattle.links.specs.declared.link.Link.{Link}
 use Rattle.links.specs.declared.plan.Edit.TheVariants as edit
 use Rattle.links.specs.declared.plan.Edit.{Edit}
@@ -31,7 +31,7 @@ pub cut_value_legal : (s : Links) (e : End) (v : Value) → IsLegalSet s → IsL
 unfolding cut_value
 cut_value_legal s e v legal = cut_some_legal s (find (has_value e v) (set.items s)) legal (λ l h. (items_HasLinks s).only l (find-some (set.items s) e v l h).0)
 
-pub put_legal : (s : Links) (e : End) (i : ℕ) (n : ObjectNo) (g c : Option FeatureNo) → IsLegalSet s → EditFits s (edit.Put e i n g c) → IsLegalSet (put s e i n g c)
+pub put_legal : (s : Links) (e : End) (i : ℕ) (n : ObjectNo) (g c : Option FeatureNo) → IsLegalSet s → EditFits s (put_of e i n g c) → IsLegalSet (put s e i n g c)
 put_legal s e i n g c legal fits = record { placed = put_placed s e i n g c legal.placed fits.0 fits.1; held = IsHeldOnce-put s e i n g c legal.held (free_new s e i n g c (apart_of s e n g fits.1) fits.2) }
 
 pub put_proxy_legal : (s : Links) (e : End) (i : ℕ) (t : List ℕ) → IsLegalSet s → PutFits s e i (value.Proxy t) → IsLegalSet (put_proxy s e i t)
@@ -42,7 +42,7 @@ shift_legal s e to from legal f t = record { placed = shift_placed s legal.place
 
 pub edited_legal : (s : Links) (x : Edit) → IsLegalSet s → EditFits s x → IsLegalSet (links_after_edit s x)
 edited_legal s (edit.Cut e n) legal fits = cut_value_legal s e (value.Object n) legal
-edited_legal s (edit.Put e i n g c) legal fits = put_legal s e i n g c legal fits
+edited_legal s (edit.Put l) legal fits = put_legal s l.end l.index l.object l.opposite l.container legal fits
 edited_legal s (edit.Shift e to from) legal fits = shift_legal s e to from legal fits.0 fits.1
 edited_legal s (edit.PutProxy e i t) legal fits = put_proxy_legal s e i t legal fits
 edited_legal s (edit.CutProxy e t) legal fits = cut_value_legal s e (value.Proxy t) legal

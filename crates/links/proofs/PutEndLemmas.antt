@@ -15,9 +15,8 @@ use Rattle.links.specs.Holders.{HasNoCycle, end_containing, holder, holding_end,
 use Rattle.links.specs.Laws.{IsFar, IsPutOutside, is_contained, is_far, is_of_pair, put_end, put_holder}
 use Rattle.links.specs.LegalSets.{IsLegalSet}
 use Rattle.links.specs.Links.{Links, end, far_end, new_link, put}
-use Rattle.links.specs.Plans.{EditFits, IsOutside}
+use Rattle.links.specs.Plans.{EditFits, IsOutside, put_of}
 use Rattle.links.specs.declared.link.Far.TheVariants.{At, Alone}
-use Rattle.links.specs.declared.plan.Edit.TheVariants as edit
 use Rattle.links.proofs.RankLemmas.{same-tests}
 use Rattle.mm_types.proofs.SameLemmas.{same_end-self, same_end-true, same_node-true}
 use Rattle.mm_types.specs.Same.{node_value, same_end, same_feature, same_node}
@@ -38,7 +37,7 @@ far-is_far : (o : ObjectNo) (g : Option FeatureNo) (d : End) → IsFar o g d →
 far-is_far o None d h = absurd h
 far-is_far o (Some g) d h = subst (λ (x : End). same_end (far_end o g) x ≡ true) h (same_end-self (far_end o g))
 
-module _ (s : Links) (e : End) (i : ℕ) (o : ObjectNo) (g c : Option FeatureNo) (legal : IsLegalSet s) (fits : EditFits s (edit.Put e i o g c)) where
+module _ (s : Links) (e : End) (i : ℕ) (o : ObjectNo) (g c : Option FeatureNo) (legal : IsLegalSet s) (fits : EditFits s (put_of e i o g c)) where
   pub end-put : (d : End) → end (put s e i o g c) d ≡ put_end s e i o g d
   end-put d =
       let apart = apart_of s e o g fits.1 in
@@ -119,7 +118,7 @@ some_or false c e o n x = refl
 some_or true None e o n x = refl
 some_or true (Some h) e o n x = elim (same_node (if same_feature h e.feature then node.Object o else e.node) n) as (λ t. option_or (if t then end_containing e o (Some h) else None) x ≡ (if t then end_containing e o (Some h) else x)) [ true ↦ refl | false ↦ refl ]
 
-module _ (s : Links) (e : End) (i : ℕ) (o : ObjectNo) (g c : Option FeatureNo) (legal : IsLegalSet s) (fits : EditFits s (edit.Put e i o g c)) where
+module _ (s : Links) (e : End) (i : ℕ) (o : ObjectNo) (g c : Option FeatureNo) (legal : IsLegalSet s) (fits : EditFits s (put_of e i o g c)) where
   -- the node that the new link contains gets its holder, and all other holders stay
   pub holder-put_is : (n : Node) → holder (put s e i o g c) n ≡ put_holder s e o g c n
   holder-put_is n =
@@ -138,7 +137,7 @@ taken : {X : Type 0} (b : Bool) (x : Option X) (d : X) → (if b then x else Non
 taken true x d h = (refl, h)
 taken false x d h = absurd (none-some d h)
 
-module _ (s : Links) (e : End) (i : ℕ) (o : ObjectNo) (g c : Option FeatureNo) (legal : IsLegalSet s) (fits : EditFits s (edit.Put e i o g c)) (free : HasNoCycle s) (clear : IsPutOutside s e o c) where
+module _ (s : Links) (e : End) (i : ℕ) (o : ObjectNo) (g c : Option FeatureNo) (legal : IsLegalSet s) (fits : EditFits s (put_of e i o g c)) (free : HasNoCycle s) (clear : IsPutOutside s e o c) where
   pub put_outside : IsOutside s (new_link s e i o g c)
   put_outside x d h =
       let is = taken (is_of_pair e.feature g c && is_contained e o c x) (end_containing e o c) d (sym (holding_end-new s e i o g c x (apart_of s e o g fits.1)) ∙ h) in

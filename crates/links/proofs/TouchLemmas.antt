@@ -1,10 +1,9 @@
 -- A plan that edits no containing link leaves the containment ends, and the ends of their opposites, as they were.
-use Rattle.std.proofs.Common.{◌≡◌, ◌∙◌, ℕ, Bool, true, false, ◌&&◌, ◌||◌, List, [], ◌∷◌, Option, Some, None, refl, sym, ap}
+use Rattle.std.proofs.Common.{◌≡◌, ◌∙◌, true, false, List, [], ◌∷◌, Option, Some, None, refl, sym, ap}
 use Rattle.std.specs.Prelude.{is_some}
-use Rattle.std.specs.List.{list_any}
 use Rattle.std.proofs.lemmas.Bool.{false≢true, or_parts}
 use Rattle.mm_types.proofs.SameLemmas.{same_end-true}
-use Rattle.mm_types.specs.Same.{same_end, same_value}
+use Rattle.mm_types.specs.Same.{same_end}
 use Rattle.mm_types.specs.declared.end.End.{End}
 use Rattle.mm_types.specs.declared.numbers.FeatureNo.{FeatureNo}
 use Rattle.mm_types.specs.declared.numbers.ObjectNo.{ObjectNo}
@@ -53,7 +52,6 @@ module _ (m : Kinds) (ok : AreKinds m) where
   far-none e d (value.Bool b) w g q out holds = refl
   far-none e d (value.Literal l) w g q out holds = refl
   far-none e d (value.Proxy t) w g q out holds = refl
-  far-none e d (value.Adapter a) w g q out holds = refl
 
   -- a cut at an end that is no containment names no link at a containment end
   names-none : (e d : End) (v w : Value) → contains_by m e.feature ≡ false → contains_by m d.feature ≡ true → names m e v d w ≡ false
@@ -64,8 +62,8 @@ module _ (m : Kinds) (ok : AreKinds m) where
   links_after_edit-leaves : (s : Links) (x : Edit) → IsLegalSet s → AreOfKind m s → EditFits s x → IsEditOfKind m x → contains_by m (edit_end x).feature ≡ false → (d : End) → contains_by m d.feature ≡ true → end (links_after_edit s x) d ≡ end s d
   links_after_edit-leaves s (edit.Cut e o) legal kinds fits kind out d holds =
       end-cut_value m ok s legal kinds e (value.Object o) d ∙ filter_all (names m e (value.Object o) d) (end s d) (λ k w at. names-none e d (value.Object o) w out holds)
-  links_after_edit-leaves s (edit.Put e i o g c) legal kinds fits kind out d holds =
-      end-put_other s legal.placed e i o c fits.0.in_range g (apart_of s e o g fits.1) d (apart e d out holds) (not-far e d o g (sym kind.0) out holds)
+  links_after_edit-leaves s (edit.Put l) legal kinds fits kind out d holds =
+      end-put_other s legal.placed l.end l.index l.object l.container fits.0.in_range l.opposite (apart_of s l.end l.object l.opposite fits.1) d (apart l.end d out holds) (not-far l.end d l.object l.opposite (sym kind.0) out holds)
   links_after_edit-leaves s (edit.Shift e to from) legal kinds fits kind out d holds = end-shift_other s legal.placed e to from fits.0 fits.1 d (apart e d out holds)
   links_after_edit-leaves s (edit.PutProxy e i t) legal kinds fits kind out d holds = end-put_proxy_other s e i t legal.placed fits d (apart e d out holds)
   links_after_edit-leaves s (edit.CutProxy e t) legal kinds fits kind out d holds =

@@ -57,7 +57,7 @@ end_containing e o (Some h) = Some (if same_feature h e.feature then e else far_
 
 ---------------------------------------------------------------- above
 
--- the nodes above n, the nearest first, at most so many; `up` gives the end that holds a node
+-- the nodes above n, the nearest first, at most a given number of them; `up` gives the end that holds a node
 abbrev pub nearest_nodes_above : (Node → Option End) → ℕ → Node → List Node
 nearest_nodes_above up zero n = []
 nearest_nodes_above up (suc k) n = option_map_or (λ (e : End). e.node ∷ nearest_nodes_above up k e.node) (up n) []
@@ -66,7 +66,7 @@ nearest_nodes_above up (suc k) n = option_map_or (λ (e : End). e.node ∷ neare
 unfoldable pub above : Links → Node → List Node
 above s n = nearest_nodes_above (holder s) (set.len s) n
 
--- the node that so many steps of `holder` lead to from x
+-- the node to which a number of steps of `holder` lead from x
 abbrev pub climb : Links → ℕ → Node → Option Node
 climb s zero x = Some x
 climb s (suc n) x = option_and_then (λ (e : End). climb s n e.node) (holder s x)

@@ -170,7 +170,7 @@ NameLinksOf m s gone ts = (d : End) (w : Value) → Has s d w → is_named m ts 
 -- the end that an edit names
 abbrev pub edit_end : Edit → End
 edit_end (edit.Cut e o) = e
-edit_end (edit.Put e i o g c) = e
+edit_end (edit.Put l) = l.end
 edit_end (edit.Shift e to from) = e
 edit_end (edit.PutProxy e i t) = e
 edit_end (edit.CutProxy e t) = e

@@ -11,20 +11,19 @@ use Rattle.mm_types.specs.declared.value.Value.{Value}
 use Rattle.mm_types.specs.declared.value.Value.TheVariants as value
 use Rattle.links.specs.declared.incoming.Incoming.{Incoming}
 use Rattle.links.specs.declared.link.Link.{Link}
-use Rattle.links.specs.declared.link.NewLink.{NewLink}
 use Rattle.links.specs.declared.plan.Edit.{Edit}
 use Rattle.links.specs.declared.plan.Edit.TheVariants as edit
 use Rattle.links.specs.Links.{Links, cut_value, end, far_end, new_link, put, put_proxy, shift}
 use Rattle.links.specs.Holders.{IsUnder, holder, holding_end, node_contained}
 use Rattle.links.specs.LegalSets.{IsObject, Kinds, most}
 
--- the edit that puts a link in
-abbrev pub put_edit : NewLink → Edit
-put_edit l = edit.Put l.end l.index l.object l.opposite l.container
+-- the edit that puts a link of an object into an end
+abbrev pub put_of : End → ℕ → ObjectNo → Option FeatureNo → Option FeatureNo → Edit
+put_of e i o g c = edit.Put (record { end = e; index = i; object = o; opposite = g; container = c })
 
 abbrev pub links_after_edit : Links → Edit → Links
 links_after_edit s (edit.Cut e o) = cut_value s e (value.Object o)
-links_after_edit s (edit.Put e i o g c) = put s e i o g c
+links_after_edit s (edit.Put l) = put s l.end l.index l.object l.opposite l.container
 links_after_edit s (edit.Shift e to from) = shift s e to from
 links_after_edit s (edit.PutProxy e i t) = put_proxy s e i t
 links_after_edit s (edit.CutProxy e t) = cut_value s e (value.Proxy t)
@@ -66,7 +65,7 @@ IsFree s (Some n) = holder s n ≡ None
 
 abbrev pub EditFits : Links → Edit → Type 0
 EditFits s (edit.Cut e o) = Has s e (value.Object o)
-EditFits s (edit.Put e i o g c) = PutFits s e i (value.Object o) × FarFitsIn s e o g × IsFree s (node_contained e o c)
+EditFits s (edit.Put l) = PutFits s l.end l.index (value.Object l.object) × FarFitsIn s l.end l.object l.opposite × IsFree s (node_contained l.end l.object l.container)
 EditFits s (edit.Shift e to from) = (from < length (end s e)) × (to < length (end s e))
 EditFits s (edit.PutProxy e i t) = PutFits s e i (value.Proxy t)
 EditFits s (edit.CutProxy e t) = Has s e (value.Proxy t)
@@ -81,7 +80,7 @@ PlanFits s (x ∷ xs) = EditFits s x × PlanFits (links_after_edit s x) xs
 -- an edit agrees with the opposite and the containment of its feature; a proxy is under no containment
 abbrev pub IsEditOfKind : Kinds → Edit → Type 0
 IsEditOfKind m (edit.Cut e o) = Unit {0}
-IsEditOfKind m (edit.Put e i o g c) = (g ≡ m.opposite e.feature) × (c ≡ m.container e.feature)
+IsEditOfKind m (edit.Put l) = (l.opposite ≡ m.opposite l.end.feature) × (l.container ≡ m.container l.end.feature)
 IsEditOfKind m (edit.Shift e to from) = Unit {0}
 IsEditOfKind m (edit.PutProxy e i t) = m.container e.feature ≡ None
 IsEditOfKind m (edit.CutProxy e t) = Unit {0}
@@ -100,7 +99,7 @@ IsOutside s l = (x : Node) (d : End) → holding_end l x ≡ Some d → ((d.node
 
 abbrev pub MakesNoCycle : Links → Edit → Type 0
 MakesNoCycle s (edit.Cut e o) = Unit {0}
-MakesNoCycle s (edit.Put e i o g c) = IsOutside s (new_link s e i o g c)
+MakesNoCycle s (edit.Put l) = IsOutside s (new_link s l.end l.index l.object l.opposite l.container)
 MakesNoCycle s (edit.Shift e to from) = Unit {0}
 MakesNoCycle s (edit.PutProxy e i t) = Unit {0}
 MakesNoCycle s (edit.CutProxy e t) = Unit {0}

@@ -17,7 +17,7 @@ ghost use Rattle.links.specs.Holders.{HasNoCycle, IsForest, IsUnder, above, hold
 ghost use Rattle.links.specs.Laws.{AreOnce, AreThere, BothEndsAgree, CutByNameMakes, CutMakes, CutsByNameMake, HaveSameEnds, IsPutOutside, NameLinksOf, PutGives, PutMakes, PutProxyMakes, ShiftMakes, WithoutNodesMakes, contains_by, cut_edits, touches_containment, without_all};
 ghost use Rattle.links.specs.LegalSets.{AreKinds, AreOfKind, IsLegalSet, Kinds};
 ghost use Rattle.links.specs.Links.{In, Links, cut_value, end, no_links, put, without_nodes};
-ghost use Rattle.links.specs.Plans.{EditFits, IsPlanOfKind, MakesNoCycle, PlanFits, PlanMakesNoCycle, links_after_edits};
+ghost use Rattle.links.specs.Plans.{EditFits, IsPlanOfKind, MakesNoCycle, PlanFits, PlanMakesNoCycle, links_after_edits, put_of};
 
 /// The empty set of links is legal, agrees with any kinds of features, and has no cycle.
 pub fn no_links_are_legal()
@@ -69,20 +69,20 @@ pub fn a_resource_has_no_holder()
 
 /// The ends and the holders after a put.
 pub fn a_put_gains_at_both_ends()
-    ensures { (s : Links) (e : End) (i : ℕ) (o : ObjectNo) (g c : Option FeatureNo) → IsLegalSet s → EditFits s (edit.Put e i o g c) → PutMakes s e i o g c }
+    ensures { (s : Links) (e : End) (i : ℕ) (o : ObjectNo) (g c : Option FeatureNo) → IsLegalSet s → EditFits s (put_of e i o g c) → PutMakes s e i o g c }
 {}
 
 /// Each end and each holder after a put, as equations that compute.
 pub fn a_put_gives_each_end_and_holder()
-    ensures { (s : Links) (e : End) (i : ℕ) (o : ObjectNo) (g c : Option FeatureNo) → IsLegalSet s → EditFits s (edit.Put e i o g c) → PutGives s e i o g c }
+    ensures { (s : Links) (e : End) (i : ℕ) (o : ObjectNo) (g c : Option FeatureNo) → IsLegalSet s → EditFits s (put_of e i o g c) → PutGives s e i o g c }
 {}
 
 /// A put that fits keeps a legal set legal, and its kinds. The put makes no cycle if the containing node is neither the other node nor below it.
 pub fn a_put_keeps_a_set_legal()
-    ensures legal { (s : Links) (e : End) (i : ℕ) (o : ObjectNo) (g c : Option FeatureNo) → IsLegalSet s → EditFits s (edit.Put e i o g c) → IsLegalSet (put s e i o g c) }
+    ensures legal { (s : Links) (e : End) (i : ℕ) (o : ObjectNo) (g c : Option FeatureNo) → IsLegalSet s → EditFits s (put_of e i o g c) → IsLegalSet (put s e i o g c) }
     ensures kinds { (m : Kinds) → AreKinds m → (s : Links) (e : End) (i : ℕ) (o : ObjectNo) → AreOfKind m s → AreOfKind m (put s e i o (m.opposite e.feature) (m.container e.feature)) }
-    ensures outside { (s : Links) (e : End) (i : ℕ) (o : ObjectNo) (g c : Option FeatureNo) → IsLegalSet s → EditFits s (edit.Put e i o g c) → HasNoCycle s → IsPutOutside s e o c → MakesNoCycle s (edit.Put e i o g c) }
-    ensures no_cycle { (s : Links) (e : End) (i : ℕ) (o : ObjectNo) (g c : Option FeatureNo) → IsLegalSet s → EditFits s (edit.Put e i o g c) → HasNoCycle s → IsPutOutside s e o c → HasNoCycle (put s e i o g c) }
+    ensures outside { (s : Links) (e : End) (i : ℕ) (o : ObjectNo) (g c : Option FeatureNo) → IsLegalSet s → EditFits s (put_of e i o g c) → HasNoCycle s → IsPutOutside s e o c → MakesNoCycle s (put_of e i o g c) }
+    ensures no_cycle { (s : Links) (e : End) (i : ℕ) (o : ObjectNo) (g c : Option FeatureNo) → IsLegalSet s → EditFits s (put_of e i o g c) → HasNoCycle s → IsPutOutside s e o c → HasNoCycle (put s e i o g c) }
 {}
 
 /// The ends and the holders after a put of a proxy.

@@ -23,7 +23,7 @@ pub struct Link {
 }
 
 /// A link that is put in (`Edit::Put`). In the opposite end, if there is one, it is put last.
-#[derive(Clone, Copy)]
+#[derive(Clone, Copy, Debug)]
 pub struct NewLink {
     pub end: End,
     /// The position of the object in the end.

@@ -2,42 +2,23 @@
 ghost use Rattle.std.specs.Prelude.{◌≡◌};
 ghost use Rattle.links.specs.Laws.{edit_end};
 
-use mm_types::{End, FeatureNo, ObjectNo, Seq, Text};
+use crate::link::NewLink;
+use mm_types::{End, ObjectNo, Seq, Text};
 
 /// One edit. A cut names its link by an end and the value there, and not by a position, which other edits may change.
 #[derive(Debug, Drop)]
 pub enum Edit {
     /// Takes the link of an object out of an end, and lowers the later positions in each end that
     /// had it.
-    Cut {
-        end: End,
-        object: ObjectNo,
-    },
+    Cut { end: End, object: ObjectNo },
     /// Puts an object at a position of an end. The opposite end, if there is one, gains last.
-    Put {
-        end: End,
-        index: u32,
-        object: ObjectNo,
-        opposite: Option<FeatureNo>,
-        container: Option<FeatureNo>,
-    },
+    Put(NewLink),
     /// Moves the value at `from`, so that it is then at `to`.
-    Shift {
-        end: End,
-        to: u32,
-        from: u32,
-    },
+    Shift { end: End, to: u32, from: u32 },
     /// Puts a proxy at a position of an end.
-    PutProxy {
-        end: End,
-        index: u32,
-        text: Text,
-    },
+    PutProxy { end: End, index: u32, text: Text },
     /// Takes the proxy of a text out of an end, and lowers the later positions.
-    CutProxy {
-        end: End,
-        text: Text,
-    },
+    CutProxy { end: End, text: Text },
 }
 
 impl Edit {
@@ -46,8 +27,8 @@ impl Edit {
         ensures { result ≡ edit_end self.now }
     {
         match self {
+            Edit::Put(link) => link.end,
             Edit::Cut { end, .. }
-            | Edit::Put { end, .. }
             | Edit::Shift { end, .. }
             | Edit::PutProxy { end, .. }
             | Edit::CutProxy { end, .. } => *end,

@@ -1,5 +1,6 @@
 //! Stores of links.
-ghost use Rattle.std.specs.Prelude.{◌≡◌, List, [], ◌∷◌, if◌then◌else◌, is_ok, length, map, slice_get, IfOk, OnOk, MatchOption, Some};
+ghost use Rattle.std.specs.Prelude.{◌≡◌, ℕ, ◌<◌, List, [], ◌∷◌, if◌then◌else◌, is_ok, length, map, slice_get, IfOk, OnOk, MatchOption, None, Some};
+ghost use Rattle.links.specs.declared.plan.Edit.TheVariants as edit;
 ghost use Rattle.std.specs.Option.{option_copied};
 ghost use Rattle.mm_types.specs.declared.numbers.Node.TheVariants as node;
 ghost use Rattle.mm_types.specs.declared.value.Value.TheVariants as value;
@@ -7,7 +8,7 @@ ghost use Rattle.links.specs.declared.plan.Edit.{Edit};
 ghost use Rattle.links.specs.Holders.{holder as holder_of};
 ghost use Rattle.links.specs.LegalSets.{AreKinds, IsLegalSet, Kinds};
 ghost use Rattle.links.specs.Links.{Links, end as end_of, no_links, object_at, proxy_at as proxy_of};
-ghost use Rattle.links.specs.Plans.{AreIncoming, AreInOrder, AreEntriesOf, EditFits, HasPlanOfKind, IsEditOfKind, IsPlanOfKind, Lacks, PlanFits, links_after_edits, links_after_edit, incoming_end, put_edit};
+ghost use Rattle.links.specs.Plans.{AreIncoming, AreInOrder, AreEntriesOf, EditFits, HasPlanOfKind, IsEditOfKind, IsPlanOfKind, Lacks, PlanFits, links_after_edits, links_after_edit, incoming_end};
 
 use crate::incoming::Incoming;
 use crate::link::NewLink;
@@ -50,6 +51,11 @@ pub trait LinkStore: Drop {
         requires legal { IsLegalSet (links self.now) }
         ensures { option_copied result ≡ proxy_of (links self.now) end index };
 
+    /// A position of an end before which there is no proxy. A search for a proxy begins there.
+    fn proxy_start(&self, end: End) -> usize
+        requires legal { IsLegalSet (links self.now) }
+        ensures { (k : ℕ) → k < result → proxy_of (links self.now) end k ≡ None };
+
     /// The position of an object in an end; `None` if it has none there.
     fn position(&self, end: End, object: ObjectNo) -> Option<u32>
         requires legal { IsLegalSet (links self.now) }
@@ -61,18 +67,18 @@ pub trait LinkStore: Drop {
         ensures { result ≡ holder_of (links self.now) (node.Object object) };
 
     /// The positions of an object: each position of each end that has it, by the numbers of the features, then the nodes, objects
-    /// before resources, each by number. An end has an object once. Errs only if memory is refused.
+    /// before resources, each by number. An end has an object once. Fails only if memory is refused.
     fn incoming(&self, alloc: Global, object: ObjectNo) -> Result<Vec<Incoming>, AllocError>
         requires legal { IsLegalSet (links self.now) }
         ensures entries { IfOk result (λ r. AreEntriesOf (links self.now) object r.items) }
         ensures order { IfOk result (λ r. AreInOrder (map incoming_end r.items)) };
 
-    /// The ends that an object is in, in no order; one end may come twice. Errs only if memory is refused.
+    /// The ends that an object is in, in no order; one end may come twice. Fails only if memory is refused.
     fn ends_holding(&self, alloc: Global, object: ObjectNo) -> Result<Vec<End>, AllocError>
         requires legal { IsLegalSet (links self.now) }
         ensures { IfOk result (λ r. AreIncoming (links self.now) object r.items) };
 
-    /// Takes all the memory that a plan needs. Errs only if memory is refused; no link changes.
+    /// Takes all the memory that a plan needs. Fails only if memory is refused; no link changes.
     fn reserve_for(&mut self, plan: &Plan) -> Result<(), AllocError>
         ensures links { links self.new ≡ links self.old }
         ensures kinds { (m : Kinds) → kinds self.old m → kinds self.new m }
@@ -87,11 +93,11 @@ pub trait LinkStore: Drop {
         ensures links { links self.new ≡ links_after_edits (links self.old) plan }
         ensures kinds { (m : Kinds) → kinds self.old m → IsPlanOfKind m plan → kinds self.new m };
 
-    /// Takes the memory for one link, and puts it in (`Edit::Put`). Errs only if memory is refused, and then no link changes.
+    /// Takes the memory for one link, and puts it in (`Edit::Put`). Fails only if memory is refused, and then no link changes.
     fn put(&mut self, link: NewLink) -> Result<(), AllocError>
         requires legal { IsLegalSet (links self.old) }
-        requires fits { EditFits (links self.old) (put_edit link) }
-        requires of_kind { HasPlanOfKind (kinds self.old) (put_edit link ∷ []) }
-        ensures links { links self.new ≡ (if is_ok result then links_after_edit (links self.old) (put_edit link) else links self.old) }
-        ensures kinds { (m : Kinds) → kinds self.old m → OnOk result (IsEditOfKind m (put_edit link)) → kinds self.new m };
+        requires fits { EditFits (links self.old) (edit.Put link) }
+        requires of_kind { HasPlanOfKind (kinds self.old) (edit.Put link ∷ []) }
+        ensures links { links self.new ≡ (if is_ok result then links_after_edit (links self.old) (edit.Put link) else links self.old) }
+        ensures kinds { (m : Kinds) → kinds self.old m → OnOk result (IsEditOfKind m (edit.Put link)) → kinds self.new m };
 }

@@ -53,7 +53,7 @@ fn own_names(alloc: Global, classes: &[RawClass]) -> Result<Vec<Seq<Text>>, Allo
 }
 
 impl<'a> Checker<'a> {
-    /// A checker of a metamodel document. Errs only if memory is refused.
+    /// A checker of a metamodel document. Fails only if memory is refused.
     pub fn new(alloc: Global, raw: &'a RawMeta) -> Result<Self, AllocError>
         ensures { IfOk result (λ c. c ≡ raw.now) }
     {
@@ -67,7 +67,7 @@ impl<'a> Checker<'a> {
         })
     }
 
-    /// What the document resolves to, if it is well-formed. Errs only if memory is refused.
+    /// What the document resolves to, if it is well-formed. Fails only if memory is refused.
     pub fn resolution(&self, alloc: Global) -> Result<Resolution, AllocError>
         requires { WellFormed self.now }
         ensures { IfOk result (IsResolutionOf self.now) }

@@ -49,7 +49,7 @@ fn first_fault(
     Ok(None)
 }
 
-/// What a checker finds. Errs only if memory is refused.
+/// What a checker finds. Fails only if memory is refused.
 fn found_by(alloc: Global, checker: &Checker<'_>) -> Result<Outcome, AllocError>
     ensures { IfOk result (Finds checker.now) }
 {
@@ -59,7 +59,7 @@ fn found_by(alloc: Global, checker: &Checker<'_>) -> Result<Outcome, AllocError>
     }
 }
 
-/// What the check of a document finds. Errs only if memory is refused.
+/// What the check of a document finds. Fails only if memory is refused.
 fn found_in(alloc: Global, raw: &RawMeta) -> Result<Outcome, AllocError>
     ensures { IfOk result (Finds raw.now) }
 {
@@ -67,7 +67,7 @@ fn found_in(alloc: Global, raw: &RawMeta) -> Result<Outcome, AllocError>
     found_by(alloc, &checker)
 }
 
-/// The metamodel that a document gives, if it is well-formed; else errs with its first fault, and with `Memory` if memory is
+/// The metamodel that a document gives, if it is well-formed; else fails with its first fault, and with `Memory` if memory is
 /// refused.
 pub fn check(alloc: Global, raw: RawMeta) -> Result<Meta, MetaFault>
     ensures { Checks raw result }

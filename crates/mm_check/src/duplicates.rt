@@ -84,7 +84,7 @@ impl<'a> Checker<'a> {
         clashes(alloc, self.graph.as_slice(), self.names.as_slice(), c)
     }
 
-    /// Whether a name at a place occurs twice, although it may occur only once. Errs only if memory is
+    /// Whether a name at a place occurs twice, although it may occur only once. Fails only if memory is
     /// refused.
     pub fn has_duplicate(&self, alloc: Global, place: Place) -> Result<bool, AllocError>
         ensures { IfOk result (λ b. IsTrue b ↔ HasDuplicate self.now place) }

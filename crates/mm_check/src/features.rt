@@ -139,7 +139,7 @@ impl<'a> Checker<'a> {
     }
 
     /// Whether a place is an attribute with a default literal, and the attribute is many-valued or the literal is not
-    /// of its type. Errs only if memory is refused.
+    /// of its type. Fails only if memory is refused.
     pub fn has_bad_default(&self, alloc: Global, place: Place) -> Result<bool, AllocError>
         ensures { IfOk result (λ b. b ≡ has_bad_default_at self.now place) }
     {

@@ -95,7 +95,7 @@ impl<'a> Checker<'a> {
         }
     }
 
-    /// The first place at which a condition applies, if the conditions before it apply nowhere. Errs
+    /// The first place at which a condition applies, if the conditions before it apply nowhere. Fails
     /// only if memory is refused.
     pub fn first_place(
         &self,

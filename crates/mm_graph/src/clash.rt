@@ -10,7 +10,7 @@ use indexmap::IndexSet;
 use mm_types::{Seq, Text};
 use std::alloc::{AllocError, Global};
 
-/// Whether a name occurs twice. Errs only if memory is refused.
+/// Whether a name occurs twice. Fails only if memory is refused.
 pub fn has_repeats(alloc: Global, names: &[&str]) -> Result<bool, AllocError>
     ensures { IfOk result (λ b. b ≡ repeats [] (map (λ n. n.now) names.now)) }
 {
@@ -45,7 +45,7 @@ fn gather<'a>(
 }
 
 /// Whether two different features of a class, own or inherited, share a name. `names` has the names
-/// of the features that each class declares. Errs only if memory is refused.
+/// of the features that each class declares. Fails only if memory is refused.
 ///
 /// The supertypes may have cycles. It takes one look-up for each feature.
 pub fn clashes(

@@ -40,7 +40,7 @@ fn merged(
 }
 
 /// All features of every class, own and inherited, at the class's number. `own` has the features
-/// that each class declares, and `order` is one that `order_of` returns. Errs only if memory is
+/// that each class declares, and `order` is one that `order_of` returns. Fails only if memory is
 /// refused.
 ///
 /// Each class's list is made once, from the lists of its supertypes, so many paths to one supertype

@@ -47,7 +47,7 @@ fn visit(
 }
 
 /// The classes in an order in which each comes after its supertypes, or `None` if some class is
-/// reached from itself. Errs only if memory is refused.
+/// reached from itself. Fails only if memory is refused.
 ///
 /// Takes time linear in the number of classes and of the supertypes that they name.
 pub fn order_of(alloc: Global, graph: &[Seq<usize>]) -> Result<Option<Vec<usize>>, AllocError>

@@ -26,7 +26,7 @@ fn add_reached(graph: &[Seq<usize>], c: usize, seen: &mut [bool])
     }
 }
 
-/// Which classes a class conforms to: itself, and those that it reaches. Errs only if memory is
+/// Which classes a class conforms to: itself, and those that it reaches. Fails only if memory is
 /// refused.
 pub fn conforming(alloc: Global, graph: &[Seq<usize>], c: usize) -> Result<Seq<bool>, AllocError>
     requires graph { InRange graph.now }
@@ -40,7 +40,7 @@ pub fn conforming(alloc: Global, graph: &[Seq<usize>], c: usize) -> Result<Seq<b
 }
 
 /// Which classes a class reaches: its direct supertypes, theirs, and so on; itself only if it is on
-/// a cycle. Errs only if memory is refused.
+/// a cycle. Fails only if memory is refused.
 pub fn reached_from(alloc: Global, graph: &[Seq<usize>], c: usize) -> Result<Seq<bool>, AllocError>
     requires graph { InRange graph.now }
     requires class { c < length graph.now }
@@ -54,7 +54,7 @@ pub fn reached_from(alloc: Global, graph: &[Seq<usize>], c: usize) -> Result<Seq
     Ok(Seq::from_vec(seen))
 }
 
-/// For each class, the classes that it conforms to. Errs only if memory is refused.
+/// For each class, the classes that it conforms to. Fails only if memory is refused.
 pub fn conform_table(alloc: Global, graph: &[Seq<usize>]) -> Result<Seq<Seq<bool>>, AllocError>
     requires { InRange graph.now }
     ensures { IfOk result (λ table. IsConformTable graph.now table) }
@@ -66,7 +66,7 @@ pub fn conform_table(alloc: Global, graph: &[Seq<usize>]) -> Result<Seq<Seq<bool
     Ok(table)
 }
 
-/// The first class that is reached from itself, or `None` if there is no cycle. Errs only if memory
+/// The first class that is reached from itself, or `None` if there is no cycle. Fails only if memory
 /// is refused.
 pub fn first_on_cycle(alloc: Global, graph: &[Seq<usize>]) -> Result<Option<usize>, AllocError>
     requires { InRange graph.now }

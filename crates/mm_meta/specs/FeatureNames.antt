@@ -20,8 +20,8 @@ pub record AreFeatureNames (n : FeatureNames) (names : List (List ℕ)) : Type 0
   pub long : length n.next.items ≡ length names
   pub next : (f : ℕ) → f < length names → IsNext names (slice_index_or names f []) (suc f) (slice_index_or n.next.items f 0)
 
--- a search for a class's feature by name has come to a position: the class has no feature of the name before it, and the feature at it has
--- the name
+-- a search for a class's feature by name has come to a position: the feature there has the name, and the class has none of the earlier
+-- features of that name
 pub record ComesTo (m : Metamodel) (c : ClassNo) (name : List ℕ) (at : ℕ) : Type 0 where
   pub passed : (h : ℕ) → h < at → feature_name m (feature_no h) ≡ name → has_feature m c (feature_no h) ≡ false
   pub here : at < length m.features → feature_name m (feature_no at) ≡ name

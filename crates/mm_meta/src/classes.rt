@@ -57,7 +57,7 @@ impl<'a> Resolver<'a> {
         Ok(rows)
     }
 
-    /// The direct supertypes of each class, by number. Errs only if memory is refused.
+    /// The direct supertypes of each class, by number. Fails only if memory is refused.
     pub fn graph(&self, alloc: Global) -> Result<Vec<Seq<usize>>, AllocError>
         ensures value { IfOk result (λ g. g.items ≡ graph_of self.now.classes) }
         ensures range { IfOk result (λ g. InRange g.items) }

@@ -19,7 +19,7 @@ pub struct FeatureNames {
 }
 
 impl FeatureNames {
-    /// The names of some features. Errs only if memory is refused.
+    /// The names of some features. Fails only if memory is refused.
     pub fn of(alloc: Global, features: &[Feature]) -> Result<Self, AllocError>
         ensures { IfOk result (λ n. AreFeatureNames n (map (λ f. f.name) features.now)) }
     {

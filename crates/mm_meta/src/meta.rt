@@ -62,7 +62,7 @@ impl Meta {
     ghost use Rattle.mm_types.specs.OfDocument.{IsOfDocument};
     ghost use Rattle.mm_meta.specs.Resolution.{IsResolutionOf};
 
-    /// The metamodel that a well-formed document gives. Errs only if memory is refused.
+    /// The metamodel that a well-formed document gives. Fails only if memory is refused.
     pub fn new(alloc: Global, raw: RawMeta, resolution: Resolution) -> Result<Self, AllocError>
         requires well_formed { WellFormed raw }
         requires resolution { IsResolutionOf raw resolution }

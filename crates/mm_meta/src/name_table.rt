@@ -157,7 +157,7 @@ fn hints_for(alloc: Global, positions: &IndexMap<String, usize>) -> Result<Vec<u
     Ok(hints)
 }
 
-/// The slot of a name among so many hints, a power of two. The length and three bytes of the name distinguish most names.
+/// The slot of a name among `hints` hints, a power of two. The length and three bytes of the name distinguish most names.
 fn slot_of(name: &str, hints: usize) -> usize {
     let bytes = name.as_bytes();
     let len = bytes.len();

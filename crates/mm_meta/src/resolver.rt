@@ -38,7 +38,7 @@ impl<'a> Model for Resolver<'a> {
 }
 
 impl<'a> Resolver<'a> {
-    /// A resolver of a metamodel document. Errs only if memory is refused.
+    /// A resolver of a metamodel document. Fails only if memory is refused.
     pub fn new(alloc: Global, raw: &'a RawMeta) -> Result<Self, AllocError>
         ensures { IfOk result (λ r. r ≡ raw.now) }
     {
@@ -97,7 +97,7 @@ impl<'a> Resolver<'a> {
         Some(index as u32)
     }
 
-    /// The value that a literal of a type writes, if it writes one. Errs only if memory is refused.
+    /// The value that a literal of a type writes, if it writes one. Fails only if memory is refused.
     pub fn literal_value(
         &self,
         alloc: Global,

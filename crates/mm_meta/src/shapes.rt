@@ -40,7 +40,7 @@ impl Meta {
         }
     }
 
-    /// Whether a list of so many values is full: its feature has an upper bound above 1, and that is reached. Takes no memory.
+    /// Whether a list of `len` values is full: its feature has an upper bound above 1, and the list has reached it. Takes no memory.
     pub fn is_full(&self, feature: FeatureNo, len: u32) -> bool
         ensures { result ≡ is_full_list (shape self.now feature) len }
     {

@@ -117,7 +117,7 @@ contents m = feature_no (length m.features)
 abbrev pub is_single : Feature → Bool
 is_single f = int_eq f.upper (pos 1)
 
--- whether a value is of a data type; null is of no type
+-- whether a value belongs to a data type; null belongs to none
 abbrev pub is_of_type : Metamodel → DataType → Value → Bool
 is_of_type m EString (value.Text text) = true
 is_of_type m EInt (value.Int n) = is_of_bits 32 n

@@ -25,7 +25,6 @@ same_value-true (value.Text a) (value.Text b) h = ap value.Text ((bytes_eq-Decid
 same_value-true (value.Literal a) (value.Literal b) h = ap value.Literal (eqb-true a b h)
 same_value-true (value.Object a) (value.Object b) h = ap (λ (k : ℕ). value.Object (record { 0 = k })) (eqb-true a.0 b.0 h)
 same_value-true (value.Proxy a) (value.Proxy b) h = ap value.Proxy ((bytes_eq-Decides a b).0 h)
-same_value-true (value.Adapter a) (value.Adapter b) h = ap (λ (k : ℕ). value.Adapter (record { 0 = k })) (eqb-true a.0 b.0 h)
 same_value-true _ _ h = cc
 
 pub same_value-self : (x : Value) → same_value x x ≡ true
@@ -36,7 +35,6 @@ same_value-self (value.Text a) = (bytes_eq-Decides a a).1 refl
 same_value-self (value.Literal a) = eq-eqb a a refl
 same_value-self (value.Object a) = eq-eqb a.0 a.0 refl
 same_value-self (value.Proxy a) = (bytes_eq-Decides a a).1 refl
-same_value-self (value.Adapter a) = eq-eqb a.0 a.0 refl
 
 -- `same_value` is symmetric
 same_value_both : (x y : Value) (a b : Bool) → same_value x y ≡ a → same_value y x ≡ b → a ≡ b

@@ -1,5 +1,6 @@
 //! What one object holds under its attributes.
-ghost use Rattle.std.specs.Prelude.{◌≡◌, ℕ, ◌-◌, [], length, option_copied, IfOk, IfErr, OnErr, OnOk};
+ghost use Rattle.std.specs.Prelude.{◌≡◌, ℕ, ◌-◌, ◌≤◌, [], length, option_copied, IfOk, IfErr, OnErr, OnOk};
+ghost use Rattle.std.specs.List.{insert};
 ghost use Rattle.mm_values.specs.Stored.{items_of, with_stored};
 ghost use Rattle.mm_values.specs.Attributes.{change_stored, stored_in, stored_under, taken_of, HasPlace, IsAt, IsGapFor};
 ghost use Rattle.mm_values.specs.ListEdits.{list_after_edit, list_edit_capacity, IsReadyFor};
@@ -69,7 +70,7 @@ impl AttributeLists {
     }
 
     /// Makes an entry for an attribute, if it has none, and reserves capacity for more values of its list. `is_asked` says whether the list
-    /// is looked up by value. Errs only if memory is refused.
+    /// is looked up by value. Fails only if memory is refused.
     pub fn make_place(
         &mut self,
         feature: FeatureNo,
@@ -87,7 +88,7 @@ impl AttributeLists {
         self.reserve(feature, at, additional, is_asked)
     }
 
-    /// Puts a long list into pieces, so that it is fast to edit. Errs only if memory is refused.
+    /// Puts a long list into pieces, so that it is fast to edit. Fails only if memory is refused.
     pub fn make_pieces(&mut self, feature: FeatureNo) -> Result<(), AllocError>
         ensures stored { stored_in self.new ≡ stored_in self.old }
         ensures kept { (f n : ℕ) → HasPlace self.old f n → HasPlace self.new f n }
@@ -113,7 +114,7 @@ impl AttributeLists {
                     list: ValueList::new(),
                 };
                 self.grow()?;
-                self.entries.insert(at, entry)?;
+                insert_entry(&mut self.entries, at, entry)?;
                 Ok(at)
             }
         }
@@ -161,7 +162,7 @@ impl AttributeLists {
         }
     }
 
-    /// Replaces the list under an attribute, and takes memory for it if there is none yet. Errs only if memory is refused, and then nothing
+    /// Replaces the list under an attribute, and takes memory for it if there is none yet. Fails only if memory is refused, and then nothing
     /// that contracts see has changed.
     pub fn set(&mut self, feature: FeatureNo, list: NewValues, flag: bool) -> Result<(), AllocError>
         ensures ok { OnOk result (stored_in self.new ≡ with_stored (stored_in self.old) feature.0 (record { list = list; flag = flag })) }
@@ -176,7 +177,7 @@ impl AttributeLists {
         }
     }
 
-    /// Makes the entry of an attribute that has none, with its values and its flag. Errs only if memory is refused, and then nothing that
+    /// Makes the entry of an attribute that has none, with its values and its flag. Fails only if memory is refused, and then nothing that
     /// contracts see has changed.
     fn put_new(
         &mut self,
@@ -195,12 +196,7 @@ impl AttributeLists {
             flag,
             list: list.into_list(),
         };
-        // Most objects get their values in the order of the attributes' numbers, and to push takes half as long as to insert.
-        if at == self.entries.len() {
-            self.entries.push(entry)?;
-        } else {
-            self.entries.insert(at, entry)?;
-        }
+        insert_entry(&mut self.entries, at, entry)?;
         Ok(())
     }
 
@@ -236,4 +232,19 @@ impl AttributeLists {
         self.entries
             .binary_search_by_key(&feature.0, |e| e.feature.0)
     }
+}
+
+/// Inserts an entry at an index. Errs only if memory is refused, and then nothing has changed.
+fn insert_entry(entries: &mut Vec<Entry>, at: usize, entry: Entry) -> Result<(), AllocError>
+    requires { at ≤ length entries.old.items }
+    ensures ok { OnOk result (entries.new.items ≡ insert entries.old.items at entry) }
+    ensures err { OnErr result (entries.new.items ≡ entries.old.items) }
+{
+    // Most objects get their values in the order of the attributes' numbers, and to push takes half as long as to insert.
+    if at == entries.len() {
+        entries.push(entry)?;
+    } else {
+        entries.insert(at, entry)?;
+    }
+    Ok(())
 }

@@ -42,7 +42,7 @@ fn is_inserted_at(plan: &[ValueEdit], object: ObjectNo, feature: FeatureNo) -> b
     plan.iter().any(|e| e.is_insert_at(object, feature))
 }
 
-/// How much capacity a plan needs in the list that an object has under an attribute. Errs if the count overflows.
+/// How much capacity a plan needs in the list that an object has under an attribute. Fails if the count overflows.
 pub(crate) fn places_needed(
     plan: &[ValueEdit],
     object: ObjectNo,

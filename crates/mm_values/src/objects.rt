@@ -15,8 +15,8 @@ use std::alloc::{AllocError, Global};
 use std::marker::Model;
 use value_lists::ValueList;
 
-/// The objects by number: `next` of them were made. The entries after them are ready for objects to come. An entry has the class, if the
-/// object is live, and the attribute lists. They are in two columns, so that a look at the class reads no lists.
+/// The objects by number: `next` of them were made. The entries after the first `next` are reserved for new objects. An entry has the
+/// class, if the object is live, and the attribute lists. Classes and lists are in two columns, so that a look at a class reads no lists.
 #[derive(Drop)]
 pub(crate) struct Objects {
     classes: Vec<Option<ClassNo>>,
@@ -112,7 +112,7 @@ impl Objects {
         self.lists.len() - self.next
     }
 
-    /// Makes entries ready for more objects. Errs only if memory is refused.
+    /// Makes entries ready for more objects. Fails only if memory is refused.
     pub fn reserve(&mut self, additional: usize) -> Result<(), AllocError>
         ensures objects { objects_of self.new ≡ objects_of self.old }
         ensures ok { OnOk result (self.new.next + additional ≤ length self.new.lists) }
@@ -124,7 +124,7 @@ impl Objects {
     }
 
     /// Makes an entry for an attribute of an object, if it has none, and reserves capacity for more values of its list. The object may
-    /// still have to be made. `is_asked` says whether the list is looked up by value. Errs only if memory is refused.
+    /// still have to be made. `is_asked` says whether the list is looked up by value. Fails only if memory is refused.
     pub fn make_place(
         &mut self,
         object: ObjectNo,
@@ -147,7 +147,7 @@ impl Objects {
         self.lists[index].make_place(feature, additional, is_asked)
     }
 
-    /// Puts a long list of an object into pieces, so that it is fast to edit. Errs only if memory is refused.
+    /// Puts a long list of an object into pieces, so that it is fast to edit. Fails only if memory is refused.
     pub fn make_pieces(&mut self, object: ObjectNo, feature: FeatureNo) -> Result<(), AllocError>
         ensures objects { objects_of self.new ≡ objects_of self.old }
         ensures next { self.new.next ≡ self.old.next }
@@ -198,7 +198,7 @@ impl Objects {
         }
     }
 
-    /// Makes an object of a class. Errs only if memory is refused, and then nothing that contracts see has changed.
+    /// Makes an object of a class. Fails only if memory is refused, and then nothing that contracts see has changed.
     pub fn create(&mut self, class: ClassNo) -> Result<(), AllocError>
         ensures ok { OnOk result (objects_of self.new ≡ with_object (objects_of self.old) class) }
         ensures err { OnErr result (objects_of self.new ≡ objects_of self.old) }
@@ -208,7 +208,7 @@ impl Objects {
         Ok(())
     }
 
-    /// Replaces the list of a live object under an attribute. Errs only if memory is refused, and then nothing that contracts see has
+    /// Replaces the list of a live object under an attribute. Fails only if memory is refused, and then nothing that contracts see has
     /// changed.
     pub fn set(
         &mut self,

@@ -63,7 +63,7 @@ impl Uris {
         Some(ResourceNo(index as u32))
     }
 
-    /// Reserves capacity for more URIs. Errs only if memory is refused, or if there are no numbers for so
+    /// Reserves capacity for more URIs. Fails only if memory is refused, or if there are no numbers for so
     /// many.
     pub fn reserve(&mut self, additional: usize) -> Result<(), AllocError>
         ensures uris { self.new.uris ≡ self.old.uris }

@@ -123,7 +123,7 @@ impl Values {
         self.uris.find(uri)
     }
 
-    /// Takes all the memory that a plan needs. Errs only if memory is refused, or if there would be more than 2^32 resources; `apply` may
+    /// Takes all the memory that a plan needs. Fails only if memory is refused, or if there would be more than 2^32 resources; `apply` may
     /// be called only after `Ok`. Nothing that contracts see changes.
     pub fn reserve_for(&mut self, plan: &ValuePlan) -> Result<(), AllocError>
         ensures unchanged { values_of self.new ≡ values_of self.old }
@@ -158,7 +158,7 @@ impl Values {
         }
     }
 
-    /// Takes the memory that a plan needs, and makes its edits. Errs only if memory is refused, or if there would be more than 2^32
+    /// Takes the memory that a plan needs, and makes its edits. Fails only if memory is refused, or if there would be more than 2^32
     /// resources, and then nothing that contracts see has changed. For a plan of one edit this is faster than `reserve_for` and `apply`.
     pub fn try_apply(&mut self, plan: ValuePlan) -> Result<(), AllocError>
         ensures ok { OnOk result (values_of self.new ≡ values_after_edits (values_of self.old) plan) }
@@ -170,7 +170,7 @@ impl Values {
         }
     }
 
-    /// Takes the memory that an edit needs, and makes the edit. Errs only if memory is refused, and then nothing that contracts see has
+    /// Takes the memory that an edit needs, and makes the edit. Fails only if memory is refused, and then nothing that contracts see has
     /// changed.
     fn try_edit(&mut self, edit: ValueEdit) -> Result<(), AllocError>
         ensures ok { OnOk result (values_of self.new ≡ values_after_edit (values_of self.old) edit) }
@@ -188,7 +188,7 @@ impl Values {
         }
     }
 
-    /// Makes an object of a class, as `ValueEdit::NewObject` does. Errs only if memory is refused, and then nothing that contracts see has
+    /// Makes an object of a class, as `ValueEdit::NewObject` does. Fails only if memory is refused, and then nothing that contracts see has
     /// changed.
     pub fn try_create(&mut self, class: ClassNo) -> Result<(), AllocError>
         ensures ok { OnOk result (values_of self.new ≡ values_after_edit (values_of self.old) (edit.NewObject class)) }
@@ -197,7 +197,7 @@ impl Values {
         self.objects.create(class)
     }
 
-    /// Replaces the list of an object under an attribute, as `ValueEdit::PutList` does. Errs only if memory is refused, and then nothing
+    /// Replaces the list of an object under an attribute, as `ValueEdit::PutList` does. Fails only if memory is refused, and then nothing
     /// that contracts see has changed. Most changes of values are this edit, and a plan of it would take longer to make than the edit.
     pub fn try_put(
         &mut self,

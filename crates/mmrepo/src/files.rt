@@ -15,7 +15,7 @@ use std::fs::File;
 use std::io::Read;
 use std::{fs, io, str};
 
-/// Capacity for as many bytes as a file has now. Errs only if memory is refused.
+/// Capacity for as many bytes as a file has now. Fails only if memory is refused.
 fn room_for(rt: &HostRuntime, file: &File) -> Result<Vec<u8>, AllocError> {
     let len = match file.metadata() {
         Ok(metadata) => usize::try_from(metadata.len()).unwrap_or(0),

@@ -32,7 +32,7 @@ const LEFT: u64 = 2;
 /// The status after a script with a refused or bad line, if that gives a status of its own.
 const FAULTY: u8 = 4;
 
-/// Standard output through a buffer. It is watched below the buffer, so that a write into the buffer costs no more than the copy.
+/// Standard output through a buffer. The watch is below the buffer, so that a write into the buffer costs no more than the copy.
 pub(crate) fn writer_of<'w>(
     rt: &'w HostRuntime,
     watch: Watching<'w>,

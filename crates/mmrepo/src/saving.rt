@@ -25,7 +25,7 @@ fn resource_for(watch: Watching<'_>, to: &ResourceFile) -> Result<ResourceNo, Re
     Err(Refused::NoResource)
 }
 
-/// Why no resource is found for a file.
+/// Why the run stops, if the resource that is to be saved into a file is not found.
 fn not_found<L: LinkStore, A: Adapter>(
     rt: &HostRuntime,
     asked: &Asked,

@@ -1,17 +1,17 @@
 /* mmrepo from C. A session keeps a model, and answers the lines of a script, each in a call. docs/C.md has an example and says how to
    build; docs/SCRIPT.md has the lines.
 
-   What a caller owes, since nothing checks C:
-   - A session begins as MMREPO_CLOSED_SESSION, and its two fields are private to mmrepo. It may be moved while no call runs. It must not be
-     copied.
-   - All calls of a session come from one thread, and none from a signal handler.
-   - No pointer is NULL, even if a size is 0. What a call is passed does not overlap, and nothing else reads or writes it while the
+   What a caller must do, since nothing checks C code:
+   - Initialise a session with MMREPO_CLOSED_SESSION, and do not use its two fields. A session may be moved while no call runs, and must not
+     be copied.
+   - Make all calls of a session from one thread, and none from a signal handler.
+   - Pass no NULL pointer, even if a size is 0. The arguments of a call must not overlap, and nothing else may read or write them while the
      call runs.
-   - malloc, realloc and free are of one allocator, and malloc aligns a block to 16 bytes, as it does on Linux. */
+   - Take care that malloc, realloc and free belong to one allocator, and that malloc aligns a block to 16 bytes, as it does on Linux. */
 #ifndef MMREPO_H
 #define MMREPO_H
 
-/* The version of this header. docs/CHANGELOG.md says what later ones keep. */
+/* The version of this header. docs/CHANGELOG.md says what later versions keep. */
 #define MMREPO_VERSION "1.0"
 
 #include <stdbool.h>
@@ -28,10 +28,10 @@ typedef struct mmrepo_session {
     bool is_open;
 } mmrepo_session;
 
-/* What a session begins as: closed. */
+/* The initial value of a session, which is closed. */
 #define MMREPO_CLOSED_SESSION {NULL, false}
 
-/* The most bytes of a metamodel, and of a line. */
+/* The greatest number of bytes of a metamodel and of a line. A document of mmrepo_load may have more. */
 #define MMREPO_INPUT_BYTES 16777216
 
 /* What a call returns. */
@@ -66,7 +66,7 @@ enum {
     MMREPO_CLOSED = 30,
     /* The metamodel, or the line, has more than MMREPO_INPUT_BYTES bytes. */
     MMREPO_TOO_LONG = 31,
-    /* Memory was refused to the call itself, for what it prints: the session is closed now. */
+    /* Memory was refused to the call itself, for its text: the session is closed now. */
     MMREPO_MEMORY = 32
 };
 
@@ -77,7 +77,7 @@ enum {
 uint32_t mmrepo_open(mmrepo_session *session, const char *document, size_t size);
 
 /* Runs one line of a script, given without its newline. The text of the session becomes what the line prints: its answer, and the
-   notifications of adapters. A newline within the line is no end of it: it makes the line bad, except in the document of a `load` line.
+   notifications of adapters. A newline within the line does not end it, but makes it bad, except in the document of a `load` line.
    Returns MMREPO_OK, MMREPO_BLANK, MMREPO_BAD, MMREPO_REFUSED or MMREPO_LOST. MMREPO_CLOSED (the session is closed) and MMREPO_TOO_LONG
    leave the session and its text as they are. After MMREPO_MEMORY the session is closed. */
 uint32_t mmrepo_line(mmrepo_session *session, const char *line, size_t size);
@@ -103,7 +103,7 @@ uint32_t mmrepo_load(mmrepo_session *session, uint32_t resource, const char *doc
    there. Returns 0 if no line was run, or if the session is closed. */
 size_t mmrepo_text(mmrepo_session *session, char *text, size_t size);
 
-/* Closes a session and frees what it has. One that is closed stays closed. */
+/* Closes a session and frees its memory. A session that is closed stays closed. */
 void mmrepo_close(mmrepo_session *session);
 
 #ifdef __cplusplus

@@ -8,7 +8,7 @@ use mm_check::check_document;
 use mm_types::MetaFault;
 use std::alloc::Global;
 
-/// A session over the metamodel of a document. Errs with the first fault of the document, and with `Memory` if memory is refused.
+/// A session over the metamodel of a document. Fails with the first fault of the document, and with `Memory` if memory is refused.
 pub(crate) fn begun(alloc: Global, document: &[u8]) -> Result<Box<Session>, MetaFault>
     ensures ok { IfOk result (λ b. Accepts document.now b.value) }
     ensures err { IfErr result (λ f. Gives document.now (Err f)) }

@@ -24,7 +24,7 @@ pub struct Session {
     interpreter: Interpreter<SlotStore, Counter>,
 }
 
-/// The adapters of a session, none of which was notified of anything. Errs only if memory is refused.
+/// The adapters of a session, none of which was notified of anything. Fails only if memory is refused.
 pub(crate) fn counters(alloc: Global) -> Result<Vec<Counter>, AllocError>
     ensures { IfOk result (λ v. AreUnheard (⟦<Counter as Adapter>⟧.heard) v.items) }
 {
@@ -36,7 +36,7 @@ pub(crate) fn counters(alloc: Global) -> Result<Vec<Counter>, AllocError>
 }
 
 impl Session {
-    /// A session over an empty repository, which has answered nothing. Errs only if memory is
+    /// A session over an empty repository, which has answered nothing. Fails only if memory is
     /// refused.
     pub(crate) fn new(alloc: Global, meta: Meta, boxes: Vec<Counter>) -> Result<Session, AllocError>
         requires { AreUnheard (⟦<Counter as Adapter>⟧.heard) boxes.items }
@@ -47,21 +47,21 @@ impl Session {
         })
     }
 
-    /// Runs a line, and returns how it is counted. Errs only if memory is refused to the run itself.
+    /// Runs a line, and returns how it is counted. Fails only if memory is refused to the run itself.
     pub(crate) fn answer(&mut self, line: &[u8]) -> Result<Turn, AllocError>
         ensures { IfOk result (λ t. RunsLine (running_session self.old) (forms.form line.now) (printed_line (answer self.new) t) (running_session self.new)) }
     {
         self.interpreter.answer(line)
     }
 
-    /// Reads how many values a list has, and returns how the read is counted. Errs only if memory is refused for the text.
+    /// Reads how many values a list has, and returns how the read is counted. Fails only if memory is refused for the text.
     pub(crate) fn list_len(&mut self, node: Node, feature: &str) -> Result<Turn, AllocError>
         ensures { IfOk result (λ t. Reads (running_session self.old) (λ s. list_len_printed s.state node feature.now) (printed_line (answer self.new) t) (running_session self.new)) }
     {
         self.interpreter.list_len(node, feature)
     }
 
-    /// Reads the value at an index of a list, and returns how the read is counted. Errs only if memory is refused for the text.
+    /// Reads the value at an index of a list, and returns how the read is counted. Fails only if memory is refused for the text.
     pub(crate) fn list_value(
         &mut self,
         node: Node,
@@ -73,7 +73,7 @@ impl Session {
         self.interpreter.list_value(node, feature, index)
     }
 
-    /// Loads a document, and returns how that is counted. Errs only if memory is refused to the call itself.
+    /// Loads a document, and returns how that is counted. Fails only if memory is refused to the call itself.
     pub(crate) fn load(&mut self, resource: ResourceNo, document: &[u8]) -> Result<Turn, AllocError>
         ensures { IfOk result (λ t. RunsCommand (running_session self.old) (Load resource document.now) (printed_line (answer self.new) t) (running_session self.new)) }
     {

@@ -30,7 +30,6 @@ use Rattle.repository.specs.State.{State, is_there, reads}
 use Rattle.repository.specs.Step.{model_after}
 use Rattle.repository.specs.declared.command.Command.{Command}
 use Rattle.mmrepo_lib.proofs.HeardLemmas.{AreOfNoFeature}
-use Rattle.snapshots.specs.Replayed.{end_of}
 use Rattle.snapshots.specs.declared.snapshot.FeatureState.{FeatureState}
 use Rattle.snapshots.specs.declared.snapshot.NodeState.{NodeState}
 use Rattle.snapshots.specs.Snapshots.{class_at, feature_state, flag_of, node_state}
@@ -102,11 +101,11 @@ unnamed d (n ∷ ns) h = ap (λ (o : Option FeatureNo). cond (option_map_or (λ 
 abbrev state_of : FeatureNo → Bool → Held → FeatureState
 state_of f u h = record { feature = f; values = h.values; flag = flag_of u h.flag }
 
-feature-step : (at : Node) (ns : List Notice) (f : FeatureNo) (u : Bool) (g h : Held) → end_after_notices u (notices_naming (end_of at f) ns) g ≡ h → feature_after at ns (state_of f u g) ≡ state_of f u h
+feature-step : (at : Node) (ns : List Notice) (f : FeatureNo) (u : Bool) (g h : Held) → end_after_notices u (notices_naming (at_end at f) ns) g ≡ h → feature_after at ns (state_of f u g) ≡ state_of f u h
 feature-step at ns f true g h e = feature_after-flag at ns f g.values g.flag ∙ ap (state_of f true) e
 feature-step at ns f false g h e =
     feature_after-plain at ns f g.values
-    ∙ ap (λ vs. let y : FeatureState = record { feature = f; values = vs; flag = None } in y) (same_values-each false (notices_naming (end_of at f) ns) (record { values = g.values; flag = false }) g refl ∙ ap (λ (x : Held). x.values) e)
+    ∙ ap (λ vs. let y : FeatureState = record { feature = f; values = vs; flag = None } in y) (same_values-each false (notices_naming (at_end at f) ns) (record { values = g.values; flag = false }) g refl ∙ ap (λ (x : Held). x.values) e)
 
 map-step : (g : FeatureState → FeatureState) (a b : FeatureNo → FeatureState) (fs : List FeatureNo) → ((f : FeatureNo) → g (a f) ≡ b f) → map g (map a fs) ≡ map b fs
 map-step g a b [] h = refl

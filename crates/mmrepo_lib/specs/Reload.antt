@@ -96,8 +96,7 @@ abbrev pub LeavesProxies : Outcome → ℕ → Type 0
 LeavesProxies (Ok r) n = CountsLeft r.answer n
 LeavesProxies (Err f) n = ⊥
 
--- a resolve of all proxies is not refused; its answer says that no proxy is left, no proxy is left, and the state is isomorphic to the
--- saved one
+-- resolving all proxies is not refused; no proxy is left, as its answer says, and the state is isomorphic to the saved one
 pub record IsAllResolved (r : Reading) (t : State) : Type 0 where
   pub done : LeavesProxies (step t command.ResolveAll).outcome 0
   pub none : HasNoProxy (reads (step t command.ResolveAll).after)
@@ -123,8 +122,8 @@ pub record IsHadAgain (s : State) (texts : ResourceNo → List ℕ) (ts : List T
   pub resolves : AllDone (run (reloaded_state s texts ts) rs).outcomes
   pub alike : Alike (reads s) (reads (run (reloaded_state s texts ts) rs).after)
 
--- after loads in an order: the loads are not refused; a resolve of all proxies at once brings the saved state back; there are single
--- resolves that leave no proxy; and all resolves that leave no proxy bring the saved state back
+-- after loads in an order: the loads are not refused; resolving all proxies at once brings the saved state back; there are single resolves
+-- that leave no proxy; and any resolves that leave no proxy bring the saved state back
 pub record IsReloaded (s : State) (texts : ResourceNo → List ℕ) (ts : List Task) : Type 0 where
   pub loads : AllDone (run (empty_state s.model.metamodel) (commands (reads s) texts [] ts)).outcomes
   pub all : IsAllResolved (reads s) (reloaded_state s texts ts)

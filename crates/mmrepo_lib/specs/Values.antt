@@ -1,2 +1,2 @@
 -- The variants of `Value`.
-pub use Rattle.mm_types.specs.declared.value.Value.TheVariants.{Adapter, Bool, Int, Literal, Null, Object, Proxy, Text}
+pub use Rattle.mm_types.specs.declared.value.Value.TheVariants.{Bool, Int, Literal, Null, Object, Proxy, Text}

@@ -54,8 +54,8 @@ pub fn an_adapter_hears_what_the_reply_tells_it()
 /// Notifications are enough. Let a node be a deep target of an adapter during a whole run of commands, and let a snapshot of the target be
 /// taken at its beginning. Take a second node that is the target or below it during the whole run. If the adapter's notifications of the
 /// run are replayed on the snapshot, its state of the second node becomes that of a snapshot at the end. The notifications are those that
-/// the replies have for the adapter, however many it keeps. If it keeps all, they are also those that it has kept since the beginning:
-/// while it is attached, and when `detach` or `close` gives it back.
+/// the replies have for the adapter, however many it keeps. If the adapter keeps all notifications, they are also the notifications that it
+/// has kept since the beginning: while it is attached, and when `detach` or `close` gives it back.
 pub fn notices_are_enough()
     ensures kept { (s : State) (cs : List (Command View)) (number : AdapterNo) (target : Node) (a b : Listed) (n : Node) → NoticesAreEnough s cs number target a b n }
     ensures told { (s : State) (cs : List (Command View)) (number : AdapterNo) (target : Node) (a : Listed) (n : Node) → ToldIsEnough s cs number target a n }

@@ -91,6 +91,10 @@ object-is _ o h = absurd (none-some o h)
 pub object_in-is : (s : Model) (e : End) (k : ℕ) → (shape s.metamodel e.feature).is_reference ≡ true → links.object_at s.links e k ≡ option_and_then object_of (slice_get ((reading s).values e) k)
 object_in-is s e k reference = rw reference refl
 
+-- the text of the proxy at a position of a reference
+pub proxy_in-is : (s : Model) (e : End) (k : ℕ) → (shape s.metamodel e.feature).is_reference ≡ true → links.proxy_at s.links e k ≡ option_and_then links.text_of (slice_get ((reading s).values e) k)
+proxy_in-is s e k reference = rw reference refl
+
 -- if an object is found, it is there
 pub object-there : (q : Option Value) (o : ObjectNo) → option_and_then links.object_of q ≡ Some o → q ≡ Some (value.Object o)
 object-there None o h = absurd (none-some o h)

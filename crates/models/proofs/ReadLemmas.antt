@@ -1,9 +1,11 @@
 -- The values of an end, by the values that are kept for it.
-use Rattle.std.proofs.Common.{◌≡◌, ◌&&◌, Bool, true, false, List, [], ◌∷◌, if◌then◌else◌, refl, ℕ, suc, ◌+◌, ◌||◌, not, cond, length, nat_lt, Some, None, option_map, is_some, ◌∙◌, arith}
+use Rattle.std.proofs.Common.{◌≡◌, ◌&&◌, Bool, true, false, List, [], ◌∷◌, if◌then◌else◌, refl, ℕ, suc, ◌+◌, ◌||◌, not, cond, length, nat_lt, Option, Some, None, option_map, is_some, slice_get, ap, sym, ◌∙◌, arith}
+use Rattle.std.specs.Option.{option_map_or}
 use Rattle.mm_types.specs.Shapes.{Shape}
 use Rattle.models.specs.Model.{attribute_values}
-use Rattle.mm_types.specs.Ends.{shown_values, value_in}
-use Rattle.mm_types.specs.Same.{is_nil}
+use Rattle.mm_types.specs.Ends.{is_set, shown_values, value_in}
+use Rattle.mm_types.specs.Same.{is_nil, same_value}
+use Rattle.mm_types.specs.SameValues.{same_value-self}
 use Rattle.mm_types.specs.declared.value.Value.{Value}
 use Rattle.std.specs.List.{list_any, position_or_len}
 use Rattle.std.specs.Str.{bytes_eq}
@@ -22,6 +24,18 @@ is_nil_shown vs = refl
 pub attribute_values_by : (a : Shape) (vs : List Value) → attribute_values a vs ≡ (if is_nil vs && a.is_single then a.default ∷ [] else vs)
 attribute_values_by a [] = refl
 attribute_values_by a (v ∷ vs) = refl
+
+-- whether a single attribute is set is read from its own value, if it has one
+pub set_by : (a : Shape) (vs : List Value) (flag : Bool) (o : Option Value) → a.is_single ≡ true → a.is_unsettable ≡ false → o ≡ slice_get vs 0
+    → option_map_or (λ v. not (same_value v a.default)) o false ≡ is_set a (record { values = shown_values a.is_single (attribute_values a vs); flag = flag })
+set_by a [] flag o single plain is =
+    ap (λ x. option_map_or (λ v. not (same_value v a.default)) x false) is
+    ∙ sym (ap (λ b. if b then (if a.is_unsettable then flag else not (same_value (value_in (shown_values b (if b then a.default ∷ [] else [])) 0) a.default)) else not (is_nil (shown_values b (if b then a.default ∷ [] else [])))) single
+    ∙ ap (λ b. if b then flag else not (same_value a.default a.default)) plain ∙ ap not (same_value-self a.default))
+set_by a (w ∷ vs) flag o single plain is =
+    ap (λ x. option_map_or (λ v. not (same_value v a.default)) x false) is
+    ∙ sym (ap (λ b. if b then (if a.is_unsettable then flag else not (same_value (value_in (shown_values b (w ∷ vs)) 0) a.default)) else not (is_nil (shown_values b (w ∷ vs)))) single
+    ∙ ap (λ b. if b then flag else not (same_value w a.default)) plain)
 
 ---------------------------------------------------------------- the resource of a URI
 

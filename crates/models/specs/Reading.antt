@@ -32,6 +32,12 @@ pub record Reading : Type 0 where
   pub holder : Node → Option End
   pub above : Node → List Node
 
+abbrev pub object_node : ℕ → Node
+object_node k = node.Object (record { 0 = k })
+
+abbrev pub resource_node : ℕ → Node
+resource_node k = node.Resource (record { 0 = k })
+
 abbrev pub at_end : Node → FeatureNo → End
 at_end n f = record { node = n; feature = f }
 

@@ -1,10 +1,11 @@
 //! The values at the positions of ends.
-ghost use Rattle.std.specs.Prelude.{◌≡◌, ◌&&◌, false, true, Some, length, option_and_then, option_map, option_copied, slice_get, unwrap_or, IfOk};
+ghost use Rattle.std.specs.Prelude.{◌≡◌, ◌<◌, ◌&&◌, ℕ, false, true, None, Some, length, option_and_then, option_map, option_copied, slice_get, unwrap_or, IfOk};
 ghost use Rattle.mm_types.specs.Ends.{first_in, has_value};
 ghost use Rattle.std.specs.Option.{option_map_or};
 ghost use Rattle.mm_types.specs.Same.{is_nil, same_value};
 ghost use Rattle.mm_types.specs.Shapes.{shape};
 ghost use Rattle.mm_types.specs.declared.value.Value.TheVariants as value;
+ghost use Rattle.links.specs.Links.{text_of};
 ghost use Rattle.mm_values.specs.Room.{values_of};
 ghost use Rattle.models.specs.Found.{found_value};
 ghost use Rattle.models.specs.Legal.{takes_proxies};
@@ -62,6 +63,18 @@ impl<'a, L: LinkStore> ModelRef<'a, L> {
     {
         self.lemma_is_legal();
         self.store().at(end, index)
+    }
+
+    /// A position of an end before which there is no proxy. A search for a proxy begins there.
+    pub fn proxy_start(&self, end: End) -> u32
+        ensures { (k : ℕ) → k < result → option_and_then text_of (slice_get ((reading self.now).values end) k) ≡ None }
+    {
+        self.lemma_is_legal();
+        if self.meta().is_reference(end.feature) {
+            let store = self.store();
+            return store.proxy_start(end).min(store.len(end)) as u32;
+        }
+        0
     }
 
     /// Whether a value is at a position of a reference.
@@ -133,7 +146,7 @@ impl<'a, L: LinkStore> ModelRef<'a, L> {
     }
 }
 
-/// A copy of the values that are at an end. Errs only if memory is refused.
+/// A copy of the values that are at an end. Fails only if memory is refused.
 pub fn copied_list<L: LinkStore>(
     alloc: Global,
     model: &ModelRef<L>,

@@ -1,5 +1,6 @@
 //! The values of ends.
-ghost use Rattle.std.specs.Prelude.{◌≡◌, [], true, false, Bool, Option, unwrap_or, option_map, option_copied, length, slice_get, IfOk};
+ghost use Rattle.std.specs.Prelude.{◌≡◌, [], true, false, Bool, Option, unwrap_or, option_map, option_copied, length, not, slice_get, IfOk};
+ghost use Rattle.std.specs.Option.{option_map_or};
 ghost use Rattle.mm_types.specs.Ends as ends;
 ghost use Rattle.mm_types.specs.Ends.{value_in};
 ghost use Rattle.mm_types.specs.Lookups as m;
@@ -33,7 +34,7 @@ pub enum Found<'a> {
 }
 
 impl Found<'_> {
-    /// A copy, as a value of its own. Errs only if memory is refused.
+    /// A copy, as a value of its own. Fails only if memory is refused.
     pub fn to_value(&self, alloc: Global) -> Result<Value, AllocError>
         ensures { IfOk result (λ v. v ≡ found_value self.now) }
     {
@@ -54,7 +55,7 @@ impl Found<'_> {
         }
     }
 
-    /// Whether it is the given value.
+    /// Whether the value that was found is the given value.
     pub fn is(&self, value: &Value) -> bool
         ensures { result ≡ same_value value.now (found_value self.now) }
     {
@@ -205,7 +206,7 @@ fn attribute_at<'a>(meta: &'a Meta, values: &'a Values, end: End) -> Option<&'a 
 }
 
 /// Whether an attribute is set.
-#[tactic(auto, using(crate::proofs::ReadLemmas::is_nil_shown))]
+#[tactic(auto, using(crate::proofs::ReadLemmas::is_nil_shown, crate::proofs::ReadLemmas::set_by))]
 fn is_attribute_set(meta: &Meta, values: &Values, end: End) -> bool
     requires attribute { (shape meta.now end.feature).is_reference ≡ false }
     ensures { result ≡ ends.is_set (shape meta.now end.feature) (attribute_held meta.now (values_of values.now) end) }
@@ -216,9 +217,19 @@ fn is_attribute_set(meta: &Meta, values: &Values, end: End) -> bool
     if meta.is_unsettable(end.feature) {
         return flag_at(values, end);
     }
-    let value = attribute_at(meta, values, end).unwrap_or(&Value::Null);
+    // Without a value of its own it has its default.
     let default = meta.default(end.feature).unwrap_or(&Value::Null);
-    !is_same(value, default)
+    is_other(kept_at(values, end, 0), default)
+}
+
+/// Whether there is a value, and it is not the default.
+fn is_other(value: Option<&Value>, default: &Value) -> bool
+    ensures { result ≡ option_map_or (λ v. not (same_value v default.now)) (option_copied value.entry) false }
+{
+    match value {
+        Some(value) => !is_same(value, default),
+        None => false,
+    }
 }
 
 /// The end of a node under a feature.
@@ -238,7 +249,7 @@ pub fn is_same(a: &Value, b: &Value) -> bool
     a == b
 }
 
-/// A copy of what was found; `None` stands for null. Errs only if memory is refused.
+/// A copy of what was found; `None` stands for null. Fails only if memory is refused.
 pub fn copied(alloc: Global, found: Option<Found>) -> Result<Value, AllocError>
     ensures { IfOk result (λ w. w ≡ unwrap_or (option_map found_value found.entry) Null) }
 {

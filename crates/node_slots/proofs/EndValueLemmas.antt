@@ -46,7 +46,6 @@ not_same (value.Text t) none o = refl
 not_same (value.Literal k) none o = refl
 not_same (value.Object p) none o = absurd (none p refl)
 not_same (value.Proxy t) none o = refl
-not_same (value.Adapter a) none o = refl
 
 pub not_there : (v : Value) → ((o : ObjectNo) → v ≡ value.Object o → ⊥) → (o : Option ObjectNo) → false ≡ is_value v (option_map object_value o)
 not_there v none None = refl
@@ -99,7 +98,6 @@ only_objects (value.Text t) can none = false≢true can
 only_objects (value.Literal k) can none = false≢true can
 only_objects (value.Object o) can none = none o refl
 only_objects (value.Proxy t) can none = false≢true can
-only_objects (value.Adapter a) can none = false≢true can
 
 ---------------------------------------------------------------- one after the other
 

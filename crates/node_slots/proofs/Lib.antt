@@ -6,3 +6,4 @@ pub mod CellLemmas
 pub mod KeyLemmas
 pub mod EndValueLemmas
 pub mod TakesLemmas
+pub mod ProxyLemmas

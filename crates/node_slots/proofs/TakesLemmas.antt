@@ -8,7 +8,7 @@ use Rattle.node_slots.specs.Growth.{Takes, TakesAll}
 
 still_takes : (r s : Room) → ((e : End) → r.mixed e ≡ true → s.mixed e ≡ true) → (x : Edit) → Takes r x → Takes s x
 still_takes r s keeps (edit.Cut e o) h = tt
-still_takes r s keeps (edit.Put e i o g c) h = tt
+still_takes r s keeps (edit.Put l) h = tt
 still_takes r s keeps (edit.Shift e to from) h = tt
 still_takes r s keeps (edit.PutProxy e i t) h = keeps e h
 still_takes r s keeps (edit.CutProxy e t) h = tt

@@ -16,8 +16,8 @@ use Rattle.node_slots.specs.Slots.{CanEdit, no_pairing, slot_edit_capacity}
 use Rattle.node_slots.specs.Rows.{entered_after, entries_taken, hold_after, is_row, places_taken, row_entered, row_entries, row_hold, row_mixed, row_pairing, row_indexes, row_slots, row_vals, told_after, vals_after}
 use Rattle.node_slots.specs.Tables.{Table, place_at, row_index_at, row_from, row_in}
 
--- for each end its values, and the pairing that puts gave for its feature; for each node the end that contains it, and the ends without
--- opposite that hold it
+-- for each end its values, and the opposite and the containing feature that puts gave for its feature; for each node the end that contains
+-- it, and the ends without opposite that hold it
 pub record Cells : Type 0 where
   pub vals : End → List Value
   pub pairing : End → Pairing
@@ -28,7 +28,7 @@ pub record Cells : Type 0 where
 abbrev pub no_cells : Cells
 no_cells = record { vals = λ e. []; pairing = λ e. no_pairing; hold = λ n. None; entered = λ n. [] }
 
--- the capacity that is reserved: for each end, how many more values it can take, and whether they may be other values than objects; for
+-- the capacity that is reserved: for each end, how many more values it can take, and whether these may be values that are no objects; for
 -- each node, how many more ends that hold it can be kept; and which nodes have a row
 pub record Room : Type 0 where
   pub places : End → ℕ

@@ -22,7 +22,7 @@ far_gain o (Some g) x = one_if (same_end (far_end o g) x)
 -- how many values an edit adds to the end x
 abbrev pub gain : End → Edit → ℕ
 gain x (edit.Cut e o) = 0
-gain x (edit.Put e i o g c) = one_if (same_end e x) + far_gain o g x
+gain x (edit.Put l) = one_if (same_end l.end x) + far_gain l.object l.opposite x
 gain x (edit.Shift e to from) = 0
 gain x (edit.PutProxy e i t) = one_if (same_end e x)
 gain x (edit.CutProxy e t) = 0
@@ -34,7 +34,7 @@ lone_entry o (Some g) n = 0
 -- how many ends without opposite an edit adds to the ends that hold n
 abbrev pub entry : Node → Edit → ℕ
 entry n (edit.Cut e o) = 0
-entry n (edit.Put e i o g c) = lone_entry o g n
+entry n (edit.Put l) = lone_entry l.object l.opposite n
 entry n (edit.Shift e to from) = 0
 entry n (edit.PutProxy e i t) = 0
 entry n (edit.CutProxy e t) = 0
@@ -45,10 +45,10 @@ gains plan x = sum_by (gain x) plan
 abbrev pub entries : List Edit → Node → ℕ
 entries plan n = sum_by (entry n) plan
 
--- if an edit puts a proxy into an end, the end may have other values than objects
+-- if an edit puts a proxy into an end, that end may have values that are no objects
 abbrev pub Takes : Room → Edit → Type 0
 Takes r (edit.Cut e o) = Unit {0}
-Takes r (edit.Put e i o g c) = Unit {0}
+Takes r (edit.Put l) = Unit {0}
 Takes r (edit.Shift e to from) = Unit {0}
 Takes r (edit.PutProxy e i t) = r.mixed e ≡ true
 Takes r (edit.CutProxy e t) = Unit {0}
@@ -63,7 +63,7 @@ pub record HasRoom (r : Room) (plan : List Edit) : Type 0 where
   pub takes : TakesAll r plan
   pub entries : (n : Node) → entries plan n ≤ r.entries n
 
--- the capacity has grown by so many values of each end, and so many ends that hold each node
+-- the capacity has grown: for each end by `values` more values, and for each node by `ends` more ends that hold it
 pub record HasGained (values : End → ℕ) (ends : Node → ℕ) (old new : Room) : Type 0 where
   pub places : (e : End) → old.places e + values e ≤ new.places e
   pub mixed : (e : End) → old.mixed e ≡ true → new.mixed e ≡ true

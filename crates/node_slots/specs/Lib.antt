@@ -6,3 +6,4 @@ pub mod Growth
 pub mod Order
 pub mod EndValues
 pub mod EndValueList
+pub mod Proxies

@@ -61,7 +61,7 @@ vals_after (Enter d) g vs = vs
 vals_after (Leave i) g vs = vs
 vals_after (ForgetEntries n) g vs = vs
 
--- the pairing of feature g after a change
+-- the pairing of feature g after a change: its opposite, and the containing feature of the two
 abbrev pub told_after : RowEdit → FeatureNo → Pairing → Pairing
 told_after (Change f x) g p = if same_feature f g then pairing_after x p else p
 told_after (Hold h) g p = p

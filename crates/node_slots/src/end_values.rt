@@ -6,9 +6,11 @@ ghost use Rattle.mm_types.specs.Same.{same_value};
 ghost use Rattle.slot_lists.specs.Moved.{list_after_move};
 ghost use Rattle.links.specs.Links.{object_of, text_of};
 ghost use Rattle.node_slots.specs.EndValues.{CanHave, is_value, object_value, objects};
+ghost use Rattle.node_slots.specs.Proxies.{HasNoProxyBefore};
 
+use crate::mixed_list::MixedList;
 use mm_types::{ObjectNo, Value};
-use slot_lists::{ShortList, SlotList};
+use slot_lists::ShortList;
 use std::alloc::{AllocError, Global};
 use std::marker::Model;
 
@@ -16,7 +18,7 @@ use std::marker::Model;
 #[derive(Drop)]
 enum Layout {
     Objects(ShortList<ObjectNo>),
-    Mixed(Box<SlotList<Value>>),
+    Mixed(Box<MixedList>),
 }
 
 /// The values of an end, and capacity for more. A list has only objects until `mix` says that it may have other values.
@@ -109,7 +111,18 @@ impl EndValueList {
         }
     }
 
-    /// Makes it a list that may have other values than objects. Errs only if memory is refused, and then nothing has changed.
+    /// An index before which there is no proxy.
+    #[tactic(auto, using(crate::proofs::EndValueLemmas::text_of_objects))]
+    pub fn proxy_start(&self) -> usize
+        ensures { HasNoProxyBefore result self.now.items }
+    {
+        match &self.layout {
+            Layout::Objects(list) => list.len(),
+            Layout::Mixed(list) => list.proxy_start(),
+        }
+    }
+
+    /// Makes it a list that may have other values than objects. Fails only if memory is refused, and then nothing has changed.
     pub fn mix(&mut self, alloc: Global) -> Result<(), AllocError>
         ensures items { self.new.items ≡ self.old.items }
         ensures spare { self.old.spare ≤ self.new.spare }
@@ -126,7 +139,7 @@ impl EndValueList {
         }
     }
 
-    /// Reserves capacity for more values. Errs only if memory is refused, and then the values stay and no capacity is lost.
+    /// Reserves capacity for more values. Fails only if memory is refused, and then the values stay and no capacity is lost.
     pub fn reserve(&mut self, alloc: Global, additional: usize) -> Result<(), AllocError>
         ensures items { self.new.items ≡ self.old.items }
         ensures spare { self.old.spare ≤ self.new.spare }
@@ -152,10 +165,7 @@ impl EndValueList {
     {
         match &mut self.layout {
             Layout::Objects(list) => insert_object(list, index, value),
-            Layout::Mixed(list) => match list.insert(index, value) {
-                Ok(()) => {}
-                Err(_) => unreachable!(),
-            },
+            Layout::Mixed(list) => list.insert(index, value),
         }
     }
 
@@ -169,9 +179,7 @@ impl EndValueList {
     {
         match &mut self.layout {
             Layout::Objects(list) => list.remove(index),
-            Layout::Mixed(list) => {
-                list.remove(index);
-            }
+            Layout::Mixed(list) => list.remove(index),
         }
     }
 
@@ -263,20 +271,20 @@ fn position_in(list: &ShortList<ObjectNo>, value: &Value) -> Option<usize>
     }
 }
 
-/// Objects as values, in a list of the same capacity. Errs only if memory is refused.
-fn values_of(alloc: Global, list: &ShortList<ObjectNo>) -> Result<Box<SlotList<Value>>, AllocError>
+/// Objects as values, in a list of the same capacity. Fails only if memory is refused.
+fn values_of(alloc: Global, list: &ShortList<ObjectNo>) -> Result<Box<MixedList>, AllocError>
     ensures items { IfOk result (λ b. b.value.items ≡ objects list.now.items) }
     ensures spare { IfOk result (λ b. list.now.spare ≤ b.value.spare) }
 {
     let places = list.len().checked_add(list.spare()).ok_or(AllocError)?;
-    let mut values = Box::new(alloc, SlotList::new(alloc))?;
+    let mut values = Box::new(alloc, MixedList::new(alloc))?;
     values.reserve(places)?;
     push_objects(&mut values, list);
     Ok(values)
 }
 
 /// Puts objects in last, for which there is capacity.
-fn push_objects(values: &mut SlotList<Value>, list: &ShortList<ObjectNo>)
+fn push_objects(values: &mut MixedList, list: &ShortList<ObjectNo>)
     requires room { length list.now.items ≤ values.old.spare }
     requires none { values.old.items ≡ [] }
     ensures items { values.new.items ≡ objects list.now.items }
@@ -288,15 +296,12 @@ fn push_objects(values: &mut SlotList<Value>, list: &ShortList<ObjectNo>)
 }
 
 /// Puts an object in last, if there is one.
-fn push_object(values: &mut SlotList<Value>, object: Option<&ObjectNo>)
+fn push_object(values: &mut MixedList, object: Option<&ObjectNo>)
     requires { 0 < values.old.spare }
     ensures items { values.new.items ≡ values.old.items ++ option_to_list (option_map object_value (option_copied object.entry)) }
     ensures spare { values.old.spare ≤ values.new.spare + 1 }
 {
     if let Some(object) = object {
-        match values.insert(values.len(), Value::Object(*object)) {
-            Ok(()) => {}
-            Err(_) => unreachable!(),
-        }
+        values.insert(values.len(), Value::Object(*object));
     }
 }

@@ -5,6 +5,7 @@
 #![tactic(auto)]
 
 mod end_values;
+mod mixed_list;
 mod node_slots;
 mod order;
 mod row;

@@ -5,6 +5,7 @@ ghost use Rattle.mm_types.specs.declared.numbers.Node.{Node};
 ghost use Rattle.links.specs.Links.{object_of, text_of};
 ghost use Rattle.node_slots.specs.Rows.{row_slot, row_slots};
 ghost use Rattle.node_slots.specs.EndValues.{is_value};
+ghost use Rattle.node_slots.specs.Proxies.{HasNoProxyBefore};
 ghost use Rattle.node_slots.specs.Cells.{AreReordered, Fits, KeepsRoom, cell_edit, cells, ends_of, no_cells, room, row_at, row_index_of};
 
 mod growth;
@@ -88,6 +89,17 @@ impl NodeSlots {
         ensures { option_copied result ≡ option_and_then text_of (slice_get ((cells self.now).vals end) index) }
     {
         self.slot(end)?.values.text_at(index)
+    }
+
+    /// An index before which an end has no proxy.
+    #[tactic(auto, unfolding(crate::specs::Cells::cells))]
+    pub fn proxy_start(&self, end: End) -> usize
+        ensures { HasNoProxyBefore result ((cells self.now).vals end) }
+    {
+        match self.slot(end) {
+            Some(slot) => slot.values.proxy_start(),
+            None => 0,
+        }
     }
 
     /// Whether a value is at an index of an end.

@@ -89,7 +89,7 @@ impl Row {
         put_in_order(&mut self.entered);
     }
 
-    /// Reserves capacity for one more value of a feature, for an object or for any value. Errs only if memory is refused; no value changes.
+    /// Reserves capacity for one more value of a feature, for an object or for any value. Fails only if memory is refused; no value changes.
     pub fn promise(&mut self, feature: FeatureNo, is_mixed: bool) -> Result<(), AllocError>
         ensures grown { IsRowGrown (Some self.old) (Some self.new) }
         ensures ok { OnOk result (places_of (slot_in self.old.slots.items feature) + 1 ≤ places_of (slot_in self.new.slots.items feature)) }
@@ -106,7 +106,7 @@ impl Row {
         self.promised.min(self.entered.spare())
     }
 
-    /// Reserves capacity for one more end that holds the node. Errs only if memory is refused; no end changes.
+    /// Reserves capacity for one more end that holds the node. Fails only if memory is refused; no end changes.
     pub fn promise_entry(&mut self) -> Result<(), AllocError>
         ensures grown { IsRowGrown (Some self.old) (Some self.new) }
         ensures ok { OnOk result (row_entries (Some self.old) + 1 ≤ row_entries (Some self.new)) }
@@ -141,7 +141,7 @@ fn edit_slot(slots: &mut Vec<Slot>, feature: FeatureNo, edit: SlotEdit)
     }
 }
 
-/// Adds a slot, and reserves capacity for half as many more. Errs only if memory is refused, and then nothing has changed.
+/// Adds a slot, and reserves capacity for half as many more. Fails only if memory is refused, and then nothing has changed.
 fn push_slot(slots: &mut Vec<Slot>, slot: Slot) -> Result<(), AllocError>
     ensures { slots.new.items ≡ (if is_ok result then slots.old.items ++ slot ∷ [] else slots.old.items) }
 {

@@ -73,7 +73,7 @@ impl RowTable {
         }
     }
 
-    /// Reserves capacity for one more value of a feature, for an object or for any value, in the row of a number. Errs only if memory is
+    /// Reserves capacity for one more value of a feature, for an object or for any value, in the row of a number. Fails only if memory is
     /// refused; no value changes.
     pub fn promise_at(
         &mut self,
@@ -91,7 +91,7 @@ impl RowTable {
         self.rows[row_index].promise(feature, is_mixed)
     }
 
-    /// Reserves capacity for one more end that holds a node, in the row of the node. Errs only if memory is refused; no end changes.
+    /// Reserves capacity for one more end that holds a node, in the row of the node. Fails only if memory is refused; no end changes.
     pub fn promise_entry_at(&mut self, number: usize, row_index: usize) -> Result<(), AllocError>
         requires at { row_index_at self.old.places number ≡ Some row_index }
         ensures grown { AreRowsGrown (row_in self.old) (row_in self.new) }

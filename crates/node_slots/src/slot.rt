@@ -84,7 +84,7 @@ impl Slot {
         self.promised.min(self.values.spare())
     }
 
-    /// Reserves capacity for one more value, for an object or for any value. Errs only if memory is refused; no value changes.
+    /// Reserves capacity for one more value, for an object or for any value. Fails only if memory is refused; no value changes.
     pub fn promise(&mut self, alloc: Global, is_mixed: bool) -> Result<(), AllocError>
         ensures feature { self.new.feature ≡ self.old.feature }
         ensures values { self.new.values.items ≡ self.old.values.items }
@@ -132,7 +132,7 @@ impl Slot {
     }
 }
 
-/// Reserves capacity for values, for objects or for any. Errs only if memory is refused; no value changes.
+/// Reserves capacity for values, for objects or for any. Fails only if memory is refused; no value changes.
 fn make_places(
     values: &mut EndValueList,
     alloc: Global,

@@ -1,5 +1,5 @@
 -- The targets of proxies: a proxy at both ends of a link.
-use Rattle.std.proofs.Common.{◌≡◌, ℕ, ◌≤◌, ◌&&◌, not, true, false, List, length, slice_get, arith, Option, Some, None, is_some, option_and_then, option_map, refl, sym, ap, ◌∙◌, subst}
+use Rattle.std.proofs.Common.{◌≡◌, ℕ, ◌<◌, ◌≤◌, ◌&&◌, not, true, false, List, length, slice_get, arith, Option, Some, None, is_some, option_and_then, option_map, refl, sym, ap, ◌∙◌, subst}
 use Rattle.std.specs.Prelude.{position}
 use Rattle.std.specs.Option.{option_map_or}
 use Rattle.std.proofs.lemmas.Bool.{false≢true}
@@ -41,6 +41,11 @@ first-found r n d j h none = by (slice_get (r.values d) j) refl h
     by : (q : Option Value) → slice_get (r.values d) j ≡ q → option_map_or (λ o. same_node (node.Object o) n) (option_and_then (at r) (option_and_then text_of q)) false ≡ true → Some (counted d j) ≡ first_to r n d
     by None is h = absurd (false≢true h)
     by (Some v) is h = sym (ap (option_map (counted d)) (position-first (leads_to r n) (r.values d) j v is h none))
+
+-- if no proxy is at an index below i, no value there leads to a node
+pub none-leads : (r : Reading) (n : Node) (d : End) (i : ℕ) → ((k : ℕ) → k < i → proxy_at r d k ≡ None) → NonePass (leads_to r n) (r.values d) i
+none-leads r n d i none k v low there =
+    ap (λ (t : Option (List ℕ)). option_map_or (λ o. same_node (node.Object o) n) (option_and_then (at r) t) false) (sym (ap (option_and_then text_of) there) ∙ none k low)
 
 pub first-lacking : (r : Reading) (n : Node) (d : End) (i : ℕ) → length (r.values d) ≤ i → NonePass (leads_to r n) (r.values d) i → None ≡ first_to r n d
 first-lacking r n d i past none = sym (ap (option_map (counted d)) (position-none (leads_to r n) (r.values d) (λ k v low at. none k v (omega (arith, low, past)) at)))

@@ -55,7 +55,7 @@ impl Keys {
         }
     }
 
-    /// Adds a key. Errs only if memory is refused.
+    /// Adds a key. Fails only if memory is refused.
     pub fn insert(&mut self, key: Key) -> Result<(), AllocError>
         ensures { OnOk result ((k : Key) → has self.new k ≡ has self.old k || same_key k key) }
     {

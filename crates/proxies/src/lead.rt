@@ -22,7 +22,7 @@ pub struct Lead {
     pub object: Option<ObjectNo>,
 }
 
-/// The leads of all proxies, in the order in which they are resolved. Errs only if memory is refused.
+/// The leads of all proxies, in the order in which they are resolved. Fails only if memory is refused.
 pub fn leads<L: LinkStore>(alloc: Global, model: &ModelRef<L>) -> Result<Vec<Lead>, AllocError>
     ensures { IfOk result (λ ls. ls.items ≡ spec.leads (reading model.now)) }
 {
@@ -108,7 +108,7 @@ impl FirstLeads {
         }
     }
 
-    /// The first leads of some proxies. Errs only if memory is refused.
+    /// The first leads of some proxies. Fails only if memory is refused.
     pub fn of(alloc: Global, leads: &[Lead]) -> Result<Self, AllocError>
         ensures { IfOk result (λ t. (k : Key) → spec.index_at t k ≡ spec.first_index leads.now k) }
     {

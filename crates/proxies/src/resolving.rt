@@ -21,7 +21,7 @@ use models::ModelRef;
 use std::alloc::{AllocError, Global};
 use web_uris::split_address;
 
-/// The target of the proxy at an index; `None` without a proxy, or without an object at its address. Errs only if memory is refused.
+/// The target of the proxy at an index; `None` without a proxy, or without an object at its address. Fails only if memory is refused.
 pub fn target_at<L: LinkStore>(
     alloc: Global,
     model: &ModelRef<L>,
@@ -43,7 +43,7 @@ pub fn target_at<L: LinkStore>(
     }))
 }
 
-/// The proxy that a link between an end and an object has at the opposite end, if there is one. Errs only if memory is
+/// The proxy that a link between an end and an object has at the opposite end, if there is one. Fails only if memory is
 /// refused.
 fn counterpart<L: LinkStore>(
     alloc: Global,
@@ -59,7 +59,7 @@ fn counterpart<L: LinkStore>(
     }
 }
 
-/// The first proxy at an end that has the address of a node. Errs only if memory is refused.
+/// The first proxy at an end that has the address of a node. Fails only if memory is refused.
 fn first_to<L: LinkStore>(
     alloc: Global,
     model: &ModelRef<L>,
@@ -68,7 +68,7 @@ fn first_to<L: LinkStore>(
 ) -> Result<Option<Counterpart>, AllocError>
     ensures { IfOk result (λ q. q ≡ resolving.first_to (reading model.now) node end) }
 {
-    for index in 0..model.len(end) {
+    for index in model.proxy_start(end)..model.len(end) {
         if leads_to(alloc, model, end, index, node)? {
             return Ok(Some(Counterpart { end, index }));
         }
@@ -76,7 +76,7 @@ fn first_to<L: LinkStore>(
     Ok(None)
 }
 
-/// Whether a proxy is at an index and has the address of a node. Errs only if memory is refused.
+/// Whether a proxy is at an index and has the address of a node. Fails only if memory is refused.
 fn leads_to<L: LinkStore>(
     alloc: Global,
     model: &ModelRef<L>,

@@ -17,7 +17,7 @@ use Rattle.models.specs.Legal.{IsLegal}
 use Rattle.models.specs.Model.{Model, reading, values_at}
 use Rattle.models.specs.Reading.{at_end, contents_end}
 use Rattle.containment.proofs.PartLemmas.{live-made}
-use Rattle.containment.specs.Above.{resource_node, resource_of}
+use Rattle.containment.specs.Above.{resource_of_node, resource_of}
 use Rattle.fragment_paths.proofs.HeldLemmas.{held, held-root}
 use Rattle.fragment_paths.proofs.ImageLemmas.{address-image}
 use Rattle.fragment_paths.proofs.InsideLemmas.{each-inside}
@@ -77,10 +77,10 @@ module _ (s : Model) (k : ResourceNo) (doc : Doc) (legal : IsLegal s) (early : e
   old-object o low = let high : nat_le (length s.values.objects) o.0 ≡ false = grind (arith, nat_tests) in high
 
   other-end : (j : ResourceNo) → (j ≡ k → ⊥) → contents_end s.metamodel k ≡ contents_end s.metamodel j → ⊥
-  other-end j other same = other (same_Some j k (ap (λ (d : End). resource_node d.node) (sym same)))
+  other-end j other same = other (same_Some j k (ap (λ (d : End). resource_of_node d.node) (sym same)))
 
   object-end : (p : ObjectNo) (f : FeatureNo) → contents_end s.metamodel k ≡ at_end (node.Object p) f → ⊥
-  object-end p f same = none-some k (sym (ap (λ (d : End). resource_node d.node) same))
+  object-end p f same = none-some k (sym (ap (λ (d : End). resource_of_node d.node) same))
 
   -- an object in a resource keeps its address
   pub inside-keeps : (o : ObjectNo) (j : ResourceNo) → resource_of (above s.links) o ≡ Some j → address (reading t) o ≡ address (reading s) o

@@ -23,7 +23,7 @@ use Rattle.models.specs.Model.{Model, model_of, reading, values_at}
 use Rattle.models.specs.Reading.{at_end, roots_end}
 use Rattle.containment.proofs.DistinctLemmas.{features-distinct}
 use Rattle.containment.proofs.PartLemmas.{kinds-are, values-linked}
-use Rattle.containment.specs.Forest.{object_node}
+use Rattle.containment.specs.Forest.{object_of_node}
 use Rattle.fragment_paths.proofs.StayLemmas.{one-address}
 use Rattle.fragment_paths.specs.Fragments.{address}
 use Rattle.round_trip.proofs.ListLemmas.{each-of, map-each}
@@ -273,13 +273,13 @@ module _ (left : LeftProxy) where
   gone-over : (h k : FeatureNo) (x y : ObjectNo) (a b : List ℕ) → (shape s.metamodel h).opposite ≡ Some k → address (reading t) x ≡ Some a → address (reading t) y ≡ Some b
       → IsGone (at_end (node.Object x) h) b → IsGone (at_end (node.Object y) k) a
   gone-over h k x y a b pair at_x at_y (FromOwn is same) =
-      let owner : x ≡ p = same_Some x p (ap (λ (d : End). object_node d.node) is) in
+      let owner : x ≡ p = same_Some x p (ap (λ (d : End). object_of_node d.node) is) in
       let feature : h ≡ f = ap (λ (d : End). d.feature) is in
       let far : y ≡ aim = one-address t other y aim text (at_y ∙ ap (λ (z : List ℕ). Some z) same) aim-at in
       FromFar k (ap (λ (z : FeatureNo). (shape s.metamodel z).opposite) (sym feature) ∙ pair) (ap (λ (z : ObjectNo). at_end (node.Object z) k) far)
       (same_Some a own_text (sym at_x ∙ ap (address (reading t)) owner ∙ own-at))
   gone-over h k x y a b pair at_x at_y (FromFar g over is same) =
-      let owner : x ≡ aim = same_Some x aim (ap (λ (d : End). object_node d.node) is) in
+      let owner : x ≡ aim = same_Some x aim (ap (λ (d : End). object_of_node d.node) is) in
       let feature : h ≡ g = ap (λ (d : End). d.feature) is in
       let back = (kinds-are s.metamodel legal.metamodel).inverse f g over in
       let far : y ≡ p = one-address t other y p own_text (at_y ∙ ap (λ (z : List ℕ). Some z) same) own-at in

@@ -22,7 +22,6 @@ name-same r (value.Bool x) other = refl
 name-same r (value.Int x) other = refl
 name-same r (value.Text x) other = refl
 name-same r (value.Literal x) other = refl
-name-same r (value.Adapter x) other = refl
 
 names-same : (r : Reading) → HasNoProxy r → (e : End) → map (named_value r) (r.values e) ≡ map (meant_value r) (r.values e)
 names-same r none e =

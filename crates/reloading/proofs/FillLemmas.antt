@@ -22,7 +22,7 @@ use Rattle.models.specs.Model.{Model, model_of, reading, values_at}
 use Rattle.models.specs.Reading.{Reading, at_end, has_resource, roots_end}
 use Rattle.models.specs.Steady.{HasSteadyTexts}
 use Rattle.containment.proofs.PartLemmas.{live-made}
-use Rattle.containment.specs.Above.{resource_node, resource_of}
+use Rattle.containment.specs.Above.{resource_of_node, resource_of}
 use Rattle.doc_writer.specs.Written.{objects_in}
 use Rattle.resource_docs.specs.declared.doc.Doc.{Doc}
 use Rattle.round_trip.specs.Copied.{copied_document, object_copied}
@@ -132,7 +132,7 @@ module _ (s : Model) (legal : IsLegal s) (steady : HasSteadyTexts s) (saved : Is
   -- a different resource has a different number
   other-number : (i : ResourceNo) → has made i ≡ true → is_same i k ≡ false → roots_end r j ≡ roots_end r (number_of made i) → ⊥
   other-number i h other same =
-      let number : j ≡ number_of made i = same_Some j (number_of made i) (ap (λ d. resource_node d.node) same) in
+      let number : j ≡ number_of made i = same_Some j (number_of made i) (ap (λ d. resource_of_node d.node) same) in
       let one : i ≡ k = same_Some i k (sym (numbered made i h).there ∙ ap (λ (x : ResourceNo). slice_get made x.0) (sym number) ∙ (numbered made k filling.there).there) in
       false≢true (sym other ∙ eq-eqb i.0 k.0 (ap (λ (x : ResourceNo). x.0) one))
 
@@ -144,7 +144,7 @@ module _ (s : Model) (legal : IsLegal s) (steady : HasSteadyTexts s) (saved : Is
       ] refl
 
   object-end : (p : ObjectNo) (f : FeatureNo) → roots_end r j ≡ at_end (node.Object p) f → ⊥
-  object-end p f same = none-some j (sym (ap (λ d. resource_node d.node) same))
+  object-end p f same = none-some j (sym (ap (λ d. resource_of_node d.node) same))
 
   old-copied : (i : ResourceNo) → has filled i ≡ true → IsCopied r i (number_of made i) (so_far.base i) (reading u)
   old-copied i loaded =

@@ -146,7 +146,6 @@ module _ (s : Model) (w : ValuesState) (c : Links) (legal : IsLegal s) (other : 
       one-new (value.Int y) h = refl
       one-new (value.Text y) h = refl
       one-new (value.Literal y) h = refl
-      one-new (value.Adapter y) h = refl
 
   of-attribute : (o : ObjectNo) → IsInside o → (f : FeatureNo) → (shape m f).is_reference ≡ false → values_at u (at_end (node.Object (new o)) f) ≡ map as_new (values_at s (at_end (node.Object o) f))
   of-attribute o inside f attribute =
@@ -226,7 +225,6 @@ module _ (s : Model) (w : ValuesState) (c : Links) (legal : IsLegal s) (other : 
     named-only (value.Text y) same = absurd (false≢true (ap lookups.is_object same))
     named-only (value.Literal y) same = absurd (false≢true (ap lookups.is_object same))
     named-only (value.Proxy y) same = absurd (false≢true (ap lookups.is_object same))
-    named-only (value.Adapter y) same = absurd (false≢true (ap lookups.is_object same))
 
     no-holder : values_at s (at_end (node.Object o) g) ≡ [] → (b : ObjectNo) → IsWrittenWith doc b f number → ⊥
     unfolding copied_document

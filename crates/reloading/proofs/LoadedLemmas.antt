@@ -198,7 +198,6 @@ module _ (s : Model) (legal : IsLegal s) (steady : HasSteadyTexts s) (saved : Is
     value-means k (value.Int x) loaded known = refl
     value-means k (value.Text x) loaded known = refl
     value-means k (value.Literal x) loaded known = refl
-    value-means k (value.Adapter x) loaded known = refl
 
     values-mean : (k : ResourceNo) (o : ObjectNo) (f : FeatureNo) → has filled k ≡ true → resource_of (above s.links) o ≡ Some k
         → map (meant_value (reading t)) (values_at t (at_end (node.Object (new k o)) f)) ≡ map (meant_value r) (values_at s (at_end (node.Object o) f))
@@ -279,7 +278,6 @@ module _ (s : Model) (legal : IsLegal s) (steady : HasSteadyTexts s) (saved : Is
     proxy-value k (value.Int x) y is no_proxy = absurd (none-some y (ap text_of is))
     proxy-value k (value.Text x) y is no_proxy = absurd (none-some y (ap text_of is))
     proxy-value k (value.Literal x) y is no_proxy = absurd (none-some y (ap text_of is))
-    proxy-value k (value.Adapter x) y is no_proxy = absurd (none-some y (ap text_of is))
 
     -- an object of the resource has a number there
     some-position : (k : ResourceNo) (c : ObjectNo) → resource_of (above s.links) c ≡ Some k → position (same_object c) (objects_in r k) ≡ None → ⊥

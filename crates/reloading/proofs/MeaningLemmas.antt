@@ -55,7 +55,6 @@ means-object r (value.Bool x) t h other = absurd (none-some t (ap by_of h))
 means-object r (value.Int x) t h other = absurd (none-some t (ap by_of h))
 means-object r (value.Text x) t h other = absurd (none-some t (ap by_of h))
 means-object r (value.Literal x) t h other = absurd (none-some t (ap by_of h))
-means-object r (value.Adapter x) t h other = absurd (none-some t (ap by_of h))
 
 -- an object has a value of a reference that means a text at most at one position
 module _ (s : Model) (w : ValuesState) (c : Links) (legal : IsLegal s) (other : IsLegal (model_of s.metamodel w c)) (none : HasNoProxy (reading s)) where

@@ -68,7 +68,6 @@ target-some r f (value.Bool x) h = refl
 target-some r f (value.Int x) h = refl
 target-some r f (value.Text x) h = refl
 target-some r f (value.Literal x) h = refl
-target-some r f (value.Adapter x) h = refl
 
 targets-some : (r : Reading) (f : FeatureNo) (vs : List Value) → list_all (is_legal_target r f) vs ≡ true → AreSome vs
 targets-some r f [] all = tt

@@ -26,9 +26,9 @@ use Rattle.mm_meta.proofs.FeatureListLemmas.{all-append}
 use Rattle.containment.proofs.PartLemmas.{legal-at, live-made, values-linked}
 use Rattle.models.specs.Legal.{IsLegal}
 use Rattle.models.specs.Model.{Model, reading}
-use Rattle.models.specs.Reading.{Reading, at_end, has_feature, is_live}
+use Rattle.models.specs.Reading.{Reading, at_end, has_feature, is_live, object_node, resource_node}
 use Rattle.removal.proofs.ListLemmas.{all-filter, all-map, all-weaker, passes-at}
-use Rattle.removal.specs.Outer.{ends_of, holds_some, is_in_subtree, object_node, others_with, outer_ends, resource_node, touched_ends}
+use Rattle.removal.specs.Outer.{ends_of, holds_some, is_in_subtree, others_with, outer_ends, touched_ends}
 
 ---------------------------------------------------------------- lists in order
 

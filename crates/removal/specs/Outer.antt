@@ -9,18 +9,12 @@ use Rattle.mm_types.specs.declared.numbers.Node.{Node}
 use Rattle.mm_types.specs.declared.numbers.Node.TheVariants as node
 use Rattle.mm_types.specs.declared.numbers.ObjectNo.{ObjectNo}
 use Rattle.links.specs.Laws.{goes}
-use Rattle.models.specs.Reading.{Reading, at_end, shape_at}
+use Rattle.models.specs.Reading.{Reading, at_end, shape_at, object_node, resource_node}
 use Rattle.containment.specs.Forest.{is_node_among, subtree}
 
 -- whether a node is destroyed with an object: it is that object, or is below it
 abbrev pub is_in_subtree : Reading → ObjectNo → Node → Bool
 is_in_subtree r o = is_node_among (subtree r o)
-
-abbrev pub object_node : ℕ → Node
-object_node k = node.Object (record { 0 = k })
-
-abbrev pub resource_node : ℕ → Node
-resource_node k = node.Resource (record { 0 = k })
 
 -- the nodes that may have a feature, by number, without the nodes that are destroyed: the resources for `contents`, and the objects for
 -- each other feature

@@ -13,8 +13,8 @@ use mm_types::{End, Node, ObjectNo};
 use models::ModelRef;
 use std::alloc::{AllocError, Global};
 
-/// A deletion of an object: the objects that it destroys (the object and all objects below it), and the ends of other nodes that have some
-/// of them. It is found once, and then borrowed.
+/// What a deletion of an object takes away: the objects that it destroys (the object and all objects below it), and the ends of other nodes
+/// that have some of these objects. A `Removal` is found once, and then borrowed.
 #[derive(Drop)]
 pub struct Removal {
     /// The object that is destroyed.
@@ -26,7 +26,7 @@ pub struct Removal {
 }
 
 impl Removal {
-    /// What is destroyed with a live object. Errs only if memory is refused.
+    /// What is destroyed with a live object. Fails only if memory is refused.
     pub fn of<L: LinkStore>(
         alloc: Global,
         model: &ModelRef<L>,

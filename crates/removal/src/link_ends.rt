@@ -12,7 +12,7 @@ use links::LinkStore;
 use models::ModelRef;
 use std::alloc::{AllocError, Global};
 
-/// The links of an object and of all objects below it, each named once. Errs only if memory is refused.
+/// The links of an object and of all objects below it, each named once. Fails only if memory is refused.
 pub fn tree_link_ends<L: LinkStore>(
     alloc: Global,
     model: &ModelRef<L>,

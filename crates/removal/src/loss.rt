@@ -27,7 +27,7 @@ pub struct Loss {
 }
 
 /// What ends of other nodes lose when an object and all objects below it are destroyed, by feature number, then by node, then by position;
-/// the loss of the object itself, at the end that contains it, comes last. Errs only if memory is refused.
+/// the loss of the object itself, at the end that contains it, comes last. Fails only if memory is refused.
 pub fn losses<L: LinkStore>(
     alloc: Global,
     model: &ModelRef<L>,

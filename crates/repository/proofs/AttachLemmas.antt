@@ -6,7 +6,7 @@ use Rattle.std.specs.Option.{option_map_or}
 use Rattle.std.proofs.lemmas.List.{append-nil}
 use Rattle.std.proofs.lemmas.Map.Keys.{IsDistinct-head, IsDistinct-tail}
 use Rattle.std.proofs.lemmas.Option.{none-some, same_Some}
-use Rattle.mm_types.specs.Conditions.{◌else_by◌, ◌unless◌, ◌where_so◌}
+use Rattle.mm_types.specs.Conditions.{◌else_by◌, ◌unless◌, ◌where_so◌, is_memory_refusal}
 use Rattle.mm_types.specs.declared.numbers.AdapterNo.{AdapterNo}
 use Rattle.mm_types.specs.declared.numbers.Node.{Node}
 use Rattle.mm_types.specs.declared.refused.Refused.{Refused}
@@ -19,7 +19,6 @@ use Rattle.adapter_list.specs.Refusals.{attach_refusal, but_memory, watch_refusa
 use Rattle.models.specs.Model.{Model, reading}
 use Rattle.models.specs.Reading.{is_node_live, is_resource_there}
 use Rattle.models.specs.Existence.{node_refusal}
-use Rattle.change_plans.specs.Plans.{is_memory_refusal}
 use Rattle.repository.specs.declared.command.Command.{Command}
 use Rattle.repository.specs.declared.command.Command.TheVariants.{Attach, Detach, Unwatch, Watch}
 use Rattle.repository.specs.declared.reply.Answer.{Answer}

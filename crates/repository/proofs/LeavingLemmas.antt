@@ -1,9 +1,9 @@
 -- The targets that are removed with the objects that a change destroys.
 use Rattle.std.proofs.Common.{◌≡◌, ℕ, suc, ◌+◌, ◌≤◌, ◌<◌, ◌||◌, Bool, true, false, cond, List, [], ◌∷◌, ◌++◌, length, length-append, map, if◌then◌else◌, filter, drop, get_or, slice_get, Option, None, Some, option_map, append_assoc, refl, ap, sym, subst, ◌∙◌, arith}
-use Rattle.std.specs.Prelude.{IfSome, unwrap_or}
+use Rattle.std.specs.Prelude.{IfSome}
 use Rattle.std.specs.List.{flat_map, list_any}
 use Rattle.std.specs.Option.{option_map_or}
-use Rattle.std.proofs.lemmas.Bool.{or_parts}
+use Rattle.std.proofs.lemmas.Bool.{false≢true, or_parts}
 use Rattle.std.proofs.lemmas.List.{append-nil, drop_all, drop_more}
 use Rattle.std.proofs.lemmas.Option.{none-some, same_Some}
 use Rattle.mm_types.specs.Same.{same_node}
@@ -23,6 +23,9 @@ use Rattle.removal.specs.Outer.{is_in_subtree}
 use Rattle.removal.specs.Ranks.{is_in}
 use Rattle.removal.specs.Removals.{IsRemoval}
 use Rattle.removal.specs.declared.gone.Removal.{Removal}
+use Rattle.change_plans.specs.Plans.{removal_in, resolved_in, target_in}
+use Rattle.change_plans.specs.declared.planned.Finding.{Finding}
+use Rattle.change_plans.specs.declared.planned.Finding.TheVariants as finding
 use Rattle.handshake.specs.Changes.{IsRemovalOf}
 use Rattle.handshake.specs.Refusals.{late_refusal}
 use Rattle.handshake.specs.FeatureChanges.{destroyed_by, resolved_by, target_of}
@@ -141,23 +144,27 @@ spots-found r c q rs of = by q (destroyed_by c) of.whose of.found
         let goes : is_in x.numbers ≡ is_in_subtree r o = (λ i n. found.numbers n i) ∙ ap (is_in_subtree r) (same_Some x.object o is) in
         ap (λ (g : Node → Bool). spots (is_gone_at g) rs) goes
 
--- the whole answer is the answer from before planning, or is computed from the objects that the plan destroys, finds or resolves
-pub whole-answer : (r : Reading) (rs : List Listed) (text : List ℕ) (c : Change) (early : Option Answer) (q : Option Removal) (x : Option Found) (y : Option Resolved)
-    → IsEarlyAnswer (is_answered_late c) (answer_of r rs (command_of text c)) early → late_refusal r c ≡ None → IsRemovalOf r c q → x ≡ target_of r c → y ≡ resolved_by r c
-    → unwrap_or early (planned_answer q x y) ≡ answer_of r rs (command_of text c)
-whole-answer r rs text c early q x y is allowed removed found resolved = by c is allowed removed.whose removed.found found resolved
+-- an answer that is found before planning is the answer of the change
+pub found-early : (late : Bool) (x a : Answer) (q : Option Answer) → IsEarlyAnswer late x q → q ≡ Some a → a ≡ x
+found-early true x a q is some = absurd (none-some a (sym is ∙ some))
+found-early false x a q is some = same_Some a x (sym some ∙ is)
+
+-- if none is found before planning, the answer is found later
+pub found-late : (late : Bool) (x : Answer) (q : Option Answer) → IsEarlyAnswer late x q → q ≡ None → late ≡ true
+found-late true x q is none = refl
+found-late false x q is none = absurd (none-some x (sym none ∙ is))
+
+-- an answer that is found later is computed from what planning finds
+pub answer-planned : (r : Reading) (rs : List Listed) (text : List ℕ) (c : Change) (f : Finding) → is_answered_late c ≡ true → late_refusal r c ≡ None → IsRemovalOf r c (removal_in f) → target_in f ≡ target_of r c → resolved_in f ≡ resolved_by r c
+    → planned_answer f ≡ Some (answer_of r rs (command_of text c))
+answer-planned r rs text c f late allowed removed found resolved = by c f late allowed removed.whose removed.found found resolved
   where
-    known : (a b : Answer) → early ≡ Some a → unwrap_or early b ≡ a
-    known a b some = ap (λ (o : Option Answer). unwrap_or o b) some
-
-    later : (a b : Answer) → early ≡ None → b ≡ a → unwrap_or early b ≡ a
-    later a b none same = ap (λ (o : Option Answer). unwrap_or o b) none ∙ same
-
-    by : (d : Change) → IsEarlyAnswer (is_answered_late d) (answer_of r rs (command_of text d)) early → late_refusal r d ≡ None → option_map (λ (z : Removal). z.object) q ≡ destroyed_by d → IfSome q (IsRemoval r) → x ≡ target_of r d → y ≡ resolved_by r d
-        → unwrap_or early (planned_answer q x y) ≡ answer_of r rs (command_of text d)
-    by (Delete o) none allowed whose found nothing nowhere = later _ _ none ((λ i. planned_answer q (nothing i) (nowhere i)) ∙ ap answer.Destroyed (of-objects length 0 r q o whose found))
-    by (At e (Resolve i)) none allowed whose found target nowhere =
-        let known = resolvable r e i allowed in
-        later _ _ none (ap (λ (z : Option Found). planned_answer q z y) (target ∙ known.is) ∙ ap (λ (z : Option Found). answer.Object (option_map_or (λ (w : Found). w.object) z (record { 0 = 0 }))) (sym known.is))
-    by ResolveAll none allowed whose found nothing counted = later _ _ none (λ i. planned_answer q (nothing i) (counted i))
-    by _ some allowed whose found target counted = known _ _ some
+    by : (d : Change) (f : Finding) → is_answered_late d ≡ true → late_refusal r d ≡ None → option_map (λ (z : Removal). z.object) (removal_in f) ≡ destroyed_by d → IfSome (removal_in f) (IsRemoval r) → target_in f ≡ target_of r d → resolved_in f ≡ resolved_by r d
+        → planned_answer f ≡ Some (answer_of r rs (command_of text d))
+    by (Delete o) (finding.Removal x) late allowed whose is target counted = ap (λ (n : ℕ). Some (answer.Destroyed n)) (of-objects length 0 r (Some x) o whose is)
+    by (Delete o) _ late allowed whose is target counted = absurd (none-some o whose)
+    by (At e (Resolve i)) (finding.Target x) late allowed whose is target counted = ap (λ (z : Option Found). Some (answer.Object (option_map_or (λ (w : Found). w.object) z (record { 0 = 0 })))) target
+    by (At e (Resolve i)) _ late allowed whose is target counted = let known = resolvable r e i allowed in absurd (none-some known.target (target ∙ known.is))
+    by ResolveAll (finding.Counts n) late allowed whose is target counted = ap (option_map (λ (m : Resolved). answer.Resolved m.done m.left)) counted
+    by ResolveAll _ late allowed whose is target counted = absurd (none-some _ counted)
+    by _ f late allowed whose is target counted = absurd (false≢true late)

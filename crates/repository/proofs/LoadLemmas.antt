@@ -4,7 +4,7 @@ use Rattle.std.specs.Prelude.{Result}
 use Rattle.std.proofs.lemmas.Bool.Decides.{nat_tests}
 use Rattle.std.proofs.lemmas.Option.{none-some, same_Some}
 use Rattle.serde_json.specs.Data.{Data}
-use Rattle.mm_types.specs.Conditions.{◌else_by◌, ◌unless◌}
+use Rattle.mm_types.specs.Conditions.{◌else_by◌, ◌unless◌, is_memory_refusal}
 use Rattle.mm_types.specs.Resolved.{Metamodel}
 use Rattle.mm_types.specs.declared.document_fault.DocFault.{DocFault}
 use Rattle.mm_types.specs.declared.numbers.Node.TheVariants as node
@@ -19,7 +19,6 @@ use Rattle.doc_loader.specs.Loading.{is_empty_resource}
 use Rattle.models.specs.Existence.{node_refusal}
 use Rattle.handshake.specs.Laws.{BringsSteadyTexts}
 use Rattle.handshake.specs.Changes.{HasReadDocument, IsDocument}
-use Rattle.change_plans.specs.Plans.{is_memory_refusal}
 use Rattle.handshake.specs.declared.change.Change.{Change}
 use Rattle.handshake.specs.declared.change.Change.TheVariants.{NewResource, Load}
 use Rattle.repository.specs.Loads.{load_refusal, reads_into, uri_at}

@@ -1,5 +1,6 @@
 -- A change that puts one link and notifies no adapter: its answer, and the remembered fragments.
 use Rattle.std.proofs.Common.{◌≡◌, ℕ, Bool, true, false, not, ◌&&◌, List, [], ◌∷◌, Option, Some, None, is_some, if◌then◌else◌, refl, sym, ap, subst, ◌∙◌}
+use Rattle.links.specs.declared.plan.Edit.TheVariants as edit
 use Rattle.std.proofs.Math.Bool.{or-false}
 use Rattle.std.proofs.lemmas.Option.{none-some}
 use Rattle.std.proofs.lemmas.Bool.{or_parts}
@@ -10,7 +11,7 @@ use Rattle.mm_types.specs.declared.value.Value.{Value}
 use Rattle.mm_types.specs.declared.value.Value.TheVariants as value
 use Rattle.links.specs.Laws.{touches_containment}
 use Rattle.links.specs.LegalSets.{Kinds}
-use Rattle.links.specs.Plans.{IsEditOfKind, put_edit}
+use Rattle.links.specs.Plans.{IsEditOfKind}
 use Rattle.models.specs.Model.{Model, reading}
 use Rattle.models.specs.Reading.{Reading, is_repeat, position_for, shape_at}
 use Rattle.notice_chain.specs.Listed.{Listed}
@@ -81,5 +82,5 @@ set-alone s m e v q p is none early found some plan =
     }
 
 -- a put makes a containing link if it names a container
-pub put-touches : (m : Kinds) (p : NewLink) → IsEditOfKind m (put_edit p) → touches_containment m (put_edit p ∷ []) ≡ is_some p.container
+pub put-touches : (m : Kinds) (p : NewLink) → IsEditOfKind m (edit.Put p) → touches_containment m (edit.Put p ∷ []) ≡ is_some p.container
 put-touches m p kind = or-false (is_some (m.container p.end.feature)) ∙ ap is_some (sym kind.1)

@@ -2,7 +2,7 @@
 use Rattle.std.proofs.Common.{◌≡◌, inl, inr, Bool, true, false, not, List, [], ◌++◌, Option, Some, None, Ok, Err, if◌then◌else◌, refl, ap, sym, subst, ◌∙◌}
 use Rattle.std.specs.Prelude.{MatchBool, Result, ◌&&◌, is_some, ℕ, option_map, IsFalse}
 use Rattle.std.specs.Option.{option_map_or}
-use Rattle.mm_types.specs.Conditions.{◌else_by◌, ◌unless◌, ◌where_so◌}
+use Rattle.mm_types.specs.Conditions.{◌else_by◌, ◌unless◌, ◌where_so◌, is_memory_refusal}
 use Rattle.mm_types.specs.declared.refused.Refused.{Refused}
 use Rattle.mm_types.specs.declared.refused.Refused.TheVariants.{NoObject, NoResource, NoClass, Abstract, NoFeature, NotSingle, NotMany, TextLength, AdapterFull, Memory}
 use Rattle.mm_types.specs.declared.value.Value.{Value}
@@ -25,7 +25,7 @@ use Rattle.models.specs.Reading.{Reading, has_feature, is_node_live, is_resource
 use Rattle.models.specs.Existence.{end_refusal, node_refusal, value_refusal}
 use Rattle.mm_types.specs.declared.end.End.{End}
 use Rattle.handshake.specs.Effects as effects
-use Rattle.change_plans.specs.Plans.{is_memory_refusal, looks_first}
+use Rattle.change_plans.specs.Plans.{looks_first}
 use Rattle.handshake.specs.Refusals.{early_refusal, kind_refusal, late_refusal, named_refusal, uri_refusal, value_of}
 use Rattle.handshake.specs.FeatureChanges.{chain}
 use Rattle.mm_types.specs.declared.document_fault.DocFault.{DocFault}

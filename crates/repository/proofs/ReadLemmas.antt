@@ -1,6 +1,6 @@
 -- Reads of a single feature.
 use Rattle.std.proofs.Common.{◌≡◌, ◌∙◌, Bool, true, false, [], Option, Some, None, Err, refl, sym, ap, subst}
-use Rattle.mm_types.specs.Conditions.{◌else_by◌, ◌unless◌, ◌where_so◌}
+use Rattle.mm_types.specs.Conditions.{◌else_by◌, ◌unless◌, ◌where_so◌, is_memory_refusal}
 use Rattle.mm_types.specs.Shapes.{shape}
 use Rattle.mm_types.specs.declared.numbers.FeatureNo.{FeatureNo}
 use Rattle.mm_types.specs.declared.numbers.Node.{Node}
@@ -9,7 +9,6 @@ use Rattle.mm_types.specs.declared.refused.Refused.TheVariants.{NotSingle, Adapt
 use Rattle.notice_chain.specs.Listed.{is_chain_full}
 use Rattle.models.specs.Existence.{end_refusal}
 use Rattle.models.specs.Reading.{at_end}
-use Rattle.change_plans.specs.Plans.{is_memory_refusal}
 use Rattle.repository.specs.Commands.{get}
 use Rattle.repository.specs.Reads.{IsValueRefusal}
 use Rattle.repository.specs.Run.{Executed}

@@ -2,7 +2,7 @@
 use Rattle.std.proofs.Common.{◌≡◌, ℕ, Bool, true, false, ◌&&◌, not, IsTrue, List, [], ◌++◌, length, nat_lt, Option, Some, None, is_some, option_map, Ok, Err, if◌then◌else◌, refl, sym, ap, ◌∙◌}
 use Rattle.std.specs.Prelude.{MatchBool}
 use Rattle.std.specs.Option.{option_map_or}
-use Rattle.mm_types.specs.Conditions.{◌else_by◌, ◌unless◌, ◌where_so◌}
+use Rattle.mm_types.specs.Conditions.{◌else_by◌, ◌unless◌, ◌where_so◌, is_memory_refusal}
 use Rattle.mm_types.specs.declared.limits.TheConstants.{RESOURCES}
 use Rattle.mm_types.specs.declared.refused.Refused.{Refused}
 use Rattle.mm_types.specs.declared.refused.Refused.TheVariants.{AdapterFull, BadUri, Limit, Memory, ResourceExists, TextLength}
@@ -13,7 +13,6 @@ use Rattle.web_uris.specs.Joined.{IsWebUri, joined_uri}
 use Rattle.models.specs.Legal.{is_short_text}
 use Rattle.models.specs.Reading.{has_uri}
 use Rattle.handshake.specs.Effects as effects
-use Rattle.change_plans.specs.Plans.{is_memory_refusal}
 use Rattle.handshake.specs.FeatureChanges.{chain}
 use Rattle.handshake.specs.declared.change.Change.TheVariants.{NewResource}
 use Rattle.repository.specs.Answers.{answer_of}

@@ -7,11 +7,11 @@ use Rattle.notice_chain.specs.View.{View}
 use Rattle.repository.specs.Views.{Outcome, brought_adapter}
 use Rattle.repository.specs.declared.reply.Failure.{Failure}
 use Rattle.mm_types.specs.declared.refused.Refused.{Refused}
-use Rattle.change_plans.specs.Plans.{is_memory_refusal}
 use Rattle.repository.specs.Refusals.{change_of}
 use Rattle.repository.specs.Step.{Stepped, done_step, refusal_of, step, step_unless}
 use Rattle.repository.proofs.KeptNodeLemmas.{metamodel-by}
 use Rattle.repository.specs.Run.{AllExecuted, Executed, IsRun, IsWanting, Ran, commands_kept, is_memory, outcomes_kept, run}
+use Rattle.mm_types.specs.Conditions.{is_memory_refusal}
 
 pub AllExecuted-push : (cs : List (Command View)) (os : List Outcome) (s t u : State) (c : Command View) (o : Outcome) → AllExecuted s cs os t → Executed t c o u → AllExecuted s (cs ++ (c ∷ [])) (os ++ (o ∷ [])) u
 AllExecuted-push [] [] s t u c o h x = (u, subst (λ (q : State). Executed q c o u) (sym h) x, refl)

@@ -35,21 +35,10 @@ use Rattle.repository.proofs.AdapterLemmas.{heard-tells, heard_where_attached, i
 use Rattle.repository.proofs.PlanLemmas.{changed_to}
 
 -- the change is answered before it is planned
-answered-early : (c : Change) → edits_one_kind c ≡ true → is_answered_late c ≡ false
+pub answered-early : (c : Change) → edits_one_kind c ≡ true → is_answered_late c ≡ false
 answered-early (Create k) h = refl
 answered-early (At e a) h = ap (λ (b : Bool). b || false) (not-true (resolves_one (At e a)) h)
 answered-early _ h = absurd (false≢true h)
-
-whole : (c : Change) (x : Answer) (q : Option Answer) (d : Answer) → edits_one_kind c ≡ true → IsEarlyAnswer (is_answered_late c) x q → unwrap_or q d ≡ x
-whole c x q d h is = ap (λ (y : Option Answer). unwrap_or y d) (subst (λ (b : Bool). IsEarlyAnswer b x q) (answered-early c h) is)
-
-pub early-whole : (r : Reading) (rs : List Listed) (text : List ℕ) (c : Change) (q : Option Answer) (d : Answer) → edits_values_alone r.metamodel c ≡ true
-    → IsEarlyAnswer (is_answered_late c) (answer_of r rs (command_of text c)) q → unwrap_or q d ≡ answer_of r rs (command_of text c)
-early-whole r rs text c q d h is = whole c (answer_of r rs (command_of text c)) q d (and_parts (edits_one_kind c) (not (is_at_reference r.metamodel c)) h).0 is
-
-pub early-whole-link : (r : Reading) (rs : List Listed) (text : List ℕ) (c : Change) (q : Option Answer) (d : Answer) → edits_links_alone r.metamodel c ≡ true
-    → IsEarlyAnswer (is_answered_late c) (answer_of r rs (command_of text c)) q → unwrap_or q d ≡ answer_of r rs (command_of text c)
-early-whole-link r rs text c q d h is = whole c (answer_of r rs (command_of text c)) q d (and_parts (edits_one_kind c) (is_at_reference r.metamodel c) h).0 is
 
 -- its result, for a reply and a state that are known by their parts
 pub changed-unheard : (s t : State) (text : List ℕ) (c : Change) (a : Answer) (told : List (AdapterNo × Notice)) (views : List (AdapterNo × View)) → IsUnheard (reads s).above (chain (reads s) c) s.adapters → destroyed_by c ≡ None → told ≡ [] → views ≡ [] → IsProper (reads s) text c → early_refusal (reads s) c ≡ None → late_refusal (reads s) c ≡ None

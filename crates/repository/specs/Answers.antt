@@ -35,11 +35,10 @@ use Rattle.snapshots.specs.Snapshots.{snapshot_of}
 use Rattle.repository.specs.Loads.{objects_of, reads_into}
 use Rattle.proxies.specs.Resolving.{target_at}
 use Rattle.proxies.specs.ResolvingAll.{resolved_count, unresolved_count}
-use Rattle.removal.specs.declared.gone.Removal.{Removal}
+use Rattle.change_plans.specs.declared.planned.Finding.{Finding}
+use Rattle.change_plans.specs.declared.planned.Finding.TheVariants as finding
 use Rattle.handshake.specs.declared.change.Change.{Change}
 use Rattle.handshake.specs.FeatureChanges.{destroyed_by, resolves_all, resolves_one}
-use Rattle.proxies.specs.declared.resolved.Resolved.{Resolved}
-use Rattle.proxies.specs.declared.resolved_proxy.ResolvedProxy.{ResolvedProxy}
 
 -- a count that is taken of the view of an adapter; 0 if none has the number
 abbrev pub count_of : List Listed → AdapterNo → (View → ℕ) → ℕ
@@ -116,8 +115,9 @@ abbrev pub IsEarlyAnswer : Bool → Answer → Option Answer → Type 0
 IsEarlyAnswer false a q = q ≡ Some a
 IsEarlyAnswer true a q = q ≡ None
 
--- the answer of a change whose answer is known only when it is planned
-abbrev pub planned_answer : Option Removal → Option ResolvedProxy → Option Resolved → Answer
-planned_answer q (Some x) y = answer.Object x.object
-planned_answer q None (Some y) = answer.Resolved y.done y.left
-planned_answer q None None = answer.Destroyed (option_map_or (λ (x : Removal). length x.objects.items) q 0)
+-- the answer that depends on what planning finds; none if the answer is known before
+abbrev pub planned_answer : Finding → Option Answer
+planned_answer finding.Nothing = None
+planned_answer (finding.Removal x) = Some (answer.Destroyed (length x.objects.items))
+planned_answer (finding.Target x) = Some (answer.Object x.object)
+planned_answer (finding.Counts n) = Some (answer.Resolved n.done n.left)

@@ -1,7 +1,7 @@
 -- Why a command is refused: the first condition that applies, in the order of their numbers.
 use Rattle.std.specs.Prelude.{◌≡◌, ℕ, ◌&&◌, MatchBool, true, false, nat_lt, length, List, [], Option, Some, None, is_some, option_map}
 use Rattle.std.specs.Option.{option_map_or}
-use Rattle.mm_types.specs.Conditions.{◌unless◌, ◌where_so◌, ◌else_by◌}
+use Rattle.mm_types.specs.Conditions.{◌unless◌, ◌where_so◌, ◌else_by◌, is_memory_refusal}
 use Rattle.mm_types.specs.declared.numbers.AdapterNo.{AdapterNo}
 use Rattle.mm_types.specs.declared.refused.Refused.{Refused}
 use Rattle.mm_types.specs.declared.refused.Refused.TheVariants.{NoAdapter, AdapterFull, TextLength, Limit, BadUri, ResourceExists, Dangling}
@@ -13,7 +13,6 @@ use Rattle.adapter_list.specs.Refusals.{attach_refusal, watch_refusal}
 use Rattle.models.specs.Model.{Model, reading}
 use Rattle.models.specs.Reading.{Reading, has_uri}
 use Rattle.models.specs.Existence.{end_refusal, node_refusal, object_refusal}
-use Rattle.change_plans.specs.Plans.{is_memory_refusal}
 use Rattle.handshake.specs.Refusals as planned
 use Rattle.handshake.specs.FeatureChanges as planned_chain
 use Rattle.handshake.specs.declared.change.Change.{Change}

@@ -15,7 +15,7 @@ use Rattle.repository.specs.declared.reply.Reply.{Reply}
 use Rattle.repository.specs.State.{State}
 use Rattle.repository.specs.Views.{Outcome}
 use Rattle.repository.specs.Step.{failure, refusal_of, step}
-use Rattle.change_plans.specs.Plans.{is_memory_refusal}
+use Rattle.mm_types.specs.Conditions.{is_memory_refusal}
 
 -- whether an outcome is MEMORY
 abbrev pub is_memory : Outcome → Bool

@@ -5,12 +5,14 @@ ghost use Rattle.models.specs.Reading.{Reading};
 ghost use Rattle.adapter_list.specs.Attached.{views_of};
 ghost use Rattle.adapter_list.specs.Rounds.{RoundFits};
 ghost use Rattle.notice_chain.specs.Released.{is_gone_at, released_adapters as released_of, spots as spots_where};
+ghost use Rattle.change_plans.specs.Plans.{removal_in};
 ghost use Rattle.removal.specs.Ranks.{is_in};
 ghost use Rattle.removal.specs.Removals.{IsRemoval};
 ghost use Rattle.repository.specs.Leaving.{HasRoom, leavers, spots_in};
 
 use adapter_list::{AdapterList, Release, Round};
 use adapters::Adapter;
+use change_plans::Finding;
 use mm_types::{AdapterNo, Node};
 use notice_chain::{Notice, Target};
 use removal::Removal;
@@ -49,14 +51,14 @@ pub(crate) fn own_spots(
 pub(crate) fn spots_gone<A: Adapter>(
     alloc: Global,
     adapters: &AdapterList<A>,
-    removal: &Option<Removal>,
+    finding: &Finding,
 ) -> Result<Vec<(AdapterNo, Node)>, AllocError>
-    requires { (r : Reading) × IfSome removal.now (IsRemoval r) }
-    ensures { IfOk result (λ v. v.items ≡ option_map_or (λ x. spots_where (is_gone_at (is_in x.numbers)) adapters.now.0) removal.now []) }
+    requires { (r : Reading) × IfSome (removal_in finding.now) (IsRemoval r) }
+    ensures { IfOk result (λ v. v.items ≡ option_map_or (λ x. spots_where (is_gone_at (is_in x.numbers)) adapters.now.0) (removal_in finding.now) []) }
 {
-    match removal {
-        Some(removal) => spots_with(alloc, adapters, removal),
-        None => Ok(Vec::new(alloc)),
+    match finding {
+        Finding::Removal(removal) => spots_with(alloc, adapters, removal),
+        Finding::Nothing | Finding::Target(_) | Finding::Counts(_) => Ok(Vec::new(alloc)),
     }
 }
 
@@ -107,7 +109,7 @@ pub(crate) struct Leaving<A> {
 }
 
 impl<A: Adapter> Leaving<A> {
-    /// Capacity for so many notifications of a chain, and then for the last notifications from targets that are taken away.
+    /// Capacity for `chain_told` notifications of a chain, and then for the last notifications from targets that are taken away.
     pub(crate) fn reserve(
         alloc: Global,
         spots: Vec<(AdapterNo, Node)>,

@@ -26,7 +26,7 @@ pub(crate) fn forget_put(paths: &mut PathCache, hearers: &mut Hearers, put: NewL
     }
 }
 
-/// Replaces the values of a node under an attribute by one value; nothing is done at a resource, which has no attributes. Errs only if
+/// Replaces the values of a node under an attribute by one value; nothing is done at a resource, which has no attributes. Fails only if
 /// memory is refused, and then nothing that contracts see has changed.
 #[inline(always)]
 pub(crate) fn put_value(

@@ -1,5 +1,5 @@
 //! A change is prepared before anything changes.
-ghost use Rattle.std.specs.Prelude.{◌≡◌, ℕ, List, [], false, None, length, nat_lt, true, IfOk, IfErr, IfSome, OnOk};
+ghost use Rattle.std.specs.Prelude.{◌≡◌, ℕ, List, [], false, is_some, None, Some, length, nat_lt, true, IfOk, IfErr, IfSome, OnOk};
 ghost use Rattle.mm_types.specs.Ends.{value_in};
 ghost use Rattle.mm_values.specs.Room as values_room;
 ghost use Rattle.notice_chain.specs.Listed.{Listed};
@@ -7,7 +7,7 @@ ghost use Rattle.links.specs.Holders.{HasNoCycle, above};
 ghost use Rattle.links.specs.LegalSets.{IsLegalSet, Kinds};
 ghost use Rattle.models.specs.Model.{reading};
 ghost use Rattle.change_plans.specs.Plans.{IsPlanOf, of_links, of_values};
-ghost use Rattle.handshake.specs.Changes.{edits_links_alone, edits_values_alone};
+ghost use Rattle.handshake.specs.Changes.{edits_links_alone, edits_one_kind, edits_values_alone};
 ghost use Rattle.handshake.specs.Refusals.{early_refusal as early_refusal_of};
 ghost use Rattle.adapter_list.specs.Hearing.{AreKnown};
 ghost use Rattle.adapter_list.specs.Refusals.{IsChainRefusal};
@@ -25,15 +25,13 @@ use crate::leaving::{Leaving, room_for, spots_gone};
 use crate::reply::Answer;
 use adapter_list::{AdapterList, Hearers, Round};
 use adapters::Adapter;
-use change_plans::{Planned, plan, plan_links, plan_values};
+use change_plans::{Finding, Planned, plan, plan_links, plan_values};
 use handshake::{Act, Change, is_repeat};
 use links::{LinkStore, Plan};
 use mm_types::{AdapterNo, End, Node, ObjectNo, Refused, ResourceNo, Value};
 use mm_values::{ValuePlan, Values};
 use models::{ModelRef, copied};
 use notice_chain::Chain;
-use proxies::{Resolved, ResolvedProxy};
-use removal::Removal;
 use std::alloc::{AllocError, Global};
 
 /// The answer of a change, the targets that are taken away with the objects that it destroys, and its plan.
@@ -59,15 +57,15 @@ pub(crate) fn prepare<L: LinkStore, A: Adapter>(
     ensures planned { IfOk result (λ p. IsPlanOf (nat_lt 0 (length adapters.now.0)) model.now change p.planned) }
     ensures refused { IfErr result (λ r. IsPlanRefusal model.now change r) }
 {
-    let answer = early_answer(alloc, model, &change)?;
+    let early = early_answer(alloc, model, &change)?;
     let planned = plan(alloc, model, change, adapters.len() > 0)?;
-    let spots = spots_gone(alloc, adapters, &planned.removal)?;
+    let spots = spots_gone(alloc, adapters, &planned.finding)?;
+    let answer = match early {
+        Some(answer) => answer,
+        None => planned_answer(&planned.finding),
+    };
     Ok(Prepared {
-        answer: answer.unwrap_or(planned_answer(
-            &planned.removal,
-            planned.target,
-            planned.resolved,
-        )),
+        answer,
         spots,
         planned,
     })
@@ -96,10 +94,10 @@ pub(crate) fn prepare_values<L: LinkStore>(
     ensures refused { IfErr result (λ r. IsPlanRefusal model.now change r) }
 {
     model.lemma_is_legal();
-    let answer = early_answer(alloc, model, &change)?;
+    let answer = own_answer(alloc, model, &change)?;
     let (values, chain) = plan_values(alloc, model, change, is_heard)?;
     Ok(PreparedValues {
-        answer: answer.unwrap_or(Answer::Done),
+        answer,
         values,
         chain,
     })
@@ -127,10 +125,10 @@ pub(crate) fn prepare_links<L: LinkStore, A: Adapter>(
     ensures planned { IfOk result (λ p. IsPlanOf (nat_lt 0 (length adapters.now.0)) model.now change.now (of_links p.edits p.chain)) }
     ensures refused { IfErr result (λ r. IsPlanRefusal model.now change.now r) }
 {
-    let answer = early_answer(alloc, model, change)?;
+    let answer = own_answer(alloc, model, change)?;
     let (edits, chain) = plan_links(alloc, model, change, adapters.len() > 0)?;
     Ok(PreparedLinks {
-        answer: answer.unwrap_or(Answer::Done),
+        answer,
         edits,
         chain,
     })
@@ -174,7 +172,23 @@ pub(crate) fn reserve<L: LinkStore, A: Adapter>(
     Ok((round, leaving))
 }
 
-/// The answer of a change that is not refused; `None` for a deletion and for resolving proxies, whose plans give the answer. Errs only if
+/// The answer of a change that edits only values, or only links. Fails only if memory is refused.
+fn own_answer<L: LinkStore>(
+    alloc: Global,
+    model: &ModelRef<L>,
+    change: &Change,
+) -> Result<Answer, AllocError>
+    requires one { edits_one_kind change.now ≡ true }
+    requires proper { (text : List ℕ) × IsProper (reading model.now) text change.now }
+    ensures { IfOk result (λ a. (rs : List Listed) (text : List ℕ) → IsProper (reading model.now) text change.now → a ≡ answer_of (reading model.now) rs (command_of text change.now)) }
+{
+    match early_answer(alloc, model, change)? {
+        Some(answer) => Ok(answer),
+        None => unreachable!(),
+    }
+}
+
+/// The answer of a change that is not refused; `None` for a deletion and for resolving proxies, whose plans give the answer. Fails only if
 /// memory is refused.
 fn early_answer<L: LinkStore>(
     alloc: Global,
@@ -221,26 +235,24 @@ pub(crate) fn next_object<L: LinkStore>(model: &ModelRef<L>) -> ObjectNo
     ObjectNo(model.next() as u32)
 }
 
-/// The object that a proxy finds, how many proxies are resolved, or how many objects are destroyed, as an answer.
-fn planned_answer(
-    removal: &Option<Removal>,
-    target: Option<ResolvedProxy>,
-    resolved: Option<Resolved>,
-) -> Answer
-    ensures { result ≡ planned_answer_of removal.now target resolved }
+/// The answer that depends on what planning found: how many objects are destroyed, the object that a proxy finds, or how many proxies are
+/// resolved.
+fn planned_answer(finding: &Finding) -> Answer
+    requires found { is_some (planned_answer_of finding.now) ≡ true }
+    ensures { Some result ≡ planned_answer_of finding.now }
 {
-    match (target, resolved, removal) {
-        (Some(target), _, _) => Answer::Object(target.object),
-        (None, Some(resolved), _) => Answer::Resolved {
+    match finding {
+        Finding::Nothing => unreachable!(),
+        Finding::Removal(removal) => Answer::Destroyed(removal.objects.len() as u64),
+        Finding::Target(target) => Answer::Object(target.object),
+        Finding::Counts(resolved) => Answer::Resolved {
             done: resolved.done as u64,
             left: resolved.left as u64,
         },
-        (None, None, Some(removal)) => Answer::Destroyed(removal.objects.len() as u64),
-        (None, None, None) => Answer::Destroyed(0),
     }
 }
 
-/// The value at a position of a list, as an answer. Errs only if memory is refused.
+/// The value at a position of a list, as an answer. Fails only if memory is refused.
 fn value_answer<L: LinkStore>(
     alloc: Global,
     model: &ModelRef<L>,

@@ -75,6 +75,14 @@ one_value m b ps path f k ds d o lost old is losing before =
     ∙ ap (λ vs. new_values vs (list_any (is_lost m b ps k) ds || is_lost m b ps k d)) (sym (ap (filter_map (value_of m b ps path f k)) (enumerate-push 0 ds d) ∙ filter_map-push (value_of m b ps path f k) (enumerate_from 0 ds) (0 + length ds, d)))
     ∙ ap (λ x. new_values (filter_map (value_of m b ps path f k) (enumerate_from 0 (ds ++ d ∷ []))) x) (sym (any-push (is_lost m b ps k) ds d))
 
+-- what is read under a single feature
+pub single_value : (m : Metamodel) (b : Base) (ps : List Part) (path : Path) (f : FeatureNo) (k : Kind) (d : Data) (o : Option Value) (link : Bool) (r : ReadValues)
+    → o ≡ value_of m b ps path f k (0, d) → link ≡ is_link k → r ≡ new_values (option_to_list o) (link && not (is_some o)) → r ≡ values_so_far m b ps path f k (d ∷ [])
+single_value m b ps path f k d o link r is links says =
+    says
+    ∙ ap (λ l. new_values (option_to_list o) (l && not (is_some o))) links
+    ∙ one_value m b ps path f k [] d o (is_link k && not (is_some o)) (new_values [] false) is (ap (λ x. is_link k && not (is_some x)) is ∙ sym (lost_by m b ps path f k (0, d))) refl
+
 pub found_value : (m : Metamodel) (b : Base) (ps : List Part) (path : Path) (f : FeatureNo) (k : Kind) (ds : List Data) (d : Data) (n : ℕ) (o : Option Value) (v : Value) (vs : List Value) (old : ReadValues)
     → n ≡ length ds → o ≡ Some v → o ≡ value_of m b ps path f k (n, d) → old ≡ values_so_far m b ps path f k ds → vs ≡ old.values ++ v ∷ []
     → new_values vs old.is_lost ≡ values_so_far m b ps path f k (ds ++ d ∷ [])

@@ -28,7 +28,6 @@ same_key (key.Text a) (key.Text b) = refl
 same_key (key.Literal a) (key.Literal b) = refl
 same_key (key.Object a) (key.Object b) = refl
 same_key (key.Proxy a) (key.Proxy b) = refl
-same_key (key.Adapter a) (key.Adapter b) = refl
 same_key _ _ = refl
 
 pub any_key : (k : Key) (ks : List Key) → list_any (ghosts.eq k) ks ≡ list_any (same_value (value_of_key k)) (map value_of_key ks)

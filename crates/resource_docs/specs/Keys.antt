@@ -13,7 +13,6 @@ value_of_key (key.Text t) = value.Text t.now
 value_of_key (key.Literal i) = value.Literal i
 value_of_key (key.Object o) = value.Object (record { 0 = o })
 value_of_key (key.Proxy t) = value.Proxy t.now
-value_of_key (key.Adapter a) = value.Adapter (record { 0 = a })
 
 -- whether a list has only objects, in the order of their numbers, from n on
 abbrev pub rising_from : ℕ → List Value → Bool

@@ -72,7 +72,7 @@ fn three(alloc: Global, two: [Content; 2], third: Content) -> Result<Seq<Content
 }
 
 impl Contents {
-    /// No contents, with capacity for so many. Takes no memory for two or fewer.
+    /// A list without contents, with capacity for `count` of them. Takes no memory if `count` is at most 2.
     pub(crate) fn with_capacity(alloc: Global, count: usize) -> Result<Self, AllocError>
         ensures { IfOk result (λ cs. cs ≡ []) }
     {

@@ -53,14 +53,30 @@ fn two(alloc: Global, first: Value, second: Value) -> Result<Seq<Value>, AllocEr
 }
 
 impl DocValues {
-    /// No values, with capacity for so many. Takes no memory for one.
+    /// No values. Takes no memory.
+    pub(crate) fn none() -> Self
+        ensures { result ≡ [] }
+    {
+        DocValues {
+            layout: Layout::Empty,
+        }
+    }
+
+    /// One value. Takes no memory.
+    pub(crate) fn one(value: Value) -> Self
+        ensures { result ≡ value ∷ [] }
+    {
+        DocValues {
+            layout: Layout::One(value),
+        }
+    }
+
+    /// A list without values, with capacity for `count` of them. Takes no memory if `count` is at most 1.
     pub(crate) fn with_capacity(alloc: Global, count: usize) -> Result<Self, AllocError>
         ensures { IfOk result (λ vs. vs ≡ []) }
     {
         if count < 2 {
-            return Ok(DocValues {
-                layout: Layout::Empty,
-            });
+            return Ok(DocValues::none());
         }
         let values = Vec::with_capacity(alloc, count)?;
         Ok(DocValues {
@@ -72,11 +88,14 @@ impl DocValues {
     pub(crate) fn push(&mut self, alloc: Global, value: Value) -> Result<(), AllocError>
         ensures { OnOk result (self.new ≡ self.old ++ value ∷ []) }
     {
-        self.layout = match mem::replace(&mut self.layout, Layout::Empty) {
-            Layout::Empty => Layout::One(value),
-            Layout::One(first) => Layout::Many(two(alloc, first, value)?),
-            Layout::Many(values) => Layout::Many(pushed(values, value)?),
-        };
+        match &mut self.layout {
+            Layout::Empty => self.layout = Layout::One(value),
+            Layout::One(first) => {
+                let first = mem::replace(first, Value::Null);
+                self.layout = Layout::Many(two(alloc, first, value)?);
+            }
+            Layout::Many(values) => values.push(value)?,
+        }
         Ok(())
     }
 

@@ -1,4 +1,4 @@
-//! Which objects of a document name which, and whether a named object names back.
+//! Which objects of a document refer to which, and whether the other object refers back.
 ghost use Rattle.std.specs.Prelude.{◌≡◌, ◌||◌, ◌∷◌, [], IfOk, OnOk, false};
 ghost use Rattle.std.specs.List.{list_any};
 ghost use Rattle.resource_docs.specs.Causes.{is_one_sided, of_content};
@@ -18,7 +18,7 @@ pub(crate) struct Naming {
     pub named: usize,
 }
 
-/// Which objects of a document name which.
+/// Which objects of a document refer to which objects of it.
 #[derive(Drop)]
 pub(crate) struct Ends {
     namings: IndexSet<Naming>,
@@ -96,7 +96,7 @@ impl Ends {
         Ok(())
     }
 
-    /// Which objects of a document name which. Errs only if memory is refused.
+    /// Which objects of a document refer to which objects of it. Fails only if memory is refused.
     pub fn of(alloc: Global, objects: &[DocObject]) -> Result<Self, AllocError>
         ensures { IfOk result (λ e. IsEndsOf e objects.now) }
     {
@@ -189,7 +189,7 @@ fn is_any_asked(meta: &Meta, objects: &[DocObject]) -> bool
 }
 
 /// Whether some object of a document names another under a feature with an opposite, and that one does not name back.
-/// Errs only if memory is refused; takes none if no object has to name back.
+/// Fails only if memory is refused; takes none if no object has to name back.
 pub(crate) fn has_one_sided(alloc: Global, meta: &Meta, doc: &Doc) -> Result<bool, AllocError>
     ensures { IfOk result (λ b. b ≡ of_content (is_one_sided meta.now doc.now) doc.now) }
 {

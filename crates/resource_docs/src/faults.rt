@@ -63,7 +63,7 @@ pub(crate) struct Noted {
     pub has_long: bool,
 }
 
-/// What is wrong with the targets of references, with the number of values, or with the depth of a part. Errs only if memory is refused.
+/// What is wrong with the targets of references, with the number of values, or with the depth of a part. Fails only if memory is refused.
 pub(crate) fn sense_cause(
     source: &ReadContext,
     noted: Noted,

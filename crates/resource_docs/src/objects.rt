@@ -212,7 +212,7 @@ fn add_object(
 }
 
 /// Reads the objects of the parts that were found, in loading order, and says whether each of their members is the content of a feature.
-/// Errs only if memory is refused.
+/// Fails only if memory is refused.
 pub(crate) fn read_objects(source: &ReadContext) -> Result<(ReadObjects, bool), AllocError>
     ensures all { IfOk result (λ r. (ps : List Part) → Knows source.now.meta.now source.now.found.now ps → r.1 ≡ true → of_written (other_key source.now.meta.now) ps ≡ false) }
     ensures value { IfOk result (λ r. (ps : List Part) → Knows source.now.meta.now source.now.found.now ps → r.0 ≡ objects_so_far source.now.meta.now (base_of source.now.uri.now) ps ps) }

@@ -158,7 +158,7 @@ fn read_text(alloc: Global, meta: &Meta, uri: &str, text: &str) -> Result<Doc, R
 ///   conforms;
 /// - `Duplicate` if a unique list repeats a value;
 /// - `Bound` if a list has more values than its upper bound, or than 1,000,000;
-/// - `OneSided` if an object names another under a feature with an opposite, and that one does not name it back;
+/// - `OneSided` if an object names another object under a feature with an opposite, and the other object does not name it back;
 /// - `Cross` if its format is 1, and a reference with an opposite leads to a different resource;
 /// - `Depth` if an object is below level 40.
 ///

@@ -60,7 +60,7 @@ fn led_to(meta: &Meta, found: &FoundParts, class: ClassNo, target: Referent) -> 
 }
 
 /// The value of a reference to a class: an object of the document that conforms, or a proxy; `None` if the text leads
-/// nowhere, or to an object of a wrong class. Errs only if memory is refused.
+/// nowhere, or to an object of a wrong class. Fails only if memory is refused.
 pub(crate) fn reference_value(
     source: &ReadContext,
     class: ClassNo,

@@ -16,7 +16,7 @@ pub enum Referent {
     Elsewhere(Text),
 }
 
-/// The URI that a part before `#` means: the resource's own if it is empty, else what joining gives.
+/// The URI that the part before a `#` stands for: the URI of the resource if the part is empty, else the result of joining.
 fn uri_meant(alloc: Global, uri: &str, part: &str) -> Result<Option<String>, AllocError>
     ensures value { IfOk result (λ u. option_map string_bytes u ≡ uri_of (base_of uri.now) part.now) }
     ensures web { IfOk result (λ u. IfSome u (λ t. IsWebElsewhere uri.now (string_bytes t))) }
@@ -69,7 +69,7 @@ fn address_target(
 }
 
 /// What the text of a reference in the document of a URI leads to, or nothing if it is no fragment and no URI with a
-/// fragment. Errs only if memory is refused.
+/// fragment. Fails only if memory is refused.
 pub(crate) fn target_of(
     alloc: Global,
     uri: &str,

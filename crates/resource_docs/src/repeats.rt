@@ -21,7 +21,6 @@ pub(crate) enum Key<'v> {
     Literal(u32),
     Object(u32),
     Proxy(&'v str),
-    Adapter(u32),
 }
 
 fn key_of(value: &Value) -> Key<'_>
@@ -35,7 +34,6 @@ fn key_of(value: &Value) -> Key<'_>
         Value::Literal(index) => Key::Literal(*index),
         Value::Object(object) => Key::Object(object.0),
         Value::Proxy(text) => Key::Proxy(text.as_str()),
-        Value::Adapter(adapter) => Key::Adapter(adapter.0),
     }
 }
 
@@ -56,7 +54,7 @@ fn are_rising(values: &[Value]) -> bool
     true
 }
 
-/// Whether a list has a value twice. Errs only if memory is refused.
+/// Whether a list has a value twice. Fails only if memory is refused.
 fn repeats_value(alloc: Global, values: &[Value]) -> Result<bool, AllocError>
     ensures { IfOk result (λ b. b ≡ repeats_meant values.now) }
 {
@@ -76,7 +74,7 @@ fn repeats_value(alloc: Global, values: &[Value]) -> Result<bool, AllocError>
     Ok(false)
 }
 
-/// Whether a unique list repeats a value. Errs only if memory is refused.
+/// Whether a unique list repeats a value. Fails only if memory is refused.
 fn has_repeat(alloc: Global, meta: &Meta, content: &Content) -> Result<bool, AllocError>
     ensures { IfOk result (λ b. b ≡ repeat_meant meta.now content.now) }
 {
@@ -108,7 +106,7 @@ fn is_any_repeated(alloc: Global, meta: &Meta, objects: &[DocObject]) -> Result<
     Ok(false)
 }
 
-/// Whether a unique list of a document repeats a value. Errs only if memory is refused.
+/// Whether a unique list of a document repeats a value. Fails only if memory is refused.
 pub(crate) fn has_repeats(alloc: Global, meta: &Meta, doc: &Doc) -> Result<bool, AllocError>
     ensures { IfOk result (λ b. b ≡ of_content (λ o c. repeat_meant meta.now c) doc.now) }
 {

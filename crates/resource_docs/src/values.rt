@@ -1,5 +1,5 @@
 //! The values under a feature are read.
-ghost use Rattle.std.specs.Prelude.{◌≡◌, ◌++◌, ◌||◌, ◌∷◌, [], IfOk, IfSome, List, OnOk, Some, false, length, map, option_map};
+ghost use Rattle.std.specs.Prelude.{◌≡◌, ◌++◌, ◌&&◌, ◌||◌, ◌∷◌, [], IfOk, IfSome, List, OnOk, Some, false, is_some, length, map, not, option_map, option_to_list};
 ghost use Rattle.std.specs.List.{All};
 ghost use Rattle.serde_json.specs.Data.{Data};
 ghost use Rattle.borrowed_json.specs.View.{view};
@@ -75,7 +75,7 @@ fn part_of(
     )
 }
 
-/// The value that is read at a position under a feature of the part of a number. Errs only if memory is refused.
+/// The value that is read at a position under a feature of the part of a number. Fails only if memory is refused.
 fn value_of(
     source: &ReadContext,
     number: u32,
@@ -165,7 +165,7 @@ fn no_values(alloc: Global, room: usize) -> Result<ReadValues, AllocError>
     })
 }
 
-/// Reads values under a feature. Errs only if memory is refused, or if there are more than 2^32.
+/// Reads values under a feature. Fails only if memory is refused, or if there are more than 2^32.
 fn read_values(
     source: &ReadContext,
     number: u32,
@@ -184,7 +184,25 @@ fn read_values(
     Ok(read)
 }
 
-/// Reads the value of a single feature. Errs only if memory is refused.
+/// The value that was read under a single feature. If there is none, a reference leads nowhere; `is_link` says whether the feature is a
+/// reference and no containment.
+fn one_read(value: Option<Value>, is_link: bool) -> ReadValues
+    ensures value { result ≡ new_values (option_to_list value) (is_link && not (is_some value)) }
+    ensures proxy { IfSome value IsProxyValue → All IsProxyValue result.values }
+{
+    match value {
+        Some(value) => ReadValues {
+            values: DocValues::one(value),
+            is_lost: false,
+        },
+        None => ReadValues {
+            values: DocValues::none(),
+            is_lost: is_link,
+        },
+    }
+}
+
+/// Reads the value of a single feature. Fails only if memory is refused.
 fn read_one(
     source: &ReadContext,
     number: u32,
@@ -195,12 +213,12 @@ fn read_one(
     ensures value { IfOk result (λ r. Numbered source.now.meta.now source.now.found.now number (λ ps path. r ≡ values_so_far source.now.meta.now (base_of source.now.uri.now) ps path feature kind.now (view json.now ∷ []))) }
     ensures proxy { IfOk result (λ r. All IsProxyValue r.values) }
 {
-    let mut read = no_values(source.alloc, 1)?;
-    add_value(&mut read, source, number, feature, kind, 0, json)?;
-    Ok(read)
+    let likely = number.saturating_add(1);
+    let value = value_of(source, number, feature, kind, 0, likely, json)?;
+    Ok(one_read(value, is_link(kind)))
 }
 
-/// Reads the content of a feature of the part of a number. Errs only if memory is refused, or if there are more than 2^32 values.
+/// Reads the content of a feature of the part of a number. Fails only if memory is refused, or if there are more than 2^32 values.
 pub(crate) fn read_content<'t>(
     source: &ReadContext,
     number: u32,

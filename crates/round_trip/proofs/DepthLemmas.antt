@@ -97,7 +97,6 @@ module _ (s : Model) (legal : IsLegal s) (k : ResourceNo) (uri : List ℕ) (foun
   value-depth n o f i (value.Text t) below inside at = omega arith
   value-depth n o f i (value.Literal l) below inside at = omega arith
   value-depth n o f i (value.Proxy t) below inside at = omega arith
-  value-depth n o f i (value.Adapter a) below inside at = omega arith
 
   -- the depth of an object: three levels for each level of objects that may still come
   object-depth : (j : ℕ) (o : ObjectNo) → Contains os o → 41 ≤ level (reading s) o + j → depth (data_of (reading s) k o) ≤ 3 * j

@@ -73,7 +73,7 @@ fn write_answer<W: Write>(
 
 /// Writes the output of a line of the script, by the output options.
 ///
-/// Errs with `Write` as `write_all` does; then a prefix of the output was written.
+/// Fails with `Write` as `write_all` does; then a prefix of the output was written.
 pub fn write_dressed<W: Write>(
     writer: &mut W,
     dress: Dress,

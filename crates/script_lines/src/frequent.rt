@@ -15,8 +15,8 @@ use crate::word::Word;
 use crate::words::{after_byte, is_word};
 use mm_types::ObjectNo;
 
-/// A line of one of the most frequent forms. Classes and features are given by the names that are in the line. The last word of `Set` and
-/// `Add` may write no value; then the line is bad.
+/// A line of one of the most frequent forms. Classes and features are given by the names that are in the line. If the last word of `Set` or
+/// `Add` is no value, the line is bad.
 #[derive(Drop)]
 pub enum Frequent<'a> {
     /// `new NAME`

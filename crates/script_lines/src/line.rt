@@ -41,7 +41,7 @@ fn line_of<'a>(alloc: Global, words: &[&'a str]) -> Result<Line<'a>, AllocError>
     Ok(line_with(form_of(alloc, words)?))
 }
 
-/// What the text of a line asks for. Errs only if memory is refused for a text that is the value of the line.
+/// What the text of a line asks for. Fails only if memory is refused for a text that is the value of the line.
 pub fn text_line_of(alloc: Global, text: &str) -> Result<Line<'_>, AllocError>
     ensures { IfOk result (λ l. l ≡ text_line text.now) }
 {
@@ -61,7 +61,7 @@ pub(crate) fn text_of_line(line: &[u8]) -> Option<&str>
     }
 }
 
-/// What a line asks for. Errs only if memory is refused for a text that is the value of the line.
+/// What a line asks for. Fails only if memory is refused for a text that is the value of the line.
 ///
 /// A line is the bytes between two newlines, without them. It is blank if it is empty or has only spaces, and bad if it
 /// is not UTF-8 or fits no form of the language. The text of a `load` line is not cut into words: it is all that

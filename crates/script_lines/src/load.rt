@@ -57,7 +57,7 @@ fn parts_of(rest: &str) -> Option<(ResourceNo, &str)>
     Some((resource, text))
 }
 
-/// `load RES REST`, from the text after the verb. Errs only if memory is refused for the text.
+/// `load RES REST`, from the text after the verb. Fails only if memory is refused for the text.
 pub fn load_of<'a>(alloc: Global, rest: &str) -> Result<Option<Form<'a>>, AllocError>
     ensures { IfOk result (λ o. o ≡ load_form (after_spaces rest.now)) }
 {

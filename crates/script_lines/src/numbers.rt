@@ -9,7 +9,7 @@ use crate::grammar::MINUS;
 use mm_types::integers;
 use mm_types::integers::integer_of;
 
-/// The greatest number of digits that are read. Each number of so many digits is below 2^32.
+/// The greatest number of digits that are read. Each number of nine digits is below 2^32.
 const MOST_DIGITS: usize = 9;
 
 /// The first bytes, as many as are read.
@@ -68,7 +68,7 @@ pub(crate) fn natural_of(word: &str) -> Option<u32>
     }
 }
 
-/// The number of 64 bits that a word without a minus writes.
+/// The 64-bit number that a word without a minus sign stands for.
 #[inline]
 fn non_negative_of(word: &str) -> Option<i64>
     requires { slice_index word.now 0 ≢ MINUS }

@@ -58,7 +58,7 @@ pub fn node_of(word: &str) -> Option<Node>
     }
 }
 
-/// The node, and the name of one of its features, that two words give: `#3 pages`.
+/// The node and the name of a feature that two words give, as `#3 pages`.
 pub fn feature_of<'a>(node: &str, name: &'a str) -> Option<(Node, Name<'a>)>
     ensures { result ≡ feature_in node.now name.now }
 {

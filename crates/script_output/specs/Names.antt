@@ -39,4 +39,3 @@ literal_name m f (value.Text t) = []
 literal_name m f (value.Literal i) = lookups.literal_text m f i
 literal_name m f (value.Object o) = []
 literal_name m f (value.Proxy t) = []
-literal_name m f (value.Adapter a) = []

@@ -6,6 +6,8 @@ use Rattle.mm_types.specs.Resolved.{Metamodel}
 use Rattle.mm_types.specs.declared.numbers.AdapterNo.{AdapterNo}
 use Rattle.mm_types.specs.declared.value.Value.{Value}
 use Rattle.notice_chain.specs.Kinds.{kind_name}
+use Rattle.notice_chain.specs.declared.kind.NoticeKind.{NoticeKind}
+use Rattle.notice_chain.specs.declared.kind.NoticeKind.TheVariants.{RemovingAdapter}
 use Rattle.notice_chain.specs.declared.notice.Notice.{Notice}
 use Rattle.script_lines.specs.declared.grammar.TheConstants.{SPACE}
 use Rattle.script_output.specs.Names.{feature_name, literal_name}
@@ -20,9 +22,14 @@ end_text m n = node_text n.notifier ++ option_map_or (λ f. FEATURE_MARK ∷ fea
 abbrev pub told_value_text : Metamodel → Notice → Value → List ℕ
 told_value_text m n v = value_text (option_map_or (λ f. literal_name m f v) n.feature []) v
 
+-- the old value, or the adapter that is removed
+abbrev pub text_before : NoticeKind → List ℕ → List ℕ
+text_before (RemovingAdapter number) old = adapter_text number
+text_before _ old = old
+
 -- the old value, the new value and the position, as `100 1 -1`
 abbrev pub values_text : Metamodel → Notice → List ℕ
-values_text m n = told_value_text m n n.old_value ++ SPACE ∷ told_value_text m n n.new_value ++ SPACE ∷ signed_decimal n.position
+values_text m n = text_before n.kind (told_value_text m n n.old_value) ++ SPACE ∷ told_value_text m n n.new_value ++ SPACE ∷ signed_decimal n.position
 
 -- as `#0.pages 100 1 -1`
 abbrev pub change_text : Metamodel → Notice → List ℕ

@@ -47,7 +47,6 @@ value_text literal (value.Text t) = json_text t
 value_text literal (value.Literal index) = LITERAL_MARK ∷ literal
 value_text literal (value.Object o) = OBJECT_MARK ∷ decimal o.0
 value_text literal (value.Proxy t) = proxy_text t
-value_text literal (value.Adapter a) = adapter_text a
 
 -- a value of a feature
 abbrev pub feature_value_text : Metamodel → FeatureNo → Value → List ℕ

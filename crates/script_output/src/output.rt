@@ -226,7 +226,6 @@ impl Output {
             }
             Value::Object(object) => self.node(Node::Object(*object)),
             Value::Proxy(text) => self.proxy(text.as_str()),
-            Value::Adapter(adapter) => self.adapter(*adapter),
         }
     }
 

@@ -12,7 +12,6 @@ use Rattle.repository.specs.State.{State}
 use Rattle.repository.specs.Step.{Stepped}
 use Rattle.repository.specs.Views.{Outcome}
 use Rattle.repository.specs.declared.reply.Failure.{Failure}
-use Rattle.change_plans.specs.Plans.{is_memory_refusal}
 use Rattle.repository.specs.Run.{Executed, IsWanting}
 use Rattle.repository.specs.declared.command.Command.{Command}
 use Rattle.script_lines.specs.Forms.{form}
@@ -31,6 +30,7 @@ use Rattle.script_program.specs.Summary.{no_lines, outcome_turn, summary_of, wit
 use Rattle.script_program.specs.declared.summary.Summary.{Summary}
 use Rattle.script_answers.specs.declared.turn.Turn.{Turn}
 use Rattle.script_answers.specs.declared.turn.Turn.TheVariants as turned
+use Rattle.mm_types.specs.Conditions.{is_memory_refusal}
 
 -- ---- one line
 

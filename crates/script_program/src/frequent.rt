@@ -32,7 +32,7 @@ use script_lines::{Frequent, Name, Word, WrittenValue, value_of};
 use script_output::Output;
 use std::alloc::{AllocError, Global};
 
-/// Prints the refusal of a change that takes no adapter. Errs only if memory is refused for the output.
+/// Prints the refusal of a change that takes no adapter. Fails only if memory is refused for the output.
 fn print_refused(output: &mut Output, refused: Refused) -> Result<Turn, AllocError>
     ensures { (m : Metamodel) (c : Command View) → IfOk result (λ t. Adds output.old output.new t (λ p. p ≡ command_printed m c (change_outcome (Err refused)))) }
 {
@@ -40,7 +40,7 @@ fn print_refused(output: &mut Output, refused: Refused) -> Result<Turn, AllocErr
     Ok(turn_of_refusal(refused))
 }
 
-/// Reads a feature of an object and prints its value. Errs only if memory is refused for the output.
+/// Reads a feature of an object and prints its value. Fails only if memory is refused for the output.
 fn run_read<L: LinkStore, A: Adapter>(
     repository: &mut Repository<L, A>,
     pool: &mut Pool<A>,
@@ -62,7 +62,7 @@ fn run_read<L: LinkStore, A: Adapter>(
     }
 }
 
-/// Prints an object that was created. Errs only if memory is refused for the output.
+/// Prints an object that was created. Fails only if memory is refused for the output.
 fn print_object(output: &mut Output, object: ObjectNo) -> Result<Turn, AllocError>
     ensures { (m : Metamodel) (c : Command View) → IfOk result (λ t. Adds output.old output.new t
         (λ p. p ≡ command_printed m c (read_outcome answer.Object (Ok object)))) }
@@ -72,7 +72,7 @@ fn print_object(output: &mut Output, object: ObjectNo) -> Result<Turn, AllocErro
     Ok(Turn::Done)
 }
 
-/// Creates an object of a class, and prints the answer. Errs only if memory is refused for the output.
+/// Creates an object of a class, and prints the answer. Fails only if memory is refused for the output.
 fn run_create<L: LinkStore, A: Adapter>(
     repository: &mut Repository<L, A>,
     output: &mut Output,
@@ -90,7 +90,7 @@ fn run_create<L: LinkStore, A: Adapter>(
     }
 }
 
-/// Reads which object contains an object, and prints it. Errs only if memory is refused for the output.
+/// Reads which object contains an object, and prints it. Fails only if memory is refused for the output.
 fn run_container<L: LinkStore, A: Adapter>(
     repository: &Repository<L, A>,
     output: &mut Output,
@@ -127,7 +127,7 @@ struct Asked<'a> {
     value: WrittenValue<'a>,
 }
 
-/// The request of a line of these parts; `None` if its last word is no value. Errs only if memory is refused for the text of the word.
+/// The request of a line of these parts; `None` if its last word is no value. Fails only if memory is refused for the text of the word.
 fn asked_of<'a>(
     alloc: Global,
     edit: SetOrAdd,
@@ -163,7 +163,7 @@ fn bound<L: LinkStore, A: Adapter>(
     (feature, value_in(repository.meta(), feature, asked.value))
 }
 
-/// Prints the outcome of a change that notified no adapter; `done` is the text of its answer. Errs only if memory is refused for the
+/// Prints the outcome of a change that notified no adapter; `done` is the text of its answer. Fails only if memory is refused for the
 /// output.
 #[inline(always)]
 fn print_change(
@@ -183,7 +183,7 @@ fn print_change(
     }
 }
 
-/// Sets a feature of a node by `e_set`, and prints the answer and the notifications. Errs only if memory is refused for the output.
+/// Sets a feature of a node by `e_set`, and prints the answer and the notifications. Fails only if memory is refused for the output.
 #[inline(never)]
 fn run_set<L: LinkStore, A: Adapter>(
     repository: &mut Repository<L, A>,
@@ -200,7 +200,7 @@ fn run_set<L: LinkStore, A: Adapter>(
     finish_change(repository, pool, output, feature, outcome)
 }
 
-/// Adds a value at the end of a list by `add`, and prints the answer and the notifications. Errs only if memory is refused for the output.
+/// Adds a value at the end of a list by `add`, and prints the answer and the notifications. Fails only if memory is refused for the output.
 #[inline(never)]
 fn run_add<L: LinkStore, A: Adapter>(
     repository: &mut Repository<L, A>,
@@ -217,7 +217,7 @@ fn run_add<L: LinkStore, A: Adapter>(
     finish_change(repository, pool, output, feature, outcome)
 }
 
-/// Gives a feature of an object a value, and prints the answer. Errs only if memory is refused for the output.
+/// Gives a feature of an object a value, and prints the answer. Fails only if memory is refused for the output.
 #[inline(always)]
 fn run_edit<L: LinkStore, A: Adapter>(
     repository: &mut Repository<L, A>,
@@ -248,7 +248,7 @@ fn run_edit<L: LinkStore, A: Adapter>(
 /// Runs a line of one of the most frequent forms, and prints the answer. It does what `run_text` does in fewer steps, since it knows which
 /// call of the repository the line asks for.
 ///
-/// Errs only if memory is refused for a text that is the value of the line, or for the output.
+/// Fails only if memory is refused for a text that is the value of the line, or for the output.
 pub(crate) fn run_frequent<L: LinkStore, A: Adapter>(
     alloc: Global,
     repository: &mut Repository<L, A>,

@@ -28,7 +28,7 @@ pub struct Interpreter<L: LinkStore, A: Adapter> {
 }
 
 impl<L: LinkStore, A: Adapter> Interpreter<L, A> {
-    /// An interpreter over an empty repository of a metamodel, which has printed nothing. The n-th of the adapters, from 1 on, is An. Errs
+    /// An interpreter over an empty repository of a metamodel, which has printed nothing. The n-th of the adapters, from 1 on, is An. Fails
     /// only if memory is refused.
     pub fn new(alloc: Global, meta: Meta, boxes: Vec<A>) -> Result<Self, AllocError>
         ensures begin { IfOk result (λ i. session i.repository i.pool ≡ first_session A.heard meta boxes.items) }
@@ -45,7 +45,7 @@ impl<L: LinkStore, A: Adapter> Interpreter<L, A> {
 
     /// Runs a line, and returns how it is counted. From then on the text is its output.
     ///
-    /// Errs only if memory is refused to the run itself; then no contract determines the state of the interpreter. If memory is refused to
+    /// Fails only if memory is refused to the run itself; then no contract determines the state of the interpreter. If memory is refused to
     /// the repository, the line prints `refused 28 MEMORY`, and nothing has changed.
     pub fn answer(&mut self, line: &[u8]) -> Result<Turn, AllocError>
         ensures { IfOk result (λ t. RunsLine (session self.old.repository self.old.pool) (forms.form line.now) (printed_line self.new.output t)

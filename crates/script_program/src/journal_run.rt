@@ -24,8 +24,8 @@ use std::io::{BufReader, Read, Write};
 /// Answered lines are kept: after a crash at any moment, the journal is that of the model of all lines that were answered, and perhaps of
 /// some further lines. Lines that come in together are kept together, all of them or none.
 ///
-/// Errs with `Read` if a read errs, with `TooLong` if a line has more than `INPUT_BYTES` bytes or the script more than
-/// `u64::MAX - 1` lines, with `Journal` if the disk fails or the journal is full, with `Write` if a write or a flush errs or a write
+/// Fails with `Read` if a read fails, with `TooLong` if a line has more than `INPUT_BYTES` bytes or the script more than
+/// `u64::MAX - 1` lines, with `Journal` if the disk fails or the journal is full, with `Write` if a write or a flush fails or a write
 /// takes no byte, and with `Memory` if memory is refused to the run itself.
 pub fn run_journal<R: Read, D: Disk, W: Write, L: LinkStore, A: Adapter, H: Listener>(
     alloc: Global,

@@ -53,7 +53,7 @@ fn is_change(form: &Form<'_>) -> bool
     }
 }
 
-/// Whether a line asks for a change of the model. Errs only if memory is refused for a text that is the value of the line.
+/// Whether a line asks for a change of the model. Fails only if memory is refused for a text that is the value of the line.
 fn asks_for_change(alloc: Global, line: &[u8]) -> Result<bool, AllocError>
     ensures { IfOk result (λ b. b ≡ line_asks (form line.now)) }
 {
@@ -63,7 +63,7 @@ fn asks_for_change(alloc: Global, line: &[u8]) -> Result<bool, AllocError>
     }
 }
 
-/// How a line that was run counts for a journal. Errs as `asks_for_change` does.
+/// How a line that was run counts for a journal. Fails as `asks_for_change` does.
 fn turn_of(alloc: Global, line: &[u8], turn: Turn) -> Result<durable::JournalTurn, AllocError>
     ensures { IfOk result (λ t. t ≡ journal_turn (line_asks (form line.now)) turn) }
 {
@@ -93,7 +93,7 @@ fn tell<L: LinkStore, A: Adapter, H: Listener>(
 
 impl<L: LinkStore, A: Adapter, H: Listener> Journaled<L, A, H> {
     /// An interpreter over an empty repository of a metamodel. The n-th of the adapters, from 1 on, is An. The listener is called with each
-    /// line. Errs only if memory is refused.
+    /// line. Fails only if memory is refused.
     pub fn new(alloc: Global, meta: Meta, boxes: Vec<A>, listener: H) -> Result<Self, AllocError>
         ensures begin { IfOk result (λ j. session_of j ≡ first_session A.heard meta boxes.items) }
         ensures lines { IfOk result (λ j. lines_run j ≡ 0) }

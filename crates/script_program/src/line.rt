@@ -64,7 +64,7 @@ fn number_of<A>(command: &Command<A>) -> Option<AdapterNo>
     }
 }
 
-/// Reads a single feature, and prints its value from the place in which it is kept. Errs only if memory is refused for the output.
+/// Reads a single feature, and prints its value from the place in which it is kept. Fails only if memory is refused for the output.
 pub(crate) fn run_get<L: LinkStore, A: Adapter>(
     repository: &Repository<L, A>,
     output: &mut Output,
@@ -86,7 +86,7 @@ pub(crate) fn run_get<L: LinkStore, A: Adapter>(
     }
 }
 
-/// Prints how often an adapter was notified. Errs only if memory is refused for the output.
+/// Prints how often an adapter was notified. Fails only if memory is refused for the output.
 fn run_seen<L: LinkStore, A: Adapter>(
     repository: &Repository<L, A>,
     output: &mut Output,
@@ -109,7 +109,7 @@ fn run_seen<L: LinkStore, A: Adapter>(
 }
 
 /// Executes a command, whose adapter is out of the pool, and prints its answer. Adapters that are released, or not attached, go back to the
-/// pool. Errs only if memory is refused for the output; then the command was executed.
+/// pool. Fails only if memory is refused for the output; then the command was executed.
 pub(crate) fn run_command<L: LinkStore, A: Adapter>(
     repository: &mut Repository<L, A>,
     pool: &mut Pool<A>,
@@ -129,8 +129,8 @@ pub(crate) fn run_command<L: LinkStore, A: Adapter>(
     Ok(turn)
 }
 
-/// Prints the outcome of a change at an end that was made. Adapters that it released go back to the pool. Errs only if memory is refused for
-/// the output.
+/// Prints the outcome of a change that was made at an end. Adapters that the change released go back to the pool. Fails only if memory is
+/// refused for the output.
 #[inline(always)]
 pub(crate) fn finish_change<L: LinkStore, A: Adapter>(
     repository: &Repository<L, A>,
@@ -155,7 +155,7 @@ pub(crate) fn finish_change<L: LinkStore, A: Adapter>(
     }
 }
 
-/// Runs the command of a form, and prints the answer. Errs only if memory is refused for the output.
+/// Runs the command of a form, and prints the answer. Fails only if memory is refused for the output.
 fn run_request<L: LinkStore, A: Adapter>(
     repository: &mut Repository<L, A>,
     pool: &mut Pool<A>,
@@ -176,7 +176,7 @@ fn run_request<L: LinkStore, A: Adapter>(
     }
 }
 
-/// Prints the refusal of a request that does not reach the repository. Errs only if memory is refused for the output.
+/// Prints the refusal of a request that does not reach the repository. Fails only if memory is refused for the output.
 fn print_as_refused(output: &mut Output, refused: Refused) -> Result<Turn, AllocError>
     ensures { (s : Session) → IfOk result (λ t. Adds output.old output.new t (λ p. RunsRequest s (request.Refuse refused) p s)) }
 {
@@ -184,7 +184,7 @@ fn print_as_refused(output: &mut Output, refused: Refused) -> Result<Turn, Alloc
     Ok(Turn::Refused)
 }
 
-/// Adds the line that a bad line prints. Errs only if memory is refused for it.
+/// Adds the line that a bad line prints. Fails only if memory is refused for it.
 pub(crate) fn print_bad(output: &mut Output) -> Result<Turn, AllocError>
     ensures { (s : Session) → IfOk result (λ t. Adds output.old output.new t (λ p. RunsLine s asked.Bad p s)) }
 {
@@ -194,7 +194,7 @@ pub(crate) fn print_bad(output: &mut Output) -> Result<Turn, AllocError>
 
 /// Runs a line that is a text: parses it, runs its command and prints the answer.
 ///
-/// Errs only if memory is refused for a text that is the value of the line, or for the output.
+/// Fails only if memory is refused for a text that is the value of the line, or for the output.
 #[inline(never)]
 fn run_text<L: LinkStore, A: Adapter>(
     alloc: Global,
@@ -218,7 +218,7 @@ fn run_text<L: LinkStore, A: Adapter>(
 
 /// Runs a line that is a text, as one of the most frequent forms if it is one.
 ///
-/// Errs as `run_line` does.
+/// Fails as `run_line` does.
 fn run_text_line<L: LinkStore, A: Adapter>(
     alloc: Global,
     repository: &mut Repository<L, A>,
@@ -237,7 +237,7 @@ fn run_text_line<L: LinkStore, A: Adapter>(
 
 /// Runs a line: parses it, runs its command and prints the answer.
 ///
-/// Errs if memory is refused to the program itself; then the repository is as it was, or as the line leaves it. If memory is refused to the
+/// Fails if memory is refused to the program itself; then the repository is as it was, or as the line leaves it. If memory is refused to the
 /// repository, the line prints that refusal.
 #[inline(always)]
 pub(crate) fn run_line<L: LinkStore, A: Adapter>(

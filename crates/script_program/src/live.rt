@@ -26,7 +26,7 @@ const BEHIND: &[u8] = b"\n";
 
 /// Runs a line, and writes its output with an empty line after it; `output` is a buffer for that.
 ///
-/// Errs with `Memory` if memory is refused to the run itself, and with `Write` if a write errs or takes no byte.
+/// Fails with `Memory` if memory is refused to the run itself, and with `Write` if a write fails or takes no byte.
 fn answer_live<W: Write, L: LinkStore, A: Adapter, H: Listener>(
     alloc: Global,
     writer: &mut W,
@@ -100,7 +100,7 @@ fn answer_lines<R: Read, W: Write, L: LinkStore, A: Adapter, H: Listener>(
 
 /// Runs a script as `run_live` does, over a repository that its caller lends. The listener is called with each line.
 ///
-/// Errs as `run_live` does.
+/// Fails as `run_live` does.
 pub fn live_over<R: Read, W: Write, L: LinkStore, A: Adapter, H: Listener>(
     alloc: Global,
     reader: &mut BufReader<R>,
@@ -126,8 +126,8 @@ pub fn live_over<R: Read, W: Write, L: LinkStore, A: Adapter, H: Listener>(
 /// Runs a script as `run` does, but answers each line before it reads the next: the text that a line prints is written with an empty line
 /// after it, and for a line that is skipped only an empty line. Before a read that may wait, the writer is flushed.
 ///
-/// Errs with `Read` if a read errs, with `TooLong` if a line has more than `INPUT_BYTES` bytes or the script more than `u64::MAX - 1`
-/// lines, with `Write` if a write or a flush errs or a write takes no byte, and with `Memory` if memory is refused to the run itself: then
+/// Fails with `Read` if a read fails, with `TooLong` if a line has more than `INPUT_BYTES` bytes or the script more than `u64::MAX - 1`
+/// lines, with `Write` if a write or a flush fails or a write takes no byte, and with `Memory` if memory is refused to the run itself: then
 /// a prefix of the output of the first lines was written. If memory is refused to the repository, the line prints `refused 28 MEMORY`, and
 /// the run goes on.
 pub fn run_live<R: Read, W: Write, L: LinkStore, A: Adapter>(

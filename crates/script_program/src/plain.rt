@@ -20,10 +20,10 @@ use script_streams::{RunFault, write_all};
 use std::alloc::Global;
 use std::io::Write;
 
-/// Answers are written when they have so many bytes.
+/// The number of bytes of answers that are written at once.
 const BLOCK_BYTES: usize = 8192;
 
-/// Writes a block, and empties it. Errs with `Write` as `write_all` does.
+/// Writes a block, and empties it. Fails with `Write` as `write_all` does.
 fn write_block<W: Write>(writer: &mut W, block: &mut Output) -> Result<(), RunFault>
     ensures ok { OnOk result (Appends (W.contents writer.old) (W.contents writer.new) block.old) }
     ensures empty { OnOk result (block.new ≡ []) }

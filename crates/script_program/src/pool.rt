@@ -38,7 +38,7 @@ fn index(no: AdapterNo) -> Option<usize>
 }
 
 impl<A: Adapter> Pool<A> {
-    /// A pool that has all adapters. Errs only if memory is refused.
+    /// A pool that has all adapters. Fails only if memory is refused.
     pub(crate) fn new(alloc: Global, boxes: Vec<A>) -> Result<Self, AllocError>
         ensures { IfOk result (λ p. p ≡ map (λ a. Some (A.heard a)) boxes.items) }
     {

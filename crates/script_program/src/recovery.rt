@@ -16,7 +16,7 @@ use std::alloc::Global;
 
 /// Runs the lines of a file again, over an empty repository. A file without lines is a journal that is still to be begun.
 ///
-/// Errs with `NoJournal` or `OtherMetamodel` if the file does not begin with the head, with `Line` if a line is not done again, and
+/// Fails with `NoJournal` or `OtherMetamodel` if the file does not begin with the head, with `Line` if a line is not done again, and
 /// with `Memory` if memory is refused.
 pub fn run_again<L: LinkStore, A: Adapter, H: Listener>(
     alloc: Global,

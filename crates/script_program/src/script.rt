@@ -38,7 +38,7 @@ fn tell<L: LinkStore, A: Adapter, H: Listener>(
 
 /// Runs a line of a script, writes its output by the output options, and calls the listener; `output` is a buffer for the output of lines.
 ///
-/// Errs with `Memory` if memory is refused to the run itself, and with `Write` if a write errs or takes no byte.
+/// Fails with `Memory` if memory is refused to the run itself, and with `Write` if a write fails or takes no byte.
 pub(crate) fn answer_line<W: Write, L: LinkStore, A: Adapter, H: Listener>(
     alloc: Global,
     writer: &mut W,
@@ -133,7 +133,7 @@ fn run_input<W: Write, L: LinkStore, A: Adapter, H: Listener>(
 
 /// Runs a script as `run_dressed` does, over a repository that its caller lends. The listener is called with each line.
 ///
-/// Errs as `run` does. The script is read to its end before its first line is run, even if the run ends earlier.
+/// Fails as `run` does. The script is read to its end before its first line is run, even if the run ends earlier.
 pub fn run_over<R: Read, W: Write, L: LinkStore, A: Adapter, H: Listener>(
     alloc: Global,
     reader: &mut R,
@@ -174,7 +174,7 @@ pub fn run_over<R: Read, W: Write, L: LinkStore, A: Adapter, H: Listener>(
 /// Runs a script as `run` does, and writes the output of its lines, by the output options. With the option `stop`, the run ends after the
 /// first line that is refused or bad.
 ///
-/// Errs as `run` does. The script is read to its end before its first line is run, even if the run ends earlier.
+/// Fails as `run` does. The script is read to its end before its first line is run, even if the run ends earlier.
 pub fn run_dressed<R: Read, W: Write, L: LinkStore, A: Adapter>(
     alloc: Global,
     reader: &mut R,
@@ -212,8 +212,8 @@ pub fn run_dressed<R: Read, W: Write, L: LinkStore, A: Adapter>(
 /// from 1 on, is An. The repository keeps its links in a store of the type `L`. At the end the repository is closed, and nothing is printed
 /// for that.
 ///
-/// Errs with `Read` if a read errs and with `TooLong` if the script has more than `INPUT_BYTES` bytes: then no line was run. Errs with
-/// `Write` if a write errs or takes no byte, and with `Memory` if memory is refused to the run itself: then a prefix of the output of the
+/// Fails with `Read` if a read fails and with `TooLong` if the script has more than `INPUT_BYTES` bytes: then no line was run. Fails with
+/// `Write` if a write fails or takes no byte, and with `Memory` if memory is refused to the run itself: then a prefix of the output of the
 /// first lines was written. If memory is refused to the repository, the line prints `refused 28 MEMORY`, and the run goes on.
 pub fn run<R: Read, W: Write, L: LinkStore, A: Adapter>(
     alloc: Global,

@@ -9,7 +9,7 @@ use crate::run_fault::RunFault;
 use mm_types::limits::INPUT_BYTES;
 use std::io::{BufRead, BufReader, Read};
 
-/// A caller that does something before it waits for input; for example, it gives the answers that it holds back.
+/// A caller that does something before it waits for input; for example, it writes the answers that it holds back.
 pub trait Waits {
     ghost use Rattle.script_streams.specs.declared.run_fault.RunFault.{RunFault};
 
@@ -64,7 +64,7 @@ fn wait_and_read<R: Read, X: Waits>(
 
 /// Reads a line as `read_line` does, but calls `before_wait` before each read that may wait, and flushes nothing.
 ///
-/// Errs as `read_line` does, and as `before_wait` does.
+/// Fails as `read_line` does, and as `before_wait` does.
 pub fn read_line_waiting<R: Read, X: Waits>(
     reader: &mut BufReader<R>,
     waits: &mut X,
@@ -78,7 +78,7 @@ pub fn read_line_waiting<R: Read, X: Waits>(
     ensures again { OnOk result (X.can_wait waits.new) }
     // The stream under the reader's buffer is read only when nothing is left to do before a wait.
     ensures ready { OnOk result ((reader_inner reader.new ≡ reader_inner reader.old) ⊎ X.is_ready waits.new) }
-    // It errs if `before_wait` fails, if a read fails when nothing is left to do, if the line is too long, or if memory is refused.
+    // It fails if `before_wait` fails, if a read fails when nothing is left to do, if the line is too long, or if memory is refused.
     ensures stopped { IfErr result (λ fault. StopsLine X.can_wait X.is_ready X.becomes X.fails (reader_remaining R.remaining reader.old)
         waits.old fault waits.new) }
 {

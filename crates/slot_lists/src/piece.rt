@@ -9,7 +9,7 @@ use std::marker::Model;
 /// How many values a piece can hold.
 pub(crate) const PLACES: usize = 1024;
 
-/// A ring of at most `PLACES` values, with capacity for so many.
+/// A ring with capacity for `PLACES` values.
 #[derive(Drop)]
 pub(crate) struct Piece<T> {
     ring: VecDeque<T>,
@@ -27,7 +27,7 @@ impl<T> Model for Piece<T> {
 }
 
 impl<T: Drop> Piece<T> {
-    /// No values, and capacity for all. Errs only if memory is refused.
+    /// No values, and capacity for all. Fails only if memory is refused.
     pub fn new(alloc: Global) -> Result<Self, AllocError>
         ensures { IfOk result (λ c. c ≡ []) }
     {

@@ -57,7 +57,7 @@ impl<T: Drop> Pieces<T> {
         PLACES * self.pieces.len() - self.len
     }
 
-    /// Adds an empty piece. Errs only if memory is refused.
+    /// Adds an empty piece. Fails only if memory is refused.
     fn add_piece(&mut self) -> Result<(), AllocError>
         ensures items { self.new.items ≡ self.old.items }
         ensures ok { OnOk result (self.new.spare ≡ self.old.spare + 1024) }
@@ -71,7 +71,7 @@ impl<T: Drop> Pieces<T> {
         Ok(())
     }
 
-    /// Reserves capacity for more values. Errs only if memory is refused.
+    /// Reserves capacity for more values. Fails only if memory is refused.
     pub fn reserve(&mut self, additional: usize) -> Result<(), AllocError>
         ensures items { self.new.items ≡ self.old.items }
         ensures spare { self.old.spare ≤ self.new.spare }
@@ -95,7 +95,7 @@ impl<T: Drop> Pieces<T> {
         }
     }
 
-    /// Puts a value before the value at an index, or last, for which there is capacity. Takes no memory.
+    /// Inserts a value at an index, for which there is capacity; the index may be the length of the list. Takes no memory.
     pub fn insert(&mut self, index: usize, value: T)
         requires room { 0 < self.old.spare }
         requires in_range { index ≤ length self.old.items }

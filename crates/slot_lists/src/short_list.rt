@@ -92,7 +92,7 @@ impl<T: Drop> ShortList<T> {
         }
     }
 
-    /// Reserves capacity for more values. Errs only if memory is refused, and then the values stay and no capacity is lost.
+    /// Reserves capacity for more values. Fails only if memory is refused, and then the values stay and no capacity is lost.
     pub fn reserve(&mut self, alloc: Global, additional: usize) -> Result<(), AllocError>
         ensures items { self.new.items ≡ self.old.items }
         ensures ok { OnOk result (additional ≤ self.new.spare) }
@@ -163,7 +163,7 @@ impl<T: Drop> ShortList<T> {
     }
 }
 
-/// A `Box` with a list of no values, with capacity for some. Errs only if memory is refused.
+/// An empty list in a `Box`, with capacity for some values. Fails only if memory is refused.
 fn in_box<T: Drop>(alloc: Global, places: usize) -> Result<Box<SlotList<T>>, AllocError>
     ensures items { IfOk result (λ b. b.value.items ≡ []) }
     ensures spare { IfOk result (λ b. places ≤ b.value.spare) }

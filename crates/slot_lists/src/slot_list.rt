@@ -104,7 +104,7 @@ impl<T: Drop> SlotList<T> {
         }
     }
 
-    /// Reserves capacity for more values, and moves a list that is longer than a piece into pieces. Errs only if memory is refused, and
+    /// Reserves capacity for more values, and moves a list that is longer than a piece into pieces. Fails only if memory is refused, and
     /// then the values stay and no capacity is lost.
     pub fn reserve(&mut self, additional: usize) -> Result<(), AllocError>
         ensures items { self.new.items ≡ self.old.items }

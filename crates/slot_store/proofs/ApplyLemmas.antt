@@ -38,7 +38,7 @@ room_first r x xs has = record {
 
 takes_kept : (r s : Room) → ((e : End) → s.mixed e ≡ r.mixed e) → (x : Edit) → Takes r x → Takes s x
 takes_kept r s same (edit.Cut e o) takes = tt
-takes_kept r s same (edit.Put e i o g h) takes = tt
+takes_kept r s same (edit.Put l) takes = tt
 takes_kept r s same (edit.Shift e to from) takes = tt
 takes_kept r s same (edit.PutProxy e i t) takes = same e ∙ takes
 takes_kept r s same (edit.CutProxy e t) takes = tt

@@ -13,7 +13,7 @@ use Rattle.mm_types.specs.declared.value.Value.TheVariants as value
 use Rattle.links.specs.Holders.{holder, holding_end}
 use Rattle.links.specs.LegalSets.{AreKinds, AreOfKind, IsHeldOnce, IsLegalSet, Kinds}
 use Rattle.links.specs.Links.{Links, cut_value, end}
-use Rattle.links.specs.Plans.{EditFits, FarFitsIn, Has, IsEditOfKind, links_after_edit}
+use Rattle.links.specs.Plans.{EditFits, FarFitsIn, Has, IsEditOfKind, links_after_edit, put_of}
 use Rattle.links.specs.declared.plan.Edit.{Edit}
 use Rattle.links.specs.declared.plan.Edit.TheVariants as edit
 use Rattle.links.proofs.ContainedLemmas.{free_new}
@@ -123,11 +123,11 @@ module _ (m : Kinds) (meta : AreKinds m) (c : Cells) (es : List End) (ok : IsKep
       (entered_cut_proxy m meta c entered e fits.0 t (ok.lists.distinct e) at)
       (once_same c (cells_after (edit.CutProxy e t) c) (without-entered e v c) ok.once)
 
-  kept_put : (e : End) (i : ℕ) (o : ObjectNo) (g h : Option FeatureNo) (fs : List End) → EditFits was (edit.Put e i o g h) → IsEditOfKind m (edit.Put e i o g h) → HasKeys (cells_after (edit.Put e i o g h) c) fs → IsKept (cells_after (edit.Put e i o g h) c) fs × (cell_links (cells_after (edit.Put e i o g h) c) fs ≡ links_after_edit was (edit.Put e i o g h))
+  kept_put : (e : End) (i : ℕ) (o : ObjectNo) (g h : Option FeatureNo) (fs : List End) → EditFits was (put_of e i o g h) → IsEditOfKind m (put_of e i o g h) → HasKeys (cells_after (put_of e i o g h) c) fs → IsKept (cells_after (put_of e i o g h) c) fs × (cell_links (cells_after (put_of e i o g h) c) fs ≡ links_after_edit was (put_of e i o g h))
   kept_put e i o g h fs fits kind keys =
       let le = within e i fits.0.in_range in
       let free = free_new was e i o g h (apart_of was e o g fits.1) fits.2 in
-      kept_by (edit.Put e i o g h) fs fits kind keys (told_put m meta c told e o i le h kind.1 g kind.0) (ends_put c es ok.lists e i o g h legal fits)
+      kept_by (put_of e i o g h) fs fits kind keys (told_put m meta c told e o i le h kind.1 g kind.0) (ends_put c es ok.lists e i o g h legal fits)
       (λ n.
       put-hold e i o g h c n ∙ ap (option_or (pair_holding (held_node e o g h) n)) (ok.holds n)
       ∙ ap (λ (p : Option End). option_or p (holder was n)) (sym (new_holding was e i o g h (far_two was e o g fits.1) n))
@@ -156,7 +156,7 @@ module _ (m : Kinds) (meta : AreKinds m) (c : Cells) (es : List End) (ok : IsKep
 
   pub kept_edit : (x : Edit) (fs : List End) → EditFits was x → IsEditOfKind m x → HasKeys (cells_after x c) fs → IsKept (cells_after x c) fs × (cell_links (cells_after x c) fs ≡ links_after_edit was x)
   kept_edit (edit.Cut e o) fs fits kind keys = kept_cut e o fs fits keys
-  kept_edit (edit.Put e i o g h) fs fits kind keys = kept_put e i o g h fs fits kind keys
+  kept_edit (edit.Put l) fs fits kind keys = kept_put l.end l.index l.object l.opposite l.container fs fits kind keys
   kept_edit (edit.Shift e to from) fs fits kind keys = kept_shift e to from fs fits keys
   kept_edit (edit.PutProxy e i t) fs fits kind keys = kept_put_proxy e i t fs fits kind keys
   kept_edit (edit.CutProxy e t) fs fits kind keys = kept_cut_proxy e t fs fits keys

@@ -17,7 +17,7 @@ use Rattle.links.specs.Laws.{is_far}
 use Rattle.links.specs.LegalSets.{IsDistinct, IsLegalSet, IsPlaced}
 use Rattle.links.specs.Links.{In, Links, cut, cut_value, end, far_end, joined_link, list_without, put, put_proxy, shift}
 use Rattle.links.specs.Indexed.{indexed_value}
-use Rattle.links.specs.Plans.{EditFits, PutFits}
+use Rattle.links.specs.Plans.{EditFits, PutFits, put_of}
 use Rattle.links.specs.declared.link.Link.{Link}
 use Rattle.links.specs.declared.plan.Edit.TheVariants as edit
 use Rattle.links.proofs.CutLemmas.{end-cut, end-shift_near, end-shift_other}
@@ -57,7 +57,7 @@ module _ (c : Cells) (es : List End) (ok : AreLists c es) where
 
   ---------------------------------------------------------------- puts
 
-  module _ (e : End) (i : ℕ) (o : ObjectNo) (g h : Option FeatureNo) (legal : IsLegalSet was) (fits : EditFits was (edit.Put e i o g h)) where
+  module _ (e : End) (i : ℕ) (o : ObjectNo) (g h : Option FeatureNo) (legal : IsLegalSet was) (fits : EditFits was (put_of e i o g h)) where
     abbrev near : Cells
     near = put_near e i (value.Object o) (Some (record { opposite = g; container = h })) c
 
@@ -69,7 +69,7 @@ module _ (c : Cells) (es : List End) (ok : AreLists c es) where
         ∙ ap (λ (xs : List Value). if same_end (far_end o k) x then xs ++ node_value e.node ∷ [] else xs) (two_tests (same_node e.node x.node) (same_feature e.feature x.feature) (insert (c.vals x) i (value.Object o)) (c.vals x))
         ∙ either_first (same_end e x) (same_end (far_end o k) x) (insert (c.vals x) i (value.Object o)) (c.vals x) (node_value e.node) apart
 
-    not_both : (k : Option FeatureNo) → EditFits was (edit.Put e i o k h) → (x : End) → same_end e x ≡ true → is_far o k x ≡ true → ⊥
+    not_both : (k : Option FeatureNo) → EditFits was (put_of e i o k h) → (x : End) → same_end e x ≡ true → is_far o k x ≡ true → ⊥
     not_both None can x a b = false≢true b
     not_both (Some k) can x a b = can.1.apart (λ t. ((same_end-true (far_end o k) x b ∙ sym (same_end-true e x a)) t).feature.0)
 

@@ -12,14 +12,14 @@ use Rattle.links.specs.declared.plan.Edit.{Edit}
 use Rattle.links.specs.declared.plan.Edit.TheVariants as edit
 use Rattle.links.specs.LegalSets.{IsObject}
 use Rattle.links.specs.Links.{Links, far_end}
-use Rattle.links.specs.Plans.{EditFits}
+use Rattle.links.specs.Plans.{EditFits, FarFitsIn, put_of}
 use Rattle.node_slots.specs.EndValues.{CanHave}
 use Rattle.node_slots.specs.declared.node_slots.NodeSlots.{NodeSlots}
 use Rattle.node_slots.specs.declared.node_slots.growth.PutPlaces.{PutPlaces}
 use Rattle.node_slots.specs.Cells.{room, row_index_of}
 use Rattle.node_slots.specs.Growth.{HasRoom, far_gain, lone_entry, one_if}
 use Rattle.node_slots.proofs.KeyLemmas.{known_entries, known_places}
-use Rattle.slot_store.specs.EditedCells.{HasHeldRow, PutsObject, held_far, held_node, held_row_index}
+use Rattle.slot_store.specs.EditedCells.{HasHeldRow, PairsObject, PutsObject, held_far, held_node, held_row_index}
 
 -- an end can have an object, even if it can have only objects
 pub can_have_node : (mixed : Bool) (n : Node) (v : Value) → IsObject n → v ≡ node_value n → CanHave mixed v
@@ -29,14 +29,17 @@ can_have_node mixed (node.Resource r) v is same = absurd is
 -- an edit that fits puts no resource into an end
 pub fits_object : (s : Links) (x : Edit) → EditFits s x → PutsObject x
 fits_object s (edit.Cut e o) fits = tt
-fits_object s (edit.Put e i o None h) fits = tt
-fits_object s (edit.Put e i o (Some g) h) fits = fits.1.object
+fits_object s (edit.Put l) fits = by l.opposite fits.1
+  where
+    by : (g : Option FeatureNo) → FarFitsIn s l.end l.object g → PairsObject l.end g
+    by None far = tt
+    by (Some g) far = far.object
 fits_object s (edit.Shift e to from) fits = tt
 fits_object s (edit.PutProxy e i t) fits = tt
 fits_object s (edit.CutProxy e t) fits = tt
 
 -- the end into which a value is put has a row
-pub near_row : (t : NodeSlots) (e : End) (i : ℕ) (o : ObjectNo) (g h : Option FeatureNo) → HasRoom (room t) (edit.Put e i o g h ∷ []) → (room t).rows e.node ≡ true
+pub near_row : (t : NodeSlots) (e : End) (i : ℕ) (o : ObjectNo) (g h : Option FeatureNo) → HasRoom (room t) (put_of e i o g h ∷ []) → (room t).rows e.node ≡ true
 near_row t e i o g h has =
     let one : one_if (same_end e e) ≡ 1 = ap one_if (same_end-self e) in
     known_places t e (omega (arith, has.places e, one))
@@ -48,7 +51,7 @@ proxy_row t e i text has =
     known_places t e (omega (arith, has.places e, one))
 
 -- the object has a row too
-pub far_row : (t : NodeSlots) (e : End) (i : ℕ) (o : ObjectNo) (g h : Option FeatureNo) → HasRoom (room t) (edit.Put e i o g h ∷ []) → (room t).rows (node.Object o) ≡ true
+pub far_row : (t : NodeSlots) (e : End) (i : ℕ) (o : ObjectNo) (g h : Option FeatureNo) → HasRoom (room t) (put_of e i o g h ∷ []) → (room t).rows (node.Object o) ≡ true
 far_row t e i o None h has =
     let one : lone_entry o None (node.Object o) ≡ 1 = ap one_if (same_node-self (node.Object o)) in
     known_entries t (node.Object o) (omega (arith, has.entries (node.Object o), one))
@@ -56,17 +59,17 @@ far_row t e i o (Some g) h has =
     let one : far_gain o (Some g) (far_end o g) ≡ 1 = ap one_if (same_end-self (far_end o g)) in
     known_places t (far_end o g) (omega (arith, has.places (far_end o g), one))
 
-pub held_row : (t : NodeSlots) (x : Edit) (e : End) (i : ℕ) (o : ObjectNo) (g h : Option FeatureNo) → x ≡ edit.Put e i o g h → HasRoom (room t) (x ∷ []) → HasHeldRow (held_node e o g h) (room t)
+pub held_row : (t : NodeSlots) (x : Edit) (e : End) (i : ℕ) (o : ObjectNo) (g h : Option FeatureNo) → x ≡ put_of e i o g h → HasRoom (room t) (x ∷ []) → HasHeldRow (held_node e o g h) (room t)
 held_row t x e i o g h is has = row h (subst (λ (y : Edit). HasRoom (room t) (y ∷ [])) is has)
   where
-    row_far : (k : Option FeatureNo) (f : FeatureNo) → HasRoom (room t) (edit.Put e i o g h ∷ []) → HasHeldRow (held_far e o k f) (room t)
+    row_far : (k : Option FeatureNo) (f : FeatureNo) → HasRoom (room t) (put_of e i o g h ∷ []) → HasHeldRow (held_far e o k f) (room t)
     row_far None f has = tt
     row_far (Some k) f has = elim (same_feature k f) as (λ b. HasHeldRow (if b then Some (e.node, far_end o k) else None) (room t)) [
       | true ↦ near_row t e i o g h has
       | false ↦ tt
     ]
 
-    row : (c : Option FeatureNo) → HasRoom (room t) (edit.Put e i o g h ∷ []) → HasHeldRow (held_node e o g c) (room t)
+    row : (c : Option FeatureNo) → HasRoom (room t) (put_of e i o g h ∷ []) → HasHeldRow (held_node e o g c) (room t)
     row None has = tt
     row (Some f) has = elim (same_feature e.feature f) as (λ b. HasHeldRow (if b then Some (node.Object o, e) else held_far e o g f) (room t)) [
       | true ↦ far_row t e i o g h has

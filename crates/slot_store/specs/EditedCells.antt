@@ -30,7 +30,7 @@ abbrev pub held_node : End → ObjectNo → Option FeatureNo → Option FeatureN
 held_node e o g None = None
 held_node e o g (Some h) = if same_feature e.feature h then Some (node.Object o, e) else held_far e o g h
 
--- the index of the row of the node that a link contains: the row of its far node, or of its near node
+-- of the two nodes of a link, the index of the row of the contained one: the far node's row or the near node's row
 abbrev pub held_row_index : PutPlaces → End → Option FeatureNo → ℕ
 held_row_index p e None = p.near
 held_row_index p e (Some h) = if same_feature e.feature h then p.far else p.near
@@ -77,7 +77,7 @@ cut_cells e o g h c = cells_after_release (held_node e o g h) (without_value e (
 
 abbrev pub cells_after : Edit → Cells → Cells
 cells_after (edit.Cut e o) c = cut_cells e o (c.pairing e).opposite (c.pairing e).container c
-cells_after (edit.Put e i o g h) c = put_cells e i o g h c
+cells_after (edit.Put l) c = put_cells l.end l.index l.object l.opposite l.container c
 cells_after (edit.Shift e to from) c = cell_edit e.node (Change e.feature (Move to from)) c
 cells_after (edit.PutProxy e i t) c = put_near e i (value.Proxy t) None c
 cells_after (edit.CutProxy e t) c = without_value e (value.Proxy t) c
@@ -96,7 +96,7 @@ PairsObject e (Some g) = IsObject e.node
 
 abbrev pub PutsObject : Edit → Type 0
 PutsObject (edit.Cut e o) = Unit {0}
-PutsObject (edit.Put e i o g h) = PairsObject e g
+PutsObject (edit.Put l) = PairsObject l.end l.opposite
 PutsObject (edit.Shift e to from) = Unit {0}
 PutsObject (edit.PutProxy e i t) = Unit {0}
 PutsObject (edit.CutProxy e t) = Unit {0}

@@ -4,7 +4,6 @@ ghost use Rattle.mm_types.specs.Same.{node_value, same_end};
 ghost use Rattle.mm_types.specs.declared.numbers.Node.{Node};
 ghost use Rattle.mm_types.specs.declared.numbers.Node.TheVariants as node;
 ghost use Rattle.links.specs.LegalSets.{IsDistinct};
-ghost use Rattle.links.specs.Plans.{put_edit};
 ghost use Rattle.node_slots.specs.Cells.{cells, room, row_index_of};
 ghost use Rattle.node_slots.specs.EndValues.{CanHave};
 ghost use Rattle.node_slots.specs.Growth.{HasRoom, entry, far_gain, gain, lone_entry, no_ends, no_values, one_if};
@@ -203,12 +202,12 @@ fn put_in(
 #[inline(always)]
 fn put(rows: &mut NodeSlots, places: PutPlaces, link: NewLink)
     requires object { PairsObject link.end link.opposite }
-    requires room { HasRoom (room rows.old) (put_edit link ∷ []) }
+    requires room { HasRoom (room rows.old) (edit.Put link ∷ []) }
     requires held { HasHeldRow (held_node link.end link.object link.opposite link.container) (room rows.old) }
     requires near { row_index_of rows.old link.end.node ≡ Some places.near }
     requires far { row_index_of rows.old (node.Object link.object) ≡ Some places.far }
-    ensures cells { cells rows.new ≡ cells_after (put_edit link) (cells rows.old) }
-    ensures room { TakesAtMost (λ e. gain e (put_edit link)) (λ n. entry n (put_edit link)) (room rows.old) (room rows.new) }
+    ensures cells { cells rows.new ≡ cells_after (edit.Put link) (cells rows.old) }
+    ensures room { TakesAtMost (λ e. gain e (edit.Put link)) (λ n. entry n (edit.Put link)) (room rows.old) (room rows.new) }
 {
     let pairing = Pairing {
         opposite: link.opposite,
@@ -243,10 +242,10 @@ fn places_of(rows: &NodeSlots, end: End, object: ObjectNo) -> PutPlaces
     }
 }
 
-/// Reserves capacity for a link, and puts it in. Errs only if memory is refused; no value changes then.
+/// Reserves capacity for a link, and puts it in. Fails only if memory is refused; no value changes then.
 pub(crate) fn put_with_room(rows: &mut NodeSlots, link: NewLink) -> Result<(), AllocError>
     requires { PairsObject link.end link.opposite }
-    ensures { cells rows.new ≡ (if is_ok result then cells_after (put_edit link) (cells rows.old) else cells rows.old) }
+    ensures { cells rows.new ≡ (if is_ok result then cells_after (edit.Put link) (cells rows.old) else cells rows.old) }
 {
     let places = rows.reserve_put(link)?;
     put(rows, places, link);
@@ -276,21 +275,8 @@ pub(crate) fn edit_rows(rows: &mut NodeSlots, edit: Edit, guess: usize)
 {
     match edit {
         Edit::Cut { end, object } => cut(rows, end, object, guess),
-        Edit::Put {
-            end,
-            index,
-            object,
-            opposite,
-            container,
-        } => {
-            let places = places_of(rows, end, object);
-            let link = NewLink {
-                end,
-                index,
-                object,
-                opposite,
-                container,
-            };
+        Edit::Put(link) => {
+            let places = places_of(rows, link.end, link.object);
             put(rows, places, link);
         }
         Edit::Shift { end, to, from } => shift(rows, end, to, from),

@@ -48,6 +48,10 @@ impl LinkStore for SlotStore {
         self.rows.text_at(end, index as usize)
     }
 
+    fn proxy_start(&self, end: End) -> usize {
+        self.rows.proxy_start(end)
+    }
+
     fn position(&self, end: End, object: ObjectNo) -> Option<u32> {
         if far_lacks(&self.rows, end, object) {
             return None;

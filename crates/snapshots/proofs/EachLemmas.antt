@@ -9,9 +9,9 @@ use Rattle.mm_types.specs.declared.numbers.Node.{Node}
 use Rattle.mm_types.specs.declared.numbers.Node.TheVariants as node
 use Rattle.containment.proofs.PartLemmas.{live-made}
 use Rattle.models.specs.Model.{Model, reading}
-use Rattle.models.specs.Reading.{Reading, is_live, is_node_live, is_resource_there, is_within}
+use Rattle.models.specs.Reading.{Reading, is_live, is_node_live, is_resource_there, is_within, object_node, resource_node}
 use Rattle.snapshots.specs.Replayed.{state_at}
-use Rattle.snapshots.specs.Snapshots.{is_taken, node_state, nodes, object_node, resource_node, snapshot_of}
+use Rattle.snapshots.specs.Snapshots.{is_taken, node_state, nodes, snapshot_of}
 
 -- a node exists
 abbrev pub IsThere : Model → Node → Type 0

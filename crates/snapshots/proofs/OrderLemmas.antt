@@ -3,10 +3,10 @@ use Rattle.std.proofs.Common.{◌≡◌, ◌<◌, ◌+◌, ℕ, zero, suc, Bool,
 use Rattle.std.specs.List.{AllByRecursion, range_with_len}
 use Rattle.std.proofs.lemmas.Bool.{lt-ltb}
 use Rattle.mm_types.specs.declared.numbers.Node.{Node}
-use Rattle.models.specs.Reading.{Reading}
+use Rattle.models.specs.Reading.{Reading, object_node, resource_node}
 use Rattle.snapshots.specs.Order.{AreInOrder, is_before}
 use Rattle.snapshots.specs.declared.snapshot.NodeState.{NodeState}
-use Rattle.snapshots.specs.Snapshots.{is_taken, node_state, nodes, object_node, resource_node, snapshot_of}
+use Rattle.snapshots.specs.Snapshots.{is_taken, node_state, nodes, snapshot_of}
 
 Before : Node → List Node → Type 0
 Before n ns = AllByRecursion (λ (m : Node). IsTrue (is_before n m)) ns

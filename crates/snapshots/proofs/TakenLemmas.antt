@@ -21,9 +21,9 @@ use Rattle.containment.proofs.PartLemmas.{live-made}
 use Rattle.containment.specs.Forest.{node_subtree}
 use Rattle.models.specs.Legal.{IsLegal}
 use Rattle.models.specs.Model.{Model, reading}
-use Rattle.models.specs.Reading.{Reading, has_resource, is_live, is_node_live, is_within}
+use Rattle.models.specs.Reading.{Reading, has_resource, is_live, is_node_live, is_within, object_node, resource_node}
 use Rattle.snapshots.specs.declared.snapshot.NodeState.{NodeState}
-use Rattle.snapshots.specs.Snapshots.{AreAscending, AreBelow, is_taken, live_states, node_state, nodes, object_node, objects_as_nodes, own_resource, resource_node, snapshot_of}
+use Rattle.snapshots.specs.Snapshots.{AreAscending, AreBelow, is_taken, live_states, node_state, nodes, objects_as_nodes, own_resource, snapshot_of}
 use Rattle.mm_meta.proofs.OwnerLemmas.{nat_eq-turned}
 
 ---------------------------------------------------------------- sorted, and each once

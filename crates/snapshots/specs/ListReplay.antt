@@ -18,7 +18,7 @@ values_after_notice kind.Unset n vs = n.new_value ∷ []
 values_after_notice kind.Add n vs = list_after_add vs n.position n.new_value
 values_after_notice kind.Remove n vs = list_after_remove vs n.position
 values_after_notice kind.Move n vs = list_after_move_notice n.old_value n.position vs
-values_after_notice kind.RemovingAdapter n vs = vs
+values_after_notice (kind.RemovingAdapter a) n vs = vs
 values_after_notice kind.Resolve n vs = list_after_resolve vs n.position n.new_value
 
 -- the set flag of an end after a notification of a kind, if it has one: SET turns it on, UNSET off
@@ -28,5 +28,5 @@ flag_after_notice kind.Unset flag = option_map (λ b. false) flag
 flag_after_notice kind.Add flag = flag
 flag_after_notice kind.Remove flag = flag
 flag_after_notice kind.Move flag = flag
-flag_after_notice kind.RemovingAdapter flag = flag
+flag_after_notice (kind.RemovingAdapter a) flag = flag
 flag_after_notice kind.Resolve flag = flag

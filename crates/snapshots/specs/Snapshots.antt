@@ -7,7 +7,7 @@ use Rattle.mm_types.specs.declared.numbers.FeatureNo.{FeatureNo}
 use Rattle.mm_types.specs.declared.numbers.Node.{Node}
 use Rattle.mm_types.specs.declared.numbers.Node.TheVariants as node
 use Rattle.mm_types.specs.declared.numbers.ObjectNo.{ObjectNo}
-use Rattle.models.specs.Reading.{Reading, all_features_of, at_end, has_resource, held_at, is_node_live, is_within, shape_at}
+use Rattle.models.specs.Reading.{Reading, all_features_of, at_end, has_resource, held_at, is_node_live, is_within, shape_at, object_node, resource_node}
 use Rattle.snapshots.specs.declared.snapshot.FeatureState.{FeatureState}
 use Rattle.snapshots.specs.declared.snapshot.NodeState.{NodeState}
 
@@ -26,12 +26,6 @@ class_at r (node.Resource k) = None
 
 abbrev pub node_state : Reading → Node → NodeState
 node_state r n = record { node = n; class = class_at r n; features = map (feature_state r n) (all_features_of r n) }
-
-abbrev pub object_node : ℕ → Node
-object_node k = node.Object (record { 0 = k })
-
-abbrev pub resource_node : ℕ → Node
-resource_node k = node.Resource (record { 0 = k })
 
 -- all nodes that could be in a snapshot: the resources by number, and then the objects that were made
 abbrev pub nodes : Reading → List Node

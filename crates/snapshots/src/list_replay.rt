@@ -7,7 +7,7 @@ use mm_types::Value;
 use notice_chain::{NO_INDEX, Notice, NoticeKind};
 use std::alloc::AllocError;
 
-/// Changes values as a notification does. Errs only if memory is refused; then the values may be any.
+/// Changes values as a notification does. Fails only if memory is refused; then the values may be any.
 pub(crate) fn edit(values: &mut Vec<Value>, notice: &Notice) -> Result<(), AllocError>
     ensures { OnOk result (values.new.items ≡ values_after_notice notice.now.kind notice.now values.old.items) }
 {
@@ -19,7 +19,7 @@ pub(crate) fn edit(values: &mut Vec<Value>, notice: &Notice) -> Result<(), Alloc
             Ok(())
         }
         NoticeKind::Move => { shift_from(values, &notice.old_value, notice.position) }
-        NoticeKind::RemovingAdapter => Ok(()),
+        NoticeKind::RemovingAdapter(_) => Ok(()),
         NoticeKind::Resolve => resolve(values, notice.position, &notice.new_value),
     }
 }

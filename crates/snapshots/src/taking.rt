@@ -15,7 +15,7 @@ use std::alloc::{AllocError, Global};
 
 impl Snapshot {
     /// The snapshot of a node: its state, and the state of each node below it. It is empty for a node that is not there. Takes time in
-    /// proportion to its size, and sorts the objects. Errs only if memory is refused.
+    /// proportion to its size, and sorts the objects. Fails only if memory is refused.
     pub fn of<L: LinkStore>(
         alloc: Global,
         model: &ModelRef<L>,

@@ -18,7 +18,6 @@ fed_by (value.Text t) = fed.u8 3 ++ fed.str t
 fed_by (value.Literal k) = fed.u8 4 ++ fed.u32 k
 fed_by (value.Object o) = fed.u8 5 ++ fed.u32 o.0
 fed_by (value.Proxy t) = fed.u8 6 ++ fed.str t
-fed_by (value.Adapter a) = fed.u8 7 ++ fed.u32 a.0
 
 unfoldable pub hash_of : Value → ℕ
 hash_of v = sip.finish (fold sip.write sip.initial (fed_by v))

@@ -47,7 +47,7 @@ impl CountedList {
         }
     }
 
-    /// Moves a list into a `Box`, with its hashes counted. Errs only if memory is refused, and then the list stays where it is: the `Box`
+    /// Moves a list into a `Box`, with its hashes counted. Fails only if memory is refused, and then the list stays where it is: the `Box`
     /// and the table are made before the list is moved.
     pub fn of(alloc: Global, list: &mut SlotList<Value>) -> Result<Box<CountedList>, AllocError>
         ensures items { IfOk result (λ c. c.value.items ≡ list.old.items) }
@@ -122,7 +122,7 @@ impl CountedList {
         }
     }
 
-    /// Reserves capacity for more values, in the list and in the table. Errs only if memory is refused, and then the values stay and no
+    /// Reserves capacity for more values, in the list and in the table. Fails only if memory is refused, and then the values stay and no
     /// capacity is lost.
     pub fn reserve(&mut self, additional: usize) -> Result<(), AllocError>
         ensures items { self.new.items ≡ self.old.items }
@@ -170,7 +170,7 @@ impl CountedList {
         self.list.move_to(to, from);
     }
 
-    /// Takes the list away from its table, with all its capacity. An empty list stays. Takes no memory.
+    /// Takes the list out, without its table and with all its capacity, and leaves an empty list. Takes no memory.
     pub fn take_list(&mut self, alloc: Global) -> SlotList<Value>
         ensures items { result.items ≡ self.old.items }
         ensures spare { self.old.spare ≤ result.spare }
@@ -180,7 +180,7 @@ impl CountedList {
     }
 }
 
-/// Counts the hashes of a list, with capacity for as many more as the list. Errs only if memory is refused.
+/// Counts the hashes of a list, with capacity for as many more as the list. Fails only if memory is refused.
 fn counted(alloc: Global, list: &SlotList<Value>) -> Result<HashCounts, AllocError>
     ensures counts { IfOk result (λ t. Counts t list.now.items) }
     ensures room { IfOk result (λ t. list.now.spare ≤ room_of t.counts) }

@@ -35,7 +35,7 @@ impl HashCounts {
         }
     }
 
-    /// No values, with capacity for some. Errs only if memory is refused.
+    /// No values, with capacity for some. Fails only if memory is refused.
     pub fn with_capacity(alloc: Global, capacity: usize) -> Result<Self, AllocError>
         ensures none { IfOk result (λ t. (h : ℕ) → count_in t h ≡ 0) }
         ensures spare { IfOk result (λ t. capacity ≤ spare t.counts) }
@@ -62,7 +62,7 @@ impl HashCounts {
         }
     }
 
-    /// Reserves capacity for more values. Errs only if memory is refused.
+    /// Reserves capacity for more values. Fails only if memory is refused.
     pub fn reserve(&mut self, additional: usize) -> Result<(), AllocError>
         ensures counts { (h : ℕ) → count_in self.new h ≡ count_in self.old h }
         ensures spare { spare self.old.counts ≤ spare self.new.counts }
@@ -144,10 +144,6 @@ fn feed(value: &Value, hasher: &mut DefaultHasher)
         Value::Proxy(text) => {
             hasher.write_u8(6);
             text.as_str().hash(hasher);
-        }
-        Value::Adapter(adapter) => {
-            hasher.write_u8(7);
-            adapter.0.hash(hasher);
         }
     }
 }

@@ -111,8 +111,9 @@ impl ValueList {
         }
     }
 
-    /// Whether a value is there. If the hashes are counted, the list is not searched if no value has its hash, or if the value is still
-    /// where the last value of its hash was put in, counted from the front or from the end.
+    /// Whether a value is there. If the hashes are counted, there are two cases in which the list is not gone through: no value of the list
+    /// has the hash of the value, or the value is still at the index at which the last value of its hash was put in, counted from the front
+    /// or from the end.
     pub fn has(&self, value: &Value) -> bool
         ensures { result ≡ list_any (same_value value.now) self.now.items }
     {
@@ -124,7 +125,7 @@ impl ValueList {
         }
     }
 
-    /// Reserves capacity for more values of a list. `is_asked` says whether the list is looked up by value. Errs only if memory is refused,
+    /// Reserves capacity for more values of a list. `is_asked` says whether the list is looked up by value. Fails only if memory is refused,
     /// and then the values stay and no capacity is lost.
     pub fn reserve(
         &mut self,
@@ -152,7 +153,7 @@ impl ValueList {
         Ok(())
     }
 
-    /// Counts the hashes of a list that is long, or will be. Errs only if memory is refused, and then nothing has changed.
+    /// Counts the hashes of a list that is long, or will be. Fails only if memory is refused, and then nothing has changed.
     fn count_hashes(&mut self, alloc: Global, additional: usize) -> Result<(), AllocError>
         ensures items { self.new.items ≡ self.old.items }
         ensures spare { self.old.spare ≤ self.new.spare }
@@ -278,7 +279,7 @@ fn layout_of_one(alloc: Global, mut list: SlotList<Value>, value: Value) -> Layo
     }
 }
 
-/// A list of no values, with capacity for some. Errs only if memory is refused.
+/// A list of no values, with capacity for some. Fails only if memory is refused.
 fn with_places(alloc: Global, places: usize) -> Result<SlotList<Value>, AllocError>
     ensures items { IfOk result (λ l. l.items ≡ []) }
     ensures spare { IfOk result (λ l. places ≤ l.spare) }
@@ -288,7 +289,7 @@ fn with_places(alloc: Global, places: usize) -> Result<SlotList<Value>, AllocErr
     Ok(list)
 }
 
-/// Moves a value into a list with capacity for more. Errs only if memory is refused, and then the value stays where it is.
+/// Moves a value into a list with capacity for more. Fails only if memory is refused, and then the value stays where it is.
 fn in_block(
     alloc: Global,
     value: &mut Value,

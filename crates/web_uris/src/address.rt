@@ -19,7 +19,7 @@ pub fn split_address(text: &str) -> Option<(&str, &str)>
     text.split_once('#')
 }
 
-/// A URI, `#`, and a fragment. Errs only if memory is refused.
+/// A URI, `#`, and a fragment. Fails only if memory is refused.
 pub fn address_of(alloc: Global, uri: &str, fragment: &str) -> Result<String, AllocError>
     ensures { IfOk result (λ t. string_bytes t ≡ address_text uri.now fragment.now) }
 {

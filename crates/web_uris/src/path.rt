@@ -56,7 +56,7 @@ fn push_steps(text: &mut String, steps: &[Step]) -> Result<(), AllocError>
 }
 
 impl Path {
-    /// The text of the path, with an empty root segment or the root's position. Errs only if memory is refused.
+    /// The text of the path, with an empty root segment or the root's position. Fails only if memory is refused.
     pub fn text(&self, alloc: Global, is_root_left_out: bool) -> Result<String, AllocError>
         ensures { IfOk result (λ t. string_bytes t ≡ path_text is_root_left_out self.now) }
     {

@@ -71,7 +71,7 @@ fn borrowed_step(segment: &str) -> Option<(&str, Option<u32>)>
     }
 }
 
-/// The step that a segment writes, if it writes one. Errs only if memory is refused.
+/// The step that a segment writes, if it writes one. Fails only if memory is refused.
 pub(crate) fn step_of(alloc: Global, segment: &str) -> Result<Option<Step>, AllocError>
     ensures { IfOk result (λ s. s ≡ step_meant segment.now) }
 {

@@ -39,7 +39,8 @@ impl<A: Adapter> AdapterList<A> {
         Ok(())
     }
 
-    /// `reserve_places` of copies that are for one adapter each, in attach order. Takes no memory but what the adapters take.
+    /// Reserves capacity as `reserve_places` does, if each adapter has a single copy and the copies are in attach order. Takes no memory
+    /// except what the adapters take.
     fn reserve_each(&mut self, copies: &[(usize, Notice)]) -> Result<(), NoRoom>
         requires within { AllByRecursion (λ c. c.0 < length self.old.1) copies.now }
         requires ascending { ascends None (ordinals copies.now) ≡ true }

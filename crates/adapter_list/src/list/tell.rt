@@ -105,7 +105,7 @@ impl<A: Adapter> AdapterList<A> {
 
     /// The copies of the notifications of a chain for the adapters that get them. If successive notifications have one notifier, its
     /// adapters are found once; the adapters of the node in `hearers` are not looked for again. Afterwards `hearers` has the adapters of
-    /// the node of the last notification. Errs only if memory is refused.
+    /// the node of the last notification. Fails only if memory is refused.
     #[inline(always)]
     pub fn round<L: LinkStore>(
         &self,

@@ -16,7 +16,7 @@ use std::collections::BTreeSet;
 
 impl<A: Adapter> AdapterList<A> {
     /// The indexes, in attach order, of the adapters that have one of some objects as a target. Only the adapters of those objects are
-    /// looked at. Errs only if memory is refused.
+    /// looked at. Fails only if memory is refused.
     pub fn touched(&self, objects: &[ObjectNo]) -> Result<Vec<usize>, AllocError>
         ensures { IfOk result (λ v. v.items ≡ touched_by objects.now self.now.0) }
     {

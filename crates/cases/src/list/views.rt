@@ -23,7 +23,7 @@ fn put_book<L: LinkStore, A: Adapter>(
     done(repository.add(SHELF, CONTENTS, book, None))
 }
 
-/// Puts so many books into a resource.
+/// Makes a resource, and puts `count` books into it.
 fn fill<L: LinkStore, A: Adapter>(
     repository: &mut Repository<L, A>,
     count: u32,
@@ -105,8 +105,7 @@ fn viewed<L: LinkStore, A: Adapter>(
     Ok(nodes_of(repository, &view)?)
 }
 
-/// Follows so many books, each of which is named, by their notifications. Returns how many nodes the view has, if it is the same as a new
-/// snapshot.
+/// Names `count` books, and follows them by their notifications. Returns how many nodes the view has, if the view equals a new snapshot.
 pub(super) fn followed<L: LinkStore, A: Adapter>(
     alloc: Global,
     repository: &mut Repository<L, A>,

@@ -63,7 +63,7 @@ fn calls_at_a_book<A: Adapter>(alloc: Global, adapter: A) -> Result<String, Fail
 }
 
 const CALLED: &str =
-    "Done\n2 told, 1 kept\nDone; A5 REMOVING_ADAPTER Adapter(AdapterNo(5)) Null 0 false; A5 back, 3 told, REMOVING_ADAPTER 0";
+    "Done\n2 told, 1 kept\nDone; A5 REMOVING_ADAPTER Null Null 0 false; A5 back, 3 told, REMOVING_ADAPTER 0";
 
 #[test]
 fn an_adapter_is_attached_counted_and_detached(rt: HostRuntime) -> Result<(), Fail> {
@@ -98,9 +98,9 @@ fn targets_at_a_book<A: Adapter>(alloc: Global, adapter: A) -> Result<String, Fa
 const TARGETS: &str = "Done
 Flag(true)
 Flag(false)
-Flag(true); A5 REMOVING_ADAPTER Adapter(AdapterNo(5)) Null 0 false
+Flag(true); A5 REMOVING_ADAPTER Null Null 0 false
 Flag(false)
-Flag(true); A5 REMOVING_ADAPTER Adapter(AdapterNo(5)) Null 0 false; A5 back, 2 told, REMOVING_ADAPTER 0";
+Flag(true); A5 REMOVING_ADAPTER Null Null 0 false; A5 back, 2 told, REMOVING_ADAPTER 0";
 
 #[test]
 fn an_adapter_gets_a_target_and_loses_both(rt: HostRuntime) -> Result<(), Fail> {
@@ -167,7 +167,7 @@ fn called_by_commands<A: Adapter>(alloc: Global, adapter: A) -> Result<String, F
 }
 
 const EXECUTED: &str =
-    "Done\nDone; A5 SET Null Text(\"Emma\") -1 false\nCount(1)\nCount(1)\nDone; A5 REMOVING_ADAPTER Adapter(AdapterNo(5)) Null 0 false; A5 back, 2 told, SET -1, REMOVING_ADAPTER 0\n";
+    "Done\nDone; A5 SET Null Text(\"Emma\") -1 false\nCount(1)\nCount(1)\nDone; A5 REMOVING_ADAPTER Null Null 0 false; A5 back, 2 told, SET -1, REMOVING_ADAPTER 0\n";
 
 #[test]
 fn commands_attach_count_and_detach(rt: HostRuntime) -> Result<(), Fail> {

@@ -1,5 +1,6 @@
 //! The kinds of notifications by number and name, and a chain that gives its notifications back.
 use crate::fixtures::notices::added;
+use mm_types::AdapterNo;
 use notice_chain::{Chain, NO_INDEX, NoticeKind};
 use std::test::Fail;
 
@@ -9,7 +10,11 @@ const KINDS: [(NoticeKind, u32, &str); 7] = [
     (NoticeKind::Add, 3, "ADD"),
     (NoticeKind::Remove, 4, "REMOVE"),
     (NoticeKind::Move, 7, "MOVE"),
-    (NoticeKind::RemovingAdapter, 8, "REMOVING_ADAPTER"),
+    (
+        NoticeKind::RemovingAdapter(AdapterNo(0)),
+        8,
+        "REMOVING_ADAPTER",
+    ),
     (NoticeKind::Resolve, 9, "RESOLVE"),
 ];
 

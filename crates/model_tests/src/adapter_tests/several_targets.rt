@@ -38,8 +38,8 @@ fn state<A: Adapter>(alloc: Global, repository: &RowRepository<A>) -> Result<Str
     format!(in alloc; "{told:?} {name:?}")
 }
 
-/// Why the second book is not named, and the state after the refusal; and then, line by line, what these calls give: name it again, take
-/// the first book from adapter 6, and destroy the second book.
+/// The refusal to name the second book, and the state after it. Then, line by line, the outcomes of three calls: name the second book again,
+/// take the first book from adapter 6, and destroy the second book.
 fn calls<A: Adapter>(alloc: Global, repository: &mut RowRepository<A>) -> Result<String, Fail> {
     let refused = made(name_book(alloc, repository, 1)?).err();
     let state = state(alloc, repository)?;
@@ -74,8 +74,8 @@ fn calls_by<A: Adapter>(
 /// target.
 const CALLS: &str = "Some(Memory) [Ok(0), Ok(0), Ok(0)] Ok(One(Null))
 Done; A5 SET Null Text(\"Emma\") -1 false; A6 SET Null Text(\"Emma\") -1 false; A7 SET Null Text(\"Emma\") -1 false
-Flag(true); A6 REMOVING_ADAPTER Adapter(AdapterNo(6)) Null 1 false
-Destroyed(1); A5 REMOVING_ADAPTER Adapter(AdapterNo(5)) Null 0 false; A6 REMOVING_ADAPTER Adapter(AdapterNo(6)) Null 0 false; A7 REMOVING_ADAPTER Adapter(AdapterNo(7)) Null 0 false; A6 back, 3 told, SET -1, REMOVING_ADAPTER 1, REMOVING_ADAPTER 0";
+Flag(true); A6 REMOVING_ADAPTER Null Null 1 false
+Destroyed(1); A5 REMOVING_ADAPTER Null Null 0 false; A6 REMOVING_ADAPTER Null Null 0 false; A7 REMOVING_ADAPTER Null Null 0 false; A6 back, 3 told, SET -1, REMOVING_ADAPTER 1, REMOVING_ADAPTER 0";
 
 /// The adapters that are given back at the end: each adapter was taken from the second book, and then from the first.
 const CLOSED: &str =

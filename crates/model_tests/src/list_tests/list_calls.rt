@@ -3,7 +3,7 @@ use crate::fixtures::books::{RowRepository, object, text};
 use crate::fixtures::boxes::{LIKES, MARKS, PARTS, boxes};
 use crate::fixtures::replies::made;
 use adapters::{Adapter, Counter};
-use mm_types::{AdapterNo, FeatureNo, Node, Refused, ResourceNo, Text, Value};
+use mm_types::{FeatureNo, Node, Refused, ResourceNo, Text, Value};
 use std::alloc::{AllocError, Global};
 use std::test::Fail;
 
@@ -24,12 +24,12 @@ fn proxy(alloc: Global) -> Result<Value, AllocError> {
     Ok(Value::Proxy(Text::from_str(alloc, "a.xmi#/")?))
 }
 
-/// Why a proxy, a literal and an adapter are refused for the lists of a box.
+/// Why a proxy, a literal and a truth are refused for the lists of a box.
 fn refusals_of_type<A: Adapter>(
     alloc: Global,
     repository: &mut RowRepository<A>,
 ) -> Result<[[Option<Refused>; 2]; 3], AllocError> {
-    let (node, literal, no) = (object(0), Value::Literal, AdapterNo(0));
+    let (node, literal) = (object(0), Value::Literal);
     let (first, second) = (proxy(alloc)?, proxy(alloc)?);
     Ok([
         refusals(repository, node, PARTS, first, second),
@@ -38,8 +38,8 @@ fn refusals_of_type<A: Adapter>(
             repository,
             node,
             LIKES,
-            Value::Adapter(no),
-            Value::Adapter(no),
+            Value::Bool(true),
+            Value::Bool(true),
         ),
     ])
 }

@@ -1,6 +1,6 @@
 //! Whether a list has a value: a short list, a list of the length from which hashes are counted, and a long list.
 use crate::fixtures::values::{empty, put_many, remove, shift};
-use mm_types::{AdapterNo, ClassNo, FeatureNo, ObjectNo, Text, Value};
+use mm_types::{ClassNo, FeatureNo, ObjectNo, Text, Value};
 use mm_values::{ValueEdit, ValuePlan, Values};
 use std::alloc::{AllocError, Global};
 use std::test::Fail;
@@ -154,7 +154,6 @@ fn kinds(alloc: Global) -> Result<Vec<Value>, AllocError> {
         Value::Literal(1001),
         Value::Object(ObjectNo(1002)),
         Value::Proxy(Text::from_str(alloc, "b")?),
-        Value::Adapter(AdapterNo(1003)),
     ]?)
 }
 
@@ -168,7 +167,6 @@ fn others(alloc: Global) -> Result<Vec<Value>, AllocError> {
         Value::Literal(1000),
         Value::Object(ObjectNo(1003)),
         Value::Proxy(Text::from_str(alloc, "a")?),
-        Value::Adapter(AdapterNo(1002)),
     ]?)
 }
 
@@ -192,7 +190,7 @@ fn values_of_each_kind_are_told_apart(rt: HostRuntime) -> Result<(), Fail> {
     let mut values = filled(alloc, 100)?;
     let (there, absent) = (kinds(alloc)?, others(alloc)?);
     insert_all(&mut values, kinds(alloc)?)?;
-    assert_eq!(rt; count_there(&values, there.as_slice()), 8);
+    assert_eq!(rt; count_there(&values, there.as_slice()), 7);
     assert_eq!(rt; count_there(&values, absent.as_slice()), 0);
     Ok(())
 }

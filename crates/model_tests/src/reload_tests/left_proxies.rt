@@ -93,7 +93,7 @@ fn resolved_of<L: LinkStore>(alloc: Global, features: &str) -> Result<String, Fa
     resolved(alloc, &mut repository)
 }
 
-/// Fails unless no proxy is resolved, so many are left, and no adapter is notified.
+/// Fails unless no proxy is resolved, `left` proxies are left, and no adapter is notified.
 fn check_left<L: LinkStore>(alloc: Global, features: &str, left: u64) -> Result<(), Fail> {
     let found = resolved_of::<L>(alloc, features)?;
     let wanted = format!(in alloc; "Resolved {{ done: 0, left: {left} }}")?;

@@ -178,7 +178,7 @@ const MANY: u32 = 300;
 
 const FEW: u32 = 60;
 
-/// The saved texts of the model of so many items that a seed gives.
+/// The saved texts of the model of `items` items that a seed gives.
 fn texts_of<L: LinkStore>(alloc: Global, items: u32, seed: u32) -> Result<Vec<Text>, Fail> {
     let mut repository = network::<L>(alloc)?;
     fill(alloc, &mut repository, items, seed)?;

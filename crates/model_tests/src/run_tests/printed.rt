@@ -1,5 +1,5 @@
 //! Texts that no script can cause to be printed, and the names of faults.
-use mm_types::{AdapterNo, DocFault, Node, ObjectNo, Refused, ResourceNo, Text, Value};
+use mm_types::{DocFault, Node, ObjectNo, Refused, ResourceNo, Text, Value};
 use script_output::Output;
 use script_streams::RunFault;
 use std::alloc::{AllocError, Global};
@@ -14,11 +14,9 @@ fn is_value(alloc: Global, value: &Value, text: &str) -> Result<bool, AllocError
 }
 
 #[test]
-fn objects_and_adapters_are_printed_by_number(rt: HostRuntime) -> Result<(), Fail> {
+fn objects_are_printed_by_number(rt: HostRuntime) -> Result<(), Fail> {
     let object = Value::Object(ObjectNo(3));
     assert!(rt; is_value(rt.alloc(), &object, "= #3")?);
-    let adapter = Value::Adapter(AdapterNo(7));
-    assert!(rt; is_value(rt.alloc(), &adapter, "= A7")?);
     Ok(())
 }
 

@@ -1,9 +1,9 @@
 //! Capacity for edits, which is reserved before they are made.
 ghost use Rattle.std.specs.Prelude.{◌≡◌, true, ℕ, [], ◌∷◌, IfOk, OnOk, Some};
+ghost use Rattle.links.specs.declared.plan.Edit.TheVariants as edit;
 ghost use Rattle.mm_types.specs.Same.{same_end};
 ghost use Rattle.mm_types.specs.declared.numbers.Node.{Node};
 ghost use Rattle.mm_types.specs.declared.numbers.Node.TheVariants as node;
-ghost use Rattle.links.specs.Plans.{put_edit};
 ghost use Rattle.node_slots.specs.Cells.{cells, room, row_index_of};
 ghost use Rattle.node_slots.specs.Growth.{HasGained, HasRoom, Takes, entry, far_gain, gain, lone_entry, no_ends, no_values, one_if};
 
@@ -77,17 +77,11 @@ impl NodeSlots {
     {
         match edit {
             Edit::PutProxy { end, .. } if !is_done => self.forget(*end),
-            Edit::Put {
-                end,
-                object,
-                opposite,
-                container: _,
-                ..
-            } => {
+            Edit::Put(link) => {
                 if !is_done {
-                    self.forget(*end);
+                    self.forget(link.end);
                 }
-                self.forget_far(*object, *opposite);
+                self.forget_far(link.object, link.opposite);
             }
             _ => {}
         }
@@ -106,8 +100,7 @@ impl NodeSlots {
         }
     }
 
-    /// The index of the row of a node, which is made if there is none. Errs only if memory is refused; no value changes, and no row
-    /// is moved.
+    /// The index of the row of a node; makes the row if there is none. Fails only if memory is refused. Changes no value and moves no row.
     fn make_row(&mut self, node: Node) -> Result<usize, AllocError>
         ensures cells { cells self.new ≡ cells self.old }
         ensures room { HasGained no_values no_ends (room self.old) (room self.new) }
@@ -189,22 +182,17 @@ impl NodeSlots {
         ensures takes { OnOk result (Takes (room self.new) edit.now) }
     {
         match edit {
-            Edit::Put {
-                end,
-                object,
-                opposite,
-                ..
-            } => {
-                self.promise(*end, false)?;
-                self.promise_far(*object, *opposite)
+            Edit::Put(link) => {
+                self.promise(link.end, false)?;
+                self.promise_far(link.object, link.opposite)
             }
             Edit::PutProxy { end, .. } => self.promise(*end, true),
             _ => Ok(()),
         }
     }
 
-    /// Reserves capacity for a plan, in place of the capacity that was reserved for an earlier plan at the same ends. Errs only if memory
-    /// is refused; no value changes.
+    /// Reserves capacity for a plan, in place of the capacity that was reserved for an earlier plan at the same ends. Fails only if memory
+    /// is refused. Changes no value.
     pub fn reserve_for(&mut self, plan: &Plan) -> Result<(), AllocError>
         ensures cells { cells self.new ≡ cells self.old }
         ensures ok { OnOk result (HasRoom (room self.new) plan.now) }
@@ -218,12 +206,12 @@ impl NodeSlots {
     }
 
     /// Reserves capacity for one link, in addition to the capacity that was reserved before, and returns the indexes of the rows of both
-    /// nodes. Errs only if memory is refused; no value changes.
+    /// nodes. Fails only if memory is refused; no value changes.
     pub fn reserve_put(&mut self, link: NewLink) -> Result<PutPlaces, AllocError>
         ensures cells { cells self.new ≡ cells self.old }
         ensures near { IfOk result (λ p. row_index_of self.new link.end.node ≡ Some p.near) }
         ensures far { IfOk result (λ p. row_index_of self.new (node.Object link.object) ≡ Some p.far) }
-        ensures room { OnOk result (HasRoom (room self.new) (put_edit link ∷ [])) }
+        ensures room { OnOk result (HasRoom (room self.new) (edit.Put link ∷ [])) }
     {
         let near = self.make_row(link.end.node)?;
         let far = self.make_row(Node::Object(link.object))?;

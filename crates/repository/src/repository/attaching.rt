@@ -70,8 +70,9 @@ impl<L: LinkStore, A: Adapter> Repository<L, A> {
         Ok(reply(self.alloc, Answer::Flag(added)))
     }
 
-    /// Takes one target from an adapter: it is notified with REMOVING_ADAPTER, its last notification from there, and is given back if that
-    /// was its last target (EMF: Notifier.eAdapters().remove). If the node is no target of it, returns false and no adapter is notified.
+    /// Takes one target from an adapter. The adapter is notified of REMOVING_ADAPTER, its last notification from that target, and is given
+    /// back if that was its last target (EMF: Notifier.eAdapters().remove). If the node is no target of the adapter, returns false and
+    /// notifies no adapter.
     ///
     /// Refused, the first that applies: `NoObject`, `NoResource`, `NoAdapter` if the number is not attached, `Memory`.
     pub fn unwatch(&mut self, no: AdapterNo, target: Node) -> Result<Reply<A>, Refused>

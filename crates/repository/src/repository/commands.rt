@@ -109,8 +109,8 @@ impl<L: LinkStore, A: Adapter> Repository<L, A> {
         }
     }
 
-    /// Does commands one after another, and goes on after a refused one. If there is no memory for their outcomes, the
-    /// commands are given back, and none was done.
+    /// Does commands one after another, and goes on after a refused command. If there is no memory for their outcomes, the commands are
+    /// given back, and none of them was done.
     pub fn run_all(
         &mut self,
         commands: Vec<Command<A>>,

@@ -1,6 +1,5 @@
 //! Reads of objects and their values.
 ghost use Rattle.std.specs.Prelude.{◌≡◌, false, unwrap_or, ok_or, option_map, Ok, IfOk, IfErr};
-ghost use Rattle.change_plans.specs.Plans.{is_memory_refusal};
 ghost use Rattle.mm_types.specs.declared.refused.Refused.TheVariants.{NoObject};
 ghost use Rattle.mm_types.specs.declared.value.Value.TheVariants.{Null};
 ghost use Rattle.models.specs.Found.{found_value};
@@ -10,6 +9,7 @@ ghost use Rattle.repository.specs.Reads.{IsValueRefusal};
 ghost use Rattle.repository.specs.Run.{Executed, read_outcome};
 ghost use Rattle.repository.specs.State.{reads};
 ghost use Rattle.repository.specs.declared.reply.Answer.TheVariants as answer;
+ghost use Rattle.mm_types.specs.Conditions.{is_memory_refusal};
 
 use super::Repository;
 use crate::reply::FeatureValue;

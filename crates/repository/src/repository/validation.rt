@@ -37,7 +37,7 @@ impl<L: LinkStore, A: Adapter> Repository<L, A> {
     }
 }
 
-/// The features of an object that have too few values, in the order of all features. Errs only if memory is refused.
+/// The features of an object that have too few values, in the order of all features. Fails only if memory is refused.
 fn short_features<L: LinkStore>(
     alloc: Global,
     model: &ModelRef<L>,

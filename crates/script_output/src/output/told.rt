@@ -1,13 +1,13 @@
 //! What is printed of adapters: their notifications, and the counts of these.
 ghost use Rattle.std.specs.Prelude.{◌≡◌, ◌++◌, ◌∷◌, [], OnOk};
 ghost use Rattle.script_lines.specs.declared.grammar.TheConstants.{NEWLINE};
-ghost use Rattle.script_output.specs.Notified.{change_text, counts_text, notice_text, end_text, released_text, report_text, seen_text, told_value_text, values_text};
+ghost use Rattle.script_output.specs.Notified.{change_text, counts_text, notice_text, end_text, released_text, report_text, seen_text, text_before, told_value_text, values_text};
 
 use super::Output;
 use crate::names::{feature_name, literal_name};
 use mm_meta::Meta;
 use mm_types::{AdapterNo, Value};
-use notice_chain::Notice;
+use notice_chain::{Notice, NoticeKind};
 use script_lines::grammar::{NEWLINE, SPACE};
 use std::alloc::AllocError;
 
@@ -37,10 +37,20 @@ impl Output {
         }
     }
 
+    /// Adds the value before the change, or the adapter that is removed.
+    fn told_before(&mut self, meta: &Meta, notice: &Notice) -> Result<(), AllocError>
+        ensures ok { OnOk result (self.new ≡ self.old ++ text_before notice.now.kind (told_value_text meta.now notice.now notice.now.old_value)) }
+    {
+        match notice.kind {
+            NoticeKind::RemovingAdapter(no) => self.adapter(no),
+            _ => self.told_value(meta, notice, &notice.old_value),
+        }
+    }
+
     fn told_values(&mut self, meta: &Meta, notice: &Notice) -> Result<(), AllocError>
         ensures ok { OnOk result (self.new ≡ self.old ++ values_text meta.now notice.now) }
     {
-        self.told_value(meta, notice, &notice.old_value)?;
+        self.told_before(meta, notice)?;
         self.byte(SPACE)?;
         self.told_value(meta, notice, &notice.new_value)?;
         self.byte(SPACE)?;

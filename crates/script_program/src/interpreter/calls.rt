@@ -36,7 +36,7 @@ fn outcome_of<A>(reply: Result<Reply<A>, Refused>) -> Result<Reply<A>, Failure<A
 impl<L: LinkStore, A: Adapter> Interpreter<L, A> {
     /// Reads how many values a list has, and returns how the read is counted. From then on the text is the number, or the refusal.
     ///
-    /// Errs only if memory is refused for the text.
+    /// Fails only if memory is refused for the text.
     pub fn list_len(&mut self, node: Node, feature: &str) -> Result<Turn, AllocError>
         ensures kept { session self.new.repository self.new.pool ≡ session self.old.repository self.old.pool }
         ensures text { IfOk result (λ t. printed_line self.new.output t ≡ list_len_printed self.old.repository node feature.now) }
@@ -59,7 +59,7 @@ impl<L: LinkStore, A: Adapter> Interpreter<L, A> {
     /// Reads the value at an index of a list, and returns how the read is counted. From then on the text is the value, as `get` prints one,
     /// or the refusal.
     ///
-    /// Errs only if memory is refused for the text.
+    /// Fails only if memory is refused for the text.
     pub fn list_value(&mut self, node: Node, feature: &str, index: u32) -> Result<Turn, AllocError>
         ensures kept { session self.new.repository self.new.pool ≡ session self.old.repository self.old.pool }
         ensures text { IfOk result (λ t. printed_line self.new.output t ≡ list_value_printed self.old.repository node feature.now index) }
@@ -86,7 +86,7 @@ impl<L: LinkStore, A: Adapter> Interpreter<L, A> {
     /// Loads a document into a resource, as a line with `load` does, but from bytes of any length, newlines among them. From then on the
     /// text is its output.
     ///
-    /// Errs only if memory is refused for the text; then no contract determines the state of the interpreter.
+    /// Fails only if memory is refused for the text; then no contract determines the state of the interpreter.
     pub fn load(&mut self, resource: ResourceNo, document: &[u8]) -> Result<Turn, AllocError>
         ensures { IfOk result (λ t. RunsCommand (session self.old.repository self.old.pool) (Load resource document.now) (printed_line self.new.output t)
             (session self.new.repository self.new.pool)) }

@@ -1,7 +1,10 @@
 use Rattle.std.proofs.Common.{sym, subst, ◌∙◌, ◌≤◌, ℕ}
 use Rattle.models.specs.Model.{reading}
-use Rattle.proxies.proofs.TargetLemmas.{first-found, first-lacking}
+use Rattle.proxies.proofs.TargetLemmas.{first-found, first-lacking, none-leads}
 use Rattle.proxies.proofs.resolving.first_to.Goals as goal
+
+pub loop-index-init : goal.loop-index-init
+loop-index-init g c = none-leads (reading c.args.model.now) c.args.node c.args.end c.proxy_start-index.result c.proxy_start-index.ensures
 
 pub returns-then-branch : goal.returns-then-branch
 returns-then-branch g c =

@@ -1,11 +1,13 @@
-use Rattle.std.proofs.Common.{◌∙◌, ap}
-use Rattle.std.specs.Prelude.{unwrap_or}
+use Rattle.std.proofs.Common.{◌∙◌, [], ap, is_some}
+use Rattle.std.proofs.lemmas.Option.{same_Some}
 use Rattle.std.proofs.lemmas.Result.{err_from_is_err_and}
 use Rattle.models.specs.Model.{reading}
-use Rattle.repository.proofs.LeavingLemmas.{spots-found, whole-answer}
+use Rattle.repository.specs.Answers.{is_answered_late}
+use Rattle.repository.proofs.LeavingLemmas.{answer-planned, found-early, found-late, spots-found}
 use Rattle.repository.proofs.LoadLemmas.{proper-read}
 use Rattle.repository.proofs.PlanLemmas.{plan_refusal}
 use Rattle.repository.proofs.preparing.prepare.Goals as goal
+use Rattle.repository.proofs.preparing.prepare.Goals.{in-None, in-Some}
 
 pub plan-requires-clause-read : goal.plan-requires-clause-read
 plan-requires-clause-read g c = proper-read (reading c.args.model.now) c.requires.proper.0 c.args.change c.requires.proper.1
@@ -15,13 +17,23 @@ returns-in_err-planned-clause-refused g c =
     let p = err_from_is_err_and c.from_residual-in_err-planned.result c.from_residual-in_err-planned.ensures.1 in
     rw (p.1, p.2) (plan_refusal c.args.model.now c.args.change _ c.in_err-planned.ensures)
 
-pub returns-clause-answer : goal.returns-clause-answer
-returns-clause-answer g c = λ rs text proper.
-    c.unwrap_or.ensures ∙ ap (unwrap_or c.in_ok-answer.answer) c.planned_answer.ensures
-    ∙ whole-answer (reading c.args.model.now) rs text c.args.change _ _ _ _ (c.in_ok-answer.ensures rs text proper) c.in_ok-planned.ensures.allowed c.in_ok-planned.ensures.removed c.in_ok-planned.ensures.found c.in_ok-planned.ensures.resolved
-
 pub spots_gone-requires : goal.spots_gone-requires
 spots_gone-requires g c = (reading c.args.model.now, c.in_ok-planned.ensures.removed.found)
 
 pub returns-clause-spots : goal.returns-clause-spots
 returns-clause-spots g c = c.in_ok-spots.ensures ∙ spots-found (reading c.args.model.now) c.args.change _ c.args.adapters.now.0 c.in_ok-planned.ensures.removed
+
+pub planned_answer-answer-requires : goal.planned_answer-answer-requires
+planned_answer-answer-requires g c =
+    let plan = c.in_ok-planned.ensures in
+    let late = found-late (is_answered_late c.args.change) _ _ (c.in_ok-early.ensures [] c.requires.proper.0 c.requires.proper.1) c.in-None.is in
+    record { found = ap is_some (answer-planned (reading c.args.model.now) [] c.requires.proper.0 c.args.change c.in_ok-planned.planned.finding late plan.allowed plan.removed plan.found plan.resolved) }
+
+pub returns-clause-answer : goal.returns-clause-answer
+returns-clause-answer g c = λ rs text proper.
+    let early = c.in_ok-early.ensures rs text proper in
+    let plan = c.in_ok-planned.ensures in
+    elim c.match-early-7.branch [
+      | in-Some w ↦ w.answer-is ∙ found-early (is_answered_late c.args.change) _ _ _ early w.in-Some.is
+      | in-None w ↦ w.answer-is ∙ same_Some _ _ (w.planned_answer-answer.ensures ∙ answer-planned (reading c.args.model.now) rs text c.args.change c.in_ok-planned.planned.finding (found-late (is_answered_late c.args.change) _ _ early w.in-None.is) plan.allowed plan.removed plan.found plan.resolved)
+    ]

@@ -1,16 +1,10 @@
 use Rattle.std.proofs.Common.{◌∙◌}
 use Rattle.std.proofs.lemmas.Result.{err_from_is_err_and}
 use Rattle.models.specs.Model.{reading}
-use Rattle.repository.specs.declared.reply.Answer.TheVariants as answer
 use Rattle.repository.proofs.PlanLemmas.{plan_refusal}
-use Rattle.repository.proofs.ValueLemmas.{early-whole-link}
 use Rattle.repository.proofs.preparing.prepare_links.Goals as goal
 
 pub returns-in_err-edits-clause-refused : goal.returns-in_err-edits-clause-refused
 returns-in_err-edits-clause-refused g c =
     let p = err_from_is_err_and c.from_residual-in_err-edits.result c.from_residual-in_err-edits.ensures.1 in
     rw (p.1, p.2) (plan_refusal c.args.model.now c.args.change.now _ (λ _. c.in_err-edits.ensures.refused))
-
-pub returns-clause-answer : goal.returns-clause-answer
-returns-clause-answer g c = λ rs text proper.
-    c.unwrap_or.ensures ∙ early-whole-link (reading c.args.model.now) rs text c.args.change.now c.in_ok-answer.answer answer.Done c.requires.links (c.in_ok-answer.ensures rs text proper)

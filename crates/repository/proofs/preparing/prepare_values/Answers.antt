@@ -2,19 +2,13 @@ use Rattle.std.proofs.Common.{◌∙◌}
 use Rattle.std.proofs.lemmas.Result.{err_from_is_err_and}
 use Rattle.models.specs.Model.{reading}
 use Rattle.change_plans.proofs.ValueLemmas.{values-planned}
-use Rattle.repository.specs.declared.reply.Answer.TheVariants as answer
 use Rattle.repository.proofs.PlanLemmas.{plan_refusal}
-use Rattle.repository.proofs.ValueLemmas.{early-whole}
 use Rattle.repository.proofs.preparing.prepare_values.Goals as goal
 
 pub returns-in_err-values-clause-refused : goal.returns-in_err-values-clause-refused
 returns-in_err-values-clause-refused g c =
     let p = err_from_is_err_and c.from_residual-in_err-values.result c.from_residual-in_err-values.ensures.1 in
     rw (p.1, p.2) (plan_refusal c.args.model.now c.args.change _ (λ _. c.in_err-values.ensures.refused))
-
-pub returns-clause-answer : goal.returns-clause-answer
-returns-clause-answer g c = λ rs text proper.
-    c.unwrap_or.ensures ∙ early-whole (reading c.args.model.now) rs text c.args.change c.in_ok-answer.answer answer.Done c.requires.values (c.in_ok-answer.ensures rs text proper)
 
 pub returns-clause-planned : goal.returns-clause-planned
 returns-clause-planned g c = values-planned c.args.is_heard c.args.model.now c.args.change _ _ c.requires.values c.lemma_is_legal.ensures c.requires.asked c.in_ok-values.ensures.allowed c.in_ok-values.ensures.values c.in_ok-values.ensures.chain

@@ -7,13 +7,13 @@ use Rattle.slot_store.proofs.RoomLemmas.{far_row, held_row, near_row, proxy_row}
 use Rattle.slot_store.proofs.edits.edit_rows.Goals as goal
 
 pub places_of-places-requires-clause-near : goal.places_of-places-requires-clause-near
-places_of-places-requires-clause-near c = near_row c.args.rows.now c.in-Put.end c.in-Put.index c.in-Put.object c.in-Put.opposite c.in-Put.container (subst (λ (x : Edit). HasRoom (room c.args.rows.now) (x ∷ [])) c.in-Put.is c.requires.room)
+places_of-places-requires-clause-near c = near_row c.args.rows.now c.in-Put.link.end c.in-Put.link.index c.in-Put.link.object c.in-Put.link.opposite c.in-Put.link.container (subst (λ (x : Edit). HasRoom (room c.args.rows.now) (x ∷ [])) c.in-Put.is c.requires.room)
 
 pub places_of-places-requires-clause-far : goal.places_of-places-requires-clause-far
-places_of-places-requires-clause-far c = far_row c.args.rows.now c.in-Put.end c.in-Put.index c.in-Put.object c.in-Put.opposite c.in-Put.container (subst (λ (x : Edit). HasRoom (room c.args.rows.now) (x ∷ [])) c.in-Put.is c.requires.room)
+places_of-places-requires-clause-far c = far_row c.args.rows.now c.in-Put.link.end c.in-Put.link.index c.in-Put.link.object c.in-Put.link.opposite c.in-Put.link.container (subst (λ (x : Edit). HasRoom (room c.args.rows.now) (x ∷ [])) c.in-Put.is c.requires.room)
 
 pub put-requires-clause-held : goal.put-requires-clause-held
-put-requires-clause-held c = held_row c.args.rows.now c.args.edit c.in-Put.end c.in-Put.index c.in-Put.object c.in-Put.opposite c.in-Put.container c.in-Put.is c.requires.room
+put-requires-clause-held c = held_row c.args.rows.now c.args.edit c.in-Put.link.end c.in-Put.link.index c.in-Put.link.object c.in-Put.link.opposite c.in-Put.link.container c.in-Put.is c.requires.room
 
 pub row_index-row_index-requires : goal.row_index-row_index-requires
 row_index-row_index-requires c = proxy_row c.args.rows.now c.in-PutProxy.end c.in-PutProxy.index c.in-PutProxy.text (subst (λ (x : Edit). HasRoom (room c.args.rows.now) (x ∷ [])) c.in-PutProxy.is c.requires.room)

@@ -1,4 +1,5 @@
 use Rattle.std.proofs.Common.{◌≡◌, ◌∙◌, Bool, [], ◌∷◌, None, false, refl, sym, ap, subst}
+use Rattle.links.specs.declared.plan.Edit.TheVariants as edit
 use Rattle.std.specs.FinMap as map
 use Rattle.std.specs.Prelude.{if◌then◌else◌}
 use Rattle.mm_values.specs.Room.{values_of}
@@ -6,7 +7,6 @@ use Rattle.adapter_list.specs.Hearing.{AreKnown}
 use Rattle.links.specs.Holders.{above}
 use Rattle.links.specs.Laws.{touches_containment}
 use Rattle.links.specs.Links.{Links}
-use Rattle.links.specs.Plans.{put_edit}
 use Rattle.models.specs.Legal as models
 use Rattle.models.specs.Legal.{kinds_of}
 use Rattle.models.specs.Model.{Model, model_of, reading}
@@ -96,9 +96,9 @@ invariant_of-self-2 g c =
     let made : model_of m v new ≡ model_after s.model change = λ i. model_of m (plan.values_made i) (links i) in
     let legal = stepped-legal _ _ (command_of [] change) _ (subst IsLegal c.self.view_is c.self.invariant.legal) (returns g c change c.requires.alone.1 c.requires.alone.2) in
     let legal_after = subst (λ (l : Links). models.IsLegal (model_of m v l)) is legal.model in
-    let kept = kept-after m v v old (put_edit put ∷ []) c.self.invariant.legal.model legal_after plan.fits plan.of_kind c.self.inside.paths c.self.invariant.paths in
+    let kept = kept-after m v v old (edit.Put put ∷ []) c.self.invariant.legal.model legal_after plan.fits plan.of_kind c.self.inside.paths c.self.invariant.paths in
     let forgets : Bool → Kept = λ b. if b then map.empty else c.self.inside.paths in
-    let paths : c.forget_put.new.paths ≡ forgets (touches_containment (kinds_of m) (put_edit put ∷ [])) = c.forget_put.ensures.paths ∙ ap forgets (sym (put-touches (kinds_of m) put plan.of_kind.0)) in
+    let paths : c.forget_put.new.paths ≡ forgets (touches_containment (kinds_of m) (edit.Put put ∷ [])) = c.forget_put.ensures.paths ∙ ap forgets (sym (put-touches (kinds_of m) put plan.of_kind.0)) in
     record {
       legal = legal;
       steady = subst HasSteadyTexts (sym made) (change-keeps-steady s.model change c.self.invariant.steady (proper-steady (reads s) [] change alone.proper));
@@ -106,5 +106,5 @@ invariant_of-self-2 g c =
       paths = subst (λ (l : Links). KeepsFragments (reading (model_of m v l)) c.forget_put.new.paths) (sym is) (subst (KeepsFragments (reading (model_of m v _))) (sym paths) kept);
       hearers = c.forget_put.ensures.hearers (above new) c.self.inside.adapters.0 (λ apart.
           subst (λ (l : Links). AreKnown (above l) c.self.inside.adapters.0 c.self.inside.hearers) (sym is)
-          (hearers-after m v v old (put_edit put ∷ []) c.self.invariant.legal.model legal_after plan.fits plan.of_kind c.self.inside.adapters.0 c.self.inside.hearers c.self.invariant.hearers (put-touches (kinds_of m) put plan.of_kind.0 ∙ apart)));
+          (hearers-after m v v old (edit.Put put ∷ []) c.self.invariant.legal.model legal_after plan.fits plan.of_kind c.self.inside.adapters.0 c.self.inside.hearers c.self.invariant.hearers (put-touches (kinds_of m) put plan.of_kind.0 ∙ apart)));
     }
