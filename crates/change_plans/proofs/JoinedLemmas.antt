@@ -18,7 +18,8 @@ use Rattle.mm_types.specs.declared.value.Value.{Value}
 use Rattle.mm_types.specs.declared.value.Value.TheVariants as value
 use Rattle.links.specs.Links.{text_of}
 use Rattle.models.specs.Reading.{at_end}
-use Rattle.proxies.specs.Keys.{key, key_of, same_key}
+use Rattle.proxies.specs.Keys.{key_of}
+use Rattle.models.specs.ReferenceKeys.{reference_key, same_reference_key}
 use Rattle.proxies.specs.Proxies.{end_of}
 use Rattle.proxies.specs.ResolvingAll.{ends_after_replace}
 use Rattle.proxies.specs.declared.site.ProxySite.{ProxySite}
@@ -32,10 +33,10 @@ and-from : (a b c : Bool) → a ≡ true → b ≡ true → c ≡ true → (a &&
 and-from a b c x y z = λ i. x i && (y i && z i)
 
 -- the same position has the same key
-pub key-self : (p : ProxySite) → same_key (key_of p) (key_of p) ≡ true
+pub key-self : (p : ProxySite) → same_reference_key (key_of p) (key_of p) ≡ true
 key-self p = and-from _ _ _ (eq-self p.object.0) (eq-self p.feature.0) (eq-self p.index)
 
-site-is : (p q : ProxySite) → same_key (key_of p) (key_of q) ≡ true → p ≡ q
+site-is : (p q : ProxySite) → same_reference_key (key_of p) (key_of q) ≡ true → p ≡ q
 site-is p q h =
     let one = and_parts (nat_eq p.object.0 q.object.0) _ h in
     let two = and_parts (nat_eq p.feature.0 q.feature.0) _ one.1 in
@@ -45,7 +46,7 @@ site-is p q h =
     λ i. record { object = record { 0 = object i }; feature = record { 0 = feature i }; index = index i }
 
 -- locations at one end with the same index have the same key
-key-from : (p q : ProxySite) → same_end (end_of q) (end_of p) ≡ true → p.index ≡ q.index → same_key (key_of p) (key_of q) ≡ true
+key-from : (p q : ProxySite) → same_end (end_of q) (end_of p) ≡ true → p.index ≡ q.index → same_reference_key (key_of p) (key_of q) ≡ true
 key-from p q same index =
     let both = and_parts (nat_eq q.object.0 p.object.0) _ same in
     and-from _ _ _ (eq-swap q.object.0 p.object.0 both.0) (eq-swap q.feature.0 p.feature.0 both.1) (ap (λ (n : ℕ). nat_eq n q.index) index ∙ eq-self q.index)
@@ -76,7 +77,7 @@ module _ (ends : End → List Value) (q : ProxySite) (o : ObjectNo) (t : List �
       ap (λ (b : Bool). is_some (option_and_then text_of (slice_get (if b then slice_set (ends (end_of q)) q.index (value.Object o) else ends (end_of q)) q.index))) end-self
       ∙ ap (λ (x : Option Value). is_some (option_and_then text_of x)) at-site
 
-  still-there : (p : ProxySite) → same_key (key_of p) (key_of q) ≡ false → slice_get (ends_after_replace ends (end_of q) q.index (value.Object o) (end_of p)) p.index ≡ slice_get (ends (end_of p)) p.index
+  still-there : (p : ProxySite) → same_reference_key (key_of p) (key_of q) ≡ false → slice_get (ends_after_replace ends (end_of q) q.index (value.Object o) (end_of p)) p.index ≡ slice_get (ends (end_of p)) p.index
   still-there p other =
       elim (same_end (end_of q) (end_of p)) as (λ b. same_end (end_of q) (end_of p) ≡ b → slice_get (if b then slice_set (ends (end_of p)) q.index (value.Object o) else ends (end_of p)) p.index ≡ slice_get (ends (end_of p)) p.index) [
         | true ↦ λ same.
@@ -89,9 +90,9 @@ module _ (ends : End → List Value) (q : ProxySite) (o : ObjectNo) (t : List �
       ] refl
 
   -- the proxies that were there are still there, except the one that is replaced
-  pub proxy-ends_after_replace : (p : ProxySite) → is_proxy_in (ends_after_replace ends (end_of q) q.index (value.Object o)) p ≡ (is_proxy_in ends p && not (same_key (key_of p) (key_of q)))
+  pub proxy-ends_after_replace : (p : ProxySite) → is_proxy_in (ends_after_replace ends (end_of q) q.index (value.Object o)) p ≡ (is_proxy_in ends p && not (same_reference_key (key_of p) (key_of q)))
   proxy-ends_after_replace p =
-      elim (same_key (key_of p) (key_of q)) as (λ b. same_key (key_of p) (key_of q) ≡ b → is_proxy_in (ends_after_replace ends (end_of q) q.index (value.Object o)) p ≡ (is_proxy_in ends p && not b)) [
+      elim (same_reference_key (key_of p) (key_of q)) as (λ b. same_reference_key (key_of p) (key_of q) ≡ b → is_proxy_in (ends_after_replace ends (end_of q) q.index (value.Object o)) p ≡ (is_proxy_in ends p && not b)) [
         | true ↦ λ same. subst (λ (y : ProxySite). is_proxy_in after y ≡ (is_proxy_in ends y && false)) (sym (site-is p q same)) (gone-here ∙ sym (and-false (is_proxy_in ends q)))
         | false ↦ λ other. ap (λ (x : Option Value). is_some (option_and_then text_of x)) (still-there p other) ∙ sym (and-true (is_proxy_in ends p))
       ] refl
@@ -125,13 +126,13 @@ has-set (v ∷ vs) (suc i) w b t at = ap (λ (c : Bool). same_value (value.Objec
 
 -- the objects that were at an end are still there, and so is the new one
 pub has-ends_after_replace : (ends : End → List Value) (q : ProxySite) (w : ObjectNo) (t : List ℕ) → slice_get (ends (end_of q)) q.index ≡ Some (value.Proxy t) → (o : ObjectNo) (f : FeatureNo) (b : ObjectNo)
-    → has_value (ends_after_replace ends (end_of q) q.index (value.Object w) (at_end (node.Object o) f)) (value.Object b) ≡ (has_value (ends (at_end (node.Object o) f)) (value.Object b) || same_key (key o f b.0) (key q.object q.feature w.0))
+    → has_value (ends_after_replace ends (end_of q) q.index (value.Object w) (at_end (node.Object o) f)) (value.Object b) ≡ (has_value (ends (at_end (node.Object o) f)) (value.Object b) || same_reference_key (reference_key o f b.0) (reference_key q.object q.feature w.0))
 has-ends_after_replace ends q w t there o f b =
     let d = at_end (node.Object o) f in
-    elim (same_end (end_of q) d) as (λ c. same_end (end_of q) d ≡ c → has_value (if c then slice_set (ends d) q.index (value.Object w) else ends d) (value.Object b) ≡ (has_value (ends d) (value.Object b) || same_key (key o f b.0) (key q.object q.feature w.0))) [
+    elim (same_end (end_of q) d) as (λ c. same_end (end_of q) d ≡ c → has_value (if c then slice_set (ends d) q.index (value.Object w) else ends d) (value.Object b) ≡ (has_value (ends d) (value.Object b) || same_reference_key (reference_key o f b.0) (reference_key q.object q.feature w.0))) [
       | true ↦ λ same.
           let both = and_parts (nat_eq q.object.0 o.0) _ same in
-          let mine : same_key (key o f b.0) (key q.object q.feature w.0) ≡ nat_eq b.0 w.0 = (λ i. eq-swap q.object.0 o.0 both.0 i && (eq-swap q.feature.0 f.0 both.1 i && nat_eq b.0 w.0)) in
+          let mine : same_reference_key (reference_key o f b.0) (reference_key q.object q.feature w.0) ≡ nat_eq b.0 w.0 = (λ i. eq-swap q.object.0 o.0 both.0 i && (eq-swap q.feature.0 f.0 both.1 i && nat_eq b.0 w.0)) in
           has-set (ends d) q.index w b t (subst (λ (y : End). slice_get (ends y) q.index ≡ Some (value.Proxy t)) (same_end-true (end_of q) d same) there)
           ∙ ap (λ (c : Bool). has_value (ends d) (value.Object b) || c) (sym mine)
       | false ↦ λ other. sym (ap (λ (c : Bool). has_value (ends d) (value.Object b) || c) (key-apart other) ∙ or-false (has_value (ends d) (value.Object b)))
@@ -146,7 +147,7 @@ has-ends_after_replace ends q w t there o f b =
     parted true false z h = refl
     parted false y z h = refl
 
-    key-apart : same_end (end_of q) (at_end (node.Object o) f) ≡ false → same_key (key o f b.0) (key q.object q.feature w.0) ≡ false
+    key-apart : same_end (end_of q) (at_end (node.Object o) f) ≡ false → same_reference_key (reference_key o f b.0) (reference_key q.object q.feature w.0) ≡ false
     key-apart other = parted (nat_eq o.0 q.object.0) (nat_eq f.0 q.feature.0) (nat_eq b.0 w.0) (λ x y. false≢true (sym other ∙ (λ i. eq-swap o.0 q.object.0 x i && eq-swap f.0 q.feature.0 y i)))
 
 ---------------------------------------------------------------- positions

@@ -27,7 +27,8 @@ use Rattle.fragment_paths.specs.Finding.{at, found_by as fragment_found}
 use Rattle.handshake.specs.Edits.{edits_of}
 use Rattle.handshake.specs.Effects.{with_resolution}
 use Rattle.change_plans.specs.Joining.{IsProgress, counterpart_by, found_by, target_by, unless_refused}
-use Rattle.proxies.specs.Keys.{has, key, key_of}
+use Rattle.proxies.specs.Keys.{has, key_of}
+use Rattle.models.specs.ReferenceKeys.{reference_key}
 use Rattle.proxies.specs.Leads.{first_index, index_at, lead, leads}
 use Rattle.proxies.specs.Proxies.{end_of, is_proxy_site}
 use Rattle.proxies.specs.Refusals.{is_mistyped, is_there_already, resolve_refusal, target_refusal}
@@ -35,7 +36,7 @@ use Rattle.proxies.specs.Resolving.{counterpart, first_to, is_unmatched, leads_t
 use Rattle.proxies.specs.ResolvingAll.{left_by, resolutions, resolved_to, values_left}
 use Rattle.handshake.specs.FeatureChanges.{resolution_told}
 use Rattle.change_plans.specs.declared.joining.Progress.{Progress}
-use Rattle.proxies.specs.declared.keys.Key.{Key}
+use Rattle.models.specs.declared.reference_key.ReferenceKey.{ReferenceKey}
 use Rattle.proxies.specs.declared.lead.FirstLeads.{FirstLeads}
 use Rattle.proxies.specs.declared.site.ProxySite.{ProxySite}
 use Rattle.proxies.specs.declared.resolved_proxy.Counterpart.{Counterpart}
@@ -160,19 +161,19 @@ module _ (s : Model) (legal : IsLegal s) (ps : List ProxySite) where
           positions-alike (leads_to now (node.Object p.object)) back (now.values far) (r.values far) (follows.long far)
           (λ j. alike j (slice_get (r.values far) j) (slice_get (now.values far) j) refl (follows.each far j))
 
-    module _ (f : FirstLeads) (table : (k : Key) → index_at f k ≡ first_index (leads (reading s)) k) where
+    module _ (f : FirstLeads) (table : (k : ReferenceKey) → index_at f k ≡ first_index (leads (reading s)) k) where
       counterpart-same : counterpart now e o ≡ counterpart_by r f p o
       counterpart-same =
           let at_far : End → Option ℕ → Option Counterpart = λ d q. option_map (λ j. record { end = d; index = j }) q in
-          elim (shape s.metamodel p.feature).opposite as (λ q. (shape s.metamodel p.feature).opposite ≡ q → option_and_then (first_to now e.node) (option_map (far_end o) q) ≡ option_and_then (λ d. at_far d (index_at f (key o d.feature p.object.0))) (option_map (far_end o) q)) [
+          elim (shape s.metamodel p.feature).opposite as (λ q. (shape s.metamodel p.feature).opposite ≡ q → option_and_then (first_to now e.node) (option_map (far_end o) q) ≡ option_and_then (λ d. at_far d (index_at f (reference_key o d.feature p.object.0))) (option_map (far_end o) q)) [
             | None ↦ λ _. refl
             | Some g ↦ λ opposite.
-                ap (at_far (far_end o g)) (first-alike g opposite ∙ sym (first-is s legal o g (far-reference s.metamodel legal.metamodel p.feature g opposite) p.object) ∙ sym (table (key o g p.object.0)))
+                ap (at_far (far_end o g)) (first-alike g opposite ∙ sym (first-is s legal o g (far-reference s.metamodel legal.metamodel p.feature g opposite) p.object) ∙ sym (table (reference_key o g p.object.0)))
           ] refl
 
   ---------------------------------------------------------------- what it is resolved to
 
-  module _ (g : Progress) (known : IsProgress (reading s) ps g) (f : FirstLeads) (table : (k : Key) → index_at f k ≡ first_index (leads (reading s)) k) (p : ProxySite) (proxy : is_proxy_site (reading s) p ≡ true) where
+  module _ (g : Progress) (known : IsProgress (reading s) ps g) (f : FirstLeads) (table : (k : ReferenceKey) → index_at f k ≡ first_index (leads (reading s)) k) (p : ProxySite) (proxy : is_proxy_site (reading s) p ≡ true) where
     abbrev here : End
     here = end_of p
 
@@ -202,7 +203,7 @@ module _ (s : Model) (legal : IsLegal s) (ps : List ProxySite) where
         let is_gone = gone-true (is_proxy_site now p) (is_proxy_site r p) gone (ap is_some none) proxy (known.gone p) in
         let object : (lead r p).object ≡ Some x.object = ap (λ (q : Option Value). option_and_then (at r) (option_and_then text_of q)) x.proxy ∙ x.leads in
         ap (option_and_then (λ o. unless_refused r g p (found_by r f p o))) object
-        ∙ (λ k. let y = found_by r f p x.object in if (is_gone k || (is_mistyped r here (Some y) || (is_there_already r here (Some y) || (has g.linked (key p.object p.feature x.object.0) || is_unmatched r here y)))) then None else Some y)
+        ∙ (λ k. let y = found_by r f p x.object in if (is_gone k || (is_mistyped r here (Some y) || (is_there_already r here (Some y) || (has g.linked (reference_key p.object p.feature x.object.0) || is_unmatched r here y)))) then None else Some y)
         ∙ sym (none-resolved now p (ap (λ (q : Option (List ℕ)). option_map (target now here) (option_and_then (at now) q)) none))
 
     module _ (text : List ℕ) (was : slice_get ((reading s).values (end_of p)) p.index ≡ Some (value.Proxy text)) (is : slice_get ((left_by (reading s) ps).values (end_of p)) p.index ≡ Some (value.Proxy text)) where
@@ -233,7 +234,7 @@ module _ (s : Model) (legal : IsLegal s) (ps : List ProxySite) where
         d = has_value (r.values here) (value.Object o)
 
         abbrev l : Bool
-        l = has g.linked (key p.object p.feature o.0)
+        l = has g.linked (reference_key p.object p.feature o.0)
 
         reference-of : (b c : Bool) → (not b || c) ≡ false → b ≡ true
         reference-of true c h = refl

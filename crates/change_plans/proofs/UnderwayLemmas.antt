@@ -19,13 +19,14 @@ use Rattle.models.specs.Model.{Model, reading}
 use Rattle.models.specs.Reading.{Reading, all_features_of, at_end}
 use Rattle.doc_loader.proofs.PairLemmas.{all-flat_map_every}
 use Rattle.change_plans.specs.Joining.{Adds, IsDone, IsKnown, IsNothing, IsProgress, Resolves, is_far_link, is_far_site, joint, joint_of, target_by}
-use Rattle.proxies.specs.Keys.{has, key, key_of, same_key}
+use Rattle.proxies.specs.Keys.{has, key_of}
+use Rattle.models.specs.ReferenceKeys.{reference_key, same_reference_key}
 use Rattle.proxies.specs.Leads.{first_index, index_at, lead, leads}
 use Rattle.proxies.specs.Proxies.{end_of, is_proxy_site, site, sites, sites_of, sites_under}
 use Rattle.proxies.specs.ResolvingAll.{Resolution, ends_after_replace, left_by, resolutions, resolved_to, values_left, values_with, with_resolved}
 use Rattle.change_plans.specs.declared.joining.Joint.{Joint}
 use Rattle.change_plans.specs.declared.joining.Progress.{Progress}
-use Rattle.proxies.specs.declared.keys.Key.{Key}
+use Rattle.models.specs.declared.reference_key.ReferenceKey.{ReferenceKey}
 use Rattle.proxies.specs.declared.lead.FirstLeads.{FirstLeads}
 use Rattle.proxies.specs.declared.lead.Lead.{Lead}
 use Rattle.proxies.specs.declared.site.ProxySite.{ProxySite}
@@ -64,7 +65,7 @@ none-known r g nothing =
     record {
       joints = nothing.joints;
       gone = λ p. sym (ap (λ (b : Bool). is_proxy_site r p && not b) (nothing.gone (key_of p)) ∙ and-true (is_proxy_site r p));
-      linked = λ o f b. let was = has_value (r.values (at_end (node.Object o) f)) (value.Object b) in sym (ap (λ (c : Bool). was || c) (nothing.linked (key o f b.0)) ∙ or-false was);
+      linked = λ o f b. let was = has_value (r.values (at_end (node.Object o) f)) (value.Object b) in sym (ap (λ (c : Bool). was || c) (nothing.linked (reference_key o f b.0)) ∙ or-false was);
     }
   where
     and-true : (b : Bool) → (b && true) ≡ b
@@ -88,11 +89,11 @@ module _ (s : Model) (legal : IsLegal s) (ps : List ProxySite) (p : ProxySite) (
   found : IsFound (left_by (reading s) ps) (end_of p) p.index x
   found = found-is now (end_of p) p.index x (resolved-to now p x to).found
 
-  abbrev mine : Key → Bool
-  mine k = same_key k (key_of p)
+  abbrev mine : ReferenceKey → Bool
+  mine k = same_reference_key k (key_of p)
 
-  abbrev own : Key → Bool
-  own k = same_key k (key p.object p.feature x.object.0)
+  abbrev own : ReferenceKey → Bool
+  own k = same_reference_key k (reference_key p.object p.feature x.object.0)
 
   parted : (a b c d : Bool) → ((a && not b) && not c) ≡ (a && not ((b || c) || false))
   parted true true c d = refl
@@ -157,13 +158,13 @@ module _ (s : Model) (legal : IsLegal s) (ps : List ProxySite) (p : ProxySite) (
 
   linked-more : (z : Option Counterpart) → x.counterpart ≡ z → (o : ObjectNo) (f : FeatureNo) (b : ObjectNo)
       → has_value (values_with now (end_of p) p.index (with z) (at_end (node.Object o) f)) (value.Object b)
-      ≡ (has_value (r.values (at_end (node.Object o) f)) (value.Object b) || ((has g.linked (key o f b.0) || own (key o f b.0)) || option_map_or (λ c. is_far_link p x c (key o f b.0)) z false))
+      ≡ (has_value (r.values (at_end (node.Object o) f)) (value.Object b) || ((has g.linked (reference_key o f b.0) || own (reference_key o f b.0)) || option_map_or (λ c. is_far_link p x c (reference_key o f b.0)) z false))
   linked-more None none o f b =
-      let k = key o f b.0 in
+      let k = reference_key o f b.0 in
       has-ends_after_replace now.values p x.object found.text found.proxy o f b ∙ ap (λ (c : Bool). c || own k) (known.linked o f b)
       ∙ grouped (has_value (r.values (at_end (node.Object o) f)) (value.Object b)) (has g.linked k) (own k)
   linked-more (Some c) there o f b =
-      let k = key o f b.0 in
+      let k = reference_key o f b.0 in
       let far = is_far_link p x c k in
       ap (λ (ends : End → List Value). has_value (ends_after_replace ends (end_of p) p.index (value.Object x.object) (at_end (node.Object o) f)) (value.Object b)) (back-is c there)
       ∙ has-ends_after_replace (back c there) p x.object found.text (still c there) o f b
@@ -175,7 +176,7 @@ module _ (s : Model) (legal : IsLegal s) (ps : List ProxySite) (p : ProxySite) (
       record {
         joints = adds.joints ∙ ap (λ (js : List Joint). js ++ joint p x ∷ []) known.joints;
         gone = λ y. gone-more x.counterpart refl y ∙ ap (λ (b : Bool). is_proxy_site r y && not b) (sym (adds.gone (key_of y)));
-        linked = λ o f b. linked-more x.counterpart refl o f b ∙ ap (λ (c : Bool). has_value (r.values (at_end (node.Object o) f)) (value.Object b) || c) (sym (adds.linked (key o f b.0)));
+        linked = λ o f b. linked-more x.counterpart refl o f b ∙ ap (λ (c : Bool). has_value (r.values (at_end (node.Object o) f)) (value.Object b) || c) (sym (adds.linked (reference_key o f b.0)));
       }
 
 -- the sets for these locations and one more
@@ -243,7 +244,7 @@ head-is x y xs ys h = ap (head_or x) h
 tail-is : (x y : Lead) (xs ys : List Lead) → x ∷ xs ≡ y ∷ ys → xs ≡ ys
 tail-is x y xs ys h = ap tail_of h
 
-pub underway-step : (s : Model) → IsLegal s → (f : FirstLeads) → ((k : Key) → index_at f k ≡ first_index (leads (reading s)) k) → (x : Lead) (left : List Lead) (g h : Progress)
+pub underway-step : (s : Model) → IsLegal s → (f : FirstLeads) → ((k : ReferenceKey) → index_at f k ≡ first_index (leads (reading s)) k) → (x : Lead) (left : List Lead) (g h : Progress)
     → IsUnderway (reading s) (x ∷ left) g → Resolves g h x.site (target_by (reading s) g f x) → IsUnderway (reading s) left h
 underway-step s legal f table x left g h on resolves = by on.rest on.all on.next
   where
@@ -274,7 +275,7 @@ underway-end r g on = by on.rest on.all on.next
 pub loop-init : (r : Reading) (g : Progress) (ls : List Lead) → ls ≡ leads r → IsNothing g → IsUnderway r ls g
 loop-init r g ls all nothing = subst (λ (xs : List Lead). IsUnderway r xs g) (sym all) (underway-from r g nothing)
 
-pub loop-step : (s : Model) → IsLegal s → (f : FirstLeads) → (ls : List Lead) → ((k : Key) → index_at f k ≡ first_index ls k) → ls ≡ leads (reading s) → (i : ℕ) (d : Lead) (g h : Progress)
+pub loop-step : (s : Model) → IsLegal s → (f : FirstLeads) → (ls : List Lead) → ((k : ReferenceKey) → index_at f k ≡ first_index ls k) → ls ≡ leads (reading s) → (i : ℕ) (d : Lead) (g h : Progress)
     → i < length ls → IsUnderway (reading s) (drop i ls) g → Resolves g h (get_or ls i d).site (target_by (reading s) g f (get_or ls i d)) → IsUnderway (reading s) (drop (i + 1) ls) h
 loop-step s legal f ls table all i d g h low on resolves =
     underway-step s legal f (λ k. table k ∙ ap (λ (xs : List Lead). first_index xs k) all) (get_or ls i d) (drop (i + 1) ls) g h

@@ -15,7 +15,8 @@ use Rattle.handshake.specs.Displaced.{link_ends_joined}
 use Rattle.handshake.specs.Edits.{cut_of, joining_edits}
 use Rattle.handshake.specs.FeatureChanges.{changes_of_resolve}
 use Rattle.handshake.specs.declared.change_kind.FeatureChange.{FeatureChange}
-use Rattle.proxies.specs.Keys.{has, key, key_of, same_key}
+use Rattle.proxies.specs.Keys.{has, key_of}
+use Rattle.models.specs.ReferenceKeys.{reference_key, same_reference_key}
 use Rattle.proxies.specs.Leads.{index_at}
 use Rattle.proxies.specs.Proxies.{end_of, is_proxy_site, sites}
 use Rattle.proxies.specs.Refusals.{is_mistyped, is_there_already}
@@ -23,7 +24,7 @@ use Rattle.proxies.specs.Resolving.{is_unmatched, opposite_end}
 use Rattle.proxies.specs.ResolvingAll.{Resolution, resolutions, values_left}
 use Rattle.change_plans.specs.declared.joining.Joint.{Joint}
 use Rattle.change_plans.specs.declared.joining.Progress.{Progress}
-use Rattle.proxies.specs.declared.keys.Key.{Key}
+use Rattle.models.specs.declared.reference_key.ReferenceKey.{ReferenceKey}
 use Rattle.proxies.specs.declared.lead.FirstLeads.{FirstLeads}
 use Rattle.proxies.specs.declared.lead.Lead.{Lead}
 use Rattle.proxies.specs.declared.site.ProxySite.{ProxySite}
@@ -35,12 +36,12 @@ use Rattle.proxies.specs.declared.resolved_proxy.ResolvedProxy.{ResolvedProxy}
 -- the counterpart of a proxy: the first proxy at the opposite end that leads back
 abbrev pub counterpart_by : Reading → FirstLeads → ProxySite → ObjectNo → Option Counterpart
 counterpart_by r t p o =
-    option_and_then (λ d. option_map (λ j. record { end = d; index = j }) (index_at t (key o d.feature p.object.0))) (opposite_end r (end_of p) o)
+    option_and_then (λ d. option_map (λ j. record { end = d; index = j }) (index_at t (reference_key o d.feature p.object.0))) (opposite_end r (end_of p) o)
 
 abbrev pub is_refused : Reading → Progress → ProxySite → ResolvedProxy → Bool
 is_refused r g p x =
     let e = end_of p in
-    has g.gone (key_of p) || (is_mistyped r e (Some x) || (is_there_already r e (Some x) || (has g.linked (key p.object p.feature x.object.0) || is_unmatched r e x)))
+    has g.gone (key_of p) || (is_mistyped r e (Some x) || (is_there_already r e (Some x) || (has g.linked (reference_key p.object p.feature x.object.0) || is_unmatched r e x)))
 
 abbrev pub found_by : Reading → FirstLeads → ProxySite → ObjectNo → ResolvedProxy
 found_by r t p o = record { object = o; counterpart = counterpart_by r t p o }
@@ -57,19 +58,19 @@ abbrev pub joint : ProxySite → ResolvedProxy → Joint
 joint p x = record { site = p; target = x }
 
 -- whether a key is that of the counterpart's location; `is_far_link` is the same for the object that is there afterwards
-abbrev pub is_far_site : ResolvedProxy → Counterpart → Key → Bool
-is_far_site x c k = same_key k (key x.object c.end.feature c.index)
+abbrev pub is_far_site : ResolvedProxy → Counterpart → ReferenceKey → Bool
+is_far_site x c k = same_reference_key k (reference_key x.object c.end.feature c.index)
 
-abbrev pub is_far_link : ProxySite → ResolvedProxy → Counterpart → Key → Bool
-is_far_link p x c k = same_key k (key x.object c.end.feature p.object.0)
+abbrev pub is_far_link : ProxySite → ResolvedProxy → Counterpart → ReferenceKey → Bool
+is_far_link p x c k = same_reference_key k (reference_key x.object c.end.feature p.object.0)
 
 abbrev pub of_far : ResolvedProxy → (Counterpart → Bool) → Bool
 of_far x holds = option_map_or holds x.counterpart false
 
 pub record Adds (g h : Progress) (p : ProxySite) (x : ResolvedProxy) : Type 0 where
   pub joints : h.joints.items ≡ g.joints.items ++ joint p x ∷ []
-  pub gone : (k : Key) → has h.gone k ≡ ((has g.gone k || same_key k (key_of p)) || of_far x (λ c. is_far_site x c k))
-  pub linked : (k : Key) → has h.linked k ≡ ((has g.linked k || same_key k (key p.object p.feature x.object.0)) || of_far x (λ c. is_far_link p x c k))
+  pub gone : (k : ReferenceKey) → has h.gone k ≡ ((has g.gone k || same_reference_key k (key_of p)) || of_far x (λ c. is_far_site x c k))
+  pub linked : (k : ReferenceKey) → has h.linked k ≡ ((has g.linked k || same_reference_key k (reference_key p.object p.feature x.object.0)) || of_far x (λ c. is_far_link p x c k))
 
 abbrev pub Resolves : Progress → Progress → ProxySite → Option ResolvedProxy → Type 0
 Resolves g h p None = h ≡ g
@@ -77,8 +78,8 @@ Resolves g h p (Some x) = Adds g h p x
 
 pub record IsNothing (g : Progress) : Type 0 where
   pub joints : g.joints.items ≡ []
-  pub gone : (k : Key) → has g.gone k ≡ false
-  pub linked : (k : Key) → has g.linked k ≡ false
+  pub gone : (k : ReferenceKey) → has g.gone k ≡ false
+  pub linked : (k : ReferenceKey) → has g.linked k ≡ false
 
 ---------------------------------------------------------------- all of them
 
@@ -100,7 +101,7 @@ pub record IsKnown (r : Reading) (js : List Joint) (ends : End → List Value) (
   pub joints : g.joints.items ≡ js
   pub gone : (p : ProxySite) → is_proxy_site (record r { values = ends }) p ≡ (is_proxy_site r p && not (has g.gone (key_of p)))
   pub linked : (o : ObjectNo) (f : FeatureNo) (b : ObjectNo) → (let e = at_end (node.Object o) f in
-      has_value (ends e) (value.Object b) ≡ (has_value (r.values e) (value.Object b) || has g.linked (key o f b.0)))
+      has_value (ends e) (value.Object b) ≡ (has_value (r.values e) (value.Object b) || has g.linked (reference_key o f b.0)))
 
 -- the proxies at these locations were resolved; a proxy that is refused was skipped
 abbrev pub IsProgress : Reading → List ProxySite → Progress → Type 0

@@ -48,7 +48,7 @@ pub(crate) fn link_edits<L: LinkStore>(
         return Ok(Seq::from_vec(edits));
     }
     let mut edits = Vec::new(alloc);
-    push_cuts(alloc, link_ends, &mut edits)?;
+    push_cuts(link_ends, &mut edits)?;
     push_made(model, change, target, &mut edits)?;
     Ok(Seq::from_vec(edits))
 }

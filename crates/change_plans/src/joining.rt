@@ -6,9 +6,9 @@ ghost use Rattle.proxies.specs.Leads.{leads as leads_of};
 
 use links::LinkStore;
 use mm_types::ObjectNo;
-use models::ModelRef;
+use models::{ModelRef, ReferenceKey};
 use proxies::{
-    Counterpart, FirstLeads, Key, Keys, Lead, ProxySite, ResolvedProxy, far_end, is_mistyped,
+    Counterpart, FirstLeads, Keys, Lead, ProxySite, ResolvedProxy, far_end, is_mistyped,
     is_there_already, is_unmatched, opposite_end,
 };
 use std::alloc::{AllocError, Global};
@@ -49,7 +49,7 @@ pub(crate) fn resolve_all<L: LinkStore>(
 impl Progress {
     ghost use Rattle.std.specs.Prelude.{◌||◌, Option, OnOk};
     ghost use Rattle.proxies.specs.Keys.{has};
-    ghost use Rattle.proxies.specs.declared.keys.Key.{Key};
+    ghost use Rattle.models.specs.declared.reference_key.ReferenceKey.{ReferenceKey};
 
     /// Nothing resolved yet. Takes no memory.
     fn new(alloc: Global) -> Self
@@ -108,12 +108,10 @@ impl Progress {
         ensures { result ≡ spec.is_refused (reading model.now) self.now site target }
     {
         let end = far_end(site.object, site.feature);
-        self.gone.contains(Key::of_site(site))
+        self.gone.contains(site.key())
             || is_mistyped(model, end, Some(target))
             || is_there_already(model, end, Some(target))
-            || self
-                .linked
-                .contains(Key::of(site.object, site.feature, target.object.0))
+            || self.linked.contains(ReferenceKey::of(site.object, site.feature, target.object.0))
             || is_unmatched(model, end, target)
     }
 
@@ -122,9 +120,8 @@ impl Progress {
         ensures { OnOk result (spec.Adds self.old self.new site target) }
     {
         self.joints.push(Joint { site, target })?;
-        self.gone.insert(Key::of_site(site))?;
-        self.linked
-            .insert(Key::of(site.object, site.feature, target.object.0))?;
+        self.gone.insert(site.key())?;
+        self.linked.insert(ReferenceKey::of(site.object, site.feature, target.object.0))?;
         match target.counterpart {
             Some(other) => self.add_far(site, target, other),
             None => Ok(()),
@@ -139,14 +136,14 @@ impl Progress {
         other: Counterpart,
     ) -> Result<(), AllocError>
         ensures joints { OnOk result (self.new.joints.items ≡ self.old.joints.items) }
-        ensures gone { OnOk result ((k : Key) → has self.new.gone k ≡ has self.old.gone k || spec.is_far_site target other k) }
-        ensures linked { OnOk result ((k : Key) → has self.new.linked k ≡ has self.old.linked k || spec.is_far_link site target other k) }
+        ensures gone { OnOk result ((k : ReferenceKey) → has self.new.gone k ≡ has self.old.gone k || spec.is_far_site target other k) }
+        ensures linked { OnOk result ((k : ReferenceKey) → has self.new.linked k ≡ has self.old.linked k || spec.is_far_link site target other k) }
     {
         let feature = other.end.feature;
         self.gone
-            .insert(Key::of(target.object, feature, other.index))?;
+            .insert(ReferenceKey::of(target.object, feature, other.index))?;
         self.linked
-            .insert(Key::of(target.object, feature, site.object.0))
+            .insert(ReferenceKey::of(target.object, feature, site.object.0))
     }
 }
 
@@ -160,6 +157,6 @@ fn counterpart<L: LinkStore>(
     ensures { result ≡ spec.counterpart_by (reading model.now) first.now site object }
 {
     let end = opposite_end(model, far_end(site.object, site.feature), object)?;
-    let index = first.index(Key::of(object, end.feature, site.object.0))?;
+    let index = first.index(ReferenceKey::of(object, end.feature, site.object.0))?;
     Some(Counterpart { end, index })
 }

@@ -18,7 +18,7 @@ use mm_types::Seq;
 use mm_values::ValuePlan;
 use models::ModelRef;
 use notice_chain::Chain;
-use proxies::{Key, Keys, Lead, Resolved, far_end, leads};
+use proxies::{Keys, Lead, Resolved, far_end, leads};
 use std::alloc::{AllocError, Global};
 
 /// The plan that resolves all proxies; the notifications are made only if an adapter may have to get them. Fails only if memory is refused.
@@ -94,7 +94,7 @@ fn push_edits<L: LinkStore>(
     let mut link_ends = Vec::new(alloc);
     push_link_end(alloc, end, model.value_in(end, site.index), &mut link_ends)?;
     add_counterpart(alloc, model, Some(target), &mut link_ends)?;
-    push_cuts(alloc, link_ends, edits)?;
+    push_cuts(link_ends, edits)?;
     push_joining(model, end, site.index, Some(target), edits)
 }
 
@@ -135,7 +135,7 @@ fn left(leads: &[Lead], gone: &Keys) -> usize
 {
     let mut left = 0;
     'leads: for lead in leads {
-        if !gone.contains(Key::of_site(lead.site)) {
+        if !gone.contains(lead.site.key()) {
             left += 1;
         }
     }

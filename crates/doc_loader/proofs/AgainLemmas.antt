@@ -24,7 +24,7 @@ use Rattle.resource_docs.specs.declared.doc.Doc.{Doc}
 use Rattle.doc_loader.specs.LoadEdits.{far_edits, in_order, is_ascending_from, puts_again}
 use Rattle.doc_loader.specs.Loading.{loaded_number, object_end, of_contents, of_object}
 use Rattle.doc_loader.specs.Pairs.{lower_of}
-use Rattle.doc_loader.specs.ListIndexes.{reference_key, index_among}
+use Rattle.doc_loader.specs.ListIndexes.{object_key, index_among}
 use Rattle.doc_loader.proofs.FillLemmas.{is_no_proxy, others}
 use Rattle.doc_loader.proofs.GatherLemmas.{by-contents, gathered-none, gathered-one}
 use Rattle.doc_loader.proofs.PairLemmas.{all-at, all-flat_map, all-from_at, all-more}
@@ -83,7 +83,7 @@ module _ (m : Metamodel) (doc : Doc) (sound : IsSound m doc) where
 
 module _ (m : Metamodel) (n : ℕ) (doc : Doc) (sound : IsSound m doc) where
   abbrev value_again : FeatureNo → FeatureNo → ObjectNo → Value → List Again
-  value_again f g b (value.Object a) = record { near = object_end n a f; index = index_among m doc.objects (reference_key a f b); object = loaded_number n b; far = g } ∷ []
+  value_again f g b (value.Object a) = record { near = object_end n a f; index = index_among m doc.objects (object_key a f b); object = loaded_number n b; far = g } ∷ []
   value_again f g b v = []
 
   abbrev values_again : FeatureNo → ObjectNo → List Value → FeatureNo → List Again
@@ -99,7 +99,7 @@ module _ (m : Metamodel) (n : ℕ) (doc : Doc) (sound : IsSound m doc) where
   value-edits f g b [] = refl
   value-edits f g b (value.Object a ∷ vs) =
       let e = object_end n a f in
-      ap (λ (es : List Edit). edit.Cut e (loaded_number n b) ∷ put_of e (index_among m doc.objects (reference_key a f b)) (loaded_number n b) (shape m f).opposite (shape m f).containing ∷ es) (value-edits f g b vs)
+      ap (λ (es : List Edit). edit.Cut e (value.Object (loaded_number n b)) ∷ put_of e (index_among m doc.objects (object_key a f b)) (loaded_number n b) (shape m f).opposite (shape m f).containing ∷ es) (value-edits f g b vs)
   value-edits f g b (value.Proxy t ∷ vs) = value-edits f g b vs
   value-edits f g b (value.Null ∷ vs) = value-edits f g b vs
   value-edits f g b (value.Bool x ∷ vs) = value-edits f g b vs
@@ -136,7 +136,7 @@ module _ (m : Metamodel) (n : ℕ) (doc : Doc) (sound : IsSound m doc) where
     Good = IsGoodAgain (kinds_of m) IsLowerEnd near_end
 
     object-good : (o : ObjectNo) (c : Content) → IsSoundContent m doc o c → (f : FeatureNo) → IsHigher m sound.kinds c.feature f → (j : ℕ) (a : ObjectNo) → slice_get c.values j ≡ Some (value.Object a)
-        → Good (record { near = object_end n a f; index = index_among m doc.objects (reference_key a f o); object = loaded_number n o; far = c.feature })
+        → Good (record { near = object_end n a f; index = index_among m doc.objects (object_key a f o); object = loaded_number n o; far = c.feature })
     object-good o c s f high j a at =
         let side = higher-near m sound.kinds c.feature f high in
         let back = sound.kinds.inverse c.feature f high.pair in

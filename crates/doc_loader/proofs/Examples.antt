@@ -64,7 +64,7 @@ its-values = refl
 its-edits : load_edits people 5 (record { 0 = 0 }) doc ≡
     put_of roots 0 (oid 5) None (Some (fid 3)) ∷ put_of roots 1 (oid 6) None (Some (fid 3))
     ∷ knows 5 0 6 ∷ knows 5 1 5 ∷ knows 6 0 5 ∷ knows 6 1 6
-    ∷ Cut (under 6 1) (oid 5) ∷ knows 6 0 5 ∷ Cut (under 5 1) (oid 5) ∷ knows 5 1 5 ∷ []
+    ∷ Cut (under 6 1) (value.Object (oid 5)) ∷ knows 6 0 5 ∷ Cut (under 5 1) (value.Object (oid 5)) ∷ knows 5 1 5 ∷ []
 its-edits = refl
 
 ---------------------------------------------------------------- links

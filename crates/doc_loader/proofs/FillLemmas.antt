@@ -200,8 +200,7 @@ pub fills-kinds : (m : Kinds) (ys : List Edit) → AllByRecursion (IsFill m) ys 
 fills-kinds m [] all = tt
 fills-kinds m (edit.PutProxy e i t ∷ ys) all = (all.0, fills-kinds m ys all.1)
 fills-kinds m (edit.Put l ∷ ys) all = absurd all.0
-fills-kinds m (edit.Cut e o ∷ ys) all = absurd all.0
-fills-kinds m (edit.CutProxy e p ∷ ys) all = absurd all.0
+fills-kinds m (edit.Cut e v ∷ ys) all = absurd all.0
 fills-kinds m (edit.Shift e to from ∷ ys) all = absurd all.0
 
 -- an end that waits for proxies: its first values are complete, and of the later values all except the proxies are there
@@ -319,8 +318,7 @@ all_filled m (edit.PutProxy e i p ∷ ys) t legal all ready =
     let rest = all_filled m ys (put_proxy t e i p) (edited_legal t (edit.PutProxy e i p) legal fit) all.1 (λ d. (let x = ready d in record { last = x.last; distinct = x.distinct; few = x.few; waits = next-ready t legal ys e i p fit d x })) in
     record { fits = (fit, rest.fits); no_cycle = (tt, rest.no_cycle) }
 all_filled m (edit.Put l ∷ ys) t legal all ready = absurd all.0
-all_filled m (edit.Cut e o ∷ ys) t legal all ready = absurd all.0
-all_filled m (edit.CutProxy e p ∷ ys) t legal all ready = absurd all.0
+all_filled m (edit.Cut e v ∷ ys) t legal all ready = absurd all.0
 all_filled m (edit.Shift e to from ∷ ys) t legal all ready = absurd all.0
 
 -- each end gets its final list
@@ -329,6 +327,5 @@ end_filled m [] t legal all fits d r = let w = r.waits in w.now ∙ ap (λ (xs :
 end_filled m (edit.PutProxy e i p ∷ ys) t legal all fits d r =
     end_filled m ys (put_proxy t e i p) (edited_legal t (edit.PutProxy e i p) legal fits.0) all.1 fits.1 d (record { last = r.last; distinct = r.distinct; few = r.few; waits = next-ready t legal ys e i p fits.0 d r })
 end_filled m (edit.Put l ∷ ys) t legal all fits d r = absurd all.0
-end_filled m (edit.Cut e o ∷ ys) t legal all fits d r = absurd all.0
-end_filled m (edit.CutProxy e p ∷ ys) t legal all fits d r = absurd all.0
+end_filled m (edit.Cut e v ∷ ys) t legal all fits d r = absurd all.0
 end_filled m (edit.Shift e to from ∷ ys) t legal all fits d r = absurd all.0

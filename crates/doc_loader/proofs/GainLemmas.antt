@@ -100,8 +100,7 @@ pub good_kinds : (m : Kinds) (n : ℕ) (T : End → List Value) (ys : List Edit)
 good_kinds m n T [] all = tt
 good_kinds m n T (edit.Put l ∷ ys) all = ((all.0.opposite, all.0.container), good_kinds m n T ys all.1)
 good_kinds m n T (edit.PutProxy e i t ∷ ys) all = (all.0.0, good_kinds m n T ys all.1)
-good_kinds m n T (edit.Cut e o ∷ ys) all = absurd all.0
-good_kinds m n T (edit.CutProxy e t ∷ ys) all = absurd all.0
+good_kinds m n T (edit.Cut e v ∷ ys) all = absurd all.0
 good_kinds m n T (edit.Shift e to from ∷ ys) all = absurd all.0
 
 gains-near : (e : End) (i : ℕ) (o : ObjectNo) (g c : Option FeatureNo) → gains e (put_of e i o g c) ≡ value.Object o ∷ []
@@ -289,6 +288,5 @@ module _ (m : Kinds) (ok : AreKinds m) (n : ℕ) (T : End → List Value) (good 
       (plan_made ys u (edited_legal t (edit.PutProxy e i p) legal fit) (plan_keeps_kinds m ok t (edit.PutProxy e i p ∷ []) kinds (all.0.0, tt))
       (plan_makes_no_cycle t (edit.PutProxy e i p ∷ []) legal (fit, tt) (tt, tt) free)
       (comes-next t u (edit.PutProxy e i p) ys (proxy-adds t legal ys e i p comes all.0.1) comes) all.1)
-  plan_made (edit.Cut e o ∷ ys) t legal kinds free comes all = absurd all.0
-  plan_made (edit.CutProxy e p ∷ ys) t legal kinds free comes all = absurd all.0
+  plan_made (edit.Cut e v ∷ ys) t legal kinds free comes all = absurd all.0
   plan_made (edit.Shift e to from ∷ ys) t legal kinds free comes all = absurd all.0

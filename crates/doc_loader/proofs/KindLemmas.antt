@@ -37,7 +37,7 @@ use Rattle.doc_loader.specs.LoadEdits.{far_edits, in_order, is_ascending_from, l
 use Rattle.doc_loader.specs.Loading.{object_end, of_object}
 use Rattle.doc_loader.specs.Pairs.{is_near, lower_of}
 use Rattle.doc_loader.specs.ListIndexes.{index_among}
-use Rattle.doc_loader.specs.declared.indexes.ReferenceKey.{ReferenceKey}
+use Rattle.models.specs.declared.reference_key.ReferenceKey.{ReferenceKey}
 use Rattle.doc_loader.proofs.CauseLemmas.{read-faultless}
 use Rattle.doc_loader.proofs.FitLemmas.{all-filtered}
 use Rattle.doc_loader.proofs.WrittenLemmas.{plain-entries}

@@ -20,7 +20,7 @@ use Rattle.doc_loader.specs.Loading.{of_object}
 use Rattle.doc_loader.specs.Pairs.{lower_of}
 use Rattle.doc_loader.specs.ListIndexes.{all_indexes, found_at, last_index, index_at, index_among}
 use Rattle.doc_loader.proofs.FitLemmas.{or-left, or-right}
-use Rattle.doc_loader.specs.declared.indexes.ReferenceKey.{ReferenceKey}
+use Rattle.models.specs.declared.reference_key.ReferenceKey.{ReferenceKey}
 use Rattle.doc_loader.specs.declared.indexes.ListIndexes.{ListIndexes}
 use Rattle.models.specs.Reading.{contents_end}
 

@@ -4,8 +4,9 @@ use Rattle.std.specs.Prelude.{flat_map}
 use Rattle.std.specs.List.{enumerate_from}
 use Rattle.std.specs.Option.{option_or}
 use Rattle.std.proofs.lemmas.List.{drop_more}
-use Rattle.doc_loader.specs.ListIndexes.{last_index, same_reference_key}
-use Rattle.doc_loader.specs.declared.indexes.ReferenceKey.{ReferenceKey}
+use Rattle.doc_loader.specs.ListIndexes.{last_index}
+use Rattle.models.specs.ReferenceKeys.{same_reference_key}
+use Rattle.models.specs.declared.reference_key.ReferenceKey.{ReferenceKey}
 
 or_none : {T : Type 0} (o : Option T) → option_or o None ≡ o
 or_none None = refl

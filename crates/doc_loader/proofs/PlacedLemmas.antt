@@ -17,8 +17,9 @@ use Rattle.resource_docs.specs.declared.doc.Content.{Content}
 use Rattle.resource_docs.specs.declared.doc.Doc.{Doc}
 use Rattle.doc_loader.specs.Loading.{of_object}
 use Rattle.doc_loader.specs.Pairs.{is_below, is_lower}
-use Rattle.doc_loader.specs.ListIndexes.{all_indexes, content_indexes, last_index, reference_key, index_among, key_and_index, same_reference_key}
-use Rattle.doc_loader.specs.declared.indexes.ReferenceKey.{ReferenceKey}
+use Rattle.doc_loader.specs.ListIndexes.{all_indexes, content_indexes, last_index, object_key, index_among, key_and_index}
+use Rattle.models.specs.ReferenceKeys.{same_reference_key}
+use Rattle.models.specs.declared.reference_key.ReferenceKey.{ReferenceKey}
 use Rattle.doc_loader.proofs.PairLemmas.{numbered-all, all-flat_map}
 use Rattle.doc_loader.proofs.SoundLemmas.{AreSoundContents, IsSound, IsSoundContent, at-flat_map, at-numbered, has-content}
 use Rattle.mm_meta.proofs.ByNameLemmas.{numbered_alike}
@@ -56,7 +57,7 @@ chosen-at false xs k x is at = absurd (true≢false (sym is))
 ---------------------------------------------------------------- the indexes of a document
 
 module _ (m : Metamodel) (doc : Doc) (sound : IsSound m doc) (a : ObjectNo) (f : FeatureNo) (b : ObjectNo) (i : ℕ) (distinct : IsDistinct (values_in doc a f)) (at : slice_get (values_in doc a f) i ≡ Some (value.Object b)) where
-  value-key_and_index : (o : ObjectNo) (c : Content) → IsSoundContent m doc o c → (j : ℕ) (v : Value) → slice_get c.values j ≡ Some v → AllByRecursion (IsPlaced (reference_key a f b) i) (key_and_index o c.feature (j, v))
+  value-key_and_index : (o : ObjectNo) (c : Content) → IsSoundContent m doc o c → (j : ℕ) (v : Value) → slice_get c.values j ≡ Some v → AllByRecursion (IsPlaced (object_key a f b) i) (key_and_index o c.feature (j, v))
   value-key_and_index o c s j (value.Object d) there = (
     (λ same. (
         let first = and_parts (nat_eq o.0 a.0) (nat_eq c.feature.0 f.0 && nat_eq d.0 b.0) same in
@@ -74,21 +75,21 @@ module _ (m : Metamodel) (doc : Doc) (sound : IsSound m doc) (a : ObjectNo) (f :
   value-key_and_index o c s j (value.Text x) there = tt
   value-key_and_index o c s j (value.Literal x) there = tt
 
-  content-placed : (o : ObjectNo) (c : Content) → IsSoundContent m doc o c → AllByRecursion (IsPlaced (reference_key a f b) i) (content_indexes m o c)
+  content-placed : (o : ObjectNo) (c : Content) → IsSoundContent m doc o c → AllByRecursion (IsPlaced (object_key a f b) i) (content_indexes m o c)
   content-placed o c s =
-      elim (is_lower (shape m c.feature) c.feature) as (λ t. AllByRecursion (IsPlaced (reference_key a f b) i) (if t then flat_map (key_and_index o c.feature) (enumerate_from 0 c.values) else [])) [
+      elim (is_lower (shape m c.feature) c.feature) as (λ t. AllByRecursion (IsPlaced (object_key a f b) i) (if t then flat_map (key_and_index o c.feature) (enumerate_from 0 c.values) else [])) [
         | true ↦
-            all-flat_map (λ (x : ℕ × Value). slice_get c.values x.0 ≡ Some x.1) (IsPlaced (reference_key a f b) i) (key_and_index o c.feature) (enumerate_from 0 c.values) (λ x there. value-key_and_index o c s x.0 x.1 there)
+            all-flat_map (λ (x : ℕ × Value). slice_get c.values x.0 ≡ Some x.1) (IsPlaced (object_key a f b) i) (key_and_index o c.feature) (enumerate_from 0 c.values) (λ x there. value-key_and_index o c s x.0 x.1 there)
             (numbered-all c.values)
         | false ↦ tt
       ]
 
-  all-placed : AllByRecursion (IsPlaced (reference_key a f b) i) (all_indexes m doc.objects)
+  all-placed : AllByRecursion (IsPlaced (object_key a f b) i) (all_indexes m doc.objects)
   all-placed =
-      all-flat_map (AreSoundContents m doc) (IsPlaced (reference_key a f b) i) (of_object (content_indexes m)) (enumerate_from 0 doc.objects)
-      (λ y h. all-flat_map (IsSoundContent m doc (record { 0 = y.0 })) (IsPlaced (reference_key a f b) i) (content_indexes m (record { 0 = y.0 })) y.1.contents (λ c s. content-placed (record { 0 = y.0 }) c s) h) sound.contents
+      all-flat_map (AreSoundContents m doc) (IsPlaced (object_key a f b) i) (of_object (content_indexes m)) (enumerate_from 0 doc.objects)
+      (λ y h. all-flat_map (IsSoundContent m doc (record { 0 = y.0 })) (IsPlaced (object_key a f b) i) (content_indexes m (record { 0 = y.0 })) y.1.contents (λ c s. content-placed (record { 0 = y.0 }) c s) h) sound.contents
 
-  there-placed : is_lower (shape m f) f ≡ true → (j : ℕ) × (x : ReferenceKey × ℕ) × (slice_get (all_indexes m doc.objects) j ≡ Some x) × (same_reference_key x.0 (reference_key a f b) ≡ true)
+  there-placed : is_lower (shape m f) f ≡ true → (j : ℕ) × (x : ReferenceKey × ℕ) × (slice_get (all_indexes m doc.objects) j ≡ Some x) × (same_reference_key x.0 (object_key a f b) ≡ true)
   there-placed lower =
       let c = has-content m doc sound a f i (value.Object b) at in
       let y = at-numbered doc.objects 0 a.0 c.there.object c.there.at in
@@ -96,22 +97,22 @@ module _ (m : Metamodel) (doc : Doc) (sound : IsSound m doc) (a : ObjectNo) (f :
       let same : y.0 ≡ a.0 = omega (arith, number) in
       let v = at-numbered c.content.values 0 i (value.Object b) (ap (λ (vs : List Value). slice_get vs i) (sym c.values) ∙ at) in
       let o : ObjectNo = record { 0 = y.0 } in
-      let in_content = at-flat_map (key_and_index o c.content.feature) (enumerate_from 0 c.content.values) i 0 (v.0, value.Object b) (reference_key o c.content.feature b, v.0) v.2 refl in
+      let in_content = at-flat_map (key_and_index o c.content.feature) (enumerate_from 0 c.content.values) i 0 (v.0, value.Object b) (object_key o c.content.feature b, v.0) v.2 refl in
       let kept : is_lower (shape m c.content.feature) c.content.feature ≡ true = subst (λ (g : FeatureNo). is_lower (shape m g) g ≡ true) (sym c.of) lower in
-      let in_places = chosen-at (is_lower (shape m c.content.feature) c.content.feature) (flat_map (key_and_index o c.content.feature) (enumerate_from 0 c.content.values)) in_content.0 (reference_key o c.content.feature b, v.0) kept in_content.1 in
-      let in_object = at-flat_map (content_indexes m o) c.there.object.contents c.there.index in_content.0 c.content (reference_key o c.content.feature b, v.0) c.there.in_object in_places in
-      let in_all = at-flat_map (of_object (content_indexes m)) (enumerate_from 0 doc.objects) a.0 in_object.0 (y.0, c.there.object) (reference_key o c.content.feature b, v.0) y.2 in_object.1 in (
+      let in_places = chosen-at (is_lower (shape m c.content.feature) c.content.feature) (flat_map (key_and_index o c.content.feature) (enumerate_from 0 c.content.values)) in_content.0 (object_key o c.content.feature b, v.0) kept in_content.1 in
+      let in_object = at-flat_map (content_indexes m o) c.there.object.contents c.there.index in_content.0 c.content (object_key o c.content.feature b, v.0) c.there.in_object in_places in
+      let in_all = at-flat_map (of_object (content_indexes m)) (enumerate_from 0 doc.objects) a.0 in_object.0 (y.0, c.there.object) (object_key o c.content.feature b, v.0) y.2 in_object.1 in (
         in_all.0,
-        (reference_key o c.content.feature b, v.0),
+        (object_key o c.content.feature b, v.0),
         in_all.1,
         and_from (nat_eq y.0 a.0) (nat_eq c.content.feature.0 f.0 && nat_eq b.0 b.0) (eq-eqb y.0 a.0 same)
             (and_from (nat_eq c.content.feature.0 f.0) (nat_eq b.0 b.0) (eq-eqb c.content.feature.0 f.0 (ap (λ (g : FeatureNo). g.0) c.of)) (eq-eqb b.0 b.0 refl)),
       )
 
-  pub index_of-is : is_lower (shape m f) f ≡ true → index_among m doc.objects (reference_key a f b) ≡ i
+  pub index_of-is : is_lower (shape m f) f ≡ true → index_among m doc.objects (object_key a f b) ≡ i
   index_of-is lower =
       let p = there-placed lower in
-      ap (λ (o : Option ℕ). unwrap_or o 0) (last-is (reference_key a f b) i (all_indexes m doc.objects) p.0 p.1 all-placed p.2 p.3)
+      ap (λ (o : Option ℕ). unwrap_or o 0) (last-is (object_key a f b) i (all_indexes m doc.objects) p.0 p.1 all-placed p.2 p.3)
 
 -- the lower feature of a pair without containment
 pub lower-feature : (m : Metamodel) (f g : FeatureNo) → (shape m f).containing ≡ None → (shape m f).opposite ≡ Some g → f.0 < g.0 → is_lower (shape m f) f ≡ true

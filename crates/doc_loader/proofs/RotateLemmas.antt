@@ -146,10 +146,10 @@ module _ (m : Kinds) (ok : AreKinds m) (t : Links) (legal : IsLegalSet t) (kinds
   has_near = both_ends_agree m t legal kinds e (far_end o g) pair (i, at)
 
   one_legal : IsLegalSet one
-  one_legal = edited_legal t (edit.Cut e o) legal (i, at)
+  one_legal = edited_legal t (edit.Cut e (value.Object o)) legal (i, at)
 
   one_kinds : AreOfKind m one
-  one_kinds = plan_keeps_kinds m ok t (edit.Cut e o ∷ []) kinds (tt, tt)
+  one_kinds = plan_keeps_kinds m ok t (edit.Cut e (value.Object o) ∷ []) kinds (tt, tt)
 
   one_free : HasNoCycle one
   one_free = cut_value_no_cycle t e (value.Object o) legal free
@@ -217,7 +217,7 @@ pub record Again : Type 0 where
   pub far : FeatureNo
 
 abbrev pub again_edits : Kinds → Again → List Edit
-again_edits m x = edit.Cut x.near x.object ∷ put_of x.near x.index x.object (m.opposite x.near.feature) (m.container x.near.feature) ∷ []
+again_edits m x = edit.Cut x.near (value.Object x.object) ∷ put_of x.near x.index x.object (m.opposite x.near.feature) (m.container x.near.feature) ∷ []
 
 abbrev pub all_again : Kinds → List Again → List Edit
 all_again m xs = flat_map (again_edits m) xs
@@ -250,10 +250,10 @@ last-more false v us vs = refl
 module _ (m : Kinds) (ok : AreKinds m) (Near : End → Type 0) (N : End → List Value) where
   again-more : (t : Links) → IsLegalSet t → AreOfKind m t → HasNoCycle t → (x : Again) (xs : List Again) → IsGoodAgain m Near N x → slice_get (end t x.near) x.index ≡ Some (value.Object x.object)
       → ((u : Links) → IsLegalSet u → AreOfKind m u → HasNoCycle u → ((d : End) → Near d → end u d ≡ end t d) → ArePutAgain m u xs (all_again m xs))
-      → (p c : Option FeatureNo) → p ≡ Some x.far → c ≡ None → ArePutAgain m t (x ∷ xs) (edit.Cut x.near x.object ∷ put_of x.near x.index x.object p c ∷ all_again m xs)
+      → (p c : Option FeatureNo) → p ≡ Some x.far → c ≡ None → ArePutAgain m t (x ∷ xs) (edit.Cut x.near (value.Object x.object) ∷ put_of x.near x.index x.object p c ∷ all_again m xs)
   again-more t legal kinds free x xs good at rest p c is_pair is_plain =
-      subst (λ (z : Option FeatureNo). ArePutAgain m t (x ∷ xs) (edit.Cut x.near x.object ∷ put_of x.near x.index x.object z c ∷ all_again m xs)) (sym is_pair)
-      (subst (λ (z : Option FeatureNo). ArePutAgain m t (x ∷ xs) (edit.Cut x.near x.object ∷ put_of x.near x.index x.object (Some x.far) z ∷ all_again m xs)) (sym is_plain) (
+      subst (λ (z : Option FeatureNo). ArePutAgain m t (x ∷ xs) (edit.Cut x.near (value.Object x.object) ∷ put_of x.near x.index x.object z c ∷ all_again m xs)) (sym is_pair)
+      (subst (λ (z : Option FeatureNo). ArePutAgain m t (x ∷ xs) (edit.Cut x.near (value.Object x.object) ∷ put_of x.near x.index x.object (Some x.far) z ∷ all_again m xs)) (sym is_plain) (
       let cut_out = cut_value t x.near (value.Object x.object) in
       let fit = fits m ok t legal kinds free x.near x.index x.object x.far good.pair good.plain good.object at in
       let clear = no_cycle m ok t legal kinds free x.near x.index x.object x.far good.pair good.plain good.object at in

@@ -1,5 +1,5 @@
 -- The index of each object in the lists of a document.
-use Rattle.std.specs.Prelude.{ℕ, ◌&&◌, Bool, List, [], ◌∷◌, flat_map, nat_eq, Option, Some, None, unwrap_or, if◌then◌else◌}
+use Rattle.std.specs.Prelude.{ℕ, List, [], ◌∷◌, flat_map, Option, Some, None, unwrap_or, if◌then◌else◌}
 use Rattle.std.specs.List.{enumerate_from}
 use Rattle.std.specs.Option.{option_or}
 use Rattle.indexmap.specs.IndexMap.{get}
@@ -9,22 +9,21 @@ use Rattle.mm_types.specs.declared.numbers.FeatureNo.{FeatureNo}
 use Rattle.mm_types.specs.declared.numbers.ObjectNo.{ObjectNo}
 use Rattle.mm_types.specs.declared.value.Value.{Value}
 use Rattle.mm_types.specs.declared.value.Value.TheVariants as value
+use Rattle.models.specs.ReferenceKeys.{reference_key, same_reference_key}
 use Rattle.resource_docs.specs.declared.doc.Content.{Content}
 use Rattle.resource_docs.specs.declared.doc.DocObject.{DocObject}
 use Rattle.doc_loader.specs.Loading.{of_object}
 use Rattle.doc_loader.specs.Pairs.{is_lower}
-use Rattle.doc_loader.specs.declared.indexes.ReferenceKey.{ReferenceKey}
+use Rattle.models.specs.declared.reference_key.ReferenceKey.{ReferenceKey}
 use Rattle.doc_loader.specs.declared.indexes.ListIndexes.{ListIndexes}
 
-abbrev pub reference_key : ObjectNo → FeatureNo → ObjectNo → ReferenceKey
-reference_key o f b = record { object = o.0; feature = f.0; named = b.0 }
-
-abbrev pub same_reference_key : ReferenceKey → ReferenceKey → Bool
-same_reference_key j k = nat_eq j.object k.object && (nat_eq j.feature k.feature && nat_eq j.named k.named)
+-- the key by which an object names another under a feature
+abbrev pub object_key : ObjectNo → FeatureNo → ObjectNo → ReferenceKey
+object_key o f b = reference_key o f b.0
 
 -- the key and the index of an object at a position; nothing for another value
 abbrev pub key_and_index : ObjectNo → FeatureNo → ℕ × Value → List (ReferenceKey × ℕ)
-key_and_index o f (i, value.Object b) = (reference_key o f b, i) ∷ []
+key_and_index o f (i, value.Object b) = (object_key o f b, i) ∷ []
 key_and_index o f (i, v) = []
 
 -- the keys and indexes of a content; they are needed only for the lower feature of a pair

@@ -21,10 +21,10 @@ use Rattle.resource_docs.specs.declared.doc.Content.{Content}
 use Rattle.resource_docs.specs.declared.doc.Doc.{Doc}
 use Rattle.doc_loader.specs.Loading.{loaded_number, object_end, of_contents}
 use Rattle.doc_loader.specs.Pairs.{is_near, lower_of}
-use Rattle.doc_loader.specs.ListIndexes.{reference_key, index_among}
+use Rattle.doc_loader.specs.ListIndexes.{object_key, index_among}
 use Rattle.doc_loader.specs.declared.passes.Pass.{Pass}
 use Rattle.doc_loader.specs.declared.passes.Pass.TheVariants.{Near, Proxies}
-use Rattle.doc_loader.specs.declared.indexes.ReferenceKey.{ReferenceKey}
+use Rattle.models.specs.declared.reference_key.ReferenceKey.{ReferenceKey}
 use Rattle.models.specs.Reading.{contents_end}
 use Rattle.links.specs.Plans.{put_of}
 
@@ -59,7 +59,7 @@ is_ascending_from k (v ∷ vs) = is_ascending_from k vs
 abbrev pub puts_again : Metamodel → ℕ → (ReferenceKey → ℕ) → ObjectNo → FeatureNo → Value → List Edit
 puts_again m n index_of b f (value.Object a) =
     let e = object_end n a f in
-    Cut e (loaded_number n b) ∷ put_at m n e (index_of (reference_key a f b)) b ∷ []
+    Cut e (value.Object (loaded_number n b)) ∷ put_at m n e (index_of (object_key a f b)) b ∷ []
 puts_again m n index_of b f v = []
 
 abbrev pub in_order : Metamodel → ℕ → (ReferenceKey → ℕ) → ObjectNo → List Value → FeatureNo → List Edit

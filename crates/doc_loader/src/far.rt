@@ -7,13 +7,14 @@ ghost use Rattle.doc_loader.specs.LoadEdits as e;
 ghost use Rattle.doc_loader.specs.Loading.{of_object};
 ghost use Rattle.doc_loader.specs.ListIndexes.{found_at, index_among};
 
-use crate::indexes::{ListIndexes, ReferenceKey};
+use crate::indexes::ListIndexes;
 use crate::near::put_at;
 use crate::numbers::{loaded, object_end};
 use crate::pairs::lower_of;
 use links::Edit;
 use mm_meta::Meta;
 use mm_types::{FeatureNo, ObjectNo, Value};
+use models::ReferenceKey;
 use resource_docs::{Content, Doc, DocObject};
 use std::alloc::{AllocError, Global};
 
@@ -178,10 +179,10 @@ fn push_again(
     let end = object_end(source.next, *other, lower);
     let index = source
         .indexes
-        .index_of(ReferenceKey::of(*other, lower, object));
+        .index_of(ReferenceKey::of(*other, lower, object.0));
     edits.push(Edit::Cut {
         end,
-        object: loaded(source.next, object),
+        value: Value::Object(loaded(source.next, object)),
     })?;
     edits.push(put_at(source.meta, source.next, end, index, object))?;
     Ok(())

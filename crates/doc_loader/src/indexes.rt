@@ -5,31 +5,9 @@ use crate::pairs::is_lower;
 use indexmap::IndexMap;
 use mm_meta::Meta;
 use mm_types::{FeatureNo, ObjectNo, Value};
+use models::ReferenceKey;
 use resource_docs::{Content, DocObject};
 use std::alloc::{AllocError, Global};
-
-/// A reference in a document: one object names another one under a feature. All three are given by their numbers.
-#[derive(Clone, Copy, PartialEq, Eq, Hash)]
-pub(crate) struct ReferenceKey {
-    pub object: u32,
-    pub feature: u32,
-    pub named: u32,
-}
-
-impl ReferenceKey {
-    ghost use Rattle.doc_loader.specs.ListIndexes as p;
-
-    /// The key by which an object names another under a feature.
-    pub fn of(object: ObjectNo, feature: FeatureNo, named: ObjectNo) -> Self
-        ensures { result ≡ p.reference_key object feature named }
-    {
-        ReferenceKey {
-            object: object.0,
-            feature: feature.0,
-            named: named.0,
-        }
-    }
-}
 
 /// The indexes of each object in the lists of a document.
 #[derive(Drop)]
@@ -44,7 +22,8 @@ impl ListIndexes {
     ghost use Rattle.mm_types.specs.declared.limits.TheConstants.{LIST_VALUES, OBJECTS};
     ghost use Rattle.doc_loader.specs.Fits.{IsShort, IsShortObject};
     ghost use Rattle.doc_loader.specs.ListIndexes as p;
-    ghost use Rattle.doc_loader.specs.declared.indexes.ReferenceKey.{ReferenceKey};
+    ghost use Rattle.models.specs.ReferenceKeys.{same_reference_key};
+    ghost use Rattle.models.specs.declared.reference_key.ReferenceKey.{ReferenceKey};
 
     /// No indexes. Takes no memory.
     fn new(alloc: Global) -> Self
@@ -128,13 +107,13 @@ impl ListIndexes {
         ensures { OnOk result ((k : ReferenceKey) → p.index_at self.new k ≡ option_or (p.last_index (p.key_and_index object feature (index, value.now)) k) (p.index_at self.old k)) }
     {
         match value {
-            Value::Object(named) => self.insert(ReferenceKey::of(object, feature, *named), index),
+            Value::Object(named) => self.insert(ReferenceKey::of(object, feature, named.0), index),
             _ => Ok(()),
         }
     }
 
     fn insert(&mut self, reference_key: ReferenceKey, index: u32) -> Result<(), AllocError>
-        ensures { OnOk result ((k : ReferenceKey) → p.index_at self.new k ≡ (if p.same_reference_key reference_key k then Some index else p.index_at self.old k)) }
+        ensures { OnOk result ((k : ReferenceKey) → p.index_at self.new k ≡ (if same_reference_key reference_key k then Some index else p.index_at self.old k)) }
     {
         self.indexes.insert(reference_key, index)?;
         Ok(())

@@ -5,8 +5,7 @@ use Rattle.mm_types.specs.declared.end.End.{End}
 use Rattle.mm_types.specs.declared.value.Value.{Value}
 use Rattle.mm_types.specs.declared.value.Value.TheVariants as value
 use Rattle.links.specs.declared.plan.Edit.{Edit}
-use Rattle.links.specs.declared.plan.Edit.TheVariants.{Shift}
-use Rattle.links.specs.Laws.{cut_edit}
+use Rattle.links.specs.declared.plan.Edit.TheVariants.{Cut, Shift}
 use Rattle.models.specs.Reading.{Reading, position_for, shape_at}
 use Rattle.handshake.specs.declared.change.Change.{Change}
 use Rattle.handshake.specs.declared.change.Change.TheVariants.{At, ResolveAll, Load}
@@ -22,7 +21,7 @@ use Rattle.proxies.specs.Resolving.{target_at}
 use Rattle.links.specs.Plans.{put_of}
 
 abbrev pub cut_of : LinkEnd → Edit
-cut_of t = cut_edit t.end t.value
+cut_of t = Cut t.end t.value
 
 -- the edit that puts an object at a position of an end; no other value is put
 abbrev pub new_put : Reading → End → ℕ → Value → Option Edit

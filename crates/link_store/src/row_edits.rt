@@ -172,10 +172,9 @@ pub(crate) fn edit_rows(rows: &mut Vec<Link>, edit: Edit)
     ensures capacity { vec_capacity rows.new ≡ vec_capacity rows.old }
 {
     match edit {
-        Edit::Cut { end, object } => cut_row(rows, end, &Value::Object(object)),
+        Edit::Cut { end, value } => cut_row(rows, end, &value),
         Edit::Put(link) => put_row(rows, link),
         Edit::Shift { end, to, from } => shift_rows(rows, end, to, from),
         Edit::PutProxy { end, index, text } => put_proxy_row(rows, end, index, text),
-        Edit::CutProxy { end, text } => cut_row(rows, end, &Value::Proxy(text)),
     }
 }

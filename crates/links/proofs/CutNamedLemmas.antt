@@ -17,7 +17,7 @@ use Rattle.links.proofs.LegalLemmas.{cut_value_legal}
 use Rattle.links.proofs.NamedLemmas.{named-value, names_nothing, indexed_value-named, value-named}
 use Rattle.links.proofs.ScanLemmas.{cut_value_is, find-none, find-some, is_value_at-indexed, is_value_at-true, one_with}
 use Rattle.links.specs.Holders.{HasNoCycle, above, holder, holding_end}
-use Rattle.links.specs.Laws.{AreOnce, AreThere, cut_edit, cut_edits, is_named, kept_holder, names, without_all}
+use Rattle.links.specs.Laws.{AreOnce, AreThere, cut_edits, is_named, kept_holder, names, without_all}
 use Rattle.links.specs.LegalSets.{AreKinds, AreOfKind, HasTwoSides, IsLegalSet, IsObject, IsPlaced, Kinds}
 use Rattle.links.specs.Links.{In, Links, cut, cut_some, cut_value, end, list_without}
 use Rattle.links.specs.Indexed.{far_indexed, far_value, has_value, is_value_at, indexed_value}
@@ -187,7 +187,7 @@ module _ (m : Kinds) (ok : AreKinds m) where
 ---------------------------------------------------------------- the plan that cuts them
 
 -- a value that can be in an end
-abbrev IsLinked : Value → Type 0
+abbrev pub IsLinked : Value → Type 0
 IsLinked (value.Object o) = Unit {0}
 IsLinked (value.Proxy t) = Unit {0}
 IsLinked _ = ⊥
@@ -213,39 +213,17 @@ indexed_linked l d k v two at =
       | false ↦ λ q. far_linked l.end d l.far k v two q
     ] at
 
-has_linked : (s : Links) → IsPlaced s → (e : End) (v : Value) → Has s e v → IsLinked v
+-- an end has only objects and proxies
+pub has_linked : (s : Links) → IsPlaced s → (e : End) (v : Value) → Has s e v → IsLinked v
 has_linked s placed e v has = let st = (placed.ends e).only has.0 v has.1 in indexed_linked st.0 e has.0 v (placed.sides st.0 st.1) st.2
-
-cut_fits : (s : Links) (e : End) (v : Value) → IsLinked v → Has s e v → EditFits s (cut_edit e v)
-cut_fits s e (value.Object o) is has = has
-cut_fits s e (value.Proxy t) is has = has
-cut_fits s e _ is has = absurd is
-
-links_after_edit-cut_edit : (s : Links) (e : End) (v : Value) → IsLinked v → links_after_edit s (cut_edit e v) ≡ cut_value s e v
-links_after_edit-cut_edit s e (value.Object o) is = refl
-links_after_edit-cut_edit s e (value.Proxy t) is = refl
-links_after_edit-cut_edit s e _ is = absurd is
-
-edited_there : (s : Links) (e : End) (v : Value) → IsLegalSet s → Has s e v → links_after_edit s (cut_edit e v) ≡ cut_value s e v
-edited_there s e v legal has = links_after_edit-cut_edit s e v (has_linked s legal.placed e v has)
-
-kind_of_cut : (m : Kinds) (e : End) (v : Value) → IsEditOfKind m (cut_edit e v)
-kind_of_cut m e (value.Object o) = tt
-kind_of_cut m e (value.Proxy t) = tt
-kind_of_cut m e _ = tt
 
 pub cuts_of_kind : (m : Kinds) (ts : List (End × Value)) → IsPlanOfKind m (cut_edits ts)
 cuts_of_kind m [] = tt
-cuts_of_kind m (t ∷ ts) = (kind_of_cut m t.0 t.1, cuts_of_kind m ts)
-
-cut_without_cycle : (s : Links) (e : End) (v : Value) → MakesNoCycle s (cut_edit e v)
-cut_without_cycle s e (value.Object o) = tt
-cut_without_cycle s e (value.Proxy t) = tt
-cut_without_cycle s e _ = tt
+cuts_of_kind m (t ∷ ts) = (tt, cuts_of_kind m ts)
 
 pub cuts_without_cycle : (s : Links) (ts : List (End × Value)) → PlanMakesNoCycle s (cut_edits ts)
 cuts_without_cycle s [] = tt
-cuts_without_cycle s (t ∷ ts) = (cut_without_cycle s t.0 t.1, cuts_without_cycle (links_after_edit s (cut_edit t.0 t.1)) ts)
+cuts_without_cycle s (t ∷ ts) = (tt, cuts_without_cycle (cut_value s t.0 t.1) ts)
 
 module _ (m : Kinds) (ok : AreKinds m) where
   -- a value whose link is not cut is at its old position, or at a lower one
@@ -262,14 +240,10 @@ module _ (m : Kinds) (ok : AreKinds m) where
   pub links_after_edits-cut_edits : (s : Links) (ts : List (End × Value)) → IsLegalSet s → AreOfKind m s → AreThere s ts → AreOnce m ts → links_after_edits s (cut_edits ts) ≡ without_all s ts
   links_after_edits-cut_edits s [] legal kinds there once = refl
   links_after_edits-cut_edits s (t ∷ ts) legal kinds there once =
-      ap (λ (u : Links). links_after_edits u (cut_edits ts)) (edited_there s t.0 t.1 legal there.0)
-      ∙ links_after_edits-cut_edits (cut_value s t.0 t.1) ts (cut_value_legal s t.0 t.1 legal) (kinds_cut_value m s t.0 t.1 kinds) (there_after s legal kinds t ts once.0 there.1) once.1
+      links_after_edits-cut_edits (cut_value s t.0 t.1) ts (cut_value_legal s t.0 t.1 legal) (kinds_cut_value m s t.0 t.1 kinds) (there_after s legal kinds t ts once.0 there.1) once.1
 
   -- the plan fits, if each named link exists and is named once
   pub cuts_fit : (s : Links) (ts : List (End × Value)) → IsLegalSet s → AreOfKind m s → AreThere s ts → AreOnce m ts → PlanFits s (cut_edits ts)
   cuts_fit s [] legal kinds there once = tt
-  cuts_fit s (t ∷ ts) legal kinds there once = (
-    cut_fits s t.0 t.1 (has_linked s legal.placed t.0 t.1 there.0) there.0,
-    subst (λ (u : Links). PlanFits u (cut_edits ts)) (sym (edited_there s t.0 t.1 legal there.0))
-        (cuts_fit (cut_value s t.0 t.1) ts (cut_value_legal s t.0 t.1 legal) (kinds_cut_value m s t.0 t.1 kinds) (there_after s legal kinds t ts once.0 there.1) once.1),
-  )
+  cuts_fit s (t ∷ ts) legal kinds there once =
+      (there.0, cuts_fit (cut_value s t.0 t.1) ts (cut_value_legal s t.0 t.1 legal) (kinds_cut_value m s t.0 t.1 kinds) (there_after s legal kinds t ts once.0 there.1) once.1)

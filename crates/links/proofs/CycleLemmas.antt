@@ -95,11 +95,10 @@ unfolding cut_value
 cut_value_no_cycle s e v legal free = cut_some_no_cycle s (find (has_value e v) (set.items s)) legal (λ l h. (items_HasLinks s).only l (find-some (set.items s) e v l h).0) free
 
 edited_no_cycle : (s : Links) (x : Edit) → IsLegalSet s → EditFits s x → MakesNoCycle s x → HasNoCycle s → HasNoCycle (links_after_edit s x)
-edited_no_cycle s (edit.Cut e n) legal fits out free = cut_value_no_cycle s e (value.Object n) legal free
+edited_no_cycle s (edit.Cut e v) legal fits out free = cut_value_no_cycle s e v legal free
 edited_no_cycle s (edit.Put l) legal fits out free = put_no_cycle s l.end l.index l.object l.opposite l.container legal.held free (free_new s l.end l.index l.object l.opposite l.container (apart_of s l.end l.object l.opposite fits.1) fits.2) out
 edited_no_cycle s (edit.Shift e to from) legal fits out free = no_cycle_less s (shift s e to from) (λ y d h. sym (holder-shift s e to from legal.held y) ∙ h) free
 edited_no_cycle s (edit.PutProxy e i t) legal fits out free = no_cycle_less s (put_proxy s e i t) (λ y d h. sym (holder-put_proxy s e i t legal.held y) ∙ h) free
-edited_no_cycle s (edit.CutProxy e t) legal fits out free = cut_value_no_cycle s e (value.Proxy t) legal free
 
 pub plan_makes_no_cycle : (s : Links) (plan : List Edit) → IsLegalSet s → PlanFits s plan → PlanMakesNoCycle s plan → HasNoCycle s → HasNoCycle (links_after_edits s plan)
 plan_makes_no_cycle s [] legal fits out free = free

@@ -102,7 +102,7 @@ still_held = refl
 no_longer_held : kept_holder kinds ((at_end 2 0, object_value 0) ∷ []) (object 2) (Some (at_end 0 1)) ≡ None
 no_longer_held = refl
 
-cut_of_proxy : cut_edits ((at_end 0 2, value.Proxy (104 ∷ [])) ∷ []) ≡ edit.CutProxy (at_end 0 2) (104 ∷ []) ∷ []
+cut_of_proxy : cut_edits ((at_end 0 2, value.Proxy (104 ∷ [])) ∷ []) ≡ edit.Cut (at_end 0 2) (value.Proxy (104 ∷ [])) ∷ []
 cut_of_proxy = refl
 
 containing_by_put : end_containing (at_end 0 1) (record { 0 = 3 }) (Some staff) ≡ Some (at_end 0 1)

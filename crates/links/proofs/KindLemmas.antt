@@ -88,11 +88,10 @@ module _ (m : Kinds) where
 
 module _ (m : Kinds) (ok : AreKinds m) where
   pub edited_kinds : (s : Links) (x : Edit) → AreOfKind m s → IsEditOfKind m x → AreOfKind m (links_after_edit s x)
-  edited_kinds s (edit.Cut e n) ks is = kinds_cut_value m s e (value.Object n) ks
+  edited_kinds s (edit.Cut e v) ks is = kinds_cut_value m s e v ks
   edited_kinds s (edit.Put l) ks is = subst (λ (t : Links). AreOfKind m t) (λ j. put s l.end l.index l.object (sym is.0 j) (sym is.1 j)) (kinds_put m ok s l.end l.index l.object ks)
   edited_kinds s (edit.Shift e to from) ks is = kinds_shift m s e to from ks
   edited_kinds s (edit.PutProxy e i t) ks is = kinds_put_proxy m s e i t is ks
-  edited_kinds s (edit.CutProxy e t) ks is = kinds_cut_value m s e (value.Proxy t) ks
 
   -- a plan of the kinds keeps links of the kinds
   pub plan_keeps_kinds : (s : Links) (plan : List Edit) → AreOfKind m s → IsPlanOfKind m plan → AreOfKind m (links_after_edits s plan)

@@ -41,11 +41,10 @@ pub shift_legal : (s : Links) (e : End) (to from : ℕ) → IsLegalSet s → fro
 shift_legal s e to from legal f t = record { placed = shift_placed s legal.placed e to from f t; held = IsHeldOnce-shift s e to from legal.held }
 
 pub edited_legal : (s : Links) (x : Edit) → IsLegalSet s → EditFits s x → IsLegalSet (links_after_edit s x)
-edited_legal s (edit.Cut e n) legal fits = cut_value_legal s e (value.Object n) legal
+edited_legal s (edit.Cut e v) legal fits = cut_value_legal s e v legal
 edited_legal s (edit.Put l) legal fits = put_legal s l.end l.index l.object l.opposite l.container legal fits
 edited_legal s (edit.Shift e to from) legal fits = shift_legal s e to from legal fits.0 fits.1
 edited_legal s (edit.PutProxy e i t) legal fits = put_proxy_legal s e i t legal fits
-edited_legal s (edit.CutProxy e t) legal fits = cut_value_legal s e (value.Proxy t) legal
 
 -- the law of plans
 pub plan_keeps_legal : (s : Links) (plan : List Edit) → IsLegalSet s → PlanFits s plan → IsLegalSet (links_after_edits s plan)

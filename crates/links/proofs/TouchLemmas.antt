@@ -60,14 +60,11 @@ module _ (m : Kinds) (ok : AreKinds m) where
   ---------------------------------------------------------------- edits
 
   links_after_edit-leaves : (s : Links) (x : Edit) → IsLegalSet s → AreOfKind m s → EditFits s x → IsEditOfKind m x → contains_by m (edit_end x).feature ≡ false → (d : End) → contains_by m d.feature ≡ true → end (links_after_edit s x) d ≡ end s d
-  links_after_edit-leaves s (edit.Cut e o) legal kinds fits kind out d holds =
-      end-cut_value m ok s legal kinds e (value.Object o) d ∙ filter_all (names m e (value.Object o) d) (end s d) (λ k w at. names-none e d (value.Object o) w out holds)
+  links_after_edit-leaves s (edit.Cut e v) legal kinds fits kind out d holds = end-cut_value m ok s legal kinds e v d ∙ filter_all (names m e v d) (end s d) (λ k w at. names-none e d v w out holds)
   links_after_edit-leaves s (edit.Put l) legal kinds fits kind out d holds =
       end-put_other s legal.placed l.end l.index l.object l.container fits.0.in_range l.opposite (apart_of s l.end l.object l.opposite fits.1) d (apart l.end d out holds) (not-far l.end d l.object l.opposite (sym kind.0) out holds)
   links_after_edit-leaves s (edit.Shift e to from) legal kinds fits kind out d holds = end-shift_other s legal.placed e to from fits.0 fits.1 d (apart e d out holds)
   links_after_edit-leaves s (edit.PutProxy e i t) legal kinds fits kind out d holds = end-put_proxy_other s e i t legal.placed fits d (apart e d out holds)
-  links_after_edit-leaves s (edit.CutProxy e t) legal kinds fits kind out d holds =
-      end-cut_value m ok s legal kinds e (value.Proxy t) d ∙ filter_all (names m e (value.Proxy t) d) (end s d) (λ k w at. names-none e d (value.Proxy t) w out holds)
 
   pub plan-leaves : (s : Links) (plan : List Edit) → IsLegalSet s → AreOfKind m s → PlanFits s plan → IsPlanOfKind m plan → touches_containment m plan ≡ false → (d : End) → contains_by m d.feature ≡ true → end (links_after_edits s plan) d ≡ end s d
   plan-leaves s [] legal kinds fits kind out d holds = refl

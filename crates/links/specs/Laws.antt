@@ -129,14 +129,9 @@ pub record CutsByNameMake (m : Kinds) (s : Links) (ts : List (End × Value)) : T
   pub lacks : (d : End) (w : Value) → Lacks s d w → Lacks (without_all s ts) d w
   pub shorter : (d : End) → length (end (without_all s ts) d) ≤ length (end s d)
 
--- the edit that cuts the link of a value; only objects and proxies are in an end
-abbrev pub cut_edit : End → Value → Edit
-cut_edit e (value.Object o) = edit.Cut e o
-cut_edit e (value.Proxy t) = edit.CutProxy e t
-cut_edit e _ = edit.CutProxy e []
-
+-- the edits that cut the links of values, each named by its end
 abbrev pub cut_edits : List (End × Value) → List Edit
-cut_edits ts = map (λ t. cut_edit t.0 t.1) ts
+cut_edits ts = map (λ t. edit.Cut t.0 t.1) ts
 
 -- each of the values is in its end
 abbrev pub AreThere : Links → List (End × Value) → Type 0
@@ -169,11 +164,10 @@ NameLinksOf m s gone ts = (d : End) (w : Value) → Has s d w → is_named m ts 
 
 -- the end that an edit names
 abbrev pub edit_end : Edit → End
-edit_end (edit.Cut e o) = e
+edit_end (edit.Cut e v) = e
 edit_end (edit.Put l) = l.end
 edit_end (edit.Shift e to from) = e
 edit_end (edit.PutProxy e i t) = e
-edit_end (edit.CutProxy e t) = e
 
 -- whether a feature or its opposite is a containment
 abbrev pub contains_by : Kinds → FeatureNo → Bool

@@ -22,11 +22,10 @@ abbrev pub put_of : End → ℕ → ObjectNo → Option FeatureNo → Option Fea
 put_of e i o g c = edit.Put (record { end = e; index = i; object = o; opposite = g; container = c })
 
 abbrev pub links_after_edit : Links → Edit → Links
-links_after_edit s (edit.Cut e o) = cut_value s e (value.Object o)
+links_after_edit s (edit.Cut e v) = cut_value s e v
 links_after_edit s (edit.Put l) = put s l.end l.index l.object l.opposite l.container
 links_after_edit s (edit.Shift e to from) = shift s e to from
 links_after_edit s (edit.PutProxy e i t) = put_proxy s e i t
-links_after_edit s (edit.CutProxy e t) = cut_value s e (value.Proxy t)
 
 -- the edits, one after another
 abbrev pub links_after_edits : Links → List Edit → Links
@@ -64,11 +63,10 @@ IsFree s None = Unit {0}
 IsFree s (Some n) = holder s n ≡ None
 
 abbrev pub EditFits : Links → Edit → Type 0
-EditFits s (edit.Cut e o) = Has s e (value.Object o)
+EditFits s (edit.Cut e v) = Has s e v
 EditFits s (edit.Put l) = PutFits s l.end l.index (value.Object l.object) × FarFitsIn s l.end l.object l.opposite × IsFree s (node_contained l.end l.object l.container)
 EditFits s (edit.Shift e to from) = (from < length (end s e)) × (to < length (end s e))
 EditFits s (edit.PutProxy e i t) = PutFits s e i (value.Proxy t)
-EditFits s (edit.CutProxy e t) = Has s e (value.Proxy t)
 
 -- each edit fits in its turn
 abbrev pub PlanFits : Links → List Edit → Type 0
@@ -79,11 +77,10 @@ PlanFits s (x ∷ xs) = EditFits s x × PlanFits (links_after_edit s x) xs
 
 -- an edit agrees with the opposite and the containment of its feature; a proxy is under no containment
 abbrev pub IsEditOfKind : Kinds → Edit → Type 0
-IsEditOfKind m (edit.Cut e o) = Unit {0}
+IsEditOfKind m (edit.Cut e v) = Unit {0}
 IsEditOfKind m (edit.Put l) = (l.opposite ≡ m.opposite l.end.feature) × (l.container ≡ m.container l.end.feature)
 IsEditOfKind m (edit.Shift e to from) = Unit {0}
 IsEditOfKind m (edit.PutProxy e i t) = m.container e.feature ≡ None
-IsEditOfKind m (edit.CutProxy e t) = Unit {0}
 
 abbrev pub IsPlanOfKind : Kinds → List Edit → Type 0
 IsPlanOfKind m [] = Unit {0}
@@ -98,11 +95,10 @@ abbrev pub IsOutside : Links → Link → Type 0
 IsOutside s l = (x : Node) (d : End) → holding_end l x ≡ Some d → ((d.node ≡ x) → ⊥) × (IsUnder s d.node x → ⊥)
 
 abbrev pub MakesNoCycle : Links → Edit → Type 0
-MakesNoCycle s (edit.Cut e o) = Unit {0}
+MakesNoCycle s (edit.Cut e v) = Unit {0}
 MakesNoCycle s (edit.Put l) = IsOutside s (new_link s l.end l.index l.object l.opposite l.container)
 MakesNoCycle s (edit.Shift e to from) = Unit {0}
 MakesNoCycle s (edit.PutProxy e i t) = Unit {0}
-MakesNoCycle s (edit.CutProxy e t) = Unit {0}
 
 -- no edit, in its turn, puts a node below itself
 abbrev pub PlanMakesNoCycle : Links → List Edit → Type 0

@@ -3,22 +3,19 @@ ghost use Rattle.std.specs.Prelude.{◌≡◌};
 ghost use Rattle.links.specs.Laws.{edit_end};
 
 use crate::link::NewLink;
-use mm_types::{End, ObjectNo, Seq, Text};
+use mm_types::{End, Seq, Text, Value};
 
 /// One edit. A cut names its link by an end and the value there, and not by a position, which other edits may change.
 #[derive(Debug, Drop)]
 pub enum Edit {
-    /// Takes the link of an object out of an end, and lowers the later positions in each end that
-    /// had it.
-    Cut { end: End, object: ObjectNo },
+    /// Takes the link of a value, an object or a proxy, out of an end, and lowers the later positions in each end that had the link.
+    Cut { end: End, value: Value },
     /// Puts an object at a position of an end. The opposite end, if there is one, gains last.
     Put(NewLink),
     /// Moves the value at `from`, so that it is then at `to`.
     Shift { end: End, to: u32, from: u32 },
     /// Puts a proxy at a position of an end.
     PutProxy { end: End, index: u32, text: Text },
-    /// Takes the proxy of a text out of an end, and lowers the later positions.
-    CutProxy { end: End, text: Text },
 }
 
 impl Edit {
@@ -28,10 +25,7 @@ impl Edit {
     {
         match self {
             Edit::Put(link) => link.end,
-            Edit::Cut { end, .. }
-            | Edit::Shift { end, .. }
-            | Edit::PutProxy { end, .. }
-            | Edit::CutProxy { end, .. } => *end,
+            Edit::Cut { end, .. } | Edit::Shift { end, .. } | Edit::PutProxy { end, .. } => *end,
         }
     }
 }

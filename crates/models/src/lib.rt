@@ -10,6 +10,7 @@ mod features;
 mod lists;
 mod model_ref;
 mod reads;
+mod reference_key;
 
 pub use ends::{contents_end, roots_end};
 pub use existence::{class_refusal, end_refusal, node_refusal, object_refusal, value_refusal};
@@ -17,3 +18,4 @@ pub use features::{is_short, is_short_text};
 pub use lists::copied_list;
 pub use model_ref::ModelRef;
 pub use reads::{Found, at_end, copied, is_same};
+pub use reference_key::ReferenceKey;

@@ -189,7 +189,6 @@ fn attribute_len(meta: &Meta, values: &Values, end: End) -> usize
 }
 
 /// The value of an attribute at a position.
-#[tactic(auto, using(crate::proofs::ReadLemmas::attribute_values_by))]
 fn attribute_value_in<'a>(
     meta: &'a Meta,
     values: &'a Values,
@@ -199,13 +198,11 @@ fn attribute_value_in<'a>(
     requires attribute { (shape meta.now end.feature).is_reference ≡ false }
     ensures { option_copied result ≡ slice_get (attribute_values (shape meta.now end.feature) (kept_values (values_of values.now) end.node end.feature)) index }
 {
-    if has_default(meta, values, end) {
-        return match index {
-            0 => default_of(meta, end.feature),
-            _ => None,
-        };
+    match kept_at(values, end, index) {
+        Some(value) => Some(value),
+        None if index == 0 && meta.is_single(end.feature) => default_of(meta, end.feature),
+        None => None,
     }
-    kept_at(values, end, index)
 }
 
 /// The first position of a value in an attribute.

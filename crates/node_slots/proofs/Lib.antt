@@ -4,6 +4,4 @@ pub mod RowLemmas
 pub mod TableLemmas
 pub mod CellLemmas
 pub mod KeyLemmas
-pub mod EndValueLemmas
 pub mod TakesLemmas
-pub mod ProxyLemmas

@@ -37,16 +37,16 @@ module _ (f : FeatureNo) (x : SlotEdit) (old new : List Slot) (h : AreSlotsEdite
     | false ↦ λ q. ap mixed_of (h.others g (λ e. false≢true (sym q ∙ eq-eqb f.0 g.0 e)))
   ] refl
 
-pub changed : (f : FeatureNo) (x : SlotEdit) (r s : Row) (e : RowEdit) → AreSlotsEdited f x r.slots.items s.slots.items → e ≡ Change f x → s.holder ≡ r.holder → s.entered ≡ r.entered → s.promised ≡ r.promised → IsRowEdited e (Some r) (Some s)
+pub changed : (f : FeatureNo) (x : SlotEdit) (r s : Row) (e : RowEdit) → AreSlotsEdited f x r.slots s.slots → e ≡ Change f x → s.holder ≡ r.holder → s.entered ≡ r.entered → s.promised ≡ r.promised → IsRowEdited e (Some r) (Some s)
 changed f x r s e h is holder entered promised =
     let entries = ap (λ (ds : Places End). ds.spare) entered in
     subst (λ (y : RowEdit). IsRowEdited y (Some r) (Some s)) (sym is) (record {
-      vals = read_if f x r.slots.items s.slots.items h values_of (values_after x) h.here.values;
-      pairing = read_if f x r.slots.items s.slots.items h pairing_of (pairing_after x) h.here.pairing;
+      vals = read_if f x r.slots s.slots h values_of (values_after x) h.here.values;
+      pairing = read_if f x r.slots s.slots h pairing_of (pairing_after x) h.here.pairing;
       hold = holder;
       entered = ap (λ (ds : Places End). ds.items) entered;
-      places = places_if f x r.slots.items s.slots.items h;
-      mixed = mixed_same f x r.slots.items s.slots.items h;
+      places = places_if f x r.slots s.slots h;
+      mixed = mixed_same f x r.slots s.slots h;
       entries = omega (arith, entries, promised);
       kept = refl;
     })
@@ -99,7 +99,7 @@ row_grown_twice o p q a b = record {
   entries = omega (arith, a.entries, b.entries);
 }
 
-pub row_reordered : (r s : Row) → s.slots.items ≡ r.slots.items → s.holder ≡ r.holder → s.promised ≡ r.promised → IsPermutation r.entered.items s.entered.items → s.entered.spare ≡ r.entered.spare → IsRowReordered (Some r) (Some s)
+pub row_reordered : (r s : Row) → s.slots ≡ r.slots → s.holder ≡ r.holder → s.promised ≡ r.promised → IsPermutation r.entered.items s.entered.items → s.entered.spare ≡ r.entered.spare → IsRowReordered (Some r) (Some s)
 row_reordered r s slots holder promised entered spare = record {
   vals = λ g. ap (λ (ss : List Slot). values_of (slot_in ss g)) slots;
   pairing = λ g. ap (λ (ss : List Slot). pairing_of (slot_in ss g)) slots;
@@ -124,7 +124,7 @@ row_unmoved o = record {
 }
 
 -- an empty row may be added for a node without a row
-pub row_made : (r : Row) → r.slots.items ≡ [] → r.holder ≡ None → r.entered.items ≡ [] → IsRowGrown None (Some r)
+pub row_made : (r : Row) → r.slots ≡ [] → r.holder ≡ None → r.entered.items ≡ [] → IsRowGrown None (Some r)
 row_made r slots holder entered = record {
   vals = λ g. ap (λ (ss : List Slot). values_of (slot_in ss g)) slots;
   pairing = λ g. ap (λ (ss : List Slot). pairing_of (slot_in ss g)) slots;

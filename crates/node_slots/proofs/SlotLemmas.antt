@@ -29,6 +29,20 @@ first ss ts f o i d same search is =
     let at = position-Some (is_of f) ss i d (ap (position (is_of f)) (sym same) ∙ sym search ∙ is) in
     record { in_range = at.0; here = at.1; before = at.2 }
 
+-- the only slot is the first of its feature
+pub alone : (s : Slot) (f : FeatureNo) → is_of f s ≡ true → IsFirst (s ∷ []) f 0 s
+alone s f is = record { in_range = omega arith; here = is; before = λ k h. absurd (omega (arith, h)) }
+
+-- other features have no slot
+pub other : (s : Slot) (f : FeatureNo) → is_of f s ≡ false → slot_in (s ∷ []) f ≡ None
+other s f differs = ap (λ (b : Bool). if b then Some s else slot_in [] f) differs
+
+-- its own feature has one
+pub own : (s : Slot) (f : FeatureNo) → is_of f s ≡ true → slot_in (s ∷ []) f ≡ None → ⊥
+own s f is none =
+    let here : slot_in (s ∷ []) f ≡ Some s = ap (λ (b : Bool). if b then Some s else slot_in [] f) is in
+    cc
+
 ---------------------------------------------------------------- reads
 
 pub found : (ss : List Slot) (f : FeatureNo) (i : ℕ) (d : Slot) → IsFirst ss f i d → slot_in ss f ≡ Some (get_or ss i d)
@@ -162,6 +176,9 @@ none_edited x (Some s) is le = cc
 pub unedited : (ss : List Slot) (f : FeatureNo) (x : SlotEdit) → slot_in ss f ≡ None → slot_edit_capacity x ≤ places_of (slot_in ss f) → AreSlotsEdited f x ss ss
 unedited ss f x none le = record { here = none_edited x (slot_in ss f) none le; others = λ g apart. refl }
 
+pub unedited_none : (f : FeatureNo) (x : SlotEdit) → slot_edit_capacity x ≤ 0 → AreSlotsEdited f x [] []
+unedited_none f x le = unedited [] f x refl le
+
 ---------------------------------------------------------------- one more slot
 
 module _ (s : Slot) (none : s.values.items ≡ []) (told : s.pairing ≡ no_pairing) where
@@ -184,3 +201,14 @@ is_there (x ∷ ss) s none =
       | true ↦ λ q. cc
       | false ↦ λ q. is_there ss s q
     ] none
+
+-- a new slot after the only one
+pub joined : (s n : Slot) (ss : List Slot) → n.values.items ≡ [] → n.pairing ≡ no_pairing → ss ≡ s ∷ n ∷ [] → AreSlotsGrown (s ∷ []) ss
+joined s n ss none told is = subst (λ (xs : List Slot). AreSlotsGrown (s ∷ []) xs) (sym is) (pushed n none told (s ∷ []))
+
+pub joined_there : (s n : Slot) (ss : List Slot) (f : FeatureNo) → n.feature ≡ f → ss ≡ s ∷ n ∷ [] → slot_in ss f ≡ None → ⊥
+joined_there s n ss f named is none =
+    is_there (s ∷ []) n (subst (λ (g : FeatureNo). slot_in (s ∷ n ∷ []) g ≡ None) (sym named) (subst (λ (xs : List Slot). slot_in xs f ≡ None) is none))
+
+pub begun : (s : Slot) (f : FeatureNo) → s.feature ≡ f → slot_in (s ∷ []) f ≡ None → ⊥
+begun s f named none = is_there [] s (subst (λ (g : FeatureNo). slot_in (s ∷ []) g ≡ None) (sym named) none)

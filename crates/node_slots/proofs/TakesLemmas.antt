@@ -7,11 +7,10 @@ use Rattle.node_slots.specs.Cells.{Room}
 use Rattle.node_slots.specs.Growth.{Takes, TakesAll}
 
 still_takes : (r s : Room) → ((e : End) → r.mixed e ≡ true → s.mixed e ≡ true) → (x : Edit) → Takes r x → Takes s x
-still_takes r s keeps (edit.Cut e o) h = tt
+still_takes r s keeps (edit.Cut e v) h = tt
 still_takes r s keeps (edit.Put l) h = tt
 still_takes r s keeps (edit.Shift e to from) h = tt
 still_takes r s keeps (edit.PutProxy e i t) h = keeps e h
-still_takes r s keeps (edit.CutProxy e t) h = tt
 
 -- one more edit of a plan
 pub takes_more : (r s : Room) (xs : List Edit) (i : ℕ) (x : Edit) → ((e : End) → r.mixed e ≡ true → s.mixed e ≡ true) → i < length xs → x ≡ get_or xs i x → TakesAll r (take i xs) → Takes s x → TakesAll s (take (i + 1) xs)

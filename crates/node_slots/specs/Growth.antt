@@ -21,11 +21,10 @@ far_gain o (Some g) x = one_if (same_end (far_end o g) x)
 
 -- how many values an edit adds to the end x
 abbrev pub gain : End → Edit → ℕ
-gain x (edit.Cut e o) = 0
+gain x (edit.Cut e v) = 0
 gain x (edit.Put l) = one_if (same_end l.end x) + far_gain l.object l.opposite x
 gain x (edit.Shift e to from) = 0
 gain x (edit.PutProxy e i t) = one_if (same_end e x)
-gain x (edit.CutProxy e t) = 0
 
 abbrev pub lone_entry : ObjectNo → Option FeatureNo → Node → ℕ
 lone_entry o None n = one_if (same_node (node.Object o) n)
@@ -33,11 +32,10 @@ lone_entry o (Some g) n = 0
 
 -- how many ends without opposite an edit adds to the ends that hold n
 abbrev pub entry : Node → Edit → ℕ
-entry n (edit.Cut e o) = 0
+entry n (edit.Cut e v) = 0
 entry n (edit.Put l) = lone_entry l.object l.opposite n
 entry n (edit.Shift e to from) = 0
 entry n (edit.PutProxy e i t) = 0
-entry n (edit.CutProxy e t) = 0
 
 abbrev pub gains : List Edit → End → ℕ
 gains plan x = sum_by (gain x) plan
@@ -47,11 +45,10 @@ entries plan n = sum_by (entry n) plan
 
 -- if an edit puts a proxy into an end, that end may have values that are no objects
 abbrev pub Takes : Room → Edit → Type 0
-Takes r (edit.Cut e o) = Unit {0}
+Takes r (edit.Cut e v) = Unit {0}
 Takes r (edit.Put l) = Unit {0}
 Takes r (edit.Shift e to from) = Unit {0}
 Takes r (edit.PutProxy e i t) = r.mixed e ≡ true
-Takes r (edit.CutProxy e t) = Unit {0}
 
 abbrev pub TakesAll : Room → List Edit → Type 0
 TakesAll r [] = Unit {0}

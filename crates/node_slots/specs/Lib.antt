@@ -1,9 +1,7 @@
 pub mod Slots
+pub mod RowSlots
 pub mod Rows
 pub mod Tables
 pub mod Cells
 pub mod Growth
 pub mod Order
-pub mod EndValues
-pub mod EndValueList
-pub mod Proxies

@@ -15,7 +15,7 @@ use Rattle.node_slots.specs.Slots.{CanEdit, mixed_of, pairing_after, pairing_of,
 
 abbrev pub row_slots : Option Row → List Slot
 row_slots None = []
-row_slots (Some r) = r.slots.items
+row_slots (Some r) = r.slots
 
 abbrev pub row_slot : Option Row → FeatureNo → Option Slot
 row_slot o f = slot_in (row_slots o) f

@@ -4,7 +4,7 @@ use Rattle.mm_types.specs.Lists.{values_after_move}
 use Rattle.mm_types.specs.Same.{same_feature}
 use Rattle.mm_types.specs.declared.numbers.FeatureNo.{FeatureNo}
 use Rattle.mm_types.specs.declared.value.Value.{Value}
-use Rattle.node_slots.specs.EndValues.{CanHave}
+use Rattle.end_values.specs.EndValues.{CanHave}
 use Rattle.node_slots.specs.declared.slot.Pairing.{Pairing}
 use Rattle.node_slots.specs.declared.slot.Slot.{Slot}
 use Rattle.node_slots.specs.declared.slot.SlotEdit.{SlotEdit}

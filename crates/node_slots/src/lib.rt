@@ -4,16 +4,15 @@
 //! node has a row once capacity was reserved for it; a node without a row takes four bytes of an index (`RowTable`), or nothing.
 #![tactic(auto)]
 
-mod end_values;
-mod mixed_list;
 mod node_slots;
 mod order;
 mod row;
+mod row_slots;
 mod row_table;
 mod slot;
 
-pub use end_values::EndValueList;
 pub use node_slots::{NodeSlots, PutPlaces};
 pub use order::entry_rank;
 pub use row::{Row, RowEdit};
+pub use row_slots::RowSlots;
 pub use slot::{Pairing, Slot, SlotEdit};

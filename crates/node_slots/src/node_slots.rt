@@ -4,8 +4,8 @@ ghost use Rattle.mm_types.specs.Same.{same_end, same_value};
 ghost use Rattle.mm_types.specs.declared.numbers.Node.{Node};
 ghost use Rattle.links.specs.Links.{object_of, text_of};
 ghost use Rattle.node_slots.specs.Rows.{row_slot, row_slots};
-ghost use Rattle.node_slots.specs.EndValues.{is_value};
-ghost use Rattle.node_slots.specs.Proxies.{HasNoProxyBefore};
+ghost use Rattle.end_values.specs.EndValues.{is_value};
+ghost use Rattle.end_values.specs.Proxies.{HasNoProxyBefore};
 ghost use Rattle.node_slots.specs.Cells.{AreReordered, Fits, KeepsRoom, cell_edit, cells, ends_of, no_cells, room, row_at, row_index_of};
 
 mod growth;
@@ -51,7 +51,7 @@ impl NodeSlots {
         ensures { result.now ≡ row_slots (row_at self.now node) }
     {
         match self.row(node) {
-            Some(row) => &row.slots,
+            Some(row) => row.slots.as_slice(),
             None => &[],
         }
     }

@@ -6,6 +6,7 @@ ghost use Rattle.node_slots.specs.Slots.{AreSlotsEdited, AreSlotsGrown, CanEdit,
 ghost use Rattle.node_slots.specs.Rows.{IsRowEdited, IsRowGrown, IsRowReordered, RowFits, row_entries};
 
 use crate::order::put_in_order;
+use crate::row_slots::{RowSlots, slot_index};
 use crate::slot::{Slot, SlotEdit};
 use mm_types::{End, FeatureNo};
 use slot_lists::ShortList;
@@ -29,8 +30,7 @@ pub enum RowEdit {
 /// The values of one node, and the ends that hold it.
 #[derive(Drop)]
 pub struct Row {
-    /// The slots in the order of first use; the first slot of a feature counts.
-    pub slots: Vec<Slot>,
+    pub slots: RowSlots,
     /// The end that contains the node.
     pub holder: Option<End>,
     /// The ends with no opposite that hold the node, in the order in which they came, until they are put in order.
@@ -41,13 +41,13 @@ pub struct Row {
 
 impl Row {
     /// A node with no values, which no end holds. Takes no memory.
-    pub fn new(alloc: Global) -> Self
-        ensures slots { result.slots.items ≡ [] }
+    pub fn new() -> Self
+        ensures slots { result.slots ≡ [] }
         ensures holder { result.holder ≡ None }
         ensures entered { result.entered.items ≡ [] }
     {
         Row {
-            slots: Vec::new(alloc),
+            slots: RowSlots::new(),
             holder: None,
             entered: ShortList::new(),
             promised: 0,
@@ -56,10 +56,11 @@ impl Row {
 
     /// The slot of a feature; `None` if it has none, and so no values.
     pub fn slot(&self, feature: FeatureNo) -> Option<&Slot>
-        ensures { option_copied result ≡ slot_in self.now.slots.items feature }
+        ensures { option_copied result ≡ slot_in self.now.slots feature }
     {
-        match slot_index(&self.slots, feature) {
-            Some(index) => Some(&self.slots[index]),
+        let slots = self.slots.as_slice();
+        match slot_index(slots, feature) {
+            Some(index) => Some(&slots[index]),
             None => None,
         }
     }
@@ -71,7 +72,7 @@ impl Row {
         ensures { IsRowEdited edit (Some self.old) (Some self.new) }
     {
         match edit {
-            RowEdit::Change(feature, edit) => edit_slot(&mut self.slots, feature, edit),
+            RowEdit::Change(feature, edit) => self.slots.edit(feature, edit),
             RowEdit::Hold(holder) => self.holder = holder,
             RowEdit::Enter(end) => {
                 push_on(&mut self.entered, end);
@@ -90,13 +91,18 @@ impl Row {
     }
 
     /// Reserves capacity for one more value of a feature, for an object or for any value. Fails only if memory is refused; no value changes.
-    pub fn promise(&mut self, feature: FeatureNo, is_mixed: bool) -> Result<(), AllocError>
+    pub fn promise(
+        &mut self,
+        alloc: Global,
+        feature: FeatureNo,
+        is_mixed: bool,
+    ) -> Result<(), AllocError>
         ensures grown { IsRowGrown (Some self.old) (Some self.new) }
-        ensures ok { OnOk result (places_of (slot_in self.old.slots.items feature) + 1 ≤ places_of (slot_in self.new.slots.items feature)) }
-        ensures takes { OnOk result (is_mixed ≡ true → mixed_of (slot_in self.new.slots.items feature) ≡ true) }
+        ensures ok { OnOk result (places_of (slot_in self.old.slots feature) + 1 ≤ places_of (slot_in self.new.slots feature)) }
+        ensures takes { OnOk result (is_mixed ≡ true → mixed_of (slot_in self.new.slots feature) ≡ true) }
     {
-        add_slot(&mut self.slots, feature)?;
-        promise_in(&mut self.slots, feature, is_mixed)
+        self.slots.add(alloc, feature)?;
+        self.slots.promise(alloc, feature, is_mixed)
     }
 
     /// How many more ends that hold the node can be put in without memory: those for which capacity is reserved.
@@ -107,7 +113,7 @@ impl Row {
     }
 
     /// Reserves capacity for one more end that holds the node. Fails only if memory is refused; no end changes.
-    pub fn promise_entry(&mut self) -> Result<(), AllocError>
+    pub fn promise_entry(&mut self, alloc: Global) -> Result<(), AllocError>
         ensures grown { IsRowGrown (Some self.old) (Some self.new) }
         ensures ok { OnOk result (row_entries (Some self.old) + 1 ≤ row_entries (Some self.new)) }
     {
@@ -115,66 +121,9 @@ impl Row {
             return Err(AllocError);
         }
         let promised = self.promised + 1;
-        let alloc = *self.slots.allocator();
         self.entered.reserve(alloc, promised)?;
         self.promised = promised;
         Ok(())
-    }
-}
-
-/// The index of the first slot of a feature.
-fn slot_index(slots: &[Slot], feature: FeatureNo) -> Option<usize>
-    ensures { result ≡ position (λ s. same_feature s.feature feature) slots.now }
-{
-    slots.iter().position(|slot| slot.feature == feature)
-}
-
-/// Changes the values of a feature.
-fn edit_slot(slots: &mut Vec<Slot>, feature: FeatureNo, edit: SlotEdit)
-    requires places { slot_edit_capacity edit ≤ places_of (slot_in slots.old.items feature) }
-    requires can { CanEdit (mixed_of (slot_in slots.old.items feature)) edit }
-    ensures { AreSlotsEdited feature edit slots.old.items slots.new.items }
-{
-    match slot_index(slots, feature) {
-        Some(index) => slots[index].edit(edit),
-        None => drop(edit),
-    }
-}
-
-/// Adds a slot, and reserves capacity for half as many more. Fails only if memory is refused, and then nothing has changed.
-fn push_slot(slots: &mut Vec<Slot>, slot: Slot) -> Result<(), AllocError>
-    ensures { slots.new.items ≡ (if is_ok result then slots.old.items ++ slot ∷ [] else slots.old.items) }
-{
-    slots.reserve_exact(slots.len() / 2 + 1)?;
-    slots.push(slot)?;
-    Ok(())
-}
-
-/// Makes a slot for a feature, if it has none.
-fn add_slot(slots: &mut Vec<Slot>, feature: FeatureNo) -> Result<(), AllocError>
-    ensures grown { AreSlotsGrown slots.old.items slots.new.items }
-    ensures ok { OnOk result ((slot_in slots.new.items feature ≡ None) → ⊥) }
-{
-    if slot_index(slots, feature).is_some() {
-        return Ok(());
-    }
-    push_slot(slots, Slot::new(feature))?;
-    Ok(())
-}
-
-/// Reserves capacity for one more value in the slot of a feature.
-fn promise_in(slots: &mut Vec<Slot>, feature: FeatureNo, is_mixed: bool) -> Result<(), AllocError>
-    requires { (slot_in slots.old.items feature ≡ None) → ⊥ }
-    ensures grown { AreSlotsGrown slots.old.items slots.new.items }
-    ensures ok { OnOk result (places_of (slot_in slots.old.items feature) + 1 ≤ places_of (slot_in slots.new.items feature)) }
-    ensures takes { OnOk result (is_mixed ≡ true → mixed_of (slot_in slots.new.items feature) ≡ true) }
-{
-    match slot_index(slots, feature) {
-        Some(index) => {
-            let alloc = *slots.allocator();
-            slots[index].promise(alloc, is_mixed)
-        }
-        None => unreachable!(),
     }
 }
 

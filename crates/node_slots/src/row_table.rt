@@ -88,7 +88,8 @@ impl RowTable {
         ensures ok { OnOk result (row_indexes (row_in self.old number) feature + 1 ≤ row_indexes (row_in self.new number) feature) }
         ensures takes { OnOk result (is_mixed ≡ true → row_mixed (row_in self.new number) feature ≡ true) }
     {
-        self.rows[row_index].promise(feature, is_mixed)
+        let alloc = *self.rows.allocator();
+        self.rows[row_index].promise(alloc, feature, is_mixed)
     }
 
     /// Reserves capacity for one more end that holds a node, in the row of the node. Fails only if memory is refused; no end changes.
@@ -98,7 +99,8 @@ impl RowTable {
         ensures places { self.new.places ≡ self.old.places }
         ensures ok { OnOk result (row_entries (row_in self.old number) + 1 ≤ row_entries (row_in self.new number)) }
     {
-        self.rows[row_index].promise_entry()
+        let alloc = *self.rows.allocator();
+        self.rows[row_index].promise_entry(alloc)
     }
 
     /// The index of the row of a number, which is made if there is none. No row is moved.
@@ -127,8 +129,7 @@ impl RowTable {
         if row_index >= u32::MAX as usize {
             return Err(AllocError);
         }
-        let alloc = *self.rows.allocator();
-        self.rows.push(Row::new(alloc))?;
+        self.rows.push(Row::new())?;
         self.places[number] = row_index as u32 + 1;
         Ok(row_index)
     }

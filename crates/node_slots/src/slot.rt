@@ -2,10 +2,10 @@
 ghost use Rattle.std.specs.Prelude.{◌≡◌, true, ◌+◌, ◌≤◌, [], ◌∷◌, ◌++◌, OnOk};
 ghost use Rattle.std.specs.List.{insert, remove};
 ghost use Rattle.mm_types.specs.Lists.{values_after_move};
-ghost use Rattle.node_slots.specs.EndValues.{CanHave};
+ghost use Rattle.end_values.specs.EndValues.{CanHave};
 ghost use Rattle.node_slots.specs.Slots.{CanEdit, IsSlotEdited, no_pairing, slot_edit_capacity, slot_places};
 
-use crate::end_values::EndValueList;
+use end_values::EndValueList;
 use mm_types::{FeatureNo, Value};
 use std::alloc::{AllocError, Global};
 

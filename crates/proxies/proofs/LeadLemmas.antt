@@ -24,21 +24,21 @@ use Rattle.models.specs.Model.{Model, reading}
 use Rattle.models.specs.Reading.{Reading, all_features_of, at_end}
 use Rattle.containment.proofs.PartLemmas.{legal-at, live-made, values-linked}
 use Rattle.fragment_paths.specs.Finding.{at}
-use Rattle.proxies.specs.Keys.{key, same_key}
+use Rattle.models.specs.ReferenceKeys.{reference_key, same_reference_key}
 use Rattle.proxies.specs.Leads.{first_index, is_by, lead, leads}
 use Rattle.proxies.specs.Proxies.{is_proxy_site, site, sites_of, sites_under}
 use Rattle.proxies.specs.Resolving.{leads_to}
-use Rattle.proxies.specs.declared.keys.Key.{Key}
+use Rattle.models.specs.declared.reference_key.ReferenceKey.{ReferenceKey}
 use Rattle.proxies.specs.declared.lead.Lead.{Lead}
 use Rattle.proxies.specs.declared.site.ProxySite.{ProxySite}
 use Rattle.proxies.proofs.PositionLemmas.{position-passes}
 
-first-append : (xs ys : List Lead) (k : Key) → first_index (xs ++ ys) k ≡ option_or (first_index xs k) (first_index ys k)
+first-append : (xs ys : List Lead) (k : ReferenceKey) → first_index (xs ++ ys) k ≡ option_or (first_index xs k) (first_index ys k)
 first-append [] ys k = refl
 first-append (x ∷ xs) ys k = elim (is_by k x) as (λ b. (if b then Some x.site.index else first_index (xs ++ ys) k) ≡ option_or (if b then Some x.site.index else first_index xs k) (first_index ys k)) [ true ↦ refl | false ↦ first-append xs ys k ]
 
 -- the leads of several elements, if those of the elements that pass a test give one index, and those of the others none
-first-each : {X : Type 0} (g : X → List ProxySite) (r : Reading) (test : X → Bool) (k : Key) (q : Option ℕ)
+first-each : {X : Type 0} (g : X → List ProxySite) (r : Reading) (test : X → Bool) (k : ReferenceKey) (q : Option ℕ)
     → ((x : X) → test x ≡ true → first_index (map (lead r) (g x)) k ≡ q) → ((x : X) → test x ≡ false → first_index (map (lead r) (g x)) k ≡ None)
     → (xs : List X) → first_index (map (lead r) (flat_map g xs)) k ≡ (if list_any test xs then q else None)
 first-each g r test k q here other [] = refl
@@ -59,8 +59,8 @@ pub eq-self : (n : ℕ) → nat_eq n n ≡ true
 eq-self n = grind (arith, nat_tests)
 
 module _ (r : Reading) (b : ObjectNo) (f : FeatureNo) (a : ObjectNo) where
-  abbrev k : Key
-  k = key b f a.0
+  abbrev k : ReferenceKey
+  k = reference_key b f a.0
 
   abbrev e : End
   e = at_end (node.Object b) f
@@ -75,7 +75,7 @@ module _ (r : Reading) (b : ObjectNo) (f : FeatureNo) (a : ObjectNo) where
 
   -- the value at an index leads to the object to which its lead leads
   by-value : (n : ℕ) (v : Value) → slice_get (r.values e) n ≡ Some v → is_by k (lead r (site b f n)) ≡ leads_back v
-  by-value n v at_n = ap (λ (q : Option Value). option_map_or (λ (o : ObjectNo). same_key (key b f o.0) k) (option_and_then (at r) (option_and_then text_of q)) false) at_n ∙ by (option_and_then (at r) (text_of v))
+  by-value n v at_n = ap (λ (q : Option Value). option_map_or (λ (o : ObjectNo). same_reference_key (reference_key b f o.0) k) (option_and_then (at r) (option_and_then text_of q)) false) at_n ∙ by (option_and_then (at r) (text_of v))
     where
       by : (q : Option ObjectNo) → option_map_or (λ (o : ObjectNo). nat_eq b.0 b.0 && (nat_eq f.0 f.0 && nat_eq o.0 a.0)) q false ≡ option_map_or (λ (o : ObjectNo). nat_eq o.0 a.0) q false
       by None = refl
@@ -131,7 +131,7 @@ module _ (r : Reading) (b : ObjectNo) (f : FeatureNo) (a : ObjectNo) where
       apart true false z h = refl
       apart false y z h = refl
 
-      by : (q : Option ObjectNo) → option_map_or (λ (c : ObjectNo). same_key (key o g c.0) k) q false ≡ false
+      by : (q : Option ObjectNo) → option_map_or (λ (c : ObjectNo). same_reference_key (reference_key o g c.0) k) q false ≡ false
       by None = refl
       by (Some c) = apart (nat_eq o.0 b.0) (nat_eq g.0 f.0) (nat_eq c.0 a.0) other
 
@@ -235,7 +235,7 @@ module _ (s : Model) (legal : IsLegal s) (b : ObjectNo) (f : FeatureNo) (referen
       let low = live-made s b of.0 in
       (within-range b.0 0 r.next (omega arith) (omega (arith, low)), of.1)
 
-  pub first-is : first_index (leads (reading s)) (key b f a.0) ≡ position (leads_to (reading s) (node.Object a)) ((reading s).values (at_end (node.Object b) f))
+  pub first-is : first_index (leads (reading s)) (reference_key b f a.0) ≡ position (leads_to (reading s) (node.Object a)) ((reading s).values (at_end (node.Object b) f))
   first-is =
       first-lead r b f a ∙ ap (λ (q : Option ℕ). if within then q else None) (first-of r b f a)
       ∙ elim i as (λ q. i ≡ q → (if within then (if known then i else None) else None) ≡ i) [
@@ -278,6 +278,6 @@ indices-step r o f n was old new more so_far =
     one false = refl
 
 -- the first index with one more lead
-pub first-step : (xs : List Lead) (i : ℕ) (d : Lead) (k : Key) (old new : Option ℕ) → i < length xs → new ≡ option_or old (first_index (get_or xs i d ∷ []) k) → old ≡ first_index (take i xs) k → new ≡ first_index (take (i + 1) xs) k
+pub first-step : (xs : List Lead) (i : ℕ) (d : Lead) (k : ReferenceKey) (old new : Option ℕ) → i < length xs → new ≡ option_or old (first_index (get_or xs i d ∷ []) k) → old ≡ first_index (take i xs) k → new ≡ first_index (take (i + 1) xs) k
 first-step xs i d k old new low more so_far =
     more ∙ ap (λ (q : Option ℕ). option_or q (first_index (get_or xs i d ∷ []) k)) so_far ∙ sym (first-append (take i xs) (get_or xs i d ∷ []) k) ∙ ap (λ (ls : List Lead). first_index ls k) (sym (take_more xs i d low))

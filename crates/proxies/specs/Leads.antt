@@ -4,11 +4,11 @@ use Rattle.std.specs.Option.{option_map_or}
 use Rattle.indexmap.specs.IndexMap.{get}
 use Rattle.models.specs.Reading.{Reading}
 use Rattle.fragment_paths.specs.Finding.{at}
-use Rattle.proxies.specs.Keys.{key}
-pub use Rattle.proxies.specs.Keys.{same_key}
+use Rattle.models.specs.ReferenceKeys.{reference_key}
+pub use Rattle.models.specs.ReferenceKeys.{same_reference_key}
 use Rattle.proxies.specs.Proxies.{end_of, sites}
 use Rattle.proxies.specs.Resolving.{proxy_at}
-use Rattle.proxies.specs.declared.keys.Key.{Key}
+use Rattle.models.specs.declared.reference_key.ReferenceKey.{ReferenceKey}
 use Rattle.proxies.specs.declared.lead.FirstLeads.{FirstLeads}
 use Rattle.proxies.specs.declared.lead.Lead.{Lead}
 use Rattle.proxies.specs.declared.site.ProxySite.{ProxySite}
@@ -20,13 +20,13 @@ abbrev pub leads : Reading → List Lead
 leads r = map (lead r) (sites r)
 
 -- whether a proxy is at the reference of a key, and leads to the object of the key
-abbrev pub is_by : Key → Lead → Bool
-is_by k x = option_map_or (λ o. same_key (key x.site.object x.site.feature o.0) k) x.object false
+abbrev pub is_by : ReferenceKey → Lead → Bool
+is_by k x = option_map_or (λ o. same_reference_key (reference_key x.site.object x.site.feature o.0) k) x.object false
 
 -- the index of the first proxy that is at the reference of a key and leads to its object
-abbrev pub first_index : List Lead → Key → Option ℕ
+abbrev pub first_index : List Lead → ReferenceKey → Option ℕ
 first_index [] k = None
 first_index (x ∷ xs) k = if is_by k x then Some x.site.index else first_index xs k
 
-abbrev pub index_at : FirstLeads → Key → Option ℕ
-index_at t k = get same_key t.indices k
+abbrev pub index_at : FirstLeads → ReferenceKey → Option ℕ
+index_at t k = get same_reference_key t.indices k

@@ -5,14 +5,13 @@ ghost use Rattle.proxies.specs.Leads as spec;
 ghost use Rattle.proxies.specs.Proxies as proxies;
 
 use crate::ends::far_end;
-use crate::keys::Key;
 use crate::resolving::proxy_at;
 use crate::site::ProxySite;
 use fragment_paths::object_at;
 use indexmap::IndexMap;
 use links::LinkStore;
 use mm_types::{FeatureNo, Node, ObjectNo};
-use models::ModelRef;
+use models::{ModelRef, ReferenceKey};
 use std::alloc::{AllocError, Global};
 
 /// The location of a proxy, and the object at its address, if there is one.
@@ -92,16 +91,16 @@ fn push_lead<L: LinkStore>(
 /// For a reference of an object and another object, the index of the first proxy there that leads to the other.
 #[derive(Drop)]
 pub struct FirstLeads {
-    indices: IndexMap<Key, u32>,
+    indices: IndexMap<ReferenceKey, u32>,
 }
 
 impl FirstLeads {
     ghost use Rattle.std.specs.Prelude.{None, Some};
     ghost use Rattle.std.specs.Option.{option_or};
-    ghost use Rattle.proxies.specs.declared.keys.Key.{Key};
+    ghost use Rattle.models.specs.declared.reference_key.ReferenceKey.{ReferenceKey};
 
     fn new(alloc: Global) -> Self
-        ensures { (k : Key) → spec.index_at result k ≡ None }
+        ensures { (k : ReferenceKey) → spec.index_at result k ≡ None }
     {
         FirstLeads {
             indices: IndexMap::new(alloc),
@@ -110,7 +109,7 @@ impl FirstLeads {
 
     /// The first leads of some proxies. Fails only if memory is refused.
     pub fn of(alloc: Global, leads: &[Lead]) -> Result<Self, AllocError>
-        ensures { IfOk result (λ t. (k : Key) → spec.index_at t k ≡ spec.first_index leads.now k) }
+        ensures { IfOk result (λ t. (k : ReferenceKey) → spec.index_at t k ≡ spec.first_index leads.now k) }
     {
         let mut first = FirstLeads::new(alloc);
         'leads: for lead in leads {
@@ -121,11 +120,11 @@ impl FirstLeads {
 
     /// Adds a lead after the others.
     fn add(&mut self, lead: Lead) -> Result<(), AllocError>
-        ensures { OnOk result ((k : Key) → spec.index_at self.new k ≡ option_or (spec.index_at self.old k) (spec.first_index (lead ∷ []) k)) }
+        ensures { OnOk result ((k : ReferenceKey) → spec.index_at self.new k ≡ option_or (spec.index_at self.old k) (spec.first_index (lead ∷ []) k)) }
     {
         match lead.object {
             Some(object) => {
-                let key = Key::of(lead.site.object, lead.site.feature, object.0);
+                let key = ReferenceKey::of(lead.site.object, lead.site.feature, object.0);
                 self.add_first(key, lead.site.index)
             }
             None => Ok(()),
@@ -133,8 +132,8 @@ impl FirstLeads {
     }
 
     /// Adds an index, unless the key has one.
-    fn add_first(&mut self, key: Key, index: u32) -> Result<(), AllocError>
-        ensures { OnOk result ((k : Key) → spec.index_at self.new k ≡ option_or (spec.index_at self.old k) (if spec.same_key key k then Some index else None)) }
+    fn add_first(&mut self, key: ReferenceKey, index: u32) -> Result<(), AllocError>
+        ensures { OnOk result ((k : ReferenceKey) → spec.index_at self.new k ≡ option_or (spec.index_at self.old k) (if spec.same_reference_key key k then Some index else None)) }
     {
         if self.index(key).is_some() {
             return Ok(());
@@ -144,7 +143,7 @@ impl FirstLeads {
     }
 
     /// Takes no memory.
-    pub fn index(&self, key: Key) -> Option<u32>
+    pub fn index(&self, key: ReferenceKey) -> Option<u32>
         ensures { result ≡ spec.index_at self.now key }
     {
         self.indices.get(&key).copied()

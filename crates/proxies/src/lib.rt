@@ -14,7 +14,7 @@ mod resolving;
 mod site;
 
 pub use ends::{far_end, opposite_end};
-pub use keys::{Key, Keys};
+pub use keys::Keys;
 pub use lead::{FirstLeads, Lead, leads};
 pub use resolved::Resolved;
 pub use resolved_proxy::{Counterpart, ResolvedProxy};

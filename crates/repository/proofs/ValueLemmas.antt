@@ -3,6 +3,7 @@ use Rattle.std.proofs.Common.{◌≡◌, ◌∙◌, ◌++◌, ◌||◌, Bool, tr
 use Rattle.std.specs.Option.{option_map_or}
 use Rattle.std.specs.Prelude.{Ok, unwrap_or}
 use Rattle.std.proofs.lemmas.Bool.{and_parts, false≢true, not-true}
+use Rattle.mm_types.specs.Resolved.{Metamodel}
 use Rattle.mm_types.specs.declared.numbers.AdapterNo.{AdapterNo}
 use Rattle.links.specs.declared.plan.Edit.{Edit}
 use Rattle.mm_values.specs.declared.value_edit.ValueEdit.{ValueEdit}
@@ -35,10 +36,16 @@ use Rattle.repository.proofs.AdapterLemmas.{heard-tells, heard_where_attached, i
 use Rattle.repository.proofs.PlanLemmas.{changed_to}
 
 -- the change is answered before it is planned
-pub answered-early : (c : Change) → edits_one_kind c ≡ true → is_answered_late c ≡ false
+answered-early : (c : Change) → edits_one_kind c ≡ true → is_answered_late c ≡ false
 answered-early (Create k) h = refl
 answered-early (At e a) h = ap (λ (b : Bool). b || false) (not-true (resolves_one (At e a)) h)
 answered-early _ h = absurd (false≢true h)
+
+pub answered-early-values : (m : Metamodel) (c : Change) → edits_values_alone m c ≡ true → is_answered_late c ≡ false
+answered-early-values m c h = answered-early c (and_parts (edits_one_kind c) (not (is_at_reference m c)) h).0
+
+pub answered-early-links : (m : Metamodel) (c : Change) → edits_links_alone m c ≡ true → is_answered_late c ≡ false
+answered-early-links m c h = answered-early c (and_parts (edits_one_kind c) (is_at_reference m c) h).0
 
 -- its result, for a reply and a state that are known by their parts
 pub changed-unheard : (s t : State) (text : List ℕ) (c : Change) (a : Answer) (told : List (AdapterNo × Notice)) (views : List (AdapterNo × View)) → IsUnheard (reads s).above (chain (reads s) c) s.adapters → destroyed_by c ≡ None → told ≡ [] → views ≡ [] → IsProper (reads s) text c → early_refusal (reads s) c ≡ None → late_refusal (reads s) c ≡ None

@@ -7,7 +7,7 @@ ghost use Rattle.links.specs.Holders.{HasNoCycle, above};
 ghost use Rattle.links.specs.LegalSets.{IsLegalSet, Kinds};
 ghost use Rattle.models.specs.Model.{reading};
 ghost use Rattle.change_plans.specs.Plans.{IsPlanOf, of_links, of_values};
-ghost use Rattle.handshake.specs.Changes.{edits_links_alone, edits_one_kind, edits_values_alone};
+ghost use Rattle.handshake.specs.Changes.{edits_links_alone, edits_values_alone};
 ghost use Rattle.handshake.specs.Refusals.{early_refusal as early_refusal_of};
 ghost use Rattle.adapter_list.specs.Hearing.{AreKnown};
 ghost use Rattle.adapter_list.specs.Refusals.{IsChainRefusal};
@@ -94,7 +94,9 @@ pub(crate) fn prepare_values<L: LinkStore>(
     ensures refused { IfErr result (λ r. IsPlanRefusal model.now change r) }
 {
     model.lemma_is_legal();
-    let answer = own_answer(alloc, model, &change)?;
+    let Some(answer) = early_answer(alloc, model, &change)? else {
+        unreachable!()
+    };
     let (values, chain) = plan_values(alloc, model, change, is_heard)?;
     Ok(PreparedValues {
         answer,
@@ -125,7 +127,9 @@ pub(crate) fn prepare_links<L: LinkStore, A: Adapter>(
     ensures planned { IfOk result (λ p. IsPlanOf (nat_lt 0 (length adapters.now.0)) model.now change.now (of_links p.edits p.chain)) }
     ensures refused { IfErr result (λ r. IsPlanRefusal model.now change.now r) }
 {
-    let answer = own_answer(alloc, model, change)?;
+    let Some(answer) = early_answer(alloc, model, change)? else {
+        unreachable!()
+    };
     let (edits, chain) = plan_links(alloc, model, change, adapters.len() > 0)?;
     Ok(PreparedLinks {
         answer,
@@ -170,22 +174,6 @@ pub(crate) fn reserve<L: LinkStore, A: Adapter>(
     let leaving = room_for(alloc, spots, round.told_len())?;
     adapters.reserve_round(&round)?;
     Ok((round, leaving))
-}
-
-/// The answer of a change that edits only values, or only links. Fails only if memory is refused.
-fn own_answer<L: LinkStore>(
-    alloc: Global,
-    model: &ModelRef<L>,
-    change: &Change,
-) -> Result<Answer, AllocError>
-    requires one { edits_one_kind change.now ≡ true }
-    requires proper { (text : List ℕ) × IsProper (reading model.now) text change.now }
-    ensures { IfOk result (λ a. (rs : List Listed) (text : List ℕ) → IsProper (reading model.now) text change.now → a ≡ answer_of (reading model.now) rs (command_of text change.now)) }
-{
-    match early_answer(alloc, model, change)? {
-        Some(answer) => Ok(answer),
-        None => unreachable!(),
-    }
 }
 
 /// The answer of a change that is not refused; `None` for a deletion and for resolving proxies, whose plans give the answer. Fails only if

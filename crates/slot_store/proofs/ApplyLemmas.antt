@@ -37,11 +37,10 @@ room_first r x xs has = record {
 }
 
 takes_kept : (r s : Room) → ((e : End) → s.mixed e ≡ r.mixed e) → (x : Edit) → Takes r x → Takes s x
-takes_kept r s same (edit.Cut e o) takes = tt
+takes_kept r s same (edit.Cut e v) takes = tt
 takes_kept r s same (edit.Put l) takes = tt
 takes_kept r s same (edit.Shift e to from) takes = tt
 takes_kept r s same (edit.PutProxy e i t) takes = same e ∙ takes
-takes_kept r s same (edit.CutProxy e t) takes = tt
 
 takes_all_kept : (r s : Room) → ((e : End) → s.mixed e ≡ r.mixed e) → (xs : List Edit) → TakesAll r xs → TakesAll s xs
 takes_all_kept r s same [] takes = tt

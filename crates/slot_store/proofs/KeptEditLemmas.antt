@@ -17,6 +17,7 @@ use Rattle.links.specs.Plans.{EditFits, FarFitsIn, Has, IsEditOfKind, links_afte
 use Rattle.links.specs.declared.plan.Edit.{Edit}
 use Rattle.links.specs.declared.plan.Edit.TheVariants as edit
 use Rattle.links.proofs.ContainedLemmas.{free_new}
+use Rattle.links.proofs.CutNamedLemmas.{IsLinked, has_linked}
 use Rattle.links.proofs.HolderLemmas.{holder-cut, holder-put, holder-put_proxy, holder-shift, unheld}
 use Rattle.links.proofs.KindLemmas.{plan_keeps_kinds}
 use Rattle.links.proofs.LegalLemmas.{edited_legal}
@@ -100,13 +101,13 @@ module _ (m : Kinds) (meta : AreKinds m) (c : Cells) (es : List End) (ok : IsKep
     kept_by : IsTold m now → ((y : End) → end (links_after_edit was x) y ≡ now.vals y) → ((n : Node) → now.hold n ≡ holder (links_after_edit was x) n) → AreEntered m now → AreOnce now → IsKept now fs × (cell_links now fs ≡ links_after_edit was x)
     kept_by telling same holds entering single = kept_from m meta (links_after_edit was x) (edited_legal was x legal fits) (plan_keeps_kinds m meta was (x ∷ []) of (kind, tt)) now fs keys telling same holds entering single
 
-  kept_cut : (e : End) (o : ObjectNo) (fs : List End) → EditFits was (edit.Cut e o) → HasKeys (cells_after (edit.Cut e o) c) fs → IsKept (cells_after (edit.Cut e o) c) fs × (cell_links (cells_after (edit.Cut e o) c) fs ≡ links_after_edit was (edit.Cut e o))
+  kept_cut : (e : End) (o : ObjectNo) (fs : List End) → EditFits was (edit.Cut e (value.Object o)) → HasKeys (cells_after (edit.Cut e (value.Object o)) c) fs → IsKept (cells_after (edit.Cut e (value.Object o)) c) fs × (cell_links (cells_after (edit.Cut e (value.Object o)) c) fs ≡ links_after_edit was (edit.Cut e (value.Object o)))
   kept_cut e o fs fits keys =
       let g = (c.pairing e).opposite in
       let h = (c.pairing e).container in
       let k = fits.0 in
       let at = here_is e (value.Object o) fits in
-      kept_by (edit.Cut e o) fs fits tt keys (told_cut m meta c told e o g h) (ends_cut c es ok.lists e k o at h)
+      kept_by (edit.Cut e (value.Object o)) fs fits tt keys (told_cut m meta c told e o g h) (ends_cut c es ok.lists e k o at h)
       (λ n.
       cut-hold e o g h c n ∙ ap (unheld (pair_holding (held_node e o g h) n)) (ok.holds n)
       ∙ ap (λ (p : Option End). unheld p (holder was n)) (sym (link_holding c e k o g (two_of e k o g at refl) n))
@@ -114,14 +115,14 @@ module _ (m : Kinds) (meta : AreKinds m) (c : Cells) (es : List End) (ok : IsKep
       (entered_cut m meta c entered e k o h (ok.lists.distinct e) at g (sym (opposite_told m c told o e (k, at))) ok.once ok.lists.distinct)
       (once_cut m meta c entered e k o h (ok.lists.distinct e) at g (sym (opposite_told m c told o e (k, at))) ok.once)
 
-  kept_cut_proxy : (e : End) (t : List ℕ) (fs : List End) → EditFits was (edit.CutProxy e t) → HasKeys (cells_after (edit.CutProxy e t) c) fs → IsKept (cells_after (edit.CutProxy e t) c) fs × (cell_links (cells_after (edit.CutProxy e t) c) fs ≡ links_after_edit was (edit.CutProxy e t))
+  kept_cut_proxy : (e : End) (t : List ℕ) (fs : List End) → EditFits was (edit.Cut e (value.Proxy t)) → HasKeys (cells_after (edit.Cut e (value.Proxy t)) c) fs → IsKept (cells_after (edit.Cut e (value.Proxy t)) c) fs × (cell_links (cells_after (edit.Cut e (value.Proxy t)) c) fs ≡ links_after_edit was (edit.Cut e (value.Proxy t)))
   kept_cut_proxy e t fs fits keys =
       let v = value.Proxy t in
       let at = here_is e v fits in
-      kept_by (edit.CutProxy e t) fs fits tt keys (told_without m c told e v) (ends_cut_proxy c es ok.lists e fits.0 t at)
+      kept_by (edit.Cut e (value.Proxy t)) fs fits tt keys (told_without m c told e v) (ends_cut_proxy c es ok.lists e fits.0 t at)
       (λ n. without-hold e v c n ∙ ok.holds n ∙ cut_holder e fits.0 v at n)
       (entered_cut_proxy m meta c entered e fits.0 t (ok.lists.distinct e) at)
-      (once_same c (cells_after (edit.CutProxy e t) c) (without-entered e v c) ok.once)
+      (once_same c (cells_after (edit.Cut e (value.Proxy t)) c) (without-entered e v c) ok.once)
 
   kept_put : (e : End) (i : ℕ) (o : ObjectNo) (g h : Option FeatureNo) (fs : List End) → EditFits was (put_of e i o g h) → IsEditOfKind m (put_of e i o g h) → HasKeys (cells_after (put_of e i o g h) c) fs → IsKept (cells_after (put_of e i o g h) c) fs × (cell_links (cells_after (put_of e i o g h) c) fs ≡ links_after_edit was (put_of e i o g h))
   kept_put e i o g h fs fits kind keys =
@@ -155,8 +156,12 @@ module _ (m : Kinds) (meta : AreKinds m) (c : Cells) (es : List End) (ok : IsKep
       (once_same c (cells_after (edit.Shift e to from) c) (λ n. same_twice (same_node e.node n) (c.entered n)) ok.once)
 
   pub kept_edit : (x : Edit) (fs : List End) → EditFits was x → IsEditOfKind m x → HasKeys (cells_after x c) fs → IsKept (cells_after x c) fs × (cell_links (cells_after x c) fs ≡ links_after_edit was x)
-  kept_edit (edit.Cut e o) fs fits kind keys = kept_cut e o fs fits keys
+  kept_edit (edit.Cut e v) fs fits kind keys = by v (has_linked was legal.placed e v fits) fits keys
+    where
+      by : (v : Value) → IsLinked v → EditFits was (edit.Cut e v) → HasKeys (cells_after (edit.Cut e v) c) fs → IsKept (cells_after (edit.Cut e v) c) fs × (cell_links (cells_after (edit.Cut e v) c) fs ≡ links_after_edit was (edit.Cut e v))
+      by (value.Object o) is fits keys = kept_cut e o fs fits keys
+      by (value.Proxy t) is fits keys = kept_cut_proxy e t fs fits keys
+      by _ is fits keys = absurd is
   kept_edit (edit.Put l) fs fits kind keys = kept_put l.end l.index l.object l.opposite l.container fs fits kind keys
   kept_edit (edit.Shift e to from) fs fits kind keys = kept_shift e to from fs fits keys
   kept_edit (edit.PutProxy e i t) fs fits kind keys = kept_put_proxy e i t fs fits kind keys
-  kept_edit (edit.CutProxy e t) fs fits kind keys = kept_cut_proxy e t fs fits keys

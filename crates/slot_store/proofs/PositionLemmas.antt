@@ -11,7 +11,7 @@ use Rattle.mm_types.specs.SameValues.{same_value-self, same_value-true}
 use Rattle.mm_types.specs.declared.end.End.{End}
 use Rattle.mm_types.specs.declared.value.Value.{Value}
 use Rattle.links.specs.LegalSets.{IsDistinct}
-use Rattle.node_slots.specs.EndValues.{is_value}
+use Rattle.end_values.specs.EndValues.{is_value}
 use Rattle.node_slots.proofs.SlotLemmas.{past_all}
 use Rattle.slot_store.specs.CellLinks.{IsOnce}
 

@@ -13,7 +13,7 @@ use Rattle.links.specs.declared.plan.Edit.TheVariants as edit
 use Rattle.links.specs.LegalSets.{IsObject}
 use Rattle.links.specs.Links.{Links, far_end}
 use Rattle.links.specs.Plans.{EditFits, FarFitsIn, put_of}
-use Rattle.node_slots.specs.EndValues.{CanHave}
+use Rattle.end_values.specs.EndValues.{CanHave}
 use Rattle.node_slots.specs.declared.node_slots.NodeSlots.{NodeSlots}
 use Rattle.node_slots.specs.declared.node_slots.growth.PutPlaces.{PutPlaces}
 use Rattle.node_slots.specs.Cells.{room, row_index_of}
@@ -28,7 +28,7 @@ can_have_node mixed (node.Resource r) v is same = absurd is
 
 -- an edit that fits puts no resource into an end
 pub fits_object : (s : Links) (x : Edit) → EditFits s x → PutsObject x
-fits_object s (edit.Cut e o) fits = tt
+fits_object s (edit.Cut e v) fits = tt
 fits_object s (edit.Put l) fits = by l.opposite fits.1
   where
     by : (g : Option FeatureNo) → FarFitsIn s l.end l.object g → PairsObject l.end g
@@ -36,7 +36,6 @@ fits_object s (edit.Put l) fits = by l.opposite fits.1
     by (Some g) far = far.object
 fits_object s (edit.Shift e to from) fits = tt
 fits_object s (edit.PutProxy e i t) fits = tt
-fits_object s (edit.CutProxy e t) fits = tt
 
 -- the end into which a value is put has a row
 pub near_row : (t : NodeSlots) (e : End) (i : ℕ) (o : ObjectNo) (g h : Option FeatureNo) → HasRoom (room t) (put_of e i o g h ∷ []) → (room t).rows e.node ≡ true

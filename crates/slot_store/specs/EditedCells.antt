@@ -73,14 +73,18 @@ cut_far e o (Some g) c = without_value (far_end o g) (node_value e.node) c
 abbrev pub cut_cells : End → ObjectNo → Option FeatureNo → Option FeatureNo → Cells → Cells
 cut_cells e o g h c = cells_after_release (held_node e o g h) (without_value e (value.Object o) (cut_far e o g c))
 
+-- the link of an object is cut at both ends; a proxy has one end
+abbrev pub cells_after_cut : End → Value → Cells → Cells
+cells_after_cut e (value.Object o) c = cut_cells e o (c.pairing e).opposite (c.pairing e).container c
+cells_after_cut e v c = without_value e v c
+
 ---------------------------------------------------------------- edits
 
 abbrev pub cells_after : Edit → Cells → Cells
-cells_after (edit.Cut e o) c = cut_cells e o (c.pairing e).opposite (c.pairing e).container c
+cells_after (edit.Cut e v) c = cells_after_cut e v c
 cells_after (edit.Put l) c = put_cells l.end l.index l.object l.opposite l.container c
 cells_after (edit.Shift e to from) c = cell_edit e.node (Change e.feature (Move to from)) c
 cells_after (edit.PutProxy e i t) c = put_near e i (value.Proxy t) None c
-cells_after (edit.CutProxy e t) c = without_value e (value.Proxy t) c
 
 -- at most so much capacity is taken for the values of each end, and for the ends that hold each node
 pub record TakesAtMost (values : End → ℕ) (ends : Node → ℕ) (old new : Room) : Type 0 where
@@ -95,11 +99,10 @@ PairsObject e None = Unit {0}
 PairsObject e (Some g) = IsObject e.node
 
 abbrev pub PutsObject : Edit → Type 0
-PutsObject (edit.Cut e o) = Unit {0}
+PutsObject (edit.Cut e v) = Unit {0}
 PutsObject (edit.Put l) = PairsObject l.end l.opposite
 PutsObject (edit.Shift e to from) = Unit {0}
 PutsObject (edit.PutProxy e i t) = Unit {0}
-PutsObject (edit.CutProxy e t) = Unit {0}
 
 -- the far side has capacity
 abbrev pub FarHasRoom : ObjectNo → Option FeatureNo → Room → Type 0

@@ -3,13 +3,14 @@ ghost use Rattle.std.specs.Prelude.{◌≡◌, ◌≤◌, ◌∷◌, [], if◌th
 ghost use Rattle.mm_types.specs.Same.{node_value, same_end};
 ghost use Rattle.mm_types.specs.declared.numbers.Node.{Node};
 ghost use Rattle.mm_types.specs.declared.numbers.Node.TheVariants as node;
+ghost use Rattle.mm_types.specs.declared.value.Value.TheVariants as value;
 ghost use Rattle.links.specs.LegalSets.{IsDistinct};
 ghost use Rattle.node_slots.specs.Cells.{cells, room, row_index_of};
-ghost use Rattle.node_slots.specs.EndValues.{CanHave};
+ghost use Rattle.end_values.specs.EndValues.{CanHave};
 ghost use Rattle.node_slots.specs.Growth.{HasRoom, entry, far_gain, gain, lone_entry, no_ends, no_values, one_if};
 ghost use Rattle.links.specs.declared.plan.Edit.TheVariants as edit;
 ghost use Rattle.slot_store.specs.CellLinks.{IsOnce, RepeatNothing};
-ghost use Rattle.slot_store.specs.EditedCells.{FarHasRoom, HasHeldRow, PairsObject, PutsObject, TakesAtMost, cells_after, cells_after_hold, cells_after_release, cut_far, held_far, held_node, held_row_index, put_far, put_near, without_entry, without_value};
+ghost use Rattle.slot_store.specs.EditedCells.{FarHasRoom, HasHeldRow, PairsObject, PutsObject, TakesAtMost, cells_after, cells_after_cut, cells_after_hold, cells_after_release, cut_far, held_far, held_node, held_row_index, put_far, put_near, without_entry, without_value};
 
 use crate::search::{entry_from, found};
 use links::{Edit, NewLink};
@@ -115,13 +116,25 @@ fn release(rows: &mut NodeSlots, pair: Option<(Node, End)>)
 /// Cuts the link of an object in an end. Its far side is removed first, since it is found by the end.
 fn cut(rows: &mut NodeSlots, end: End, object: ObjectNo, guess: usize)
     requires { RepeatNothing (cells rows.old) }
-    ensures cells { cells rows.new ≡ cells_after (edit.Cut end object) (cells rows.old) }
+    ensures cells { cells rows.new ≡ cells_after_cut end (value.Object object) (cells rows.old) }
     ensures room { TakesAtMost no_values no_ends (room rows.old) (room rows.new) }
 {
     let pairing = rows.pairing(end);
     take_out_far(rows, end, object, pairing.opposite, guess);
     take_out(rows, end, &Value::Object(object));
     release(rows, held_by(end, object, pairing));
+}
+
+/// Cuts the link of a value in an end.
+fn cut_value(rows: &mut NodeSlots, end: End, value: &Value, guess: usize)
+    requires { RepeatNothing (cells rows.old) }
+    ensures cells { cells rows.new ≡ cells_after_cut end value.now (cells rows.old) }
+    ensures room { TakesAtMost no_values no_ends (room rows.old) (room rows.new) }
+{
+    match value {
+        Value::Object(object) => cut(rows, end, *object, guess),
+        _ => take_out(rows, end, value),
+    }
 }
 
 /// The index of the row of the node that a link contains, chosen from the indexes of both nodes.
@@ -274,7 +287,7 @@ pub(crate) fn edit_rows(rows: &mut NodeSlots, edit: Edit, guess: usize)
     ensures room { TakesAtMost (λ e. gain e edit) (λ n. entry n edit) (room rows.old) (room rows.new) }
 {
     match edit {
-        Edit::Cut { end, object } => cut(rows, end, object, guess),
+        Edit::Cut { end, value } => cut_value(rows, end, &value, guess),
         Edit::Put(link) => {
             let places = places_of(rows, link.end, link.object);
             put(rows, places, link);
@@ -284,6 +297,5 @@ pub(crate) fn edit_rows(rows: &mut NodeSlots, edit: Edit, guess: usize)
             let row_index = rows.row_index(end.node);
             put_in(rows, row_index, end, index, Value::Proxy(text), None);
         }
-        Edit::CutProxy { end, text } => take_out(rows, end, &Value::Proxy(text)),
     }
 }

@@ -117,7 +117,11 @@ fn make_guess(rows: &mut NodeSlots, edit: &Edit) -> usize
     ensures links { store_links rows.new ≡ store_links rows.old }
     ensures room { room rows.new ≡ room rows.old }
 {
-    if let Edit::Cut { end, object } = edit {
+    if let Edit::Cut {
+        end,
+        value: Value::Object(object),
+    } = edit
+    {
         if rows.pairing(*end).opposite.is_none() {
             return ordered_guess(rows, *object, *end);
         }

@@ -51,6 +51,9 @@ impl NodeSlots {
         ensures { cells self.new ≡ cells self.old }
     {
         let places = self.places(end);
+        if places == 0 {
+            return;
+        }
         self.edit(
             end.node,
             RowEdit::Change(end.feature, SlotEdit::Forget { places }),

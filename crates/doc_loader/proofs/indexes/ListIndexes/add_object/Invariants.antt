@@ -2,7 +2,7 @@ use Rattle.std.proofs.Common.{◌≡◌, drop}
 use Rattle.std.specs.Prelude.{flat_map}
 use Rattle.std.specs.Option.{option_or}
 use Rattle.doc_loader.specs.ListIndexes.{content_indexes, last_index, index_at}
-use Rattle.doc_loader.specs.declared.indexes.ReferenceKey.{ReferenceKey}
+use Rattle.models.specs.declared.reference_key.ReferenceKey.{ReferenceKey}
 use Rattle.doc_loader.proofs.indexes.ListIndexes.add_object.Given as goal
 
 -- what is noted, and then what is left to note

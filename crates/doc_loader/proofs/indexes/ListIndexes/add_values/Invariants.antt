@@ -3,7 +3,7 @@ use Rattle.std.specs.Prelude.{flat_map}
 use Rattle.std.specs.List.{enumerate_from}
 use Rattle.std.specs.Option.{option_or}
 use Rattle.doc_loader.specs.ListIndexes.{last_index, index_at, key_and_index}
-use Rattle.doc_loader.specs.declared.indexes.ReferenceKey.{ReferenceKey}
+use Rattle.models.specs.declared.reference_key.ReferenceKey.{ReferenceKey}
 use Rattle.doc_loader.proofs.indexes.ListIndexes.add_values.Given as goal
 
 -- what is noted, and then what is left to note

@@ -4,7 +4,7 @@ use Rattle.std.specs.List.{enumerate_from}
 use Rattle.std.specs.Option.{option_or}
 use Rattle.doc_loader.specs.Loading.{of_object}
 use Rattle.doc_loader.specs.ListIndexes.{content_indexes, last_index, index_at}
-use Rattle.doc_loader.specs.declared.indexes.ReferenceKey.{ReferenceKey}
+use Rattle.models.specs.declared.reference_key.ReferenceKey.{ReferenceKey}
 use Rattle.doc_loader.proofs.indexes.ListIndexes.of.Given as goal
 
 -- what is noted, and then what is left to note

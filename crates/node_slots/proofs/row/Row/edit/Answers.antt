@@ -4,11 +4,11 @@ use Rattle.node_slots.specs.Rows.{RowFits}
 use Rattle.node_slots.proofs.RowLemmas.{changed}
 use Rattle.node_slots.proofs.row.Row.edit.Goals as goal
 
-pub edit_slot-requires-clause-places : goal.edit_slot-requires-clause-places
-edit_slot-requires-clause-places c = (subst (λ (x : RowEdit). RowFits x (Some c.args.self.now)) c.in-Change.is c.requires).0
+pub edit-requires-clause-places : goal.edit-requires-clause-places
+edit-requires-clause-places c = (subst (λ (x : RowEdit). RowFits x (Some c.args.self.now)) c.in-Change.is c.requires).0
 
-pub edit_slot-requires-clause-can : goal.edit_slot-requires-clause-can
-edit_slot-requires-clause-can c = (subst (λ (x : RowEdit). RowFits x (Some c.args.self.now)) c.in-Change.is c.requires).1
+pub edit-requires-clause-can : goal.edit-requires-clause-can
+edit-requires-clause-can c = (subst (λ (x : RowEdit). RowFits x (Some c.args.self.now)) c.in-Change.is c.requires).1
 
 pub returns-in-Change : goal.returns-in-Change
-returns-in-Change c = changed c.in-Change.feature c.in-Change.edit c.args.self.now (record c.args.self.now { slots = c.edit_slot.new.slots }) c.args.edit c.edit_slot.ensures c.in-Change.is refl refl refl
+returns-in-Change c = changed c.in-Change.feature c.in-Change.edit c.args.self.now (record c.args.self.now { slots = c.edit.new.self }) c.args.edit c.edit.ensures c.in-Change.is refl refl refl

@@ -1,0 +1,2 @@
+pub mod EndValueLemmas
+pub mod ProxyLemmas

@@ -1,0 +1,3 @@
+pub mod EndValues
+pub mod EndValueList
+pub mod Proxies

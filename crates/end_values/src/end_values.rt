@@ -1,0 +1,307 @@
+//! The values of an end.
+ghost use Rattle.std.specs.Prelude.{◌≡◌, true, false, ◌+◌, ◌<◌, ◌≤◌, [], ◌++◌, length, slice_get, position, option_and_then, option_copied, IfOk, OnOk};
+ghost use Rattle.std.specs.Option.{option_map, option_to_list};
+ghost use Rattle.std.specs.List.{insert, remove};
+ghost use Rattle.mm_types.specs.Same.{same_value};
+ghost use Rattle.slot_lists.specs.Moved.{list_after_move};
+ghost use Rattle.links.specs.Links.{object_of, text_of};
+ghost use Rattle.end_values.specs.EndValues.{CanHave, is_value, object_value, objects};
+ghost use Rattle.end_values.specs.Proxies.{HasNoProxyBefore};
+
+use crate::mixed_list::MixedList;
+use mm_types::{ObjectNo, Value};
+use slot_lists::ShortList;
+use std::alloc::{AllocError, Global};
+use std::marker::Model;
+
+/// The layout of the values of an end in memory. Most ends have only objects: four bytes each.
+#[derive(Drop)]
+enum Layout {
+    Objects(ShortList<ObjectNo>),
+    Mixed(Box<MixedList>),
+}
+
+/// The values of an end, and capacity for more. A list has only objects until `mix` says that it may have other values.
+#[derive(Drop)]
+pub struct EndValueList {
+    layout: Layout,
+}
+
+impl Model for EndValueList {
+    ghost use Rattle.end_values.specs.EndValues.{EndValues};
+
+    ghost Value = { EndValues };
+
+    ghost use Rattle.end_values.specs.EndValueList.{end_values_of};
+
+    ghost view = { λ a. end_values_of a.layout };
+}
+
+impl EndValueList {
+    /// No values. Takes no memory.
+    pub fn new() -> Self
+        ensures { result.items ≡ [] }
+    {
+        EndValueList {
+            layout: Layout::Objects(ShortList::new()),
+        }
+    }
+
+    /// How many values there are.
+    #[tactic(auto, using(crate::proofs::EndValueLemmas::length_objects))]
+    pub fn len(&self) -> usize
+        ensures { result ≡ length self.now.items }
+    {
+        match &self.layout {
+            Layout::Objects(list) => list.len(),
+            Layout::Mixed(list) => list.len(),
+        }
+    }
+
+    /// How many values may be inserted with no memory taken.
+    pub fn spare(&self) -> usize
+        ensures { result ≡ self.now.spare }
+    {
+        match &self.layout {
+            Layout::Objects(list) => list.spare(),
+            Layout::Mixed(list) => list.spare(),
+        }
+    }
+
+    /// The object at an index; `None` past the end, and if no object is there.
+    #[tactic(auto, using(crate::proofs::EndValueLemmas::object_of_objects))]
+    pub fn object_at(&self, index: usize) -> Option<ObjectNo>
+        ensures { result ≡ option_and_then object_of (slice_get self.now.items index) }
+    {
+        match &self.layout {
+            Layout::Objects(list) => list.get(index).copied(),
+            Layout::Mixed(list) => object_in(list.get(index)),
+        }
+    }
+
+    /// The text of the proxy at an index; `None` past the end, and if no proxy is there.
+    #[tactic(auto, using(crate::proofs::EndValueLemmas::text_of_objects))]
+    pub fn text_at(&self, index: usize) -> Option<&str>
+        ensures { option_copied result ≡ option_and_then text_of (slice_get self.now.items index) }
+    {
+        match &self.layout {
+            Layout::Objects(_) => None,
+            Layout::Mixed(list) => text_in(list.get(index)),
+        }
+    }
+
+    /// Whether a value is at an index.
+    #[tactic(auto, using(crate::proofs::EndValueLemmas::is_value_objects))]
+    pub fn is_at(&self, index: usize, value: &Value) -> bool
+        ensures { result ≡ is_value value.now (slice_get self.now.items index) }
+    {
+        match &self.layout {
+            Layout::Objects(list) => is_object(list.get(index), value),
+            Layout::Mixed(list) => is_there(list.get(index), value),
+        }
+    }
+
+    /// The index of the first value that is the same.
+    pub fn position(&self, value: &Value) -> Option<usize>
+        ensures { result ≡ position (same_value value.now) self.now.items }
+    {
+        match &self.layout {
+            Layout::Objects(list) => position_in(list, value),
+            Layout::Mixed(list) => list.position(value),
+        }
+    }
+
+    /// An index before which there is no proxy.
+    #[tactic(auto, using(crate::proofs::EndValueLemmas::text_of_objects))]
+    pub fn proxy_start(&self) -> usize
+        ensures { HasNoProxyBefore result self.now.items }
+    {
+        match &self.layout {
+            Layout::Objects(list) => list.len(),
+            Layout::Mixed(list) => list.proxy_start(),
+        }
+    }
+
+    /// Makes it a list that may have other values than objects. Fails only if memory is refused, and then nothing has changed.
+    pub fn mix(&mut self, alloc: Global) -> Result<(), AllocError>
+        ensures items { self.new.items ≡ self.old.items }
+        ensures spare { self.old.spare ≤ self.new.spare }
+        ensures mixed { self.old.mixed ≡ true → self.new.mixed ≡ true }
+        ensures ok { OnOk result (self.new.mixed ≡ true) }
+    {
+        match &self.layout {
+            Layout::Objects(list) => {
+                let values = values_of(alloc, list)?;
+                self.layout = Layout::Mixed(values);
+                Ok(())
+            }
+            Layout::Mixed(_) => Ok(()),
+        }
+    }
+
+    /// Reserves capacity for more values. Fails only if memory is refused, and then the values stay and no capacity is lost.
+    pub fn reserve(&mut self, alloc: Global, additional: usize) -> Result<(), AllocError>
+        ensures items { self.new.items ≡ self.old.items }
+        ensures spare { self.old.spare ≤ self.new.spare }
+        ensures mixed { self.new.mixed ≡ self.old.mixed }
+        ensures ok { OnOk result (additional ≤ self.new.spare) }
+    {
+        match &mut self.layout {
+            Layout::Objects(list) => list.reserve(alloc, additional),
+            Layout::Mixed(list) => list.reserve(additional),
+        }
+    }
+
+    /// Inserts a value before the value at an index, or at the end, for which there is capacity. Takes no memory. A value that is no object
+    /// is inserted only after `mix`.
+    #[tactic(auto, using(crate::proofs::EndValueLemmas::length_objects))]
+    pub fn insert(&mut self, index: usize, value: Value)
+        requires room { 0 < self.old.spare }
+        requires in_range { index ≤ length self.old.items }
+        requires can { CanHave self.old.mixed value }
+        ensures items { self.new.items ≡ insert self.old.items index value }
+        ensures spare { self.old.spare ≤ self.new.spare + 1 }
+        ensures mixed { self.new.mixed ≡ self.old.mixed }
+    {
+        match &mut self.layout {
+            Layout::Objects(list) => insert_object(list, index, value),
+            Layout::Mixed(list) => list.insert(index, value),
+        }
+    }
+
+    /// Takes out the value at an index. Takes no memory.
+    #[tactic(auto, using(crate::proofs::EndValueLemmas::remove_objects, crate::proofs::EndValueLemmas::length_objects))]
+    pub fn remove(&mut self, index: usize)
+        requires { index < length self.old.items }
+        ensures items { self.new.items ≡ remove self.old.items index }
+        ensures spare { self.old.spare ≤ self.new.spare }
+        ensures mixed { self.new.mixed ≡ self.old.mixed }
+    {
+        match &mut self.layout {
+            Layout::Objects(list) => list.remove(index),
+            Layout::Mixed(list) => list.remove(index),
+        }
+    }
+
+    /// Moves the value at `from`, so that it is then at `to` (EMF: EList.move). Takes no memory.
+    #[tactic(auto, using(crate::proofs::EndValueLemmas::moved_objects, crate::proofs::EndValueLemmas::length_objects))]
+    pub fn move_to(&mut self, to: usize, from: usize)
+        requires to { to < length self.old.items }
+        requires from { from < length self.old.items }
+        ensures items { self.new.items ≡ list_after_move self.old.items to from }
+        ensures spare { self.new.spare ≡ self.old.spare }
+        ensures mixed { self.new.mixed ≡ self.old.mixed }
+    {
+        match &mut self.layout {
+            Layout::Objects(list) => list.move_to(to, from),
+            Layout::Mixed(list) => list.move_to(to, from),
+        }
+    }
+}
+
+fn object_in(value: Option<&Value>) -> Option<ObjectNo>
+    ensures { result ≡ option_and_then object_of (option_copied value.entry) }
+{
+    match value? {
+        Value::Object(object) => Some(*object),
+        _ => None,
+    }
+}
+
+fn text_in(value: Option<&Value>) -> Option<&str>
+    ensures { option_copied result ≡ option_and_then text_of (option_copied value.entry) }
+{
+    match value? {
+        Value::Proxy(text) => Some(text.as_str()),
+        _ => None,
+    }
+}
+
+/// Whether there is a value, and it is the given one.
+fn is_there(there: Option<&Value>, value: &Value) -> bool
+    ensures { result ≡ is_value value.now (option_copied there.entry) }
+{
+    match there {
+        Some(there) => value == there,
+        None => false,
+    }
+}
+
+/// Whether there is an object, and the given value is that object.
+fn is_object(there: Option<&ObjectNo>, value: &Value) -> bool
+    ensures { result ≡ is_value value.now (option_map object_value (option_copied there.entry)) }
+{
+    match value {
+        Value::Object(object) => is_number(there, *object),
+        _ => false,
+    }
+}
+
+fn is_number(there: Option<&ObjectNo>, object: ObjectNo) -> bool
+    ensures { result ≡ is_value (object_value object) (option_map object_value (option_copied there.entry)) }
+{
+    match there {
+        Some(there) => object.0 == there.0,
+        None => false,
+    }
+}
+
+/// Inserts an object before the value at an index, or at the end, for which there is capacity.
+#[tactic(auto, using(crate::proofs::EndValueLemmas::insert_objects))]
+fn insert_object(list: &mut ShortList<ObjectNo>, index: usize, value: Value)
+    requires room { 0 < list.old.spare }
+    requires in_range { index ≤ length list.old.items }
+    requires can { CanHave false value }
+    ensures items { objects list.new.items ≡ insert (objects list.old.items) index value }
+    ensures spare { list.old.spare ≤ list.new.spare + 1 }
+{
+    match value {
+        Value::Object(object) => list.insert(index, object),
+        _ => unreachable!(),
+    }
+}
+
+/// The index of a value among objects.
+fn position_in(list: &ShortList<ObjectNo>, value: &Value) -> Option<usize>
+    ensures { result ≡ position (same_value value.now) (objects list.now.items) }
+{
+    match value {
+        Value::Object(object) => list.position(object),
+        _ => None,
+    }
+}
+
+/// Objects as values, in a list of the same capacity. Fails only if memory is refused.
+fn values_of(alloc: Global, list: &ShortList<ObjectNo>) -> Result<Box<MixedList>, AllocError>
+    ensures items { IfOk result (λ b. b.value.items ≡ objects list.now.items) }
+    ensures spare { IfOk result (λ b. list.now.spare ≤ b.value.spare) }
+{
+    let places = list.len().checked_add(list.spare()).ok_or(AllocError)?;
+    let mut values = Box::new(alloc, MixedList::new(alloc))?;
+    values.reserve(places)?;
+    push_objects(&mut values, list);
+    Ok(values)
+}
+
+/// Puts objects in last, for which there is capacity.
+fn push_objects(values: &mut MixedList, list: &ShortList<ObjectNo>)
+    requires room { length list.now.items ≤ values.old.spare }
+    requires none { values.old.items ≡ [] }
+    ensures items { values.new.items ≡ objects list.now.items }
+    ensures spare { values.old.spare ≤ values.new.spare + length list.now.items }
+{
+    for index in 0..list.len() {
+        push_object(values, list.get(index));
+    }
+}
+
+/// Puts an object in last, if there is one.
+fn push_object(values: &mut MixedList, object: Option<&ObjectNo>)
+    requires { 0 < values.old.spare }
+    ensures items { values.new.items ≡ values.old.items ++ option_to_list (option_map object_value (option_copied object.entry)) }
+    ensures spare { values.old.spare ≤ values.new.spare + 1 }
+{
+    if let Some(object) = object {
+        values.insert(values.len(), Value::Object(*object));
+    }
+}

@@ -1,0 +1,11 @@
+-- Keys of tables about references: a reference of an object, and an index there or the number of an object there.
+use Rattle.std.specs.Prelude.{ℕ, ◌&&◌, Bool, nat_eq}
+use Rattle.mm_types.specs.declared.numbers.FeatureNo.{FeatureNo}
+use Rattle.mm_types.specs.declared.numbers.ObjectNo.{ObjectNo}
+use Rattle.models.specs.declared.reference_key.ReferenceKey.{ReferenceKey}
+
+abbrev pub reference_key : ObjectNo → FeatureNo → ℕ → ReferenceKey
+reference_key o f n = record { object = o.0; feature = f.0; number = n }
+
+abbrev pub same_reference_key : ReferenceKey → ReferenceKey → Bool
+same_reference_key j k = nat_eq j.object k.object && (nat_eq j.feature k.feature && nat_eq j.number k.number)

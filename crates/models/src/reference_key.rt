@@ -1,0 +1,26 @@
+//! Keys of tables about references.
+ghost use Rattle.std.specs.Prelude.{◌≡◌};
+ghost use Rattle.models.specs.ReferenceKeys as spec;
+
+use mm_types::{FeatureNo, ObjectNo};
+
+/// A reference of an object, and a number: an index there, or the number of an object there.
+#[derive(Clone, Copy, PartialEq, Eq, Hash)]
+pub struct ReferenceKey {
+    pub object: u32,
+    pub feature: u32,
+    pub number: u32,
+}
+
+impl ReferenceKey {
+    /// The key of a number under a feature of an object.
+    pub fn of(object: ObjectNo, feature: FeatureNo, number: u32) -> Self
+        ensures { result ≡ spec.reference_key object feature number }
+    {
+        ReferenceKey {
+            object: object.0,
+            feature: feature.0,
+            number,
+        }
+    }
+}
