@@ -2,3 +2,4 @@ mod PutLemmas
 mod ReadingLemmas
 pub mod ViewLemmas
 pub mod KeyLemmas
+mod NumberLemmas

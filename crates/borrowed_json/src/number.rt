@@ -1,5 +1,6 @@
 //! Numbers of JSON.
-ghost use Rattle.std.specs.Prelude.{◌≡◌, ◌<◌, ◌==◌, IsTrue, false, length, option_map, slice_index, true};
+ghost use Rattle.std.specs.Prelude.{◌≡◌, ◌<◌, ◌==◌, ◌^◌, IfSome, IsTrue, false, length, option_map, slice_index, true};
+ghost use Rattle.std.specs.Str.Parse.{AllDigits, digits_value};
 ghost use Rattle.serde_json.specs.Find.{as_i64};
 ghost use Rattle.serde_json.specs.Read.{float_of, number_from, number_of};
 ghost use Rattle.borrowed_json.specs.View.{number_view};
@@ -62,12 +63,37 @@ impl Number {
         ensures { option_map number_view result ≡ number_of text.now }
     {
         let bytes = text.as_bytes();
+        // Most numbers have only a few digits.
+        if let Some(n) = few_digits(bytes) {
+            return Some(Number::Unsigned(n));
+        }
         if has_minus(bytes) {
             Number::negative(&Numeral::scan(&bytes[1..]))
         } else {
             Number::unsigned(&Numeral::scan(bytes))
         }
     }
+}
+
+/// The greatest number of digits that are read one by one: their number fits 64 bits.
+const FEW: usize = 18;
+
+/// The number that a few digits write; `None` if a byte is no digit, or if there are more.
+#[inline(always)]
+fn few_digits(bytes: &[u8]) -> Option<u64>
+    ensures { IfSome result (λ n. AllDigits 10 bytes.now × (0 < length bytes.now) × (n < 2 ^ 64) × (n ≡ digits_value 10 bytes.now)) }
+{
+    if bytes.is_empty() || bytes.len() > FEW {
+        return None;
+    }
+    let mut number: u64 = 0;
+    'bytes: for byte in bytes {
+        if *byte < b'0' || *byte > b'9' {
+            return None;
+        }
+        number = number * 10 + (*byte - b'0') as u64;
+    }
+    Some(number)
 }
 
 fn has_minus(bytes: &[u8]) -> bool

@@ -17,8 +17,8 @@ use std::alloc::Global;
 /// The greatest depth to which arrays and objects nest.
 const NESTING: usize = 127;
 
-/// The parts of arrays and objects whose end was not read yet: the items of the arrays, and the members of the objects. Those of an inner
-/// array or object come after those of the outer ones.
+/// The parts of arrays and objects whose end was not read yet: the items of the arrays, and the members of the objects. The parts of an
+/// inner array or object come after the parts of the outer arrays and objects.
 #[derive(Drop)]
 struct Unfinished<'t> {
     items: Vec<Json<'t>>,

@@ -21,8 +21,8 @@ pub struct Case<'a> {
 impl<'a> Case<'a> {
     /// Reads a case: a line with its name, and then lines up to an empty one.
     ///
-    /// `metamodel NAME` names its metamodel's file, `document TEXT` is its metamodel, `> TEXT` is a line of the script, and
-    /// any other line is one that must be printed.
+    /// `metamodel NAME` names its metamodel's file, `document TEXT` is its metamodel, `> TEXT` is a line of the script, and any other line
+    /// must be printed.
     pub(crate) fn parse(alloc: Global, text: &'a str) -> Result<Case<'a>, Fault> {
         let mut lines = text.lines();
         let mut case = Case {

@@ -39,7 +39,7 @@ fn push_mark(out: &mut Vec<u8>, mark: &str) -> Result<(), Fault> {
     Ok(())
 }
 
-/// Adds a text whose first part, up to `>>`, is a mark.
+/// Adds a text that begins with a mark, which ends with `>>`.
 fn push_after_mark(out: &mut Vec<u8>, text: &str) -> Result<(), Fault> {
     let Some((mark, rest)) = text.split_once(">>") else {
         return Err(Fault::Mark);

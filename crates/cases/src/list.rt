@@ -44,8 +44,8 @@ fn do_list<L: LinkStore, A: Adapter, W: Write>(
     Ok(())
 }
 
-/// Makes a book at which an adapter is, and does the list of commands, which attaches another. At last it prints what a notification made
-/// of the book's snapshot from before the list.
+/// Makes a book at which an adapter is, and does the list of commands, which attaches another. At last it prints the book's snapshot from
+/// before the list, after a replay of a notification.
 fn session<L: LinkStore, A: Adapter, W: Write>(
     alloc: Global,
     writer: &mut W,

@@ -57,7 +57,7 @@ target_by r g t x = option_and_then (λ o. unless_refused r g x.site (found_by r
 abbrev pub joint : ProxySite → ResolvedProxy → Joint
 joint p x = record { site = p; target = x }
 
--- whether a key is that of the counterpart's location; `is_far_link` is the same for the object that is there afterwards
+-- whether a key is the key of the counterpart's location; and `is_far_link`, of the object that is there afterwards
 abbrev pub is_far_site : ResolvedProxy → Counterpart → ReferenceKey → Bool
 is_far_site x c k = same_reference_key k (reference_key x.object c.end.feature c.index)
 

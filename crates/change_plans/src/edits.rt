@@ -28,8 +28,7 @@ use removal::{LinkEnd, Removal};
 use resource_docs::Doc;
 use std::alloc::{AllocError, Global};
 
-/// The edits of links that make a change, given the links that it cuts; `resolving_all` makes those of
-/// resolving all proxies.
+/// The edits of links that make a change, given the links that it cuts; `resolving_all` makes the edits that resolve all proxies.
 pub(crate) fn link_edits<L: LinkStore>(
     alloc: Global,
     model: &ModelRef<L>,

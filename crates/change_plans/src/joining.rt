@@ -20,7 +20,7 @@ pub(crate) struct Joint {
     pub target: ResolvedProxy,
 }
 
-/// What was resolved so far: the proxies in order, all locations whose proxies are gone, and the objects that came to be at ends.
+/// What was resolved so far: the proxies in order, all locations whose proxies are gone, and the objects that took their positions.
 #[derive(Drop)]
 pub(crate) struct Progress {
     pub joints: Vec<Joint>,

@@ -1,5 +1,5 @@
 -- An object whose containing ends are empty is above no node.
-use Rattle.std.proofs.Common.{◌≡◌, ◌∙◌, ◌&&◌, ◌++◌, nat_lt, Bool, true, false, List, [], ◌∷◌, cond, flat_map, length, arith, refl, sym, ap}
+use Rattle.std.proofs.Common.{◌≡◌, ◌∙◌, ◌&&◌, ◌||◌, ◌++◌, nat_lt, Bool, true, false, List, [], ◌∷◌, cond, flat_map, length, arith, refl, sym, ap}
 use Rattle.std.specs.List.{list_any}
 use Rattle.std.proofs.lemmas.Bool.{true≢false, or_parts}
 use Rattle.std.proofs.lemmas.Bool.Decides.{nat_tests}
@@ -33,6 +33,13 @@ none-in r n [] h = refl
 none-in r n (f ∷ fs) h =
     let both = or_parts (has_parts_at r n f) (list_any (has_parts_at r n) fs) h in
     parts-first r n f fs ∙ (λ i. none-at r n f both.0 i ++ none-in r n fs both.1 i)
+
+-- a node without a containment contains nothing
+pub no-parts-at : (r : Reading) (n : Node) (fs : List FeatureNo) → list_any (is_containment r.metamodel) fs ≡ false → list_any (has_parts_at r n) fs ≡ false
+no-parts-at r n [] h = refl
+no-parts-at r n (f ∷ fs) h =
+    let both = or_parts (is_containment r.metamodel f) (list_any (is_containment r.metamodel) fs) h in
+    (λ i. (both.0 i && nat_lt 0 (length (r.values (at_end n f)))) || no-parts-at r n fs both.1 i)
 
 -- an object that contains nothing is above no other node
 pub leaf-above : (s : Model) → IsLegal s → (o : ObjectNo) (n : Node) → same_node (node.Object o) n ≡ false → has_parts (reading s) (node.Object o) ≡ false → list_any (same_node (node.Object o)) ((reading s).above n) ≡ false

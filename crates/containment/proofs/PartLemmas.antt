@@ -1,5 +1,5 @@
 -- In a legal model an object that a node contains lives, its holder is that node, and that node lives.
-use Rattle.std.proofs.Common.{◌≡◌, ℕ, zero, suc, ◌<◌, Bool, true, false, cond, ltb, length, List, [], ◌∷◌, ◌++◌, flat_map, Option, option_map, Some, None, IsTrue, slice_get, refl, sym, ap, ◌∙◌, subst}
+use Rattle.std.proofs.Common.{◌≡◌, ℕ, zero, suc, ◌<◌, Bool, true, false, cond, ltb, length, List, [], ◌∷◌, flat_map, Option, option_map, Some, None, IsTrue, slice_get, refl, sym, ap, ◌∙◌, subst}
 use Rattle.std.specs.Prelude.{is_some}
 use Rattle.std.specs.List.{AllByRecursion, list_all}
 use Rattle.std.specs.Option.{option_map_or}

@@ -15,10 +15,10 @@ use links::LinkStore;
 use mm_types::{End, FeatureNo, Node, ObjectNo};
 use models::ModelRef;
 
-/// How many objects can wait on the way down. If more would have to wait, only the way up is left.
+/// How many objects can wait on the way down. If more objects would have to wait, only the search upwards goes on.
 const MOST_WAITING: usize = 32;
 
-/// The numbers of objects that are still to be looked at, together with the objects below them.
+/// The numbers of objects that are still to be looked at, each with the objects below it.
 type Waiting = ArrayVec<u32, MOST_WAITING>;
 
 /// Whether an object is above a node. The nodes above the node and the objects below the object are looked at in turn. So if few objects

@@ -22,7 +22,7 @@ pub fn container<L: LinkStore>(model: &ModelRef<L>, object: ObjectNo) -> Option<
 }
 
 /// Whether a feature of a node may be a containment. Takes no memory.
-fn may_contain<L: LinkStore>(model: &ModelRef<L>, node: Node) -> bool
+pub(crate) fn may_contain<L: LinkStore>(model: &ModelRef<L>, node: Node) -> bool
     ensures { result ≡ false → list_any (is_containment model.now.metamodel) (all_features_of (reading model.now) node) ≡ false }
 {
     match node {

@@ -8,7 +8,7 @@ ghost use Rattle.containment.specs.Forest as forest;
 
 use crate::above::{is_under, parent_of};
 use crate::below::is_object_above;
-use crate::forest::contents;
+use crate::forest::{contents, may_contain};
 use links::LinkStore;
 use mm_types::{FeatureNo, Node, ObjectNo};
 use models::{ModelRef, at_end};
@@ -94,6 +94,9 @@ fn is_below<L: LinkStore>(model: &ModelRef<L>, above: Node, node: Node) -> bool
 fn has_parts<L: LinkStore>(model: &ModelRef<L>, node: Node) -> bool
     ensures { result ≡ forest.has_parts (reading model.now) node }
 {
+    if !may_contain(model, node) {
+        return false;
+    }
     let features = model.all_features(node);
     features.iter().any(|f| has_parts_at(model, node, *f))
 }

@@ -15,8 +15,8 @@ use Rattle.links.specs.declared.plan.Edit.{Edit}
 use Rattle.resource_docs.specs.declared.doc.Content.{Content}
 use Rattle.resource_docs.specs.declared.doc.Doc.{Doc}
 use Rattle.resource_docs.specs.declared.doc.DocObject.{DocObject}
-use Rattle.doc_loader.specs.LoadEdits.{far_edits, is_ascending_from, is_unordered, load_edits, near_edits, proxy_edits, put_at, puts_again}
-use Rattle.doc_loader.specs.Loading.{of_object}
+use Rattle.doc_loader.specs.LoadEdits.{far_edits, in_order, is_ascending_from, is_higher, is_unordered, load_edits, near_edits, proxy_edits, proxy_puts, put_at, puts_again}
+use Rattle.doc_loader.specs.Loading.{object_end, of_object}
 use Rattle.doc_loader.specs.Pairs.{lower_of}
 use Rattle.doc_loader.specs.ListIndexes.{all_indexes, found_at, last_index, index_at, index_among}
 use Rattle.doc_loader.proofs.FitLemmas.{or-left, or-right}
@@ -60,6 +60,38 @@ objects-in-order m n index_of i (o ∷ os) none =
 pub nothing-left : (m : Metamodel) (n : ℕ) (index_of : ReferenceKey → ℕ) (os : List DocObject) (old : List Edit) → list_any (λ o. list_any (is_unordered m) o.contents) os ≡ false
     → old ≡ old ++ flat_map (of_object (far_edits m n index_of)) (enumerate_from 0 os)
 nothing-left m n index_of os old none = sym (append-nil old) ∙ ap (λ es. old ++ es) (sym (objects-in-order m n index_of 0 os none))
+
+---------------------------------------------------------------- no content under the higher feature of a pair
+
+none-made : {X Y : Type 0} (p : X → Bool) (made : X → List Y) → ((x : X) → p x ≡ false → made x ≡ []) → (xs : List X) → list_any p xs ≡ false → flat_map made xs ≡ []
+none-made p made nothing [] none = refl
+none-made p made nothing (x ∷ xs) none =
+    ap (λ ys. ys ++ flat_map made xs) (nothing x (or-left (p x) (list_any p xs) none)) ∙ none-made p made nothing xs (or-right (p x) (list_any p xs) none)
+
+none-higher : (m : Metamodel) (made : ObjectNo → Content → List Edit) → ((o : ObjectNo) (c : Content) → is_higher m c ≡ false → made o c ≡ []) → (i : ℕ) (os : List DocObject)
+    → list_any (λ o. list_any (is_higher m) o.contents) os ≡ false → flat_map (of_object made) (enumerate_from i os) ≡ []
+none-higher m made nothing i [] none = refl
+none-higher m made nothing i (o ∷ os) none =
+    let rest = list_any (λ x. list_any (is_higher m) x.contents) os in
+    ap (λ es. es ++ flat_map (of_object made) (enumerate_from (i + 1) os)) (none-made (is_higher m) (made (record { 0 = i })) (nothing (record { 0 = i })) o.contents (or-left (list_any (is_higher m) o.contents) rest none))
+    ∙ none-higher m made nothing (i + 1) os (or-right (list_any (is_higher m) o.contents) rest none)
+
+no-lower : {Y : Type 0} (o : Option FeatureNo) (made : FeatureNo → List Y) → is_some o ≡ false → option_map_or made o [] ≡ []
+no-lower None made none = refl
+no-lower (Some f) made none = absurd (false≢true (sym none))
+
+-- then no link is put again, and no proxy is left to put
+pub far-none : (m : Metamodel) (n : ℕ) (index_of : ReferenceKey → ℕ) (os : List DocObject) (old : List Edit) → list_any (λ o. list_any (is_higher m) o.contents) os ≡ false
+    → old ≡ old ++ flat_map (of_object (far_edits m n index_of)) (enumerate_from 0 os)
+far-none m n index_of os old none =
+    sym (append-nil old)
+    ∙ ap (λ es. old ++ es) (sym (none-higher m (far_edits m n index_of) (λ o c is. no-lower (lower_of (shape m c.feature) c.feature) (in_order m n index_of o c.values) is) 0 os none))
+
+pub proxies-none : (m : Metamodel) (n : ℕ) (os : List DocObject) (old : List Edit) → list_any (λ o. list_any (is_higher m) o.contents) os ≡ false
+    → old ≡ old ++ flat_map (of_object (proxy_edits m n)) (enumerate_from 0 os)
+proxies-none m n os old none =
+    sym (append-nil old)
+    ∙ ap (λ es. old ++ es) (sym (none-higher m (proxy_edits m n) (λ o c is. ap (λ b. cond b (flat_map (proxy_puts (object_end n o c.feature)) (enumerate_from 0 c.values)) []) is) 0 os none))
 
 ---------------------------------------------------------------- all edits
 

@@ -1,9 +1,9 @@
 -- The edits that make a document's links and proxies, in an order in which each gets the position that the document says. Of two opposites
--- that contain nothing, one feature has the lower number. First come the roots, then the lists of all references except the higher one of
--- each pair: each value is put after the values before it, so each list is as it is written. By these links the ends of the higher features
--- gain objects, by number. If the document has another order at an end, its links are cut and put again in that order, each at the position
--- that it had at its lower end. Last come the proxies at the ends of the higher features, each at its position: by then the objects are
--- there in their order.
+-- that contain nothing, one feature has the lower number. First come the roots, then the lists of all references except the higher feature
+-- of each pair: each value is put last, so each list gets the order of the document. By these links the ends of the higher features gain
+-- objects in the order of their numbers. If the document has another order at an end, its links are cut and put again in that order, each
+-- at the position that it had at its lower end. Last come the proxies at the ends of the higher features, each at its position: by then the
+-- objects are there in their order.
 use Rattle.std.specs.Prelude.{ℕ, suc, ◌&&◌, Bool, true, not, List, [], ◌∷◌, ◌++◌, flat_map, map, nat_le, is_some, if◌then◌else◌}
 use Rattle.std.specs.List.{enumerate_from}
 use Rattle.std.specs.Option.{option_map_or}
@@ -64,6 +64,10 @@ puts_again m n index_of b f v = []
 
 abbrev pub in_order : Metamodel → ℕ → (ReferenceKey → ℕ) → ObjectNo → List Value → FeatureNo → List Edit
 in_order m n index_of b vs f = if is_ascending_from 0 vs then [] else flat_map (puts_again m n index_of b f) vs
+
+-- whether a content is under the higher feature of a pair
+abbrev pub is_higher : Metamodel → Content → Bool
+is_higher m c = is_some (lower_of (shape m c.feature) c.feature)
 
 -- whether a content is under the higher feature of a pair, and its objects are not in the order of their numbers
 abbrev pub is_unordered : Metamodel → Content → Bool

@@ -64,6 +64,28 @@ fn has_any_unordered(meta: &Meta, objects: &[DocObject]) -> bool
         .any(|object| has_unordered(meta, object.contents.as_slice()))
 }
 
+/// Whether a content is under the higher feature of a pair.
+fn is_higher(meta: &Meta, content: &Content) -> bool
+    ensures { result ≡ e.is_higher meta.now content.now }
+{
+    lower_of(meta, content.feature).is_some()
+}
+
+fn has_any_higher(meta: &Meta, contents: &[Content]) -> bool
+    ensures { result ≡ list_any (e.is_higher meta.now) contents.now }
+{
+    contents.iter().any(|content| is_higher(meta, content))
+}
+
+/// Whether some object has a content under the higher feature of a pair. Takes no memory.
+pub(crate) fn has_higher(meta: &Meta, objects: &[DocObject]) -> bool
+    ensures { result ≡ list_any (λ o. list_any (e.is_higher meta.now) o.contents) objects.now }
+{
+    objects
+        .iter()
+        .any(|object| has_any_higher(meta, object.contents.as_slice()))
+}
+
 /// Adds the edits that put the ends of a document's objects in order. If all ends are in order, it takes no memory.
 pub(crate) fn push_in_order(
     alloc: Global,

@@ -27,13 +27,13 @@ pub fn a_document_that_is_read_is_typed()
     ensures { (m : Metamodel) (uri : List ℕ) (doc : Doc) → IsOfDocument m → IsRead m uri doc → IsTyped m doc }
 {}
 
-/// The edits that put the links of a document that is read are of the kinds of their features.
+/// If a document was read, the edits that put its links agree with the kinds of their features.
 pub fn the_edits_of_a_document_are_of_kind()
     ensures { (m : Metamodel) (uri : List ℕ) (doc : Doc) (n : ℕ) (k : ResourceNo) → IsRead m uri doc → IsPlanOfKind (kinds_of m) (load_edits m n k doc) }
 {}
 
-/// If the numbers of its objects are free and the resource is empty, the edits of a document that is read fit, put no node below itself,
-/// and make exactly the links of the document.
+/// If a document was read, the numbers of its objects are free and the resource is empty, then its edits fit, put no node below itself, and
+/// make exactly its links.
 pub fn the_edits_of_a_document_make_its_links()
     ensures { (m : Metamodel) (uri : List ℕ) (doc : Doc) (n : ℕ) (k : ResourceNo) (s : Links) → IsOfDocument m → IsRead m uri doc → n + length doc.objects ≤ OBJECTS → IsLegalSet s → AreOfKind (kinds_of m) s → HasNoCycle s → IsRoomFor m n k s → MakesLinks m n k doc s }
 {}

@@ -33,6 +33,10 @@ pub fn link_edits(
     let roots = contents_end(meta, resource);
     push_roots(meta, next, roots, doc.roots.as_slice(), &mut edits)?;
     push_objects(meta, next, Pass::Near, objects, &mut edits)?;
+    // In most documents no more is left to put.
+    if !far::has_higher(meta, objects) {
+        return Ok(edits);
+    }
     far::push_in_order(alloc, meta, next, doc, &mut edits)?;
     push_objects(meta, next, Pass::Proxies, objects, &mut edits)?;
     Ok(edits)

@@ -75,15 +75,17 @@ fn push_content(
     requires fits { IsFittingContent next content.now }
     ensures { OnOk result (edits.new.items ≡ edits.old.items ++ e.pass_edits pass meta.now next object content.now) }
 {
+    let is_put = match pass {
+        Pass::Near => is_near(meta, content.feature),
+        Pass::Proxies => lower_of(meta, content.feature).is_some(),
+    };
+    if !is_put {
+        return Ok(());
+    }
     let end = object_end(next, object, content.feature);
     let values = content.values.as_slice();
     match pass {
-        Pass::Near if is_near(meta, content.feature) => {
-            near::push_values(meta, next, end, values, edits)
-        }
-        Pass::Proxies if lower_of(meta, content.feature).is_some() => {
-            proxies::push_values(end, values, edits)
-        }
-        _ => Ok(()),
+        Pass::Near => near::push_values(meta, next, end, values, edits),
+        Pass::Proxies => proxies::push_values(end, values, edits),
     }
 }

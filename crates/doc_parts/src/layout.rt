@@ -1,5 +1,5 @@
 //! The layout of a document: the top, and an object.
-ghost use Rattle.std.specs.Prelude.{◌≡◌, IsTrue, option_map};
+ghost use Rattle.std.specs.Prelude.{◌≡◌, IsTrue, codes, option_map};
 ghost use Rattle.serde_json.specs.Data.{object};
 ghost use Rattle.serde_json.specs.Find.{as_object, as_str};
 ghost use Rattle.borrowed_json.specs.View.{items_view, members_view, view};
@@ -35,11 +35,29 @@ pub fn top<'t>(json: &Json<'t>) -> Option<TopMembers<'t>>
     Some(TopMembers { format, roots })
 }
 
+#[inline(always)]
+fn is_class(key: &str) -> bool
+    ensures { IsTrue result → key.now ≡ codes "class" }
+{
+    matches!(key.as_bytes(), [b'c', b'l', b'a', b's', b's'])
+}
+
+#[inline(always)]
+fn is_features(key: &str) -> bool
+    ensures { IsTrue result → key.now ≡ codes "features" }
+{
+    matches!(
+        key.as_bytes(),
+        [b'f', b'e', b'a', b't', b'u', b'r', b'e', b's']
+    )
+}
+
 /// Whether an object has exactly its two members, in the order in which they are saved.
+#[inline(always)]
 fn is_in_order(members: Members) -> bool
     ensures { IsTrue result → IsInOrder members.now }
 {
-    members.len() == 2 && members[0].0 == "class" && members[1].0 == "features"
+    members.len() == 2 && is_class(members[0].0) && is_features(members[1].0)
 }
 
 /// The object of the values of its two members.
@@ -65,6 +83,7 @@ fn of_members<'t>(members: Members<'t>) -> Option<ObjectMembers<'t>>
 }
 
 /// The members of an object; `None` if the value is no object of a document. Takes no memory.
+#[inline(always)]
 #[tactic(auto, unfolding(crate::specs::Layout::written_object))]
 pub(crate) fn written<'t>(json: &Json<'t>) -> Option<ObjectMembers<'t>>
     ensures { option_map (λ w. new_written w.class.now (members_view w.features.now)) result ≡ written_meant (view json.now) }

@@ -1,8 +1,9 @@
 -- Values that are written one after another.
-use Rattle.std.proofs.Common.{◌≡◌, ℕ, ◌+◌, ◌<◌, ◌≤◌, length, map, take, drop, get_or, List, [], ◌∷◌, ◌++◌, Result, OnOk, Some, option_map, option_and_then, pos, negsuc, SFits, w64, max, suc, refl, sym, ap, ◌∙◌, arith, append_assoc, append-nil, subst}
+use Rattle.std.proofs.Common.{◌≡◌, ℕ, Bool, true, false, cond, ◌+◌, ◌<◌, ◌≤◌, filter, length, map, take, drop, get_or, List, [], ◌∷◌, ◌++◌, Result, OnOk, Some, option_map, option_and_then, pos, negsuc, SFits, w64, max, suc, refl, sym, ap, ◌∙◌, arith, append_assoc, append-nil, subst}
 use Rattle.std.specs.Prelude.{ℤ}
 use Rattle.std.specs.Fmt.{signed_decimal}
-use Rattle.std.proofs.lemmas.List.{drop_all, drop_more, take_all}
+use Rattle.std.proofs.lemmas.List.{drop_all, drop_more, take-append-drop, take_all, take_more}
+use Rattle.std.proofs.lemmas.List.Elements.{filter-append}
 use Rattle.std.proofs.lemmas.Result.{on_ok_weaker}
 use Rattle.json.specs.Token as token
 use Rattle.json.specs.Token.{Token, begin_array, begin_object, end_array, end_object, key}
@@ -20,9 +21,10 @@ use Rattle.serde_json.specs.View.{items_of}
 use Rattle.serde_json.specs.Written.{compact_text, items_outline, members_outline, number_text, outline}
 use Rattle.serde_json.proofs.Numbers.{number_of-decimal, number_of-negative}
 use Rattle.serde_json.proofs.Texts.{print-outline}
-use Rattle.doc_writer.specs.Added.{Adds, AddsMember, IsInOrder, puts_by}
+use Rattle.doc_writer.specs.Added.{Adds, AddsMember, AddsMemberIf, IsInOrder, puts_by}
 use Rattle.doc_writer.specs.Document.{members, two_members}
-use Rattle.doc_writer.proofs.OrderLemmas.{listed, listed-by, put-next}
+use Rattle.doc_writer.proofs.FilterLemmas.{in_order-filter}
+use Rattle.doc_writer.proofs.OrderLemmas.{listed, listed-by, put-end}
 
 -- a value of one token
 pub token-added : {E : Type 0} (r : Result (Unit {0}) E) (t : Token) (d : Data) (old new : Written) → json_tokens (outline d) ≡ t ∷ [] → of_json (outline d) ≡ Some d → Writes r old new t → OnOk r (Adds d old new)
@@ -99,25 +101,41 @@ members-close r all done left old now new none whole so w =
       reads = ap (option_map object) (so.reads (ap (λ ms. of_members (members_outline ms) done) none ∙ ap Some whole));
     }) w.ok
 
--- the same for members in the order of their names
-module _ {X : Type 0} (name : X → List ℕ) (held : X → Data) (xs : List X) (i : ℕ) (old now : Written) where
+-- the same for the elements of a list that pass a test; the list is in the order of their names
+module _ {X : Type 0} (name : X → List ℕ) (held : X → Data) (q : X → Bool) (xs : List X) (i : ℕ) (old now : Written) where
   abbrev made : X → List ℕ × Data
   made x = (name x, held x)
 
-  abbrev pub NamedLeft : ℕ → Written → Type 0
-  NamedLeft k w = MembersLeft (listed (map made xs)) (listed (map made (take k xs))) (listed (map made (drop k xs))) old w
+  abbrev pub PassedLeft : ℕ → Written → Type 0
+  PassedLeft k w = MembersLeft (listed (map made (filter q xs))) (listed (map made (filter q (take k xs)))) (listed (map made (filter q (drop k xs)))) old w
 
-  pub named-on : (d : X) (new : Written) → i < length xs → IsInOrder name xs → NamedLeft i now → AddsMember (name (get_or xs i d)) (held (get_or xs i d)) now new → NamedLeft (i + 1) new
-  named-on d new low ordered so a =
-      members-on (listed (map made xs)) (listed (map made (take i xs))) (listed (map made (take (i + 1) xs))) (listed (map made (drop (i + 1) xs))) (name (get_or xs i d)) (held (get_or xs i d)) old now new
-      (put-next name held xs i d low ordered) (subst (λ ys. MembersLeft (listed (map made xs)) (listed (map made (take i xs))) (listed (map made ys)) old now) (drop_more xs i d low) so) a
+  -- one element further: it is written if it passes
+  passed-by : (done left : List X) (x : X) (new : Written) (b : Bool) → q x ≡ b → IsInOrder name (done ++ cond b (x ∷ left) left) → MembersLeft (listed (map made (filter q xs))) (listed (map made done)) (listed (map made (cond b (x ∷ left) left))) old now
+      → AddsMemberIf b (name x) (held x) now new → MembersLeft (listed (map made (filter q xs))) (listed (map made (done ++ cond b (x ∷ []) []))) (listed (map made left)) old new
+  passed-by done left x new true is ordered so a =
+      members-on (listed (map made (filter q xs))) (listed (map made done)) (listed (map made (done ++ x ∷ []))) (listed (map made left)) (name x) (held x) old now new (put-end name held done x left ordered) so a
+  passed-by done left x new false is ordered so same =
+      subst (λ (w : Written). MembersLeft (listed (map made (filter q xs))) (listed (map made (done ++ []))) (listed (map made left)) old w) (sym same)
+      (subst (λ (ys : List X). MembersLeft (listed (map made (filter q xs))) (listed (map made ys)) (listed (map made left)) old now) (sym (append-nil done)) so)
 
-  pub named-close : {E : Type 0} (r : Result (Unit {0}) E) (ys : List X) (new : Written) → length xs ≤ i → xs ≡ puts_by name [] ys → NamedLeft i now → Writes r now new end_object
+  pub passed-on : (d : X) (new : Written) → i < length xs → IsInOrder name xs → PassedLeft i now → AddsMemberIf (q (get_or xs i d)) (name (get_or xs i d)) (held (get_or xs i d)) now new → PassedLeft (i + 1) new
+  passed-on d new low ordered so a =
+      let x = get_or xs i d in
+      let done = filter q (take i xs) in
+      let left = filter q (drop (i + 1) xs) in
+      let rest : filter q (drop i xs) ≡ cond (q x) (x ∷ left) left = ap (filter q) (drop_more xs i d low) in
+      let more : filter q (take (i + 1) xs) ≡ done ++ cond (q x) (x ∷ []) [] = ap (filter q) (take_more xs i d low) ∙ filter-append q (take i xs) (x ∷ []) in
+      let whole : filter q xs ≡ done ++ cond (q x) (x ∷ left) left = ap (filter q) (sym (take-append-drop i xs)) ∙ filter-append q (take i xs) (drop i xs) ∙ ap (λ ys. done ++ ys) rest in
+      subst (λ (ys : List X). MembersLeft (listed (map made (filter q xs))) (listed (map made ys)) (listed (map made left)) old new) (sym more)
+      (passed-by done left x new (q x) refl (subst (IsInOrder name) whole (in_order-filter name q xs ordered))
+      (subst (λ (ys : List X). MembersLeft (listed (map made (filter q xs))) (listed (map made done)) (listed (map made ys)) old now) rest so) a)
+
+  pub passed-close : {E : Type 0} (r : Result (Unit {0}) E) (ys : List X) (new : Written) → length xs ≤ i → filter q xs ≡ puts_by name [] ys → PassedLeft i now → Writes r now new end_object
       → OnOk r (Adds (object (members (map made ys))) old new)
-  named-close r ys new high is so w =
+  passed-close r ys new high is so w =
       subst (λ ms. OnOk r (Adds (object ms) old new)) (ap (λ zs. listed (map made zs)) is ∙ listed-by name held ys)
-      (members-close r (listed (map made xs)) (listed (map made (take i xs))) (listed (map made (drop i xs))) old now new (ap (λ zs. listed (map made zs)) (drop_all i xs high))
-      (ap (λ zs. listed (map made zs)) (take_all i xs high)) so w)
+      (members-close r (listed (map made (filter q xs))) (listed (map made (filter q (take i xs)))) (listed (map made (filter q (drop i xs)))) old now new (ap (λ zs. listed (map made (filter q zs))) (drop_all i xs high))
+      (ap (λ zs. listed (map made (filter q zs))) (take_all i xs high)) so w)
 
 -- an object of two members, whose keys are in order
 pub two_members-added : {E : Type 0} (r : Result (Unit {0}) E) (k l : List ℕ) (d e : Data) (old now one both new : Written) → put l e (member k d no_members) ≡ member k d (member l e no_members)

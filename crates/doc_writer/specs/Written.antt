@@ -1,6 +1,7 @@
 -- Which parts of a resource are written: its objects in loading order, and the features of each object that are set.
 use Rattle.std.specs.Prelude.{ℕ, ◌&&◌, Bool, not, List, filter, flat_map, length}
 use Rattle.mm_types.specs.Lookups as lookups
+use Rattle.mm_types.specs.Resolved.{Metamodel}
 use Rattle.mm_types.specs.declared.numbers.FeatureNo.{FeatureNo}
 use Rattle.mm_types.specs.declared.numbers.ObjectNo.{ObjectNo}
 use Rattle.mm_types.specs.declared.numbers.ResourceNo.{ResourceNo}
@@ -13,6 +14,10 @@ use Rattle.fragment_paths.specs.Finding.{roots}
 -- features, then by position
 abbrev pub objects_in : Reading → ResourceNo → List ObjectNo
 objects_in r k = flat_map (subtree r) (roots r k)
+
+-- whether objects may have a feature written: it is no container reference
+abbrev pub is_writable : Metamodel → FeatureNo → Bool
+is_writable m f = not (lookups.is_container m f)
 
 -- whether a feature of an object is written: it is set, and is no container reference
 abbrev pub is_written : Reading → ObjectNo → FeatureNo → Bool

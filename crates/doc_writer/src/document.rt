@@ -7,10 +7,11 @@ ghost use Rattle.models.specs.Model.{reading};
 ghost use Rattle.serde_json.specs.Data.{array, number, unsigned};
 ghost use Rattle.serde_json.specs.View.{items_of};
 ghost use Rattle.mm_types.specs.declared.limits.TheConstants.{DOCUMENT_FORMAT};
-ghost use Rattle.doc_writer.specs.Added.{Adds, AddsMember};
+ghost use Rattle.doc_writer.specs.Added.{Adds, AddsMember, IsOrder};
 ghost use Rattle.doc_writer.specs.Document as spec;
 ghost use Rattle.doc_writer.specs.Saved.{IsReadAs};
 
+use crate::order::ClassOrder;
 use crate::values::write_object;
 use crate::write_context::WriteContext;
 use fragment_paths::Positions;
@@ -19,7 +20,7 @@ use links::LinkStore;
 use mm_types::{ObjectNo, ResourceNo, limits};
 use std::alloc::{AllocError, Global};
 
-/// Writes the roots of a resource and all in them.
+/// Writes the roots of a resource and all in them. The features of the class of the first root are put in order for all of them.
 fn write_roots<L: LinkStore>(
     source: &WriteContext<L>,
     roots: &[ObjectNo],
@@ -27,9 +28,27 @@ fn write_roots<L: LinkStore>(
 ) -> Result<(), AllocError>
     ensures { OnOk result (Adds (array (items_of (map (spec.object_data (reading source.now.positions.now) source.now.resource (reading source.now.positions.now).next) roots.now))) out.old out.new) }
 {
+    let class = match roots.first() {
+        Some(root) => source.positions.model().class(*root),
+        None => None,
+    };
+    let order = ClassOrder::of(source.alloc, source.positions.model().meta(), class)?;
+    write_list(source, &order, roots, out)
+}
+
+/// Writes objects as an array. The features of some class are in order.
+fn write_list<L: LinkStore>(
+    source: &WriteContext<L>,
+    order: &ClassOrder,
+    roots: &[ObjectNo],
+    out: &mut Writer,
+) -> Result<(), AllocError>
+    requires order { IsOrder (reading source.now.positions.now).metamodel order.now }
+    ensures { OnOk result (Adds (array (items_of (map (spec.object_data (reading source.now.positions.now) source.now.resource (reading source.now.positions.now).next) roots.now))) out.old out.new) }
+{
     out.begin_array()?;
     'roots: for root in roots {
-        write_object(source, source.positions.model().next(), *root, out)?;
+        write_object(source, source.positions.model().next(), order, *root, out)?;
     }
     out.end_array()
 }

@@ -5,6 +5,7 @@
 //! each step writes.
 #![tactic(auto)]
 
+mod class_references;
 mod document;
 mod leaves;
 mod levels;
@@ -16,6 +17,5 @@ mod values;
 mod ways;
 mod write_context;
 mod writing;
-mod written;
 
 pub use writing::write_doc;

@@ -10,18 +10,19 @@ use crate::ways::note_ways;
 use fragment_paths::Positions;
 use links::LinkStore;
 use mm_types::{ObjectNo, Refused};
-use std::alloc::AllocError;
+use std::alloc::{AllocError, Global};
 
 /// The first reason why a resource of these objects can't be saved: an object that is referred to is in no resource, or an object is too
 /// deep. If there is no reason, the ways to all objects that are referred to are noted. Fails only if memory is refused.
 pub(crate) fn refusal<L: LinkStore>(
+    alloc: Global,
     positions: &mut Positions<L>,
     objects: &[ObjectNo],
 ) -> Result<Option<Refused>, AllocError>
     ensures same { positions.new ≡ positions.old }
     ensures refused { IfOk result (λ o. (k : ResourceNo) → objects.now ≡ objects_in (reading positions.old) k → o ≡ saved.save_refusal (reading positions.old) k) }
 {
-    if note_ways(positions, objects)? {
+    if note_ways(alloc, positions, objects)? {
         return Ok(Some(Refused::Dangling));
     }
     if any_too_deep(positions.model(), objects) {

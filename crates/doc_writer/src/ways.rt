@@ -1,21 +1,20 @@
 //! The ways to the objects that a resource refers to are looked up, so that each end on these ways is gone through once. This also finds
 //! objects that are in no resource.
-ghost use Rattle.std.specs.Prelude.{◌≡◌, ◌&&◌, IfOk, false, not, slice_get};
-ghost use Rattle.std.specs.List.{list_any};
+ghost use Rattle.std.specs.Prelude.{◌≡◌, IfOk, OnOk, false, slice_get, true};
+ghost use Rattle.std.specs.List.{All, list_any};
 ghost use Rattle.std.specs.Option.{option_and_then, option_map_or};
-ghost use Rattle.mm_types.specs.Shapes.{is_containment, shape};
 ghost use Rattle.models.specs.Model.{reading};
 ghost use Rattle.models.specs.Reading as r;
 ghost use Rattle.doc_writer.specs.Saved as saved;
-ghost use Rattle.doc_writer.specs.Written as written;
+ghost use Rattle.doc_writer.specs.References.{IsReferences, may_refer};
 
-use crate::written::is_written;
+use crate::class_references::ClassReferences;
 use containment::holder_resource;
 use fragment_paths::Positions;
 use links::LinkStore;
 use mm_types::{End, FeatureNo, Node, ObjectNo};
 use models::ModelRef;
-use std::alloc::AllocError;
+use std::alloc::{AllocError, Global};
 
 /// Whether an object is in no resource. Takes no memory.
 fn is_dangling<L: LinkStore>(model: &ModelRef<L>, object: ObjectNo) -> bool
@@ -70,15 +69,6 @@ fn note_end<L: LinkStore>(positions: &mut Positions<L>, end: End) -> Result<bool
     Ok(false)
 }
 
-/// Whether a feature of an object is written as references: it is a reference and no containment. Takes no memory.
-fn is_referring<L: LinkStore>(model: &ModelRef<L>, object: ObjectNo, feature: FeatureNo) -> bool
-    ensures { result ≡ ((shape (reading model.now).metamodel feature).is_reference && (not (is_containment (reading model.now).metamodel feature) && written.is_written (reading model.now) object feature)) }
-{
-    model.meta().is_reference(feature)
-        && !model.meta().is_containment(feature)
-        && is_written(model, object, feature)
-}
-
 /// Notes the ways to the objects that an object refers to by a feature, up to the first that is in no resource. Returns whether there is
 /// such an object.
 fn note_feature<L: LinkStore>(
@@ -86,15 +76,16 @@ fn note_feature<L: LinkStore>(
     object: ObjectNo,
     feature: FeatureNo,
 ) -> Result<bool, AllocError>
+    requires refers { may_refer positions.old.metamodel feature ≡ true }
     ensures same { positions.new ≡ positions.old }
     ensures dangling { IfOk result (λ b. b ≡ saved.dangles_by (reading positions.old) object feature) }
 {
-    positions.model().lemma_is_legal();
-    if !is_referring(positions.model(), object, feature) {
+    let node = Node::Object(object);
+    let end = End { node, feature };
+    if !positions.model().is_set(end) {
         return Ok(false);
     }
-    let node = Node::Object(object);
-    note_end(positions, End { node, feature })
+    note_end(positions, end)
 }
 
 /// Notes the ways to the objects that an object refers to by any of some features, up to the first that is in no resource. Returns whether
@@ -104,6 +95,7 @@ fn note_features<L: LinkStore>(
     object: ObjectNo,
     features: &[FeatureNo],
 ) -> Result<bool, AllocError>
+    requires refer { All (λ f. may_refer positions.old.metamodel f ≡ true) features.now }
     ensures same { positions.new ≡ positions.old }
     ensures dangling { IfOk result (λ b. b ≡ list_any (saved.dangles_by (reading positions.old) object) features.now) }
 {
@@ -116,28 +108,36 @@ fn note_features<L: LinkStore>(
 }
 
 /// Notes the ways to the objects that an object refers to, up to the first that is in no resource. Returns whether there is such an object.
+/// `by_class` is made for the class of the object, if it was for a different one.
 fn note_object<L: LinkStore>(
     positions: &mut Positions<L>,
+    by_class: &mut ClassReferences,
     object: ObjectNo,
 ) -> Result<bool, AllocError>
+    requires references { IsReferences positions.old.metamodel by_class.old }
     ensures same { positions.new ≡ positions.old }
+    ensures references { OnOk result (IsReferences positions.old.metamodel by_class.new) }
     ensures dangling { IfOk result (λ b. b ≡ saved.has_dangling (reading positions.old) object) }
 {
-    let features = positions.model().all_features(Node::Object(object));
-    note_features(positions, object, features)
+    positions.model().lemma_is_legal();
+    let class = positions.model().class(object);
+    by_class.turn_to(positions.model().meta(), class)?;
+    note_features(positions, object, by_class.as_slice())
 }
 
-/// Notes the ways to the objects that any of some objects refers to, up to the first that is in no resource. Returns whether there is such
-/// an object. Fails only if memory is refused.
+/// Notes the ways to the objects to which some objects refer, up to the first that is in no resource. Returns whether there is such an
+/// object. Fails only if memory is refused.
 pub(crate) fn note_ways<L: LinkStore>(
+    alloc: Global,
     positions: &mut Positions<L>,
     objects: &[ObjectNo],
 ) -> Result<bool, AllocError>
     ensures same { positions.new ≡ positions.old }
     ensures dangling { IfOk result (λ b. b ≡ list_any (saved.has_dangling (reading positions.old)) objects.now) }
 {
+    let mut by_class = ClassReferences::none(alloc);
     'objects: for object in objects {
-        if note_object(positions, *object)? {
+        if note_object(positions, &mut by_class, *object)? {
             return Ok(true);
         }
     }

@@ -29,7 +29,7 @@ fn text_by<L: LinkStore>(
     ensures writes { saved.Writes result (reading positions.old) resource }
     ensures reads { IfOk result (λ t. saved.IsReadAs (reading positions.old) resource (string_bytes t)) }
 {
-    if let Some(refused) = refusal(positions, objects)? {
+    if let Some(refused) = refusal(alloc, positions, objects)? {
         return Err(refused);
     }
     let text = document_text(alloc, positions, resource, roots)?;

@@ -28,7 +28,7 @@ fn with_reference(alloc: Global, bytes: usize) -> Result<String, AllocError> {
     of_roots(alloc, root.as_str())
 }
 
-/// Folders, each in the one before, with a given number of levels.
+/// Folders, each in the folder before, with a given number of levels.
 fn with_levels(alloc: Global, levels: usize) -> Result<String, AllocError> {
     let mut root = String::new(alloc);
     add_times(

@@ -114,7 +114,7 @@ fn features_are_inherited_through_a_diamond_in_order(rt: HostRuntime) -> Result<
     Ok(())
 }
 
-/// For each class the classes that it conforms to; then the classes that one class conforms to, and those that it reaches.
+/// For each class the classes that it conforms to; then, for one class, the classes that it conforms to and the classes that it reaches.
 fn conformance(alloc: Global, graph: &[Seq<usize>], class: usize) -> Result<String, Fail> {
     if !is_in_range(graph) || class >= graph.len() {
         return Err(Fail::new("these are no classes"));

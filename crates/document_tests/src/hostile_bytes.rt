@@ -1,5 +1,5 @@
-//! A metamodel and two of its documents are cut after each of their bytes, or get a different byte in the place of one. Each text is read
-//! or refused, and the answers are counted.
+//! A metamodel and two of its documents are cut after each byte, or one byte is replaced by a different byte. Each text is read or refused,
+//! and the answers are counted.
 //!
 //! The expected counts follow from the grammar of JSON. None of the texts has a backslash. A text that is cut before its last brace is no
 //! JSON. Neither is a text with a byte 0, which JSON never has, with a byte 255, which is not UTF-8, or with an odd number of quotes.
@@ -54,7 +54,8 @@ const INPUTS: [Input; 3] = [
     },
 ];
 
-/// How often each answer was given: at 0 how often a text was read, and at each number of a fault or a cause how often that was returned.
+/// How often each answer was given: at index 0 how often a text was read, and at the number of each fault or cause how often it was
+/// returned.
 type Counts = [u32; 13];
 
 /// Counts of texts that are read, and of texts that are no JSON.

@@ -27,7 +27,7 @@ fn kind_text(alloc: Global, kind: &RawKind) -> Result<String, AllocError> {
     }
 }
 
-/// A feature's name, its type, its bounds and what its kind says.
+/// A feature's name, type and bounds, and the keys of its kind.
 fn feature_line(alloc: Global, feature: &RawFeature) -> Result<String, AllocError> {
     let (name, type_name) = (feature.name.as_str(), feature.type_name.as_str());
     let (lower, upper) = (feature.lower, feature.upper);

@@ -134,7 +134,7 @@ fn causes_are_printed(rt: HostRuntime) -> Result<(), Fail> {
     Ok(())
 }
 
-/// A fault by its number, its name and where it is, each read by its own call.
+/// A fault by its number, its name and its place, each read by a call of its own.
 fn by_parts(alloc: Global, fault: MetaFault) -> Result<String, AllocError> {
     let name = fault.name();
     match (fault.number(), fault) {
@@ -144,7 +144,7 @@ fn by_parts(alloc: Global, fault: MetaFault) -> Result<String, AllocError> {
     }
 }
 
-/// Whether a fault is printed as a text, which is its number, its name and where it is.
+/// Whether a fault is printed as a text: its number, its name and its place.
 fn is_fault(alloc: Global, fault: MetaFault, text: &str) -> Result<bool, AllocError> {
     let printed = format!(in alloc; "{fault}")?;
     let parts = by_parts(alloc, fault)?;

@@ -47,8 +47,8 @@ pub fn run_dialogue<R: Read, S: Session, D: Disk, W: Write>(
         (W.contents (writer_of outbox.old)) (W.contents (writer_of outbox.new)) (kept_by D.seen outbox.new) session.new) }
     ensures end { OnOk result (OnSome (reader_remaining R.remaining reader.old) (IsAtEnd (reader_remaining R.remaining reader.new))) }
     ensures at_rest { OnOk result (IsAtRest D.seen D.may_leave outbox.new) }
-    // Whatever stops the run, each file that may be left has the lines that were answered. So it is also if each call fails because the
-    // machine fails.
+    // Whatever stops the run, each file that may be left has the lines that were answered. The same holds if calls fail because the machine
+    // stops.
     ensures stopped { IfErr result (λ fault. StopsIn S.runs fault (reader_remaining R.remaining reader.old) session.old (kept_by D.seen outbox.old)
         (W.contents (writer_of outbox.old)) (W.contents (writer_of outbox.new)) (D.may_leave (disk_under outbox.new))) }
     // `TooLong` is returned only if a line is too long, or there are too many, and `Journal` only if the disk failed or the file is full.

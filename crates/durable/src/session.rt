@@ -53,7 +53,7 @@ pub trait Twin: Session {
     /// A line that is not to be kept changes only the part of the session that a journal does not bring back.
     ghost others: { (s t x : Self) (l : List ℕ) (p : Printed) → Self.Session.runs s l p t → is_kept_turn p.turn ≡ false → alike s x → alike t x };
 
-    /// A line that is kept does the same to both sessions.
+    /// A line that is kept changes both sessions in the same way.
     ghost kept: { (s t x y : Self) (l : List ℕ) (p q : Printed) → Self.Session.runs s l p t → is_kept_turn p.turn ≡ true → alike s x
         → Self.Session.runs x l q y → is_kept_turn q.turn ≡ true → alike t y };
 

@@ -8,16 +8,23 @@ ghost use Rattle.links.specs.Links.{object_of, text_of};
 ghost use Rattle.end_values.specs.EndValues.{CanHave, is_value, object_value, objects};
 ghost use Rattle.end_values.specs.Proxies.{HasNoProxyBefore};
 
+use crate::guesses::{guess_object, guess_value, is_out_of_order};
+use crate::labelled_objects::LabelledObjects;
 use crate::mixed_list::MixedList;
+use index_guesses::is_tried;
 use mm_types::{ObjectNo, Value};
 use slot_lists::ShortList;
 use std::alloc::{AllocError, Global};
 use std::marker::Model;
+use std::mem;
 
-/// The layout of the values of an end in memory. Most ends have only objects: four bytes each.
+/// The layout of the values of an end in memory. Most ends have only objects: four bytes each. A long list that a removal found in no order
+/// is `Shuffled` until there is memory for labels.
 #[derive(Drop)]
 enum Layout {
     Objects(ShortList<ObjectNo>),
+    Shuffled(ShortList<ObjectNo>),
+    Labelled(Box<LabelledObjects>),
     Mixed(Box<MixedList>),
 }
 
@@ -53,7 +60,8 @@ impl EndValueList {
         ensures { result ≡ length self.now.items }
     {
         match &self.layout {
-            Layout::Objects(list) => list.len(),
+            Layout::Objects(list) | Layout::Shuffled(list) => list.len(),
+            Layout::Labelled(list) => list.len(),
             Layout::Mixed(list) => list.len(),
         }
     }
@@ -63,7 +71,8 @@ impl EndValueList {
         ensures { result ≡ self.now.spare }
     {
         match &self.layout {
-            Layout::Objects(list) => list.spare(),
+            Layout::Objects(list) | Layout::Shuffled(list) => list.spare(),
+            Layout::Labelled(list) => list.spare(),
             Layout::Mixed(list) => list.spare(),
         }
     }
@@ -74,7 +83,8 @@ impl EndValueList {
         ensures { result ≡ option_and_then object_of (slice_get self.now.items index) }
     {
         match &self.layout {
-            Layout::Objects(list) => list.get(index).copied(),
+            Layout::Objects(list) | Layout::Shuffled(list) => list.get(index).copied(),
+            Layout::Labelled(list) => list.objects().get(index).copied(),
             Layout::Mixed(list) => object_in(list.get(index)),
         }
     }
@@ -85,7 +95,7 @@ impl EndValueList {
         ensures { option_copied result ≡ option_and_then text_of (slice_get self.now.items index) }
     {
         match &self.layout {
-            Layout::Objects(_) => None,
+            Layout::Objects(_) | Layout::Shuffled(_) | Layout::Labelled(_) => None,
             Layout::Mixed(list) => text_in(list.get(index)),
         }
     }
@@ -96,7 +106,8 @@ impl EndValueList {
         ensures { result ≡ is_value value.now (slice_get self.now.items index) }
     {
         match &self.layout {
-            Layout::Objects(list) => is_object(list.get(index), value),
+            Layout::Objects(list) | Layout::Shuffled(list) => is_object(list.get(index), value),
+            Layout::Labelled(list) => is_object(list.objects().get(index), value),
             Layout::Mixed(list) => is_there(list.get(index), value),
         }
     }
@@ -106,7 +117,8 @@ impl EndValueList {
         ensures { result ≡ position (same_value value.now) self.now.items }
     {
         match &self.layout {
-            Layout::Objects(list) => position_in(list, value),
+            Layout::Objects(list) | Layout::Shuffled(list) => position_in(list, value),
+            Layout::Labelled(list) => position_in(list.objects(), value),
             Layout::Mixed(list) => list.position(value),
         }
     }
@@ -117,9 +129,28 @@ impl EndValueList {
         ensures { HasNoProxyBefore result self.now.items }
     {
         match &self.layout {
-            Layout::Objects(list) => list.len(),
+            Layout::Objects(list) | Layout::Shuffled(list) => list.len(),
+            Layout::Labelled(list) => list.len(),
             Layout::Mixed(list) => list.proxy_start(),
         }
+    }
+
+    /// A guess at the index of a value. It is right if the numbers of the objects rise or fall along the list, or if the list has labels
+    /// that do. Otherwise any index.
+    pub fn guess(&self, value: &Value) -> usize {
+        match (&self.layout, value) {
+            (Layout::Objects(list) | Layout::Shuffled(list), Value::Object(object)) => {
+                guess_object(list, *object)
+            }
+            (Layout::Labelled(list), Value::Object(object)) => list.guess(*object),
+            (Layout::Mixed(list), _) => guess_value(list, value),
+            _ => 0,
+        }
+    }
+
+    /// Whether a removal found the list in no order, and it has no labels yet.
+    pub fn needs_labels(&self) -> bool {
+        matches!(self.layout, Layout::Shuffled(_))
     }
 
     /// Makes it a list that may have other values than objects. Fails only if memory is refused, and then nothing has changed.
@@ -130,8 +161,13 @@ impl EndValueList {
         ensures ok { OnOk result (self.new.mixed ≡ true) }
     {
         match &self.layout {
-            Layout::Objects(list) => {
+            Layout::Objects(list) | Layout::Shuffled(list) => {
                 let values = values_of(alloc, list)?;
+                self.layout = Layout::Mixed(values);
+                Ok(())
+            }
+            Layout::Labelled(list) => {
+                let values = values_of(alloc, list.objects())?;
                 self.layout = Layout::Mixed(values);
                 Ok(())
             }
@@ -139,7 +175,8 @@ impl EndValueList {
         }
     }
 
-    /// Reserves capacity for more values. Fails only if memory is refused, and then the values stay and no capacity is lost.
+    /// Reserves capacity for more values, and gives labels to a list that a removal found in no order. Fails only if memory is refused for
+    /// the values, and then they stay and no capacity is lost.
     pub fn reserve(&mut self, alloc: Global, additional: usize) -> Result<(), AllocError>
         ensures items { self.new.items ≡ self.old.items }
         ensures spare { self.old.spare ≤ self.new.spare }
@@ -147,14 +184,36 @@ impl EndValueList {
         ensures ok { OnOk result (additional ≤ self.new.spare) }
     {
         match &mut self.layout {
+            Layout::Objects(list) if additional <= list.spare() => Ok(()),
             Layout::Objects(list) => list.reserve(alloc, additional),
+            Layout::Shuffled(list) => {
+                list.reserve(alloc, additional)?;
+                self.label(alloc);
+                Ok(())
+            }
+            Layout::Labelled(list) => list.reserve(alloc, additional),
             Layout::Mixed(list) => list.reserve(additional),
+        }
+    }
+
+    /// Gives the objects labels, if a removal found them in no order and there is memory.
+    #[cold]
+    fn label(&mut self, alloc: Global)
+        ensures items { self.new.items ≡ self.old.items }
+        ensures spare { self.old.spare ≤ self.new.spare }
+        ensures mixed { self.new.mixed ≡ self.old.mixed }
+    {
+        if let Layout::Shuffled(list) = &mut self.layout {
+            if let Ok(labelled) = LabelledObjects::of(alloc, list) {
+                self.layout = Layout::Labelled(labelled);
+            }
         }
     }
 
     /// Inserts a value before the value at an index, or at the end, for which there is capacity. Takes no memory. A value that is no object
     /// is inserted only after `mix`.
     #[tactic(auto, using(crate::proofs::EndValueLemmas::length_objects))]
+    #[inline(always)]
     pub fn insert(&mut self, index: usize, value: Value)
         requires room { 0 < self.old.spare }
         requires in_range { index ≤ length self.old.items }
@@ -165,6 +224,8 @@ impl EndValueList {
     {
         match &mut self.layout {
             Layout::Objects(list) => insert_object(list, index, value),
+            Layout::Shuffled(list) => insert_shuffled(list, index, value),
+            Layout::Labelled(list) => insert_labelled(list, index, value),
             Layout::Mixed(list) => list.insert(index, value),
         }
     }
@@ -177,9 +238,24 @@ impl EndValueList {
         ensures spare { self.old.spare ≤ self.new.spare }
         ensures mixed { self.new.mixed ≡ self.old.mixed }
     {
+        self.try_guess(index);
         match &mut self.layout {
             Layout::Objects(list) => list.remove(index),
+            Layout::Shuffled(list) => list.remove(index),
+            Layout::Labelled(list) => list.remove(index),
             Layout::Mixed(list) => list.remove(index),
+        }
+    }
+
+    /// Looks at some removals whether the object at the index is guessed right. If it is not, the list is to get labels.
+    fn try_guess(&mut self, index: usize)
+        ensures { self.new ≡ self.old }
+    {
+        if let Layout::Objects(list) = &mut self.layout {
+            if is_tried(index) && is_out_of_order(list, index) {
+                let list = mem::replace(list, ShortList::new());
+                self.layout = Layout::Shuffled(list);
+            }
         }
     }
 
@@ -194,6 +270,8 @@ impl EndValueList {
     {
         match &mut self.layout {
             Layout::Objects(list) => list.move_to(to, from),
+            Layout::Shuffled(list) => list.move_to(to, from),
+            Layout::Labelled(list) => list.move_to(to, from),
             Layout::Mixed(list) => list.move_to(to, from),
         }
     }
@@ -249,6 +327,34 @@ fn is_number(there: Option<&ObjectNo>, object: ObjectNo) -> bool
 /// Inserts an object before the value at an index, or at the end, for which there is capacity.
 #[tactic(auto, using(crate::proofs::EndValueLemmas::insert_objects))]
 fn insert_object(list: &mut ShortList<ObjectNo>, index: usize, value: Value)
+    requires room { 0 < list.old.spare }
+    requires in_range { index ≤ length list.old.items }
+    requires can { CanHave false value }
+    ensures items { objects list.new.items ≡ insert (objects list.old.items) index value }
+    ensures spare { list.old.spare ≤ list.new.spare + 1 }
+{
+    match value {
+        Value::Object(object) => list.insert(index, object),
+        _ => unreachable!(),
+    }
+}
+
+/// As `insert_object`, into a list that is to get labels.
+#[cold]
+fn insert_shuffled(list: &mut ShortList<ObjectNo>, index: usize, value: Value)
+    requires room { 0 < list.old.spare }
+    requires in_range { index ≤ length list.old.items }
+    requires can { CanHave false value }
+    ensures items { objects list.new.items ≡ insert (objects list.old.items) index value }
+    ensures spare { list.old.spare ≤ list.new.spare + 1 }
+{
+    insert_object(list, index, value);
+}
+
+/// As `insert_object`, into a list with labels.
+#[cold]
+#[tactic(auto, using(crate::proofs::EndValueLemmas::insert_objects))]
+fn insert_labelled(list: &mut LabelledObjects, index: usize, value: Value)
     requires room { 0 < list.old.spare }
     requires in_range { index ≤ length list.old.items }
     requires can { CanHave false value }

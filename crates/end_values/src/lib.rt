@@ -1,10 +1,12 @@
 //! The values of one end of links: objects, and proxies.
 //!
-//! `EndValueList` keeps only the numbers of objects as long as it has no proxy. `specs/EndValues.antt` says what it holds, and
-//! `specs/Proxies.antt` what is known of the positions of proxies.
+//! `EndValueList` keeps only the numbers of objects as long as it has no proxy, and guesses at which index a value is. `specs/EndValues.antt`
+//! says what it holds, and `specs/Proxies.antt` what is known of the positions of proxies.
 #![tactic(auto)]
 
 mod end_values;
+mod guesses;
+mod labelled_objects;
 mod mixed_list;
 
 pub use end_values::EndValueList;

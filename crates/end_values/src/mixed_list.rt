@@ -12,8 +12,8 @@ use slot_lists::SlotList;
 use std::alloc::{AllocError, Global};
 use std::marker::Model;
 
-/// A list of values, and an index before which there is no proxy. If proxies are resolved in the order of their list, that index is the one
-/// of the first proxy that is left, so a search for a proxy begins there.
+/// A list of values, and an index before which there is no proxy. If proxies are resolved in the order of their list, that index is the
+/// index of the first proxy that is left, so a search for a proxy begins there.
 #[derive(Drop)]
 pub(crate) struct MixedList {
     values: SlotList<Value>,

@@ -116,7 +116,7 @@ fn explain_inner(alloc: Global, out: &mut String, at: Named<'_>) -> Result<(), A
     }
 }
 
-/// The place of an enumeration or a class that has the name of a later one.
+/// The place of an enumeration or a class whose name a later enumeration or class has too.
 fn earlier(raw: &RawMeta, name: &str, place: Place) -> Option<Place> {
     match (place, enum_named(raw, name), class_named(raw, name)) {
         (Place::Enum(i), Some(e), _) if e < i => Some(Place::Enum(e)),

@@ -4,7 +4,7 @@ use mm_types::{Place, RawMeta};
 use std::alloc::{AllocError, Global};
 use std::fmt;
 
-/// A class that was reached through supertypes, and the position, among the reached classes, of the class before it.
+/// A class that was reached through supertypes, and the class from which it was reached, by its position among the reached classes.
 #[derive(Drop)]
 struct Reached {
     class: usize,
@@ -63,7 +63,7 @@ impl Ancestry {
     }
 }
 
-/// Adds the places of as many features of a class as it declares.
+/// Adds the places of the `count` features that a class declares.
 fn add_features(places: &mut Vec<Place>, class: usize, count: usize) -> Result<(), AllocError> {
     for i in 0..count {
         places.push(Place::Feature(class, i))?;
@@ -71,7 +71,7 @@ fn add_features(places: &mut Vec<Place>, class: usize, count: usize) -> Result<(
     Ok(())
 }
 
-/// Classes on a way, the last one first, in words for a reader.
+/// The classes on a way, from the last to the first, in words for a reader.
 #[derive(Drop)]
 struct Way<'m> {
     raw: &'m RawMeta,

@@ -2,14 +2,14 @@
 use std::alloc::{AllocError, Global};
 use strsim::levenshtein;
 
-/// How long a word may be for which a near word is looked for; no key, verb or type is longer.
+/// The greatest length of a word for which a near word is looked for; no key, verb or type is longer.
 const LONGEST: usize = 64;
 
-/// How many edits at most turn a word into a near one.
+/// The greatest number of edits between a word and a near word.
 const MOST_EDITS: usize = 2;
 
-/// The nearest of some words to a word: the one that the fewest edits lead to, at most two and fewer than the word has letters. Fails only
-/// if memory is refused.
+/// Of some words the nearest to a given word: the word that takes the fewest edits, at most two and fewer than the given word has letters.
+/// Fails only if memory is refused.
 pub fn nearest<'a>(
     alloc: Global,
     word: &str,

@@ -79,7 +79,7 @@ fn explain_type(
     )
 }
 
-/// Explains a reference whose type declares a feature of the opposite's name that can't be its opposite.
+/// Explains a reference that can't have its opposite: its type declares a feature of the opposite's name, which does not fit.
 fn explain_declared(
     alloc: Global,
     out: &mut String,

@@ -50,7 +50,7 @@ fn start_of(bytes: &[u8], line: usize) -> usize {
     start
 }
 
-/// How many bytes come before a place; its line and column are counted from 1.
+/// How many bytes come before a line and a column, both counted from 1.
 pub fn offset_of(bytes: &[u8], line: usize, column: usize) -> usize {
     start_of(bytes, line).saturating_add(column.saturating_sub(1))
 }

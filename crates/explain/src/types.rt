@@ -74,7 +74,7 @@ fn explain_data_type(
     }
 }
 
-/// The first supertype of a class that is no class.
+/// The first of a class's supertypes that names no class.
 fn lost_super(raw: &RawMeta, c: usize) -> Option<&str> {
     for name in class_at(raw, c)?.supers.as_slice() {
         if class_named(raw, name.as_str()).is_none() {

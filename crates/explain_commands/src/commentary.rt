@@ -62,7 +62,7 @@ impl Commentary {
 
     /// The resource of the URI that a text gives.
     ///
-    /// Refused, the first that applies: `Memory`, also if memory was refused for the URI of a resource before, `BadUri`, `NoResource`.
+    /// Refused, the first that applies: `Memory`, also if memory was refused before for the URI of a resource; `BadUri`; `NoResource`.
     pub fn resource_named(&self, text: &str) -> Result<ResourceNo, Refused> {
         if self.is_lost {
             return Err(Refused::Memory);
@@ -176,8 +176,8 @@ impl Commentary {
         self.said.push_str(text.as_str())
     }
 
-    /// Why a line of a form was refused, in lines that begin with the prefix. The repository has to be as it was then. Fails only if memory
-    /// is refused.
+    /// Explains why the command of a form was refused, in lines that begin with the prefix. The repository has to be as it was then. Fails
+    /// only if memory is refused.
     pub fn explained<L: LinkStore, A: Adapter>(
         &self,
         repository: &Repository<L, A>,

@@ -7,7 +7,7 @@ use mm_types::{Node, ObjectNo};
 use script_lines::Form;
 
 impl<L: LinkStore, A: Adapter> Scene<'_, L, A> {
-    /// The object that a line names and that does not live: the node, or else the value.
+    /// The destroyed or missing object that a line names: the node, or else the value.
     fn lost_object(&self, form: &Form<'_>, node: Option<Node>) -> Option<ObjectNo> {
         match node {
             Some(Node::Object(object)) if self.repository.e_class(object).is_err() => Some(object),

@@ -9,7 +9,7 @@ use script_lines::{FeatureForm, Form, WrittenValue};
 use script_output::literal_name;
 use std::alloc::{AllocError, Global};
 
-/// The first index of a line that is too high, and the last index that the line may have; `None` if it may have no index.
+/// The first index of a line that is too high, and the greatest index that the command accepts; `None` if it accepts no index.
 #[derive(Clone, Copy)]
 struct TooHigh {
     index: u32,

@@ -27,7 +27,7 @@ fn scheme_of(text: &str) -> Option<&str> {
     }
 }
 
-/// Whether a scheme is one that a resource can have.
+/// Whether the URI of a resource can have a scheme.
 fn is_of_the_web(scheme: &str) -> bool {
     scheme.eq_ignore_ascii_case("http") || scheme.eq_ignore_ascii_case("https")
 }

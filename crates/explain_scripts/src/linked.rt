@@ -19,7 +19,7 @@ pub(crate) struct Link<'e> {
 }
 
 impl Link<'_> {
-    /// The number of the part to which it leads, if that is a part of the document.
+    /// The number of the part to which the link leads, if it leads to a part of the document.
     fn named(&self) -> Option<usize> {
         match &self.led {
             Led::Here(number) => Some(*number),
@@ -179,7 +179,7 @@ pub(crate) fn explain_crosses(
     Ok(())
 }
 
-/// That a part names another under a feature.
+/// A part and a feature under which the part names another part.
 type Naming = (usize, u32, usize);
 
 fn namings_of(alloc: Global, links: &[Link<'_>]) -> Result<BTreeSet<Naming>, AllocError> {

@@ -39,8 +39,8 @@ fn unique_values<'v>(meta: &Meta, entry: &Entry<'v>) -> &'v [Value] {
     }
 }
 
-/// A link with its target: the part and the feature that have the link; then one more than the number of the target part, or 0 and the
-/// target's address.
+/// A link with its target: the part and the feature that have the link; then the number of the target part plus one, or 0 and the target's
+/// address.
 type LinkKey<'l> = (usize, u32, usize, &'l str);
 
 fn target_of<'l>(link: &'l Link<'_>) -> Option<LinkKey<'l>> {

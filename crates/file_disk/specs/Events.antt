@@ -39,7 +39,7 @@ event_code =
     code_by Parts (coded⊎ (coded_list coded_ℕ) (coded⊎ (coded× coded_ℕ (coded× (coded_list coded_ℕ) coded_bool)) (coded⊎ (coded× coded_ℕ coded_bool) coded_bool)))
     parts_of of_parts of_parts-parts_of
 
--- ---- after some events, the newest of which is the first
+-- ---- after some events; the first of the list is the newest
 
 abbrev pub file_bytes_after : Event → List ℕ → List ℕ
 file_bytes_after (opened bytes) old = bytes

@@ -1,4 +1,4 @@
-//! The calls that were made on a file, as clauses read them.
+//! The calls that were made on a file, as the clauses of contracts read them.
 ghost use Rattle.std.specs.Prelude.{◌≡◌, List, [], ◌∷◌};
 ghost use Rattle.std.specs.Borrow.{ftrue};
 ghost use Rattle.std.specs.Coded.{coded_list};

@@ -58,6 +58,6 @@ address r o =
 abbrev pub is_in : Reading → ResourceNo → ObjectNo → Bool
 is_in r k o = option_map_or (λ j. nat_eq j.0 k.0) (resource_of r.above o) false
 
--- how a resource refers to an object: by its fragment if the object is in that resource too, and else by its address
+-- how a resource refers to an object: by its fragment if the object is in the resource too, and otherwise by its address
 abbrev pub reference : Reading → ResourceNo → ObjectNo → Option (List ℕ)
 reference r k o = if is_in r k o then fragment r o else address r o

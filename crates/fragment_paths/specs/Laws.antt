@@ -40,14 +40,13 @@ pub record LeavesAddresses (m : Metamodel) (v w : ValuesState) (a b : Links) : T
   pub fragment : (o : ObjectNo) → fragments.fragment (reading (model_of m w b)) o ≡ fragments.fragment (reading (model_of m v a)) o
   pub address : w.uris ≡ v.uris → (o : ObjectNo) → fragments.address (reading (model_of m w b)) o ≡ fragments.address (reading (model_of m v a)) o
 
--- the position of an object among the roots of resource k of the first model is that of its image among the roots of resource j of the
--- second
+-- an object among the roots of resource k of the first model has the same position as its image among the roots of resource j of the second
 abbrev pub HasImagesOfRoots : Metamodel → ValuesState → ValuesState → Links → Links → ResourceNo → ResourceNo → (ObjectNo → ObjectNo) → Type 0
 HasImagesOfRoots m v w a b k j image =
     (i : ℕ) (c : ObjectNo) → slice_get (values_at (model_of m v a) (at_end (node.Resource k) (lookups.contents m))) i ≡ Some (value.Object c)
     → slice_get (values_at (model_of m w b) (at_end (node.Resource j) (lookups.contents m))) i ≡ Some (value.Object (image c))
 
--- if an object of resource k contains another, its image contains the other's image, at the same position
+-- if an object of resource k contains another object, its image contains the image of the other object, at the same position
 abbrev pub HasImagesOfParts : Metamodel → ValuesState → ValuesState → Links → Links → ResourceNo → (ObjectNo → ObjectNo) → Type 0
 HasImagesOfParts m v w a b k image =
     (o : ObjectNo) (f : FeatureNo) (i : ℕ) (c : ObjectNo) → resource_of (above a) o ≡ Some k → is_containment m f ≡ true

@@ -90,8 +90,8 @@ pub fn address<L: LinkStore>(
     }
 }
 
-/// How a resource refers to an object (EMF: XMLHelper.getHREF): by the object's fragment if it is in that resource too, and else by
-/// its address. `None` if the object is in no resource. Fails only if memory is refused.
+/// How a resource refers to an object (EMF: XMLHelper.getHREF): by the object's fragment if the object is in that resource too, and
+/// otherwise by its address. `None` if the object is in no resource. Fails only if memory is refused.
 pub fn reference<L: LinkStore>(
     alloc: Global,
     positions: &Positions<L>,

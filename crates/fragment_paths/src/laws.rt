@@ -23,8 +23,7 @@ pub fn addresses_follow_from_what_contains_what()
     ensures { (m : Metamodel) (v w : ValuesState) (a b : Links) → IsLegal (model_of m v a) → IsLegal (model_of m w b) → HaveSameParts m v w a b → LeavesAddresses m v w a b }
 {}
 
-/// If the parts of a resource's objects are at the same positions in a different resource, under other numbers, those objects have the
-/// same paths there.
+/// If a different resource has the same parts at the same positions, under other numbers, its objects have the same paths.
 pub fn parts_at_the_same_positions_have_the_same_paths()
     ensures { (m : Metamodel) (v w : ValuesState) (a b : Links) (k j : ResourceNo) (image : ObjectNo → ObjectNo) → IsLegal (model_of m v a) → IsLegal (model_of m w b) → HasImagesOfRoots m v w a b k j image → HasImagesOfParts m v w a b k image → (o : ObjectNo) → resource_of (above a) o ≡ Some k → IsImageAt m v w a b j image o }
 {}

@@ -52,8 +52,8 @@ impl PathCache {
         Some(text.as_str())
     }
 
-    /// Keeps the text of an object, in place of the text that was kept for it. If 1,024 texts are kept, and none of the object, all of them
-    /// are dropped first. If memory is refused, the text is not kept.
+    /// Keeps the text of an object, in place of the text that was kept for it. If 1,024 texts of other objects are kept, all of them are
+    /// dropped first. If memory is refused, the text is not kept.
     pub fn keep(&mut self, object: ObjectNo, text: &str)
         ensures { kept.MayKeep self.old object text.now self.new }
     {

@@ -57,7 +57,7 @@ impl<'m, 'a, L: LinkStore> Model for Positions<'m, 'a, L> {
 }
 
 impl<'m, 'a, L: LinkStore> Positions<'m, 'a, L> {
-    /// A model, of which no position is known yet. Takes no memory.
+    /// A model with no known positions yet. Takes no memory.
     pub fn new(alloc: Global, model: &'m ModelRef<'a, L>) -> Self
         ensures { result ≡ model.now }
     {

@@ -65,8 +65,8 @@ all_lost e (suc n) = feature_change e (LosesAt n) ∷ all_lost e n
 
 ---------------------------------------------------------------- changes
 
--- the feature changes before the end itself gains a value; ts are the links that are cut. For an object they are the losses of the
--- displaced links and the far end's gain; for null, the losses at the far ends
+-- the feature changes before the end itself gains a value; ts are the links that are cut. If an object is gained, they are the losses of
+-- the displaced links and the gain of the far end; if the end becomes null, the losses at the far ends
 abbrev pub before_gain : Reading → End → Value → List LinkEnd → List FeatureChange
 before_gain r e (value.Object o) ts = flat_map (other_losses r e o) ts ++ far_gain r e o
 before_gain r e v ts = far_losses r ts
@@ -76,7 +76,7 @@ abbrev pub gain_at : Option ℕ → Value → ChangeKind
 gain_at None v = Gains v
 gain_at (Some i) v = GainsAt i v
 
--- the losses at the far ends of the links that are cut, and then the end's own
+-- the losses at the far ends of the links that are cut, and then the losses of the end itself
 abbrev pub changes_of_remove : Reading → End → List LinkEnd → ℕ → List FeatureChange
 changes_of_remove r e ts i = far_losses r ts ++ feature_change e (LosesAt i) ∷ []
 

@@ -29,13 +29,13 @@ use Rattle.handshake.specs.declared.change.Change.{Change}
 use Rattle.handshake.specs.declared.change.Change.TheVariants.{At, Create, Delete, NewResource, Load}
 use Rattle.handshake.specs.declared.act.Act.TheVariants.{Set, Unset, Add, Remove, RemoveValue, Move, Resolve}
 
--- why a value is not one of a feature
+-- why a feature can't have a value
 abbrev pub type_refusal : Reading → FeatureNo → Value → Option Refused
 type_refusal r f v =
     WrongType unless takes r f v else_by
     TextLength unless is_short v
 
--- whether the node that would contain the other, by the containment h, is that other or below it
+-- whether a new link would put a node into itself: of its two nodes, the container by the containment h is the other node or below it
 abbrev pub is_recursive_for : Reading → End → ObjectNo → FeatureNo → Bool
 is_recursive_for r e o h =
     if same_feature e.feature h then is_within r (node.Object o) e.node else is_within r e.node (node.Object o)

@@ -16,7 +16,7 @@ ghost use Rattle.handshake.specs.declared.change.Change.{Change};
 ghost use Rattle.handshake.specs.declared.change_kind.FeatureChange.{FeatureChange};
 
 /// A change of a legal model that is not refused leaves a legal model. The URI of a new resource must be a result of joining, and the
-/// document of a load one that was read.
+/// document of a load must have been read.
 pub fn keeps_legal()
     ensures { (s : Model) (c : Change) → KeepsLegal s c }
 {}
@@ -33,8 +33,8 @@ pub fn the_notices_of_feature_changes_replay_them()
 {}
 
 /// The chain of a change of a legal model that is not refused, replayed on the values of an end, gives the values of the end after the
-/// change. Excepted are the ends of nodes that the change destroys, and of objects that a load makes. The document of a load must be one
-/// that was read.
+/// change. Excepted are the ends of nodes that the change destroys, and of objects that a load makes. The document of a load must have been
+/// read.
 pub fn the_chain_of_a_change_replays_it()
     ensures { (s : Model) (c : Change) → ChainReplays s c }
 {}
@@ -62,8 +62,8 @@ pub fn a_load_reads_as_its_document()
 {}
 
 /// Resolving all proxies of a legal model does the same as resolving one after another, by object number, by feature in the order of all
-/// features, and by index. Each is resolved in the model that the earlier ones left, and skipped if it is refused there. The resolve of all
-/// leaves the same model, has the same notifications in order, and counts the proxies that were resolved and the proxies that are left
+/// features, and by index. Each is resolved in the model that the earlier resolves left, and skipped if it is refused there. The resolve of
+/// all leaves the same model, has the same notifications in order, and counts the proxies that were resolved and the proxies that are left
 /// (EMF: EcoreUtil.resolveAll).
 pub fn all_proxies_are_resolved_one_after_another()
     ensures { (s : Model) → IsLegal s → ResolvesEach s }

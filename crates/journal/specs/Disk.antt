@@ -28,15 +28,15 @@ Follows step old new = (c : List ℕ) → new c → (d : List ℕ) × old d × s
 abbrev pub IsDurable : List ℕ → (List ℕ → Type 0) → Type 0
 IsDurable bytes may_leave = (c : List ℕ) → may_leave c → c ≡ bytes
 
--- The clock of a disk moved on. A file that a crash at any moment since then may leave is one that a crash before may have left, or one
--- that a crash now may leave.
+-- The clock of a disk moved on. A file that a crash at any moment since then may leave is a file that a crash before may have left, or a
+-- file that a crash now may leave.
 pub record Elapses (before now : ℕ) (past since : ℕ → List ℕ → Type 0) (may_leave : List ℕ → Type 0) : Type 0 where
   pub later : before ≤ now
   pub no_other : (t : ℕ) (c : List ℕ) → t ≤ before → since t c → past t c ⊎ may_leave c
   pub kept : (t : ℕ) (c : List ℕ) → t ≤ before → past t c → since t c
 
--- P is true of each file that a crash can leave at a moment from `old` to `new`. For an earlier moment, each file that a crash can have
--- left since then could be left before `old`, or P is true of it.
+-- P is true of each file that a crash can leave at a moment from `old` to `new`. For an earlier moment: each file that a crash since then
+-- can have left could be left before `old`, or P is true of it.
 pub record LeavesOnly {D : Type 0} (moment : D → ℕ) (left_since : D → ℕ → List ℕ → Type 0) (old new : D) (P : List ℕ → Type 0) : Type 0 where
   pub later : moment old ≤ moment new
   pub each : (c : List ℕ) → left_since new (moment old) c → P c

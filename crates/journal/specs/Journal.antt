@@ -29,6 +29,6 @@ module _ {D : Type 0} (seen : D → List ℕ) where
 abbrev pub StandsFor : List (List ℕ) → List ℕ → Type 0
 StandsFor ls file = recovered_lines file ≡ ls
 
--- a file stands for only these lines, or for these lines and all further ones
+-- a file stands for only these lines, or for these lines and all further lines
 abbrev pub IsBeforeOrAfter : List (List ℕ) → List (List ℕ) → List ℕ → Type 0
 IsBeforeOrAfter ls more file = StandsFor ls file ⊎ StandsFor (ls ++ more) file

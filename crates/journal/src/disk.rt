@@ -53,7 +53,7 @@ pub trait Disk {
     /// How many calls of the disk failed.
     ghost faults: { Self → ℕ };
 
-    /// Writes bytes from an offset on, over those that the file has and beyond its end.
+    /// Writes bytes from an offset on, over the bytes of the file and beyond its end.
     fn write_at(&mut self, at: usize, bytes: &[u8]) -> Result<(), DiskFault>
         requires { at ≤ length (seen self.old) }
         ensures written { OnOk result (Overwrites at bytes.now (seen self.old) (seen self.new)) }
@@ -77,7 +77,7 @@ pub trait Disk {
         ensures time { Elapses (moment self.old) (moment self.new) (left_since self.old) (left_since self.new) (may_leave self.new) }
         ensures cause { HasCause (faults self.old) (faults self.new) result };
 
-    /// If a crash may leave a file now, the file is one of those that a crash may have left since each moment up to now.
+    /// A file that a crash may leave now counts as a file that a crash may have left since any moment up to now.
     ghost counts_now: { (file : Self) (t : ℕ) (c : List ℕ) → t ≤ moment file → may_leave file c → left_since file t c };
 
     /// A crash may have left a file since the current moment only if it may leave the file now.

@@ -11,7 +11,7 @@ pub(crate) const MARK: u8 = b' ';
 /// The last byte of an entry.
 pub(crate) const NEWLINE: u8 = b'\n';
 
-/// The bytes before the first newline, and those after it. Without a newline there is no line.
+/// The bytes before the first newline, and the bytes after it. Without a newline there is no line.
 fn cut_line(bytes: &[u8]) -> Option<(&[u8], &[u8])>
     ensures { CutsLine result bytes.now }
 {
@@ -31,7 +31,7 @@ pub fn next_entry(bytes: &[u8]) -> Option<(&[u8], &[u8])>
     }
 }
 
-/// How many bytes the entries at the front of a file have.
+/// The total length of the entries at the front of a file, in bytes.
 pub(crate) fn entries_len(bytes: &[u8]) -> usize
     ensures split { bytes.now ≡ entries (recovered_lines bytes.now) ++ drop result bytes.now }
     ensures len { result ≡ length (entries (recovered_lines bytes.now)) }

@@ -93,13 +93,13 @@ fn settle<D: Disk>(disk: &mut D, bytes: &[u8], end: usize) -> Result<(), DiskFau
     repair(disk, end)
 }
 
-/// Opens the journal in a file that has these bytes, which may be any bytes, also those that a crash left. The file keeps the lines that it
+/// Opens the journal in a file with these bytes; they may be any bytes, also the bytes that a crash left. The file keeps the lines that it
 /// stands for, and the bytes after them are cut off. An empty file stands for no line.
 ///
 /// Fails with `Failed` if the disk fails. An error returns the disk too; a crash at any moment of the call leaves the same lines.
 pub fn open<D: Disk>(alloc: Global, mut disk: D, bytes: &[u8]) -> Result<Journal<D>, (DiskFault, D)>
     requires bytes { D.seen disk ≡ bytes.now }
-    // After a restart, the bytes that are read are those on the disk.
+    // After a restart, the bytes that are read are the bytes on the disk.
     requires durable { IsDurable (D.seen disk) (D.may_leave disk) }
     ensures settled { IfOk result (λ journal. IsSettled D.seen D.may_leave journal) }
     ensures kept { IfOk result (λ journal. journal_lines D.seen journal ≡ recovered_lines bytes.now) }

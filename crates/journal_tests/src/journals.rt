@@ -124,7 +124,7 @@ fn check_recovery(
     Ok(())
 }
 
-/// Crashes after `calls` calls, and returns whether the file has the lines of a commit that did not succeed.
+/// Crashes after `calls` calls, and returns whether the file has the lines of a commit that failed.
 fn has_more(rt: &impl Abort, alloc: Global, calls: u64, seed: u64) -> Result<bool, Fail> {
     let (done, left) = run(alloc, calls, seed)?;
     let lines = lines_of(alloc, left.as_slice())?;

@@ -29,7 +29,7 @@ o such_that passes = option_and_then (λ x. if passes x then Some x else None) o
 abbrev pub text : Data → Option (List ℕ)
 text = as_str
 
--- a value that may be absent and is there
+-- the value of an optional key that is present
 abbrev pub given_value : {X : Type 0} → (Data → Option X) → Data → Option (Option X)
 given_value reading d = option_map Some (reading d)
 

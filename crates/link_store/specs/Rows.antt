@@ -1,4 +1,4 @@
--- Rows of links, as the store of rows keeps them: what a scan finds, and how a link is renumbered.
+-- Rows of links, as the store of rows keeps them: the links that a scan finds, and how a link is renumbered.
 use Rattle.std.specs.Prelude.{ℕ, ◌+◌, ◌<◌, ◌^◌, ⊤, ◌++◌, ◌==◌, Bool, true, false, List, [], ◌∷◌, fold, insert, Option, Some, None, MatchOption, option_and_then, if◌then◌else◌}
 use Rattle.std.specs.Option.{option_map, option_map_or}
 use Rattle.std.specs.List.{prefix_len}

@@ -21,7 +21,7 @@ fn push_place(position: Option<u32>, end: End, out: &mut Vec<Incoming>) -> Resul
     Ok(())
 }
 
-/// The first position of a value in each of the ends that have it.
+/// For each end that has a value, the first position of the value there.
 pub(crate) fn places_of(
     alloc: Global,
     rows: &[Link],

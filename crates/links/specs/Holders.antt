@@ -45,12 +45,12 @@ first_holding (l ∷ ls) n = option_or (holding_end l n) (first_holding ls n)
 unfoldable pub holder : Links → Node → Option End
 holder s n = first_holding (set.items s) n
 
--- the node that becomes contained when an object is put into e, where h is the containing feature of the pair
+-- the node that becomes contained when an object is put into e; h is the containing feature of the pair
 abbrev pub node_contained : End → ObjectNo → Option FeatureNo → Option Node
 node_contained e o None = None
 node_contained e o (Some h) = Some (if same_feature h e.feature then node.Object o else e.node)
 
--- the end that contains a node when an object is put into e, where h is the containing feature of the pair
+-- the end that contains a node when an object is put into e; h is the containing feature of the pair
 abbrev pub end_containing : End → ObjectNo → Option FeatureNo → Option End
 end_containing e o None = None
 end_containing e o (Some h) = Some (if same_feature h e.feature then e else far_end o h)

@@ -52,7 +52,7 @@ is_of_pair f g c = option_map_or (λ h. same_feature h f || is_feature h g) c fa
 abbrev pub is_contained : End → ObjectNo → Option FeatureNo → Node → Bool
 is_contained e o c n = option_map_or (λ x. same_node x n) (node_contained e o c) false
 
--- the end that contains n after an object is put into e, where g is the opposite and c the containing feature of the pair
+-- the end that contains n after an object is put into e; g is the opposite, and c the containing feature of the pair
 abbrev pub put_holder : Links → End → ObjectNo → Option FeatureNo → Option FeatureNo → Node → Option End
 put_holder s e o g c n =
     if is_of_pair e.feature g c && is_contained e o c n then end_containing e o c else holder s n
@@ -112,7 +112,7 @@ is_named m ts d w = list_any (λ t. names m t.0 t.1 d w) ts
 abbrev pub without_all : Links → List (End × Value) → Links
 without_all s ts = fold (λ t x. cut_value t x.0 x.1) s ts
 
--- the holder of n that is left: the holder o, if its link is not named
+-- the holder of n after the cuts: the holder o, if its link is not named
 abbrev pub kept_holder : Kinds → List (End × Value) → Node → Option End → Option End
 kept_holder m ts n o = option_and_then (λ (d : End). if is_named m ts d (node_value n) then None else Some d) o
 

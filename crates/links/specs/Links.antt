@@ -120,7 +120,7 @@ joined_link x i y j c =
 abbrev pub far_end : ObjectNo → FeatureNo → End
 far_end o g = record { node = node.Object o; feature = g }
 
--- the link that puts an object at i in e, where g is the opposite of e's feature; at the far end it is last
+-- the link that puts an object at i in e; g is the opposite of e's feature; at the far end the link is last
 abbrev pub new_link : Links → End → ℕ → ObjectNo → Option FeatureNo → Option FeatureNo → Link
 new_link s e i o None c = record { end = e; index = i; far = Alone o; container = c }
 new_link s e i o (Some g) c = joined_link e i (far_end o g) (length (end s (far_end o g))) c

@@ -111,7 +111,7 @@ abbrev pub has_end : List End → End → Bool
 has_end [] d = false
 has_end (e ∷ es) d = same_end e d || has_end es d
 
--- the ends are those that hold the object
+-- the ends are exactly the ends that hold the object
 abbrev pub AreIncoming : Links → ObjectNo → List End → Type 0
 AreIncoming s o es = (e : End) → (has_end es e ≡ true) ↔ Has s e (value.Object o)
 

@@ -46,7 +46,7 @@ pub fn chains_of_holders_end()
     ensures { (s : Links) → IsLegalSet s → HasNoCycle s → IsForest s }
 {}
 
-/// The nodes above a node are the node of its holder, and then the nodes above that one (EMF: eContainer, repeated).
+/// The nodes above a node are the node of its holder, and then the nodes above the holder's node (EMF: eContainer, repeated).
 pub fn what_is_above_follows_the_holders()
     ensures { (s : Links) → IsLegalSet s → HasNoCycle s → (n : Node) → above s n ≡ option_map_or (λ (e : End). e.node ∷ above s e.node) (holder s n) [] }
 {}
@@ -118,7 +118,7 @@ pub fn what_is_cut_from_its_holder_is_free()
     ensures { (s : Links) (n : Node) (e : End) → IsLegalSet s → holder s n ≡ Some e → holder (cut_value s e (node_value n)) n ≡ None }
 {}
 
-/// A plan that cuts links fits if each link is there and is named once. It makes what the cuts make, agrees with all kinds, and makes no
+/// A plan that cuts links fits if each link is there and is named once. It has the effect of the cuts, agrees with all kinds, and makes no
 /// cycle.
 pub fn a_plan_of_cuts_fits()
     ensures fits { (m : Kinds) → AreKinds m → (s : Links) (ts : List (End × Value)) → IsLegalSet s → AreOfKind m s → AreThere s ts → AreOnce m ts → PlanFits s (cut_edits ts) }
@@ -127,7 +127,7 @@ pub fn a_plan_of_cuts_fits()
     ensures no_cycle { (s : Links) (ts : List (End × Value)) → PlanMakesNoCycle s (cut_edits ts) }
 {}
 
-/// What two plans one after the other make, and that they fit.
+/// The effect of two plans one after the other, and that they fit.
 pub fn plans_follow_one_another()
     ensures makes { (s : Links) (xs ys : List Edit) → links_after_edits s (xs ++ ys) ≡ links_after_edits (links_after_edits s xs) ys }
     ensures fits { (s : Links) (xs ys : List Edit) → PlanFits s xs → PlanFits (links_after_edits s xs) ys → PlanFits s (xs ++ ys) }
@@ -150,7 +150,7 @@ pub fn a_shift_moves_in_one_end()
     ensures { (s : Links) (e : End) (to from : ℕ) → IsLegalSet s → EditFits s (edit.Shift e to from) → ShiftMakes s e to from }
 {}
 
-/// A plan that edits no link that contains leaves each end of a containment or a container reference as it was.
+/// A plan that edits no containing link leaves each end of a containment or a container reference as it was.
 pub fn a_plan_of_other_links_leaves_what_contains()
     ensures { (m : Kinds) → AreKinds m → (s : Links) (plan : List Edit) → IsLegalSet s → AreOfKind m s → PlanFits s plan → IsPlanOfKind m plan → touches_containment m plan ≡ false → (d : End) → contains_by m d.feature ≡ true → end (links_after_edits s plan) d ≡ end s d }
 {}

@@ -1,4 +1,4 @@
--- What the check of a metamodel document answers.
+-- The result of the check of a metamodel document.
 use Rattle.std.specs.Prelude.{◌≡◌, Result, Ok, Err}
 use Rattle.mm_types.specs.Raw.{RawMetamodel}
 use Rattle.mm_types.specs.Resolved.{Metamodel, resolved_metamodel}

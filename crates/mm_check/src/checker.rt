@@ -67,7 +67,7 @@ impl<'a> Checker<'a> {
         })
     }
 
-    /// What the document resolves to, if it is well-formed. Fails only if memory is refused.
+    /// The metamodel to which the document resolves, if it is well-formed. Fails only if memory is refused.
     pub fn resolution(&self, alloc: Global) -> Result<Resolution, AllocError>
         requires { WellFormed self.now }
         ensures { IfOk result (IsResolutionOf self.now) }
@@ -113,7 +113,7 @@ impl<'a> Checker<'a> {
         self.resolver.classes().get(c)
     }
 
-    /// The feature at an index among those that a class declares.
+    /// The feature at an index among the features that a class declares.
     pub fn feature_at(&self, c: usize, i: usize) -> Option<&RawFeature>
         ensures { option_copied result ≡ feature_at self.now c i }
     {

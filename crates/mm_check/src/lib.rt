@@ -1,4 +1,4 @@
-//! The check of a metamodel document: whether it is well-formed, and where its first fault is if not.
+//! The check of a metamodel document: whether it is well-formed, or else its first fault and the place of the fault.
 #![tactic(auto)]
 
 mod checker;

@@ -1,10 +1,10 @@
--- Lists of features, and how the list of a class comes from those of its direct supertypes.
+-- Lists of features, and how the list of a class is made from the lists of its direct supertypes.
 use Rattle.std.specs.Prelude.{ℕ, List, [], ◌∷◌, ◌++◌}
 use Rattle.std.specs.List.{flat_map}
 use Rattle.mm_types.specs.Graph.{by_class}
 use Rattle.mm_types.specs.Features.{all_features, first_occurrences, with_new}
 
--- the features seen so far, and after them the new ones from the lists of some classes, one list after another
+-- the features seen so far, and after them the new features from the lists of some classes, one list after another
 abbrev pub with_rows : List (List ℕ) → List ℕ → List ℕ → List ℕ
 with_rows rows seen [] = seen
 with_rows rows seen (e ∷ es) = with_rows rows (with_new seen (by_class rows e)) es

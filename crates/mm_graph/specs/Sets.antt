@@ -6,7 +6,7 @@ use Rattle.mm_types.specs.Graph.{Conforms, by_class}
 abbrev pub is_in : List Bool → ℕ → Bool
 is_in s k = slice_index_or s k false
 
--- the classes of a set are those for which P holds
+-- the classes of a set are the classes for which P holds
 abbrev pub IsSetOf : (ℕ → Type 0) → List Bool → Type 0
 IsSetOf P s = (k : ℕ) → (is_in s k ≡ true) ↔ P k
 

@@ -10,7 +10,7 @@ use indexmap::IndexSet;
 use mm_types::Seq;
 use std::alloc::{AllocError, AllocFailed, Global};
 
-/// Adds those features of a list that are new, after the features found.
+/// Adds the new features of a list, after the features that were found.
 fn add_new(found: &mut IndexSet<u32>, features: &[u32]) -> Result<(), AllocFailed<u32>>
     ensures { OnOk result (found.new.keys ≡ with_new found.old.keys features.now) }
 {
@@ -40,8 +40,7 @@ fn merged(
 }
 
 /// All features of every class, own and inherited, at the class's number. `own` has the features
-/// that each class declares, and `order` is one that `order_of` returns. Fails only if memory is
-/// refused.
+/// that each class declares, and `order` is an order that `order_of` returns. Fails only if memory is refused.
 ///
 /// Each class's list is made once, from the lists of its supertypes, so many paths to one supertype
 /// cost no more than one. A list takes four bytes a feature and no more: all lists together are the

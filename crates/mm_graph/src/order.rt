@@ -31,7 +31,7 @@ fn visit(
 {
     match marks[c] {
         Mark::Done => return Ok(true),
-        // An open class reaches this one, which is open itself: that is a cycle.
+        // An open class reaches this class, which is open itself: this is a cycle.
         Mark::Open => return Ok(false),
         Mark::Unseen => {}
     }

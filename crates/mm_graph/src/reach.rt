@@ -26,8 +26,7 @@ fn add_reached(graph: &[Seq<usize>], c: usize, seen: &mut [bool])
     }
 }
 
-/// Which classes a class conforms to: itself, and those that it reaches. Fails only if memory is
-/// refused.
+/// The classes that a class conforms to: itself, and the classes that it reaches. Fails only if memory is refused.
 pub fn conforming(alloc: Global, graph: &[Seq<usize>], c: usize) -> Result<Seq<bool>, AllocError>
     requires graph { InRange graph.now }
     requires class { c < length graph.now }

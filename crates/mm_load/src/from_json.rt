@@ -13,7 +13,7 @@ use std::alloc::Global;
 pub trait FromJson: Sized {
     ghost reads: { Data → Option Self };
 
-    /// Reads a value; `Layout` if it has a different layout. Its texts are moved and the rest of it is freed, so that
+    /// Reads a value; `Layout` if it has a different layout. The texts of the JSON value are moved and the rest of it is freed, so that
     /// reading a document takes little memory beside the parsed JSON.
     fn from_json(alloc: Global, value: Value) -> Result<Self, ReadFault>
         ensures { Gives result (reads (view value)) };

@@ -14,8 +14,8 @@ use std::alloc::Global;
 /// - `Layout` if the value does not have the shape of a metamodel, or has a key that is not listed;
 /// - `Limit` if a count or a length passes its limit.
 ///
-/// `Memory` only if memory is refused, whatever else applies. Of equal keys of an object the last counts. The time is
-/// linear in the document, except that the keys of a large object cost a logarithm. The texts are moved out of the
+/// `Memory` only if memory is refused, whatever else applies. Of equal keys of an object the last counts. The time is linear in the
+/// document, except that a look-up of a key in a large object takes the logarithm of the number of its keys. The texts are moved out of the
 /// parsed JSON, which is freed part by part as it is read.
 pub fn load_meta(alloc: Global, bytes: &[u8]) -> Result<RawMeta, MetaFault>
     ensures { Loads result (metamodel_of_bytes bytes.now) }

@@ -1,4 +1,4 @@
--- Features by their names: for each name the first feature, and for each feature the next one of the same name.
+-- Features by their names: for each name the first feature, and for each feature the next feature of the same name.
 use Rattle.std.specs.Prelude.{◌≡◌, ◌<◌, ◌≤◌, ℕ, suc, false, List, [], length, slice_get, Option, Some}
 use Rattle.std.specs.List.{slice_index_or}
 use Rattle.mm_types.specs.Lookups.{feature_by_name, feature_name, has_feature}
@@ -30,6 +30,7 @@ pub record ComesTo (m : Metamodel) (c : ClassNo) (name : List ℕ) (at : ℕ) : 
 abbrev pub IsRow : Metamodel → List ℕ → List (Option FeatureNo) → Type 0
 IsRow m name by_class = (c : ℕ) (found : Option FeatureNo) → slice_get by_class c ≡ Some found → found ≡ feature_by_name m (class_no c) name
 
--- the row at the number of a feature has, for each of the first classes, its feature of the same name; a row may be empty
+-- the row at the number of a feature has, for each of the first classes, the feature of the same name that the class has; a row may be
+-- empty
 abbrev pub AreRows : Metamodel → List (List (Option FeatureNo)) → Type 0
 AreRows m rows = (f : ℕ) → f < length rows → IsRow m (feature_name m (feature_no f)) (slice_index_or rows f [])

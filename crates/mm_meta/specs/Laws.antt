@@ -43,7 +43,7 @@ abbrev pub TakesWhatHasTheOpposite : Metamodel → Type 0
 TakesWhatHasTheOpposite m =
     (class_of : ObjectNo → Option ClassNo) (o : ObjectNo) (f g : FeatureNo) → (shape m f).opposite ≡ Some g → takes m class_of f (Object o) ≡ class_has m class_of o g
 
--- if an end of a reference may hold an object, the opposite end of that object may hold the first one
+-- if the end of an object under a reference may hold a second object, the opposite end of the second object may hold the first object
 abbrev pub FarTypesFit : Metamodel → Type 0
 FarTypesFit m =
     (class_of : ObjectNo → Option ClassNo) (p o : ObjectNo) (f g : FeatureNo) → (shape m f).opposite ≡ Some g

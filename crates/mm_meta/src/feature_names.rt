@@ -9,8 +9,8 @@ use crate::name_table::NameTable;
 use mm_types::Feature;
 use std::alloc::{AllocError, Global};
 
-/// One table of the names of all features, whatever class declares them: the first feature of each name, and after each feature the next
-/// one of its name. It grows with the declared features, and not with the inherited ones.
+/// One table of the names of all features, whatever class declares them: the first feature of each name, and for each feature the next
+/// feature of its name. It grows with the declared features, and not with the inherited ones.
 #[derive(Drop)]
 pub struct FeatureNames {
     first: NameTable,
@@ -55,7 +55,7 @@ fn next_of_name(
 {
     let none = features.len();
     let mut next = vec![in alloc; none; none]?;
-    // By the first feature of each name: the feature of that name that was met last.
+    // For the first feature of each name: the feature of that name that was visited last.
     let mut met = vec![in alloc; none; none]?;
     let mut f = none;
     'back: while f > 0 {

@@ -133,7 +133,7 @@ impl Meta {
         }
     }
 
-    /// The feature of a class that has the name of `first`, if that is kept. `first` is the first feature of its name.
+    /// The feature of a class that has the name of `first`, if a list of such features is kept. `first` is the first feature of its name.
     fn kept(&self, class: ClassNo, first: usize) -> Option<Option<FeatureNo>>
         ensures { IfSome result (λ found. found ≡ m.feature_by_name self.now class (m.feature_name self.now (feature_no first))) }
     {
@@ -180,7 +180,8 @@ impl Meta {
         at < next.len()
     }
 
-    /// For each class the feature that has the name of a given feature, if that is the first of many of its name. Else an empty list.
+    /// For each class the feature that has the name of a given feature, if this is the first of many features of its name; otherwise an
+    /// empty list.
     fn by_class(&self, alloc: Global, feature: usize) -> Result<Seq<Option<FeatureNo>>, AllocError>
         requires { feature < length self.now.features }
         ensures { IfOk result (IsRow self.now (m.feature_name self.now (feature_no feature))) }
@@ -312,7 +313,7 @@ impl Meta {
         }
     }
 
-    /// Whether a feature is a container reference: one whose opposite is containment (EReference.isContainer).
+    /// Whether a feature is a container reference: its opposite is a containment (EReference.isContainer).
     pub fn is_container(&self, feature: FeatureNo) -> bool
         ensures { result ≡ m.is_container self.now feature }
     {
@@ -325,7 +326,7 @@ impl Meta {
         }
     }
 
-    /// The feature that contains what a feature links: the feature itself, if it is a containment reference; its opposite, if it is a
+    /// The containing feature of a feature's links: the feature itself, if it is a containment reference; its opposite, if it is a
     /// container reference (EReference.isContainment, isContainer). `contents()` is a containment too. It is returned for each number that
     /// no feature has. Takes no memory.
     pub fn containing(&self, feature: FeatureNo) -> Option<FeatureNo>

@@ -20,7 +20,7 @@ pub struct Resolution {
 impl Resolution {
     ghost use Rattle.mm_meta.specs.Resolution.{IsResolutionOf};
 
-    /// What a well-formed document resolves to, given its graph of supertypes. Fails only if memory is refused.
+    /// The classes and features of a well-formed document, given its graph of supertypes. Fails only if memory is refused.
     pub fn of(
         alloc: Global,
         resolver: &Resolver<'_>,

@@ -115,7 +115,7 @@ impl<'a> Resolver<'a> {
         }
     }
 
-    /// The index of the feature of a name among those that a class declares.
+    /// The index of the feature of a name among the features that a class declares.
     pub fn own_position(&self, class: usize, name: &str) -> Option<usize>
         ensures { result ≡ own_position self.now.classes class name.now }
     {

@@ -1,4 +1,4 @@
--- What a list of entries holds, and at which attributes it has capacity.
+-- The values in a list of entries, and the attributes for which it has capacity.
 use Rattle.std.specs.Prelude.{◌≡◌, ℕ, ◌<◌, ◌≤◌, false, List, [], ◌∷◌, length, nat_eq, slice_index_or, unwrap_or, if◌then◌else◌}
 use Rattle.std.specs.FinMap as map
 use Rattle.mm_types.specs.declared.numbers.FeatureNo.{FeatureNo}
@@ -9,7 +9,7 @@ use Rattle.mm_values.specs.Stored.{Stored, StoredMap, list_changed, nothing_stor
 abbrev pub stored_of : Entry → Stored
 stored_of e = record { list = e.list.items; flag = e.flag }
 
--- under each attribute, what its first entry holds
+-- under each attribute, the content of its first entry
 abbrev pub stored_in : List Entry → StoredMap
 stored_in [] = map.empty
 stored_in (e ∷ l) = with_stored (stored_in l) e.feature.0 (stored_of e)

@@ -12,7 +12,7 @@ use std::alloc::{AllocError, Global};
 use std::marker::Model;
 use value_lists::ValueList;
 
-/// What is stored under one attribute. An entry with an empty list and the flag off was made ahead, for a list to come.
+/// What is stored under one attribute. An entry with an empty list and the flag off was made ahead, for a list that is put later.
 #[derive(Drop)]
 pub(crate) struct Entry {
     feature: FeatureNo,

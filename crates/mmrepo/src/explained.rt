@@ -85,7 +85,7 @@ pub(crate) fn explained_fault(
     }
 }
 
-/// A journal that is refused, with a text if one is asked for.
+/// A journal that is refused, with an explanation if `--explain` asks for it.
 fn refused(explain: bool, refusal: JournalRefusal, text: Result<String, AllocError>) -> Stop {
     match text {
         Ok(text) if explain => Stop::ExplainedJournal(refusal, text),

@@ -27,7 +27,7 @@ fn explained_kept(rt: &HostRuntime, asked: &Asked, path: &str, fault: KeptFault)
     }
 }
 
-/// Runs the lines of a file again, answers the lines that come on standard input, and keeps those of them that change the model.
+/// Runs the lines of a file again, answers the lines of standard input, and keeps the lines that change the model.
 fn answer<D: Disk + Drop, A: Adapter>(
     rt: &HostRuntime,
     head: &[u8],

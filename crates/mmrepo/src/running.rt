@@ -29,7 +29,7 @@ const LIVE_BOXES: u32 = 1000;
 /// How many notifications A8 can still count, its last one included.
 const LEFT: u64 = 2;
 
-/// The status after a script with a refused or bad line, if that gives a status of its own.
+/// The status after a script with a refused or bad line, if such a line gives a status of its own.
 const FAULTY: u8 = 4;
 
 /// Standard output through a buffer. The watch is below the buffer, so that a write into the buffer costs no more than the copy.

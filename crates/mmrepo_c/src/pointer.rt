@@ -10,7 +10,7 @@ use std::alloc::Global;
 use std::marker::Model;
 use std::ptr;
 
-/// The `Box` of a session, or none, as C holds it: a pointer, of which C knows nothing.
+/// The `Box` of a session, or none, as C has it: an opaque pointer.
 #[repr(C)]
 #[derive(Drop)]
 pub struct SessionPointer {

@@ -74,11 +74,11 @@ OfWatched s cs number target a n Holds =
 abbrev pub ToldIsEnough : State → List (Command View) → AdapterNo → Node → Listed → Node → Type 0
 ToldIsEnough s cs number target a n = OfWatched s cs number target a n (AreEnough s cs target n (told_to number (told_by_all (run s cs).outcomes)))
 
--- if a view keeps all notifications, those that it got since an earlier view are enough
+-- if a view keeps all notifications, the notifications that it got since an earlier view are enough
 abbrev pub KeepsEnough : State → List (Command View) → Node → Node → View → View → Type 0
 KeepsEnough s cs target n v w = v.room ≡ None → AreEnough s cs target n (drop (length v.kept) w.kept)
 
--- if an adapter keeps all notifications, those that it has kept since are enough: while it is attached, ..
+-- if an adapter keeps all notifications, the notifications that it has kept since are enough: while it is attached, ..
 abbrev pub NoticesAreEnough : State → List (Command View) → AdapterNo → Node → Listed → Listed → Node → Type 0
 NoticesAreEnough s cs number target a b n = OfWatched s cs number target a n (adapter number (run s cs).after.adapters ≡ Some b → KeepsEnough s cs target n a.view b.view)
 

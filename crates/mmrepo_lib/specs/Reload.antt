@@ -31,7 +31,7 @@ use Rattle.repository.specs.declared.command.Command.TheVariants as command
 use Rattle.repository.specs.declared.reply.Answer.{Answer}
 use Rattle.repository.specs.declared.reply.Answer.TheVariants as answer
 
--- the commands of tasks; `texts` has the text of each resource
+-- the commands that do some tasks; `texts` has the text of each resource
 abbrev pub commands : Reading → (ResourceNo → List ℕ) → List ResourceNo → List Task → List (Command View)
 commands r texts made [] = []
 commands r texts made (Make k ∷ ts) = command.CreateResource (uri_of r k) ∷ commands r texts (made ++ k ∷ []) ts
@@ -62,14 +62,14 @@ AllDone os = AllByRecursion IsDone os
 abbrev pub reloaded_state : State → (ResourceNo → List ℕ) → List Task → State
 reloaded_state s texts ts = (run (empty_state s.model.metamodel) (commands (reads s) texts [] ts)).after
 
--- the loads are not refused; the state that they leave is legal, and a partly resolved copy of the saved one
+-- the loads are not refused; the state that they leave is legal, and a partly resolved copy of the saved state
 pub record AreLoads (s : State) (texts : ResourceNo → List ℕ) (ts : List Task) : Type 0 where
   pub done : AllDone (run (empty_state s.model.metamodel) (commands (reads s) texts [] ts)).outcomes
   pub legal : IsLegal (reloaded_state s texts ts)
   pub between : Between (reads s) (reads (reloaded_state s texts ts))
 
--- P is true for each legal state with normalised URIs and without proxies whose resources were saved as these texts, and for each order of
--- tasks
+-- P is true for each order of tasks, and each legal state that has normalised URIs and no proxies, and whose resources were saved as these
+-- texts
 abbrev pub OfSaved : ((s : State) → (ResourceNo → List ℕ) → List Task → Type 0) → State → Type 0
 OfSaved P s =
     IsLegal s → HasSteadyTexts s.model → IsSaved (reads s) → (texts : ResourceNo → List ℕ) → AreTexts (reads s) texts → (ts : List Task) → IsOrder (reads s) [] [] ts → P s texts ts

@@ -23,7 +23,7 @@ ghost use Rattle.repository.specs.declared.command.Command.{Command};
 ghost use Rattle.repository.specs.declared.reply.Failure.{Failure};
 ghost use Rattle.repository.specs.declared.reply.Reply.{Reply};
 
-/// Every command of a legal state, done or refused, leaves a legal one.
+/// Every command in a legal state, done or refused, leaves a legal state.
 pub fn keeps_legal()
     ensures { (s : State) (c : Command View) → KeepsLegal s c }
 {}
@@ -53,9 +53,9 @@ pub fn an_adapter_hears_what_the_reply_tells_it()
 
 /// Notifications are enough. Let a node be a deep target of an adapter during a whole run of commands, and let a snapshot of the target be
 /// taken at its beginning. Take a second node that is the target or below it during the whole run. If the adapter's notifications of the
-/// run are replayed on the snapshot, its state of the second node becomes that of a snapshot at the end. The notifications are those that
-/// the replies have for the adapter, however many it keeps. If the adapter keeps all notifications, they are also the notifications that it
-/// has kept since the beginning: while it is attached, and when `detach` or `close` gives it back.
+/// run are replayed on the snapshot, its state of the second node becomes the state in a snapshot at the end. The notifications are taken
+/// from the replies, however many the adapter keeps. If the adapter keeps all notifications, they are also the notifications that it has
+/// kept since the beginning: while it is attached, and when `detach` or `close` gives it back.
 pub fn notices_are_enough()
     ensures kept { (s : State) (cs : List (Command View)) (number : AdapterNo) (target : Node) (a b : Listed) (n : Node) → NoticesAreEnough s cs number target a b n }
     ensures told { (s : State) (cs : List (Command View)) (number : AdapterNo) (target : Node) (a : Listed) (n : Node) → ToldIsEnough s cs number target a n }
@@ -65,8 +65,8 @@ pub fn notices_are_enough()
 
 /// What was saved of a state without proxies can be loaded into a new repository over the same metamodel, if the text of no reference is
 /// longer than 65,535 bytes. Its resources are created and their texts loaded, in any order in which none is loaded before it is created.
-/// The texts are those that `Repository::save` returns. Only memory can refuse these commands. The new state is legal, and a partly
-/// resolved copy of the saved one: it has the same objects at the same addresses, and some references are still proxies.
+/// The texts are the results of `Repository::save`. Only memory can refuse these commands. The new state is legal, and a partly resolved
+/// copy of the saved one: it has the same objects at the same addresses, and some references are still proxies.
 pub fn loads_in_any_order_give_what_stands_between()
     ensures { (s : State) → LoadsGiveBetween s }
 {}
@@ -83,7 +83,7 @@ pub fn resolving_all_leaves_no_proxy()
     ensures { (s : State) (w : ValuesState) (b : Links) → ResolvesAll s w b }
 {}
 
-/// A partly resolved copy that has no proxies is isomorphic to the saved state, if that has no proxies.
+/// If neither a partly resolved copy nor the saved state has proxies, they are isomorphic.
 pub fn without_proxies_what_stands_between_is_alike()
     ensures { (s t : Reading) → HasNoProxy s → HasNoProxy t → Between s t → Alike s t }
 {}

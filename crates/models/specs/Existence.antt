@@ -4,7 +4,6 @@ use Rattle.mm_types.specs.Conditions.{◌unless◌, ◌else_by◌}
 use Rattle.mm_types.specs.Lookups as lookups
 use Rattle.mm_types.specs.Resolved.{Metamodel}
 use Rattle.mm_types.specs.declared.numbers.ClassNo.{ClassNo}
-use Rattle.mm_types.specs.declared.numbers.FeatureNo.{FeatureNo}
 use Rattle.mm_types.specs.declared.numbers.ObjectNo.{ObjectNo}
 use Rattle.mm_types.specs.declared.numbers.Node.{Node}
 use Rattle.mm_types.specs.declared.end.End.{End}
@@ -31,7 +30,7 @@ end_refusal r e =
     node_refusal r e.node else_by
     NoFeature unless has_feature r e.node e.feature
 
--- the refusal of an end with a value for it: a dead object, as node or value, comes before an unknown resource
+-- the refusal of an end and a value for it: first for a dead object, as node or value, then for an unknown resource
 abbrev pub value_refusal : Reading → End → Value → Option Refused
 value_refusal r e v =
     NoObject unless (is_node_live r e.node && is_value_live r v) else_by

@@ -46,8 +46,8 @@ abbrev pub IsUniqueList : Bool → List Value → Type 0
 IsUniqueList true vs = IsDistinct same_value vs
 IsUniqueList false vs = Unit {0}
 
--- what an object stores under a feature is legal: the list is, repeats no value if the feature is unique, and has the flag exactly if the
--- feature is unsettable and single, and has a value
+-- the values that an object stores under a feature are legal: the list is legal, and repeats no value if the feature is unique; the flag is
+-- on exactly if the feature is unsettable and single, and the list has a value
 pub record IsLegalStored (m : Metamodel) (c : ClassNo) (f : FeatureNo) (h : Stored) : Type 0 where
   pub values : IsTrue (is_legal_list m c f h.list)
   pub unique : IsUniqueList (shape m f).is_unique h.list

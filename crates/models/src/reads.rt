@@ -5,13 +5,13 @@ ghost use Rattle.mm_types.specs.Ends as ends;
 ghost use Rattle.mm_types.specs.Ends.{value_in};
 ghost use Rattle.mm_types.specs.Lookups as m;
 ghost use Rattle.mm_types.specs.Same.{same_value};
-ghost use Rattle.mm_types.specs.Shapes.{shape};
+ghost use Rattle.mm_types.specs.Shapes.{Shape, shape};
 ghost use Rattle.mm_types.specs.declared.value.Value.TheVariants as value;
 ghost use Rattle.mm_types.specs.declared.value.Value.TheVariants.{Null};
 ghost use Rattle.mm_values.specs.Room.{values_of};
 ghost use Rattle.links.specs.Links.{text_of};
 ghost use Rattle.models.specs.Found.{found_value};
-ghost use Rattle.models.specs.Model.{attribute_held, kept_flag, kept_values, reading};
+ghost use Rattle.models.specs.Model.{attribute_held, kept_flag, kept_held, kept_values, reading};
 ghost use Rattle.models.specs.Reading as r;
 
 use crate::features::is_attribute_value;
@@ -105,10 +105,17 @@ impl<'a, L: LinkStore> ModelRef<'a, L> {
     pub fn is_set(&self, end: End) -> bool
         ensures { result ≡ r.is_set (reading self.now) end }
     {
-        if self.meta().is_reference(end.feature) {
-            return self.store().len(end) > 0;
+        match self.meta().feature(end.feature) {
+            Some(found) => match &found.kind {
+                Kind::Attribute {
+                    unsettable,
+                    default,
+                    ..
+                } => is_attribute_set(self.values(), end, found.upper == 1, *unsettable, default),
+                Kind::Reference { .. } => self.store().len(end) > 0,
+            },
+            None => self.store().len(end) > 0,
         }
-        is_attribute_set(self.meta(), self.values(), end)
     }
 
     /// Whether a feature may hold a value.
@@ -205,20 +212,24 @@ fn attribute_at<'a>(meta: &'a Meta, values: &'a Values, end: End) -> Option<&'a 
     }
 }
 
-/// Whether an attribute is set.
+/// Whether an attribute is set: a list if it has values, an unsettable attribute by its flag, and another one if its value is not the default.
 #[tactic(auto, using(crate::proofs::ReadLemmas::is_nil_shown, crate::proofs::ReadLemmas::set_by))]
-fn is_attribute_set(meta: &Meta, values: &Values, end: End) -> bool
-    requires attribute { (shape meta.now end.feature).is_reference ≡ false }
-    ensures { result ≡ ends.is_set (shape meta.now end.feature) (attribute_held meta.now (values_of values.now) end) }
+fn is_attribute_set(
+    values: &Values,
+    end: End,
+    is_single: bool,
+    is_unsettable: bool,
+    default: &Value,
+) -> bool
+    ensures { (a : Shape) → a.is_single ≡ is_single → a.is_unsettable ≡ is_unsettable → a.default ≡ default.now → result ≡ ends.is_set a (kept_held a (values_of values.now) end) }
 {
-    if !meta.is_single(end.feature) {
+    if !is_single {
         return kept_len(values, end) > 0;
     }
-    if meta.is_unsettable(end.feature) {
+    if is_unsettable {
         return flag_at(values, end);
     }
     // Without a value of its own it has its default.
-    let default = meta.default(end.feature).unwrap_or(&Value::Null);
     is_other(kept_at(values, end, 0), default)
 }
 

@@ -64,7 +64,7 @@ impl NodeSlots {
     }
 
     /// How many values an end has.
-    #[inline]
+    #[inline(always)]
     #[tactic(auto, unfolding(crate::specs::Cells::cells))]
     pub fn len(&self, end: End) -> usize
         ensures { result ≡ length ((cells self.now).vals end) }
@@ -119,6 +119,15 @@ impl NodeSlots {
         ensures { result ≡ position (same_value value.now) ((cells self.now).vals end) }
     {
         self.slot(end)?.values.position(value)
+    }
+
+    /// A guess at the index of a value in an end. It is right if the numbers of the objects rise or fall along the list, or if the list has
+    /// labels that do. Otherwise any index.
+    pub fn guess(&self, end: End, value: &Value) -> usize {
+        match self.slot(end) {
+            Some(slot) => slot.values.guess(value),
+            None => 0,
+        }
     }
 
     /// The pairing of an end's feature, as the last put of an object into the end said it.

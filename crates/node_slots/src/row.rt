@@ -23,7 +23,7 @@ pub enum RowEdit {
     Enter(End),
     /// Takes away the end at an index among the ends with no opposite that hold the node; past the last nothing changes.
     Leave(usize),
-    /// Takes back capacity that was reserved for ends with no opposite that hold the node. No end changes.
+    /// Takes back capacity that was reserved for the ends without opposite that hold the node. No end changes.
     ForgetEntries(usize),
 }
 
@@ -105,7 +105,7 @@ impl Row {
         self.slots.promise(alloc, feature, is_mixed)
     }
 
-    /// How many more ends that hold the node can be put in without memory: those for which capacity is reserved.
+    /// How many more ends that hold the node can be put in without memory, by the capacity that is reserved.
     pub fn entries(&self) -> usize
         ensures { result ≡ row_entries (Some self.now) }
     {

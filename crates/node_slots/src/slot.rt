@@ -77,7 +77,7 @@ impl Slot {
         }
     }
 
-    /// How many more values can be put in without memory: those for which capacity is reserved.
+    /// How many more values can be put in without memory, by the capacity that is reserved.
     pub fn places(&self) -> usize
         ensures { result ≡ slot_places self.now }
     {
@@ -152,6 +152,7 @@ fn make_places(
 }
 
 /// Puts a value in, for which there is capacity.
+#[inline(always)]
 fn insert_in(values: &mut EndValueList, index: usize, value: Value)
     requires room { 1 ≤ values.old.spare }
     requires can { CanHave values.old.mixed value }

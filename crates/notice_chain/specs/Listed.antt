@@ -70,11 +70,11 @@ adapters_after_watch number t rs = with_changed number (with_target t) rs
 abbrev pub Above : Type 0
 Above = Node → List Node
 
--- whether a target brings in the notifications of a node: it is that node, or it is deep and the node is below it
+-- whether a target notifies its adapter of changes at a node: it is that node, or it is deep and the node is below it
 abbrev pub brings_in : Above → Node → Target → Bool
 brings_in up x t = same_node t.node x || (t.deep && list_any (same_node t.node) (up x))
 
--- whether an adapter gets a notification: it gets the notification once if any of its targets brings it in
+-- whether an adapter gets a notification: it gets it once, if any of its targets notifies it
 abbrev pub hears : Above → Listed → Notice → Bool
 hears up r n = list_any (brings_in up n.notifier) r.targets
 

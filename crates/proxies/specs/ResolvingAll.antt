@@ -1,4 +1,4 @@
--- The proxies of a model are resolved one after another. A proxy is skipped if it can't be resolved in the model that the earlier ones
+-- The proxies of a model are resolved one after another. A proxy is skipped if it can't be resolved in the model that the earlier resolves
 -- left.
 use Rattle.std.specs.Prelude.{ℕ, List, [], ◌∷◌, length, slice_set, Option, None, is_some, if◌then◌else◌}
 use Rattle.std.specs.Option.{option_map_or}
@@ -31,7 +31,7 @@ with_resolved r p x = record r { values = values_with r (end_of p) p.index x }
 abbrev pub resolved_to : Reading → ProxySite → Option ResolvedProxy
 resolved_to r p = if is_some (resolve_refusal r (end_of p) p.index) then None else target_at r (end_of p) p.index
 
--- a proxy that is resolved: the model in which it is, where it is, and what it finds
+-- a proxy that is resolved: its model, its location, and its target
 pub record Resolution : Type 0 where
   pub reads : Reading
   pub site : ProxySite

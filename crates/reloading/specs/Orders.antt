@@ -30,7 +30,7 @@ is_same k j = nat_eq k.0 j.0
 abbrev pub has : List ResourceNo → ResourceNo → Bool
 has ks k = list_any (is_same k) ks
 
--- a resource of r that is not made yet; and `IsFilling`, one that is made and not filled yet
+-- a resource of r that is not made yet; and `IsFilling`, a resource that is made and not filled yet
 pub record IsMaking (r : Reading) (made : List ResourceNo) (k : ResourceNo) : Type 0 where
   pub there : has_resource r k ≡ true
   pub new : has made k ≡ false
@@ -63,7 +63,7 @@ abbrev pub after_all : Model → List Change → Model
 after_all t [] = t
 after_all t (c ∷ cs) = after_all (model_after t c) cs
 
--- a change is not refused; and `AreAllowed`, no change of a list is, in its turn
+-- a change is not refused; and `AreAllowed`, no change of a list is refused in its turn
 pub record IsAllowed (t : Model) (c : Change) : Type 0 where
   pub early : early_refusal (reading t) c ≡ None
   pub late : late_refusal (reading t) c ≡ None
@@ -79,7 +79,7 @@ pub record IsSaved (r : Reading) : Type 0 where
   pub resolved : HasNoProxy r
 
 -- in an empty model of the metamodel the changes are not refused; the model that they leave is legal, and a partly resolved copy of the
--- saved one
+-- saved model
 pub record AreLoads (s : Model) (ts : List Task) : Type 0 where
   pub allowed : AreAllowed (empty_model s.metamodel) (changes (reading s) [] ts)
   pub legal : IsLegal (after_all (empty_model s.metamodel) (changes (reading s) [] ts))

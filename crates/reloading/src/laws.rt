@@ -54,12 +54,12 @@ pub fn resolving_all_leaves_no_proxy()
     ensures { (s : Model) (w : ValuesState) (b : Links) → ResolvesAll s w b }
 {}
 
-/// If a legal model counts no proxy as left, no value of it is a proxy.
+/// If the count of proxies in a legal model is 0, no value of it is a proxy.
 pub fn with_no_proxy_left_none_stands()
     ensures { (s : Model) → IsLegal s → proxies_len (reading s) ≡ 0 → HasNoProxy (reading s) }
 {}
 
-/// A partly resolved copy that has no proxies is isomorphic to the saved model, if that has no proxies.
+/// If neither a partly resolved copy nor the saved model has proxies, they are isomorphic.
 pub fn without_proxies_models_between_are_alike()
     ensures { (s t : Reading) → HasNoProxy s → HasNoProxy t → Between s t → Alike s t }
 {}

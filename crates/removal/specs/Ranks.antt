@@ -1,4 +1,4 @@
--- How the ends of other nodes are found: the numbers of the objects that are destroyed, and which ends have an object.
+-- How the ends of other nodes are found: by the numbers of the destroyed objects, and by the ends that have an object.
 use Rattle.std.specs.Prelude.{ℕ, ◌≡◌, Bool, false, not, List, filter}
 use Rattle.std.specs.BTreeSet as set
 use Rattle.std.specs.Ordering.{nat_cmp}
@@ -18,7 +18,7 @@ abbrev pub is_in : Numbers → Node → Bool
 is_in s (node.Object o) = set.contains nat_cmp s.0 o.0
 is_in s (node.Resource k) = false
 
--- the numbers are those of the objects that are destroyed with an object
+-- the set has the numbers of exactly the objects that are destroyed with an object
 abbrev pub HasGone : Reading → ObjectNo → Numbers → Type 0
 HasGone r o s = (n : Node) → is_in s n ≡ is_in_subtree r o n
 

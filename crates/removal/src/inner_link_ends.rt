@@ -98,8 +98,8 @@ fn push_named<L: LinkStore>(
     Ok(())
 }
 
-/// Whether the end of a node that is destroyed names the value that was found there: a proxy, an object that stays, or an object whose own
-/// end has a higher feature number.
+/// Whether a destroyed node's end names the link of a value that was found there: the value is a proxy, an object that stays, or an object
+/// whose own end has a higher feature number.
 fn is_named_here<L: LinkStore>(
     model: &ModelRef<L>,
     feature: FeatureNo,
@@ -117,7 +117,7 @@ fn is_named_here<L: LinkStore>(
     }
 }
 
-/// Whether the value that was found is an object that is destroyed.
+/// Whether a value that was found is a destroyed object.
 fn goes(found: &Found, numbers: &Numbers) -> bool
     ensures { result ≡ goes_with (ranks.is_in numbers.now) (found_value found.now) }
 {

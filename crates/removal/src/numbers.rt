@@ -1,4 +1,4 @@
-//! The numbers of the objects that are destroyed, to find fast whether a node is one of them.
+//! The numbers of the destroyed objects: a look-up tells fast whether a node is destroyed.
 ghost use Rattle.std.specs.Prelude.{◌≡◌, IfOk};
 ghost use Rattle.mm_types.specs.declared.numbers.Node.{Node};
 ghost use Rattle.containment.specs.Forest as forest;

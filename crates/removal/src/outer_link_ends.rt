@@ -1,4 +1,4 @@
-//! The links from nodes that remain to nodes that are destroyed, if only the ends of the nodes that remain can name them.
+//! The links from remaining nodes to destroyed nodes that can be named only by the ends of the remaining nodes.
 ghost use Rattle.std.specs.Prelude.{◌≡◌, ◌++◌, true, All, filter, flat_map, map, OnOk, option_map, option_to_list};
 ghost use Rattle.mm_types.specs.Shapes.{shape};
 ghost use Rattle.mm_types.specs.declared.value.Value.TheVariants as value;
@@ -14,7 +14,7 @@ use mm_types::{End, Node, ObjectNo, Value};
 use models::ModelRef;
 use std::alloc::AllocError;
 
-/// Adds the links that only these ends of nodes that stay can name.
+/// Adds the links that only these ends of remaining nodes can name.
 pub(crate) fn push_outer<L: LinkStore>(
     model: &ModelRef<L>,
     ends: &[End],
@@ -49,7 +49,7 @@ fn push_alone<L: LinkStore>(
     Ok(())
 }
 
-/// Adds the link of one value, if that is destroyed.
+/// Adds the link of one value, if the value is destroyed.
 fn push_if_gone(
     end: End,
     other: Option<ObjectNo>,

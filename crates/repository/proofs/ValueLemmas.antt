@@ -57,10 +57,10 @@ changed-unheard s t text c a told views none kept told_is views_are proper early
     changed_to s t text c [] a told views proper early late (unheard-tells up (chain (reads s) c) s.adapters none) (is_chain_full-nil up s.adapters) answered (told_is ∙ sym (ap (λ (ss : List Spot). (gives ss).told) goes)) (views_are ∙ sym (ap (λ (ss : List Spot). (gives ss).views) goes)) model
     (adapters ∙ sym (tell_chain-nil up s.adapters) ∙ sym (ap (λ (ss : List Spot). (gives ss).others) goes))
 
--- the result of a change that edits only values, for a reply and a state that are known by their parts
-pub changed-values : (s t : State) (c : Change) (vs : List ValueEdit) (ns : List Notice) (a : Answer) (told : List (AdapterNo × Notice)) (views : List (AdapterNo × View)) → IsReady s [] c a [] [] vs ns → is_chain_full (reads s).above ns s.adapters ≡ false → told ≡ told_list (reads s).above ns s.adapters → views ≡ []
+-- the result of a change that takes no target away, for a reply and a state that are known by their parts
+pub changed-ready : (s t : State) (c : Change) (es : List Edit) (vs : List ValueEdit) (ns : List Notice) (a : Answer) (told : List (AdapterNo × Notice)) (views : List (AdapterNo × View)) → IsReady s [] c a [] es vs ns → is_chain_full (reads s).above ns s.adapters ≡ false → told ≡ told_list (reads s).above ns s.adapters → views ≡ []
     → t.model ≡ model_after s.model c → t.adapters ≡ tell_chain (reads s).above ns s.adapters → step s (command_of [] c) ≡ record { outcome = Ok (record { answer = a; told = told; released = views }); after = t }
-changed-values s t c vs ns a told views ready free told_is views_are model adapters =
+changed-ready s t c es vs ns a told views ready free told_is views_are model adapters =
     let up = (reads s).above in
     let gives : List Spot → Released = λ ss. released_adapters ss (tell_chain up ns s.adapters) in
     changed_to s t [] c ns a told views ready.proper ready.asked ready.allowed ready.tells free ready.answered

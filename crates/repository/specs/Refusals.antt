@@ -85,7 +85,7 @@ late_read_refusal r (asks.Save k) = save_refusal r k
 late_read_refusal r (asks.ObjectAt t) = TextLength unless is_short_text t else_by BadUri unless has_mark t
 late_read_refusal r _ = None
 
--- the refusals that planning finds, and those that the list of adapters finds
+-- the refusals that planning finds, and the refusals that the list of adapters finds
 abbrev pub late_refusal : Reading → List Listed → Command View → Option Refused
 late_refusal r rs (command.CreateResource t) = resource_refusal r t (joined_uri [] t)
 late_refusal r rs (command.Load k text) = load_refusal r k (reads_into r k text)

@@ -11,9 +11,11 @@ use Rattle.mm_types.specs.declared.read.Read.TheVariants as asks
 use Rattle.mm_types.specs.declared.read.EndRead.TheVariants.{IsSet}
 use Rattle.mm_types.specs.declared.read.ObjectRead.TheVariants.{Class, Container, Resource}
 use Rattle.repository.specs.declared.reply.Answer.{Answer}
+use Rattle.repository.specs.declared.reply.Brief.{Brief}
+use Rattle.repository.specs.declared.reply.Brief.TheVariants.{Unheard, Replied}
 use Rattle.repository.specs.declared.reply.Reply.{Reply}
 use Rattle.repository.specs.State.{State}
-use Rattle.repository.specs.Views.{Outcome}
+use Rattle.repository.specs.Views.{Outcome, changed_view}
 use Rattle.repository.specs.Step.{failure, refusal_of, step}
 use Rattle.mm_types.specs.Conditions.{is_memory_refusal}
 
@@ -68,6 +70,11 @@ abbrev pub read_outcome : {X : Type 0} → (X → Answer) → Result X Refused �
 read_outcome f (Ok x) = Ok (record { answer = f x; told = []; released = [] })
 read_outcome f (Err r) = Err (record { refused = r; given_back = None })
 
+-- the outcome of a change at an end, whose answer is known if it has no reply
+abbrev pub brief_outcome : {A : Type 0} → (A → View) → Answer → Brief A → Outcome
+brief_outcome heard a (Unheard r) = read_outcome (λ u. a) r
+brief_outcome heard a (Replied r) = change_outcome (changed_view heard r)
+
 -- the outcome of a read whose answer is known
 abbrev pub answered_outcome : Result Answer Refused → Outcome
 answered_outcome = read_outcome (λ a. a)
@@ -76,7 +83,7 @@ answered_outcome = read_outcome (λ a. a)
 abbrev pub Executed : State → Command View → Outcome → State → Type 0
 Executed s c o t = MatchBool (is_memory o) (IsWanting s c o t) (step s c ≡ record { outcome = o; after = t })
 
--- each command of a list was done in the state that the one before it left
+-- each command of a list was done in the state that the command before it left
 abbrev pub AllExecuted : State → List (Command View) → List Outcome → State → Type 0
 AllExecuted s [] [] t = s ≡ t
 AllExecuted s [] (o ∷ os) t = ⊥
@@ -96,7 +103,7 @@ run s (c ∷ cs) =
     let rest = run one.after cs in
     record { outcomes = one.outcome ∷ rest.outcomes; after = rest.after }
 
--- the outcomes without those that are MEMORY; and `commands_kept`, the commands of these outcomes
+-- the outcomes other than MEMORY; and `commands_kept`, the commands of these outcomes
 abbrev pub outcomes_kept : List Outcome → List Outcome
 outcomes_kept [] = []
 outcomes_kept (o ∷ os) = if is_memory o then outcomes_kept os else o ∷ outcomes_kept os
@@ -106,6 +113,6 @@ commands_kept cs [] = []
 commands_kept [] (o ∷ os) = []
 commands_kept (c ∷ cs) (o ∷ os) = if is_memory o then commands_kept cs os else c ∷ commands_kept cs os
 
--- without the commands that failed with MEMORY, the outcomes and the state after them are those of a run
+-- without the commands that failed with MEMORY, the outcomes and the state after them are the outcomes and the state of a run
 abbrev pub IsRun : State → List (Command View) → List Outcome → State → Type 0
 IsRun s cs os t = run s (commands_kept cs os) ≡ record { outcomes = outcomes_kept os; after = t }

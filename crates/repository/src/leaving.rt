@@ -62,7 +62,7 @@ pub(crate) fn spots_gone<A: Adapter>(
     }
 }
 
-/// The targets that are taken away with an object. Only the adapters that have some of them are looked at.
+/// The targets that are taken away with an object. Only adapters with a target among these objects are looked at.
 fn spots_with<A: Adapter>(
     alloc: Global,
     adapters: &AdapterList<A>,

@@ -15,5 +15,5 @@ mod repository;
 pub use command::Command;
 pub use handshake::Act;
 pub use mm_types::{EndRead, NodeRead, ObjectRead, Read, Tally};
-pub use reply::{Answer, Failure, FeatureValue, Reply};
+pub use reply::{Answer, Brief, Failure, FeatureValue, Reply};
 pub use repository::Repository;

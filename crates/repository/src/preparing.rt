@@ -176,6 +176,33 @@ pub(crate) fn reserve<L: LinkStore, A: Adapter>(
     Ok((round, leaving))
 }
 
+/// Takes all memory that a plan of links needs, and then the capacity that the adapters need, in attach order. Nothing changes.
+pub(crate) fn reserve_links<L: LinkStore, A: Adapter>(
+    store: &mut L,
+    adapters: &mut AdapterList<A>,
+    edits: &Plan,
+    chain: Chain,
+    hearers: &mut Hearers,
+) -> Result<Round, Refused>
+    requires known { AreKnown (above (L.links store.old)) adapters.old.0 hearers.old }
+    requires legal { IsLegalSet (L.links store.old) }
+    requires no_cycle { HasNoCycle (L.links store.old) }
+    ensures known { AreKnown (above (L.links store.old)) adapters.old.0 hearers.new }
+    ensures links { L.links store.new ≡ L.links store.old }
+    ensures kinds { (m : Kinds) → L.kinds store.old m → L.kinds store.new m }
+    ensures adapters { adapters.new.0 ≡ adapters.old.0 }
+    ensures links_room { OnOk result (L.has_room store.new edits.now) }
+    ensures round { IfOk result (λ r. r ≡ round_of (above (L.links store.old)) chain adapters.old.0) }
+    ensures fits { IfOk result (λ r. RoundFits adapters.new.0 adapters.new.1 r) }
+    ensures counted { OnOk result (is_chain_full (above (L.links store.old)) chain adapters.old.0 ≡ false) }
+    ensures reason { IfErr result (IsChainRefusal (is_chain_full (above (L.links store.old)) chain adapters.old.0)) }
+{
+    store.reserve_for(edits)?;
+    let round = adapters.round(store, chain, hearers)?;
+    adapters.reserve_round(&round)?;
+    Ok(round)
+}
+
 /// The answer of a change that is not refused; `None` for a deletion and for resolving proxies, whose plans give the answer. Fails only if
 /// memory is refused.
 fn early_answer<L: LinkStore>(

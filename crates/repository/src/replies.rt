@@ -20,23 +20,16 @@ pub(crate) fn reply<A>(alloc: Global, answer: Answer) -> Reply<A>
     }
 }
 
-/// The reply of a command that only changes something: `Done`.
-pub(crate) fn replied_done<A>(alloc: Global, done: Result<(), Refused>) -> Result<Reply<A>, Refused>
-    ensures { (heard : A → View) → change_outcome (changed_view heard result) ≡ read_outcome (λ u. answer.Done) done }
+/// The reply of a change that notifies no adapter, if its answer is known.
+pub(crate) fn replied<A>(
+    alloc: Global,
+    done: Result<(), Refused>,
+    answer: Answer,
+) -> Result<Reply<A>, Refused>
+    ensures { (heard : A → View) → change_outcome (changed_view heard result) ≡ read_outcome (λ u. answer) done }
 {
     done?;
-    Ok(reply(alloc, Answer::Done))
-}
-
-/// The reply of an addition that changed its list.
-pub(crate) fn replied_added<A>(
-    alloc: Global,
-    added: Result<(), Refused>,
-) -> Result<Reply<A>, Refused>
-    ensures { (heard : A → View) → change_outcome (changed_view heard result) ≡ read_outcome (λ u. answer.Flag true) added }
-{
-    added?;
-    Ok(reply(alloc, Answer::Flag(true)))
+    Ok(reply(alloc, answer))
 }
 
 /// The object that was made, as a reply.
@@ -51,7 +44,10 @@ pub(crate) fn replied_object<A>(
 }
 
 /// The answer of a read, as a reply.
-pub(crate) fn replied<A>(alloc: Global, read: Result<Answer, Refused>) -> Result<Reply<A>, Refused>
+pub(crate) fn replied_read<A>(
+    alloc: Global,
+    read: Result<Answer, Refused>,
+) -> Result<Reply<A>, Refused>
     ensures { (heard : A → View) → change_outcome (changed_view heard result) ≡ answered_outcome read }
 {
     let answer = read?;

@@ -29,7 +29,7 @@ pub enum Answer {
     Destroyed(u64),
     /// How many objects a document made.
     Loaded(u64),
-    /// How many proxies were resolved, those at both ends of a link counted once, and how many are left.
+    /// How many proxies were resolved (two at the ends of one link count once), and how many are left.
     Resolved { done: u64, left: u64 },
     /// The object that contains another, if one does.
     Container(Option<ObjectNo>),
@@ -80,6 +80,15 @@ pub struct Reply<A = Box<dyn Adapter>> {
     pub told: Seq<(AdapterNo, Notice)>,
     /// The adapters that were released by it, each with its number.
     pub released: Seq<(AdapterNo, A)>,
+}
+
+/// The outcome of a change at an end, without a reply if the change notified no adapter: to make a reply takes longer than such a change.
+#[derive(Drop)]
+pub enum Brief<A = Box<dyn Adapter>> {
+    /// No adapter was notified; or the refusal.
+    Unheard(Result<(), Refused>),
+    /// The reply, or the refusal.
+    Replied(Result<Reply<A>, Refused>),
 }
 
 /// The failure of a command that is refused.

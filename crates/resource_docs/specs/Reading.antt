@@ -68,7 +68,7 @@ with_values r f v =
       has_long = r.has_long;
     }
 
--- the contents, and whether one more content is of its type, and too long
+-- the contents; whether one more content is of its type; and whether it is too long
 abbrev pub with_content_flags : ReadContents → Bool → Bool → ReadContents
 with_content_flags r is_of_type long =
     record { contents = r.contents; is_lost = r.is_lost; has_other = r.has_other || not is_of_type; has_long = r.has_long || long }

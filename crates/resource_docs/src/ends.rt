@@ -10,7 +10,7 @@ use mm_meta::Meta;
 use mm_types::{FeatureNo, Value};
 use std::alloc::{AllocError, Global};
 
-/// That an object of a document names another under a feature; each object by its number in the document.
+/// An object of a document, a feature, and an object that it names there; each object by its number in the document.
 #[derive(Clone, Copy, PartialEq, Eq, Hash)]
 pub(crate) struct Naming {
     pub object: usize,
@@ -155,7 +155,8 @@ impl Ends {
             .any(|content| self.is_one_sided(meta, object, content))
     }
 
-    /// Whether some object names another under a feature with an opposite, and that one does not name back. Takes no memory.
+    /// Whether some object names another object under a feature with an opposite, and the other object does not name it back. Takes no
+    /// memory.
     fn has_one_sided(&self, meta: &Meta, objects: &[DocObject]) -> bool
         ensures { result ≡ any_one_sided_by meta.now self.now objects.now }
     {

@@ -22,6 +22,6 @@ mod values;
 pub use contents::{ContentParts, Contents};
 pub use doc::{Content, Doc, DocObject};
 pub use doc_values::DocValues;
-pub use reading::read_doc;
+pub use reading::{read_doc, read_doc_text};
 pub use referent::Referent;
 pub use web_uris::{UriFault, joined};

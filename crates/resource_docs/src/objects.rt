@@ -74,7 +74,8 @@ fn add_values(
     Ok(())
 }
 
-/// Whether a content, from which these values were read, is of its feature's type. The value of a single attribute is read only if it is.
+/// Whether a content, from which these values were read, is of its feature's type. The value of a single attribute is read only if it is of
+/// the attribute's type.
 fn is_of_type<'t>(
     meta: &Meta,
     feature: FeatureNo,

@@ -67,7 +67,8 @@ fn read_rest(
     }
 }
 
-/// Whether some object has a member that is no feature of its class. If each member is known to be one, no name is looked up.
+/// Whether some object has a member that is no feature of its class. If each member is known to be a feature of its class, no name is
+/// looked up.
 fn has_other_member(source: &ReadContext, is_all: bool) -> bool
     ensures { (ps : List Part) → Knows source.now.meta.now source.now.found.now ps → (is_all ≡ true → of_written (has_other_key source.now.meta.now) ps ≡ false) → result ≡ of_written (has_other_key source.now.meta.now) ps }
 {
@@ -132,8 +133,8 @@ fn read_value(alloc: Global, meta: &Meta, uri: &str, json: &Json) -> Result<Doc,
     }
 }
 
-/// Reads a document that is UTF-8.
-fn read_text(alloc: Global, meta: &Meta, uri: &str, text: &str) -> Result<Doc, Refused>
+/// Reads the text of a document as `read_doc` reads its bytes: with the same document or cause, and in the same time.
+pub fn read_doc_text(alloc: Global, meta: &Meta, uri: &str, text: &str) -> Result<Doc, Refused>
     ensures { Reads result meta.now uri.now text.now }
 {
     let arena = Bump::new(alloc);
@@ -169,7 +170,7 @@ pub fn read_doc(alloc: Global, meta: &Meta, uri: &str, bytes: &[u8]) -> Result<D
     ensures { Reads result meta.now uri.now bytes.now }
 {
     match str::from_utf8(bytes) {
-        Ok(text) => read_text(alloc, meta, uri, text),
+        Ok(text) => read_doc_text(alloc, meta, uri, text),
         Err(_) => Err(Refused::Document(DocFault::Syntax)),
     }
 }

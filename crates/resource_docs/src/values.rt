@@ -123,7 +123,8 @@ fn note_lost(read: &mut ReadValues, is_lost: bool)
     read.is_lost = read.is_lost || is_lost;
 }
 
-/// The number that the next object under a feature of the part of a number is likely to have: one more than that of the object before it.
+/// The number that the next object under a feature of the part of a number is likely to have: one more than the number of the object before
+/// it.
 fn likely_number(read: &ReadValues, number: u32) -> u32 {
     match read.values.as_slice().last() {
         Some(Value::Object(object)) => object.0.saturating_add(1),

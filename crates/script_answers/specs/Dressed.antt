@@ -1,4 +1,4 @@
--- The output options of answers, and where a run ends.
+-- The output options of answers, and the line at which a run ends.
 use Rattle.std.specs.Prelude.{◌&&◌, ℕ, suc, Bool, false, not, List, [], ◌∷◌, ◌++◌, codes, if◌then◌else◌}
 use Rattle.std.specs.Fmt.{decimal}
 use Rattle.std.specs.List.{flat_map, list_any}
@@ -50,6 +50,6 @@ lines_until_end d ps = if d.stop then until_fault ps else ps
 abbrev pub dressed_output : Dress → List (List ℕ) → List Printed → List ℕ
 dressed_output d ls ps = dressed_output_from d 1 ls (lines_until_end d ps)
 
--- whether a run ends at a fault among what the lines print
+-- whether a run ends at a fault in the output of some lines
 abbrev pub is_stopped : Dress → List Printed → Bool
 is_stopped d ps = d.stop && list_any (λ p. is_fault p.turn) ps

@@ -36,7 +36,7 @@ impl Dress {
         !(self.echo || self.number || self.stop)
     }
 
-    /// Whether the run ends after a line that is counted so.
+    /// Whether the run ends after a line with this count.
     pub fn ends_at(self, turn: Turn) -> bool
         ensures { result ≡ (self.stop && is_fault turn) }
     {

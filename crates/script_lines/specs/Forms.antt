@@ -1,5 +1,5 @@
--- What a line asks for: its first word is the verb, and the other words are its arguments. A `load` line ends with the
--- text of a document, which is not cut into words.
+-- The form of a line: its first word is the verb, and the other words are its arguments. A `load` line ends with the text of a document,
+-- which is not cut into words.
 use Rattle.std.specs.Prelude.{ℕ, nat_eq, ◌||◌, Bool, true, false, List, [], ◌∷◌, Option, Some, None, option_map, option_and_then, codes, if◌then◌else◌}
 use Rattle.std.specs.Option.{option_zip}
 use Rattle.std.specs.List.{after_first, before_first, list_any}

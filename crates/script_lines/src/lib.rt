@@ -24,6 +24,7 @@ pub use form::{FeatureForm, Form};
 pub use frequent::{Frequent, frequent_of};
 pub use line::{Line, parse_line, text_line_of};
 pub use lines::next_line;
+pub use load::load_parts;
 pub use name::Name;
 pub use source::Source;
 pub use values::value_of;

@@ -64,8 +64,8 @@ pub(crate) fn text_of_line(line: &[u8]) -> Option<&str>
 /// What a line asks for. Fails only if memory is refused for a text that is the value of the line.
 ///
 /// A line is the bytes between two newlines, without them. It is blank if it is empty or has only spaces, and bad if it
-/// is not UTF-8 or fits no form of the language. The text of a `load` line is not cut into words: it is all that
-/// follows the one space after the resource, to the end of the line. The time is linear in the line's length.
+/// is not UTF-8 or fits no form of the language. The text of a `load` line is not cut into words: it is the rest of the line after the one
+/// space that follows the resource. The time is linear in the line's length.
 pub fn parse_line(alloc: Global, line: &[u8]) -> Result<Line<'_>, AllocError>
     ensures { IfOk result (λ l. l ≡ form line.now) }
 {

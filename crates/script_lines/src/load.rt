@@ -1,9 +1,10 @@
 //! `load` lines. The text of a document is written in the line as it is, up to the end of the line,
 //! and is not cut into words.
-ghost use Rattle.std.specs.Prelude.{◌≡◌, true, false, IfOk, MatchOption, option_map};
+ghost use Rattle.std.specs.Prelude.{◌≡◌, true, false, IfOk, IfSome, MatchOption, option_map};
 ghost use Rattle.script_lines.specs.Words.{after_spaces, is_space};
-ghost use Rattle.script_lines.specs.Forms.{behind_verb, is_load, load_form, may_load as the_may_load, verb_in};
+ghost use Rattle.script_lines.specs.Forms.{behind_verb, is_load, load_form, may_load as the_may_load, text_line, verb_in};
 ghost use Rattle.script_lines.specs.declared.form.Form.TheVariants as asks;
+ghost use Rattle.script_lines.specs.declared.line.Line.TheVariants as asked;
 
 use crate::form::Form;
 use crate::grammar::SPACE;
@@ -55,6 +56,16 @@ fn parts_of(rest: &str) -> Option<(ResourceNo, &str)>
     let (resource, text) = after_spaces_of(rest).split_once(' ')?;
     let resource = resource_no_of(resource)?;
     Some((resource, text))
+}
+
+/// The resource and the text of a `load` line; `None` if the line has a different verb, or is bad.
+pub fn load_parts(line: &str) -> Option<(ResourceNo, &str)>
+    ensures { IfSome result (λ p. text_line line.now ≡ asked.Form (asks.Load p.0 p.1.now)) }
+{
+    match loaded_of(line) {
+        Some(rest) => parts_of(rest),
+        None => None,
+    }
 }
 
 /// `load RES REST`, from the text after the verb. Fails only if memory is refused for the text.

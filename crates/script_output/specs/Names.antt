@@ -11,7 +11,7 @@ use Rattle.mm_types.specs.declared.numbers.FeatureNo.{FeatureNo}
 use Rattle.mm_types.specs.declared.value.Value.{Value}
 use Rattle.mm_types.specs.declared.value.Value.TheVariants as value
 
--- the name of a feature of the metamodel; any other number is that of `contents`, the only feature of resources
+-- the name of a feature of the metamodel; for any other number `contents`, the only feature of resources
 abbrev pub feature_name : Metamodel → FeatureNo → List ℕ
 feature_name m f = option_map_or (λ g. g.name) (lookups.feature m f) (codes "contents")
 

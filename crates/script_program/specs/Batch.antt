@@ -49,8 +49,8 @@ EndsIn q t = t.state ≡ q
 abbrev pub EndsAnywhere : Session → Type 0
 EndsAnywhere t = Unit {0}
 
--- A script was run to its end, or to the fault at which it is to stop; its answers were written by the output options, the counts are those
--- of the answers, and `Left` is true of the session that is left.
+-- A script was run to its end, or to the fault at which it is to stop; its answers were written by the output options, the counts are the
+-- counts of the answers, and `Left` is true of the session that is left.
 pub record PrintsDressed (d : Dress) (s : Session) (Left : Session → Type 0) (old new : Option (List ℕ)) (bytes : List ℕ) (summary : Summary) : Type 0 where
   pub first : List (List ℕ)
   pub printed : List Printed

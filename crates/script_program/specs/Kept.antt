@@ -166,7 +166,7 @@ pub record StopsKept (m : Metamodel) (fault : RunFault) (head file : List ℕ) (
   pub had : model_of m (begun_lines head (recovered_lines file)) ≡ Some start.state.model
   pub stops : StopsJournaled m fault start ls old new may_leave
 
--- A file is a journal of the model that the first lines left, run after the lines of another file.
+-- Some first lines were run after the lines of a file; another file is a journal of the model that they left.
 pub record LeavesKept (m : Metamodel) (head file : List ℕ) (ls : List (List ℕ)) (left : List ℕ) : Type 0 where
   pub start : Session
   pub had : model_of m (begun_lines head (recovered_lines file)) ≡ Some start.state.model

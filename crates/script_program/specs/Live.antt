@@ -39,7 +39,8 @@ pub record AnswersLiveFront (line : List ℕ) (s : Session) (old new : Option (L
   pub ran : RunsLine s (form line) printed after
   pub written : AppendsFront old new (live_answer printed)
 
--- All lines of a script were run, their answers were written, each with an empty line after it, and the counts are those of these lines.
+-- All lines of a script were run, their answers were written, each with an empty line after it, and the counts are the counts of these
+-- lines.
 abbrev pub PrintsLive : Session → Option (List ℕ) → Option (List ℕ) → List ℕ → Summary → Type 0
 PrintsLive = PrintsAs live_text
 

@@ -19,7 +19,7 @@ abbrev pub LoadsInto : Option ResourceNo → State → List ℕ → Outcome → 
 LoadsInto (Some k) s document o t = Executed s (Load k document) o t
 LoadsInto None s document o t = (o ≡ change_outcome (Err NoResource)) × (t ≡ s)
 
--- a document was loaded if the resource was made; otherwise the outcome is that of the first command
+-- a document was loaded if the resource was made; otherwise the outcome is the outcome of the first command
 abbrev pub LoadsIfMade : Outcome → State → List ℕ → Outcome → State → Type 0
 LoadsIfMade (Ok r) s document o t = LoadsInto (made_resource r.answer) s document o t
 LoadsIfMade (Err f) s document o t = (o ≡ Err f) × (t ≡ s)

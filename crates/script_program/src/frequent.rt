@@ -6,7 +6,7 @@ ghost use Rattle.mm_types.specs.declared.numbers.Node.TheVariants as node;
 ghost use Rattle.notice_chain.specs.View.{View};
 ghost use Rattle.repository.specs.Run.{change_outcome, read_outcome};
 ghost use Rattle.repository.specs.declared.command.Command.{Command};
-ghost use Rattle.repository.specs.Commands.{add, container, set};
+ghost use Rattle.repository.specs.Commands.{container};
 ghost use Rattle.repository.specs.declared.reply.Answer.{Answer};
 ghost use Rattle.repository.specs.declared.reply.Answer.TheVariants as answer;
 ghost use Rattle.script_lines.specs.Frequent.{frequent_line};
@@ -26,7 +26,7 @@ use crate::pool::Pool;
 use adapters::Adapter;
 use links::LinkStore;
 use mm_types::{End, FeatureNo, Node, ObjectNo, Refused, Value};
-use repository::{Command, EndRead, Read, Repository};
+use repository::{Brief, Command, EndRead, Read, Repository};
 use script_answers::Turn;
 use script_lines::{Frequent, Name, Word, WrittenValue, value_of};
 use script_output::Output;
@@ -183,40 +183,6 @@ fn print_change(
     }
 }
 
-/// Sets a feature of a node by `e_set`, and prints the answer and the notifications. Fails only if memory is refused for the output.
-#[inline(never)]
-fn run_set<L: LinkStore, A: Adapter>(
-    repository: &mut Repository<L, A>,
-    pool: &mut Pool<A>,
-    output: &mut Output,
-    node: Node,
-    feature: FeatureNo,
-    value: Value,
-) -> Result<Turn, AllocError>
-    ensures ok { IfOk result (λ t. Adds output.old output.new t (λ p. RunsCommand (session repository.old pool.old) (set node feature value) p (session repository.new pool.new))) }
-    ensures left { OnErr result (IsLeft (RunsCommand (session repository.old pool.old) (set node feature value)) repository.old repository.new) }
-{
-    let outcome = repository.e_set(node, feature, value);
-    finish_change(repository, pool, output, feature, outcome)
-}
-
-/// Adds a value at the end of a list by `add`, and prints the answer and the notifications. Fails only if memory is refused for the output.
-#[inline(never)]
-fn run_add<L: LinkStore, A: Adapter>(
-    repository: &mut Repository<L, A>,
-    pool: &mut Pool<A>,
-    output: &mut Output,
-    node: Node,
-    feature: FeatureNo,
-    value: Value,
-) -> Result<Turn, AllocError>
-    ensures ok { IfOk result (λ t. Adds output.old output.new t (λ p. RunsCommand (session repository.old pool.old) (add node feature value None) p (session repository.new pool.new))) }
-    ensures left { OnErr result (IsLeft (RunsCommand (session repository.old pool.old) (add node feature value None)) repository.old repository.new) }
-{
-    let outcome = repository.add(node, feature, value, None);
-    finish_change(repository, pool, output, feature, outcome)
-}
-
 /// Gives a feature of an object a value, and prints the answer. Fails only if memory is refused for the output.
 #[inline(always)]
 fn run_edit<L: LinkStore, A: Adapter>(
@@ -234,13 +200,13 @@ fn run_edit<L: LinkStore, A: Adapter>(
     let (edit, node) = (asked.edit, Node::Object(asked.object));
     let (feature, value) = bound(repository, asked);
     match edit {
-        SetOrAdd::Set => match repository.set_unheard(node, feature, value) {
-            Ok(outcome) => print_change(output, outcome, "ok\n"),
-            Err(value) => run_set(repository, pool, output, node, feature, value),
+        SetOrAdd::Set => match repository.set_brief(node, feature, value) {
+            Brief::Unheard(outcome) => print_change(output, outcome, "ok\n"),
+            Brief::Replied(outcome) => finish_change(repository, pool, output, feature, outcome),
         },
-        SetOrAdd::Add => match repository.add_unheard(node, feature, value, None) {
-            Ok(outcome) => print_change(output, outcome, "true\n"),
-            Err(value) => run_add(repository, pool, output, node, feature, value),
+        SetOrAdd::Add => match repository.add_brief(node, feature, value, None) {
+            Brief::Unheard(outcome) => print_change(output, outcome, "true\n"),
+            Brief::Replied(outcome) => finish_change(repository, pool, output, feature, outcome),
         },
     }
 }

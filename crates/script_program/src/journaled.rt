@@ -15,7 +15,7 @@ use script_answers::Turn;
 use script_lines::{FeatureForm, Form, Line, parse_line};
 use std::alloc::{AllocError, Global};
 
-/// An interpreter that tells for each line whether a journal has to keep it: whether it is a change of the model, and the change was done.
+/// An interpreter that returns for each line whether a journal has to keep it: the line is a change of the model, and the change was done.
 #[derive(Drop)]
 pub struct Journaled<L: LinkStore, A: Adapter, H: Listener> {
     alloc: Global,

@@ -85,7 +85,7 @@ fn opened<D: Disk + Drop, L: LinkStore, A: Adapter, H: Listener>(
     }
 }
 
-/// Runs a script live whose changes a journal keeps, and takes the journal apart afterwards.
+/// Runs a script live, keeps its changes in a journal, and takes the journal apart afterwards.
 fn run_opened<R: Read, D: Disk, W: Write, L: LinkStore, A: Adapter, H: Listener>(
     alloc: Global,
     reader: &mut BufReader<R>,

@@ -32,8 +32,8 @@ pub fn with_no_line_lost_the_script_is_a_function()
         → (summary_of printed).no_memory ≡ 0 → printed ≡ script s bytes [] }
 {}
 
-/// The output of a run is the text of all lines, written by the output options. The texts of the lines are those that are defined for the
-/// numbers of the lost lines.
+/// The output of a run is the text of all lines, written by the output options. The texts of the lines are defined by the numbers of the
+/// lost lines.
 pub fn a_run_writes_the_dressed_script()
     ensures { (d : Dress) (s t : Session) (bytes : List ℕ) (first : List (List ℕ)) (printed : List Printed) → RunsBatch d s bytes first printed t
         → dressed_output d (lines bytes) (script s bytes (lost_lines printed)) ≡ dressed_output d first printed }

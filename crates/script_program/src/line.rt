@@ -1,17 +1,19 @@
 //! A line of a script is run.
-ghost use Rattle.std.specs.Prelude.{◌≡◌, Err, true, IfOk, OnErr};
+ghost use Rattle.std.specs.Prelude.{◌≡◌, ℕ, List, Err, true, IfOk, OnErr};
 ghost use Rattle.mm_types.specs.Shapes.{shape};
 ghost use Rattle.notice_chain.specs.View.{View};
 ghost use Rattle.mm_types.specs.declared.end.End.{End};
+ghost use Rattle.mm_types.specs.declared.numbers.ResourceNo.{ResourceNo};
 ghost use Rattle.handshake.specs.declared.act.Act.{Act};
 ghost use Rattle.repository.specs.Run.{Executed, change_outcome};
 ghost use Rattle.repository.specs.State.{State};
 ghost use Rattle.repository.specs.Views.{changed_view, command_view, outcome_view};
-ghost use Rattle.repository.specs.declared.command.Command.TheVariants.{At};
+ghost use Rattle.repository.specs.declared.command.Command.TheVariants.{At, Load};
 ghost use Rattle.repository.specs.Commands.{get};
 ghost use Rattle.script_lines.specs.Forms as forms;
 ghost use Rattle.script_lines.specs.Source.{bytes_of};
 ghost use Rattle.script_lines.specs.declared.line.Line.TheVariants as asked;
+ghost use Rattle.script_program.specs.Answers as a;
 ghost use Rattle.script_program.specs.Bind.{IsGiven, pool_of, request_view};
 ghost use Rattle.script_program.specs.Pool.{Pool as PoolView};
 ghost use Rattle.script_program.specs.Script.{Adds, IsLeft, RunsCommand, RunsLine, RunsRequest};
@@ -20,7 +22,7 @@ ghost use Rattle.script_program.specs.Summary.{outcome_turn};
 ghost use Rattle.script_program.specs.declared.request.Request.TheVariants as request;
 
 use crate::answers::{feature_of, print_found, print_outcome, print_refusal, print_reply};
-use crate::bind::bind;
+use crate::bind::{NOTHING, bind};
 use crate::frequent::run_frequent;
 use crate::pool::Pool;
 use crate::request::Request;
@@ -29,7 +31,7 @@ use links::LinkStore;
 use mm_types::{AdapterNo, End, FeatureNo, Refused};
 use repository::{Command, EndRead, Failure, Read, Reply, Repository};
 use script_answers::Turn;
-use script_lines::{Line, Source, frequent_of, text_line_of};
+use script_lines::{Line, Source, frequent_of, load_parts, text_line_of};
 use script_output::Output;
 use std::alloc::{AllocError, Global};
 
@@ -45,7 +47,7 @@ pub(crate) fn turn_of_refusal(refused: Refused) -> Turn
 }
 
 /// How the outcome of a command is counted.
-pub(crate) fn turn_of<A>(outcome: &Result<Reply<A>, Failure<A>>) -> Turn
+fn turn_of<A>(outcome: &Result<Reply<A>, Failure<A>>) -> Turn
     ensures { (heard : A → View) → result ≡ outcome_turn (outcome_view heard outcome.now) }
 {
     match outcome {
@@ -129,9 +131,9 @@ pub(crate) fn run_command<L: LinkStore, A: Adapter>(
     Ok(turn)
 }
 
-/// Prints the outcome of a change that was made at an end. Adapters that the change released go back to the pool. Fails only if memory is
-/// refused for the output.
-#[inline(always)]
+/// Prints the outcome of a change that was made at an end, or of a load. Adapters that the change released go back to the pool. Fails only
+/// if memory is refused for the output. It is never inlined into the way of a change that notifies no adapter.
+#[inline(never)]
 pub(crate) fn finish_change<L: LinkStore, A: Adapter>(
     repository: &Repository<L, A>,
     pool: &mut Pool<A>,
@@ -139,8 +141,10 @@ pub(crate) fn finish_change<L: LinkStore, A: Adapter>(
     feature: FeatureNo,
     outcome: Result<Reply<A>, Refused>,
 ) -> Result<Turn, AllocError>
-    ensures { (s : State) (end : End) (act : Act) → end.feature ≡ feature → Executed s (At end act) (change_outcome (changed_view A.heard outcome)) repository.now
+    ensures at { (s : State) (end : End) (act : Act) → end.feature ≡ feature → Executed s (At end act) (change_outcome (changed_view A.heard outcome)) repository.now
         → IfOk result (λ t. Adds output.old output.new t (λ p. RunsCommand (session s pool.old) (At end act) p (session repository.now pool.new))) }
+    ensures load { (s : State) (k : ResourceNo) (text : List ℕ) → a.feature_of (Load k text) ≡ feature → Executed s (Load k text) (change_outcome (changed_view A.heard outcome)) repository.now
+        → IfOk result (λ t. Adds output.old output.new t (λ p. RunsCommand (session s pool.old) (Load k text) p (session repository.now pool.new))) }
 {
     match outcome {
         Ok(reply) => {
@@ -206,6 +210,10 @@ fn run_text<L: LinkStore, A: Adapter>(
     ensures ok { IfOk result (λ t. Adds output.old output.new t (λ p. RunsLine (session repository.old pool.old) (forms.text_line text.now) p (session repository.new pool.new))) }
     ensures left { OnErr result (IsLeft (RunsLine (session repository.old pool.old) (forms.text_line text.now)) repository.old repository.new) }
 {
+    if let Some((resource, document)) = load_parts(text) {
+        let outcome = repository.load_text(resource, document);
+        return finish_change(repository, pool, output, FeatureNo(NOTHING), outcome);
+    }
     match text_line_of(alloc, text)? {
         Line::Blank => Ok(Turn::Blank),
         Line::Bad => print_bad(output),

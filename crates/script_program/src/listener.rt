@@ -8,7 +8,7 @@ pub trait Listener: Drop {
     /// Whether it has to be called. If not, a run takes no time for it.
     fn is_listening(&self) -> bool;
 
-    /// Takes note that the lines of a script begin. The lines before were those of a journal.
+    /// Takes note that the lines of a script begin. The lines before came from a journal.
     fn script_begins(&mut self);
 
     /// Takes note of a line and of its output. The repository is as the line left it.

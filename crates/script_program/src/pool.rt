@@ -61,7 +61,8 @@ impl<A: Adapter> Pool<A> {
         Some(mem::replace(&mut self.boxes[index], entry))
     }
 
-    /// Takes the adapter of a number out. Refused with `NoAdapter` if there is none, and with `AdapterTaken` if it is out.
+    /// Takes the adapter of a number out. Refused with `NoAdapter` if no adapter has the number, and with `AdapterTaken` if the adapter is
+    /// out of the pool.
     pub(crate) fn take(&mut self, no: AdapterNo) -> Result<A, Refused>
         ensures ok { IfOk result (λ a. p.box_of self.old no ≡ Ok (A.heard a)) }
         ensures err { IfErr result (λ r. p.box_of self.old no ≡ Err r) }
@@ -82,7 +83,7 @@ impl<A: Adapter> Pool<A> {
         let _ = self.replaced(no, Some(adapter));
     }
 
-    /// Puts back the adapters of an outcome: those that were released, or the adapter of the number that was not attached.
+    /// Puts back the adapters of an outcome: the released adapters, or the adapter of the number that was not attached.
     pub(crate) fn give_back(&mut self, no: Option<AdapterNo>, outcome: Result<Reply<A>, Failure<A>>)
         ensures { self.new ≡ pool_after_return self.old no (outcome_view A.heard outcome) }
     {

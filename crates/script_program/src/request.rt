@@ -9,6 +9,6 @@ pub(crate) enum Request<A> {
     Execute(Command<A>),
     /// How often an adapter was notified, and how many notifications it keeps.
     Seen(AdapterNo),
-    /// No call of the repository, since the adapter that is to be attached is not in the pool.
+    /// The repository is not called, since the adapter that is to be attached is not in the pool.
     Refuse(Refused),
 }

@@ -19,7 +19,6 @@ use Rattle.links.specs.Links.{In, Links, cut, cut_value, end, far_end, joined_li
 use Rattle.links.specs.Indexed.{indexed_value}
 use Rattle.links.specs.Plans.{EditFits, PutFits, put_of}
 use Rattle.links.specs.declared.link.Link.{Link}
-use Rattle.links.specs.declared.plan.Edit.TheVariants as edit
 use Rattle.links.proofs.CutLemmas.{end-cut, end-shift_near, end-shift_other}
 use Rattle.links.proofs.PlaceLemmas.{ne-same_end}
 use Rattle.links.proofs.PutEndLemmas.{end-put}

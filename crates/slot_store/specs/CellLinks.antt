@@ -21,7 +21,7 @@ use Rattle.node_slots.specs.Cells.{Cells, HasKeys, cells, ends_of}
 
 ---------------------------------------------------------------- links
 
--- the link of an object at k in e, where g is the opposite; at the far end its position is the index of e's node
+-- the link of an object at k in e; g is the opposite; at the far end its position is the index of e's node
 abbrev pub link_to : Cells → End → ℕ → ObjectNo → Option FeatureNo → Link
 link_to c e k o None = record { end = e; index = k; far = Alone o; container = (c.pairing e).container }
 link_to c e k o (Some g) = joined_link e k (far_end o g) (index_in (c.vals (far_end o g)) (node_value e.node)) (c.pairing e).container
@@ -83,7 +83,7 @@ pub record RepeatNothing (c : Cells) : Type 0 where
   pub values : (e : End) → IsDistinct (c.vals e)
   pub entries : (o : ObjectNo) → IsOnce (c.entered (node.Object o))
 
--- the lists agree, the holders are those that the links give, and each object has as entries exactly the ends without opposite that have it
+-- the lists agree, the holders agree with the links, and each object has as entries exactly the ends without opposite that have it
 pub record IsKept (c : Cells) (es : List End) : Type 0 where
   pub lists : AreLists c es
   pub held : IsHeldOnce (cell_links c es)

@@ -28,7 +28,7 @@ pub(crate) fn value_of(node: Node) -> Value
     }
 }
 
-/// The near node, and the end that contains it, if the far feature of a link is the containing one.
+/// The near node and the end that contains it, if the far feature of a link is the containing feature.
 fn held_by_far(
     end: End,
     object: ObjectNo,

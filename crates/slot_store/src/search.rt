@@ -1,8 +1,9 @@
 //! The position of a value in an end, and of an end among the ends that hold an object.
 //!
 //! Most lists are made in the order of their objects' numbers. So a position is guessed as if the list were in that order; the last and the
-//! first position are tried first. The list is searched only if the guess is wrong. The ends that hold an object may be in any order. If an
-//! end that is cut is not at its guess, they are put in the order of their ranks, so that the next guesses are right.
+//! first position are tried first. A long list in another order has labels for this. The list is searched only if the guess is wrong. The
+//! ends that hold an object may be in any order. If an end that is cut is not at its guess, they are put in the order of their ranks, so that
+//! the next guesses are right.
 ghost use Rattle.std.specs.Prelude.{◌≡◌, position};
 ghost use Rattle.mm_types.specs.Same.{same_end};
 ghost use Rattle.mm_types.specs.declared.numbers.Node.TheVariants as node;
@@ -11,38 +12,9 @@ ghost use Rattle.node_slots.specs.Cells.{AreReordered, cells, room};
 ghost use Rattle.slot_store.specs.CellLinks.{IsOnce};
 ghost use Rattle.slot_store.specs.Entering.{found_in};
 
+use index_guesses::by_rank;
 use mm_types::{End, Node, ObjectNo, Value};
 use node_slots::{NodeSlots, entry_rank};
-
-/// The position of a rank among `len` ranks, if it is the first or the last, or if the ranks rise or fall. Otherwise any position.
-fn guess<F: Fn(usize) -> Option<u64>>(len: usize, rank: u64, rank_at: F) -> usize
-    requires { F.IsAlwaysCallable rank_at }
-{
-    let last = len.saturating_sub(1);
-    if rank_at(last) == Some(rank) {
-        return last;
-    }
-    let first = rank_at(0);
-    if first == Some(rank) {
-        return 0;
-    }
-    let rises = first < rank_at(last);
-    let mut low = 0;
-    let mut high = last;
-    while low < high {
-        let middle = low + (high - low) / 2;
-        match rank_at(middle) {
-            Some(found) if found == rank => return middle,
-            Some(found) if (found < rank) == rises => low = middle + 1,
-            _ => high = middle,
-        }
-    }
-    low
-}
-
-fn object_rank(rows: &NodeSlots, end: End, index: usize) -> Option<u64> {
-    rows.object_at(end, index).map(|object| u64::from(object.0))
-}
 
 /// Whether two ends are the same.
 pub(crate) fn is_same(a: End, b: End) -> bool
@@ -51,38 +23,12 @@ pub(crate) fn is_same(a: End, b: End) -> bool
     a == b
 }
 
-/// The index of the first text of an end, if its objects come before its texts. Otherwise any index.
-fn first_text(rows: &NodeSlots, end: End) -> usize {
-    let mut low = 0;
-    let mut high = rows.len(end);
-    while low < high {
-        let middle = low + (high - low) / 2;
-        if rows.object_at(end, middle).is_some() {
-            low = middle + 1;
-        } else {
-            high = middle;
-        }
-    }
-    low
-}
-
-/// A guess at the position of a value in an end. If proxies are resolved in the order of their list, the texts that are left come after the
-/// objects.
-fn value_guess(rows: &NodeSlots, end: End, value: &Value) -> usize {
-    match value {
-        Value::Object(object) => guess(rows.len(end), u64::from(object.0), |index| {
-            object_rank(rows, end, index)
-        }),
-        _ => first_text(rows, end),
-    }
-}
-
 /// The index of a value in an end that repeats nothing; `None` if it is not there. It is searched at a guessed index first.
 pub(crate) fn found(rows: &NodeSlots, end: End, value: &Value) -> Option<usize>
     requires { IsDistinct ((cells rows.now).vals end) }
     ensures { result ≡ found_in (cells rows.now) value.now end }
 {
-    let index = value_guess(rows, end, value);
+    let index = rows.guess(end, value);
     if rows.is_at(end, index, value) {
         return Some(index);
     }
@@ -92,7 +38,7 @@ pub(crate) fn found(rows: &NodeSlots, end: End, value: &Value) -> Option<usize>
 /// The position of an end among the ends with no opposite that hold an object, if they are in order. Otherwise any position.
 fn entry_guess(rows: &NodeSlots, object: ObjectNo, end: End) -> usize {
     let node = Node::Object(object);
-    guess(rows.entered_len(node), entry_rank(end), |index| {
+    by_rank(rows.entered_len(node), entry_rank(end), |index| {
         rows.entered_at(node, index).map(|there| entry_rank(*there))
     })
 }

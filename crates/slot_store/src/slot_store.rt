@@ -35,7 +35,7 @@ impl LinkStore for SlotStore {
         }
     }
 
-    #[inline]
+    #[inline(always)]
     fn len(&self, end: End) -> usize {
         self.rows.len(end)
     }

@@ -25,7 +25,7 @@ pub struct NodeState {
     pub features: Seq<FeatureState>,
 }
 
-/// What a node, and each node below it, had at some time: the nodes in order, resources before objects, each once.
+/// The state of a node and of each node below it at some time: the nodes in order, resources before objects, each once.
 #[derive(Debug, Drop)]
 pub struct Snapshot {
     nodes: Vec<NodeState>,

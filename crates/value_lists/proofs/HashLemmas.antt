@@ -10,7 +10,7 @@ use Rattle.mm_types.specs.Same.{same_value}
 use Rattle.mm_types.specs.SameValues.{same_value-true}
 use Rattle.mm_types.specs.declared.value.Value.{Value}
 use Rattle.mm_types.specs.declared.value.Value.TheVariants as value
-use Rattle.value_lists.specs.Hashes.{count_in, has_hash, hash_of, Counts}
+use Rattle.value_lists.specs.Hashes.{count_in, has_hash, hash_of, is_at, Counts}
 use Rattle.value_lists.specs.declared.hash_counts.HashCounts.{HashCounts}
 
 abbrev pub one_of : ℕ → Value → ℕ
@@ -81,12 +81,45 @@ not_counted t vs w k counts is none =
     no_hash w vs here
 
 -- what is at an index is there
-pub any-slice_get : (p : Value → Bool) (vs : List Value) (i : ℕ) (v : Value) → Some v ≡ slice_get vs i → p v ≡ true → list_any p vs ≡ true
-any-slice_get p [] i v is same = cc
-any-slice_get p (x ∷ vs) zero v is same =
-    let eq : v ≡ x = cc in
-    ap (λ b. b || list_any p vs) (sym (ap p eq) ∙ same)
-any-slice_get p (x ∷ vs) (suc i) v is same = ap (λ b. p x || b) (any-slice_get p vs i v is same) ∙ or-true (p x)
+any_at : (w : Value) (vs : List Value) (i : ℕ) → is_at w i vs ≡ true → list_any (same_value w) vs ≡ true
+any_at w [] i at = cc
+any_at w (x ∷ vs) zero at = ap (λ b. b || list_any (same_value w) vs) at
+any_at w (x ∷ vs) (suc i) at = ap (λ b. same_value w x || b) (any_at w vs i at) ∙ or-true (same_value w x)
+
+pub any_found : (w : Value) (vs : List Value) (o : Option ℕ) → IfSome o (λ i. is_at w i vs ≡ true) → is_some o ≡ true → list_any (same_value w) vs ≡ true
+any_found w vs None at some = cc
+any_found w vs (Some i) at some = any_at w vs i at
+
+-- the hash of what is at an index is counted
+counted_at : (w : Value) (vs : List Value) (i : ℕ) → is_at w i vs ≡ true → 1 ≤ count_by (has_hash (hash_of w)) vs
+counted_at w [] i at = cc
+counted_at w (x ∷ vs) zero at =
+    let has : one_of (hash_of w) x ≡ 1 = ap (λ (z : Value). one_of (hash_of w) z) (sym (same_value-true w x at)) ∙ ap (λ b. cond b 1 0) (eq-eqb (hash_of w) (hash_of w) refl) in
+    omega (arith, has, sum_by-cons (one_of (hash_of w)) x vs)
+counted_at w (x ∷ vs) (suc i) at = omega (arith, sum_by-cons (one_of (hash_of w)) x vs, counted_at w vs i at)
+
+-- if one value has a hash, no value before it is the same
+first_at : (w : Value) (vs : List Value) (i : ℕ) → count_by (has_hash (hash_of w)) vs ≤ 1 → is_at w i vs ≡ true → position_or_len (same_value w) vs ≡ i
+first_at w [] i one at = cc
+first_at w (x ∷ vs) zero one at = ap (λ b. cond (not b) (1 + position_or_len (same_value w) vs) 0) at
+first_at w (x ∷ vs) (suc i) one at =
+    let sum = sum_by-cons (one_of (hash_of w)) x vs in
+    let later = counted_at w vs i at in
+    let here : one_of (hash_of w) x ≡ 0 = omega (arith, sum, later, one) in
+    let rest : count_by (has_hash (hash_of w)) vs ≤ 1 = omega (arith, sum, one) in
+    let next : position_or_len (same_value w) (x ∷ vs) ≡ 1 + i = ap (λ b. cond (not b) (1 + position_or_len (same_value w) vs) 0) (none_same w x (same_value w x) refl here) ∙ ap (λ n. 1 + n) (first_at w vs i rest at) in
+    omega (arith, next)
+
+within_at : (w : Value) (vs : List Value) (i : ℕ) → is_at w i vs ≡ true → nat_lt i (length vs) ≡ true
+within_at w [] i at = cc
+within_at w (x ∷ vs) zero at = grind (arith, nat_tests)
+within_at w (x ∷ vs) (suc i) at = grind (arith, nat_tests, within_at w vs i at)
+
+pub only_position : (t : HashCounts) (vs : List Value) (w : Value) (k i : ℕ) → Counts t vs → k ≡ hash_of w → 1 ≡ count_in t k → is_at w i vs ≡ true → Some i ≡ position (same_value w) vs
+only_position t vs w k i counts is one at =
+    let few : count_by (has_hash (hash_of w)) vs ≤ 1 = omega (arith, counts (hash_of w), ap (count_in t) is, one) in
+    let first = first_at w vs i few at in
+    sym (ap (λ n. cond (nat_lt n (length vs)) (Some n) None) first ∙ ap (λ b. cond b (Some i) None) (within_at w vs i at))
 
 pub count_fits : (t : HashCounts) (vs : List Value) (k n : ℕ) → Counts t vs → length vs + 1 ≤ n → count_in t k + 1 ≤ n
 count_fits t vs k n counts le = omega (arith, counts k, count_by-le-length (has_hash k) vs)
@@ -105,3 +138,11 @@ some_where n false = refl
 
 pub is_some-position : (p : Value → Bool) (vs : List Value) → is_some (position p vs) ≡ list_any p vs
 is_some-position p vs = some_where (position_or_len p vs) (nat_lt (position_or_len p vs) (length vs)) ∙ position_before p vs
+
+-- a value that is not in the list has no index
+no_some : (o : Option ℕ) → is_some o ≡ false → None ≡ o
+no_some None none = refl
+no_some (Some n) none = cc
+
+pub no_position : (p : Value → Bool) (vs : List Value) → list_any p vs ≡ false → None ≡ position p vs
+no_position p vs none = no_some (position p vs) (is_some-position p vs ∙ none)

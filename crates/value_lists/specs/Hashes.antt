@@ -1,5 +1,7 @@
 -- How many values of a list have each hash.
-use Rattle.std.specs.Prelude.{◌≡◌, ℕ, ◌++◌, Bool, List, fold, count_by, nat_eq, min, Option, Some, None}
+use Rattle.std.specs.Prelude.{◌≡◌, ℕ, ◌++◌, Bool, false, List, slice_get, fold, count_by, nat_eq, min, Option, Some, None}
+use Rattle.std.specs.Option.{option_map_or}
+use Rattle.mm_types.specs.Same.{same_value}
 use Rattle.slot_lists.specs.Places.{Places}
 use Rattle.std.specs.Hash as fed
 use Rattle.std.specs.Hash.DefaultHasher as sip
@@ -36,6 +38,10 @@ count_in t h = count_of (get nat_eq t.counts h)
 -- the table counts the values of the list
 abbrev pub Counts : HashCounts → List Value → Type 0
 Counts t vs = (h : ℕ) → count_in t h ≡ count_by (has_hash h) vs
+
+-- whether a value is at an index
+abbrev pub is_at : Value → ℕ → List Value → Bool
+is_at v i vs = option_map_or (same_value v) (slice_get vs i) false
 
 -- a list of values with its capacity
 abbrev pub ValuePlaces : Type 0

@@ -4,9 +4,10 @@ ghost use Rattle.std.specs.List.{insert, list_any, remove};
 ghost use Rattle.mm_types.specs.Same.{same_value};
 ghost use Rattle.slot_lists.specs.Moved.{list_after_move};
 ghost use Rattle.indexmap.specs.IndexMap.{spare as room_of};
-ghost use Rattle.value_lists.specs.Hashes.{hash_of, Counts};
+ghost use Rattle.value_lists.specs.Hashes.{hash_of, is_at, Counts};
 
-use crate::hash_counts::{Counted, HashCounts, hash_of};
+use crate::hash_counts::{HashCounts, hash_of};
+use index_guesses::{Labels, is_tried, label_between, new_label};
 use mm_types::Value;
 use slot_lists::SlotList;
 use std::alloc::{AllocError, Global};
@@ -18,6 +19,9 @@ use std::mem;
 pub(crate) struct CountedList {
     list: SlotList<Value>,
     hashes: HashCounts,
+    labels: Labels,
+    /// Whether each value that is put in or moved gets a label between those of its neighbours.
+    is_labelled: bool,
 }
 
 impl Model for CountedList {
@@ -44,6 +48,8 @@ impl CountedList {
         CountedList {
             list: SlotList::new(alloc),
             hashes: HashCounts::new(alloc),
+            labels: Labels::of(0),
+            is_labelled: false,
         }
     }
 
@@ -56,9 +62,12 @@ impl CountedList {
     {
         let mut boxed = Box::new(alloc, CountedList::new(alloc))?;
         let hashes = counted(alloc, list)?;
+        let labels = Labels::of(list.len());
         *boxed = CountedList {
             list: mem::replace(list, SlotList::new(alloc)),
             hashes,
+            labels,
+            is_labelled: false,
         };
         Ok(boxed)
     }
@@ -77,48 +86,82 @@ impl CountedList {
         self.list.get(index)
     }
 
-    /// The index of the first value that is the same.
+    /// The index of the first value that is the same. The list is not gone through if no value has its hash. It is not gone through either
+    /// if one value has its hash and is found by its label: then there is no other.
     pub fn position(&self, value: &Value) -> Option<usize>
         ensures { result ≡ position (same_value value.now) self.now.items }
     {
+        let Some(counted) = self.hashes.get(hash_of(value)) else {
+            return None;
+        };
+        if counted.count == 1 {
+            if let Some(index) = self.find(counted.label, value) {
+                return Some(index);
+            }
+        }
         self.list.position(value)
     }
 
-    /// Whether a value is there. The list is not searched if no value has its hash, or if the value is still where the last value of its
-    /// hash was put in, counted from the front or from the end.
+    /// Whether a value is there. The list is not gone through if no value has its hash, or if the value is found by the label of its hash.
     pub fn has(&self, value: &Value) -> bool
         ensures { result ≡ list_any (same_value value.now) self.now.items }
     {
         let Some(counted) = self.hashes.get(hash_of(value)) else {
             return false;
         };
-        if self.has_near(&counted, value) {
+        if self.find(counted.label, value).is_some() {
             return true;
         }
         self.list.position(value).is_some()
     }
 
-    /// Whether a value is where the last value of its hash was put in, counted from the front or from the end. If it is not, it may be
-    /// elsewhere.
-    fn has_near(&self, counted: &Counted, value: &Value) -> bool
-        ensures { result ≡ true → list_any (same_value value.now) self.now.items ≡ true }
+    /// An index of a value, which is searched by its label; `None` if it is not found so.
+    fn find(&self, label: u64, value: &Value) -> Option<usize>
+        ensures { IfSome result (λ i. is_at value.now i self.now.items ≡ true) }
     {
-        if self.has_at(counted.from_front, value) {
-            return true;
+        let index = self.labels.from_front(label);
+        if self.has_at(index, value) {
+            return Some(index);
         }
-        match self.list.len().checked_sub(counted.from_end) {
-            Some(index) => self.has_at(index, value),
-            None => false,
+        self.find_farther(label, value)
+    }
+
+    /// As `find`, but not at the index at which the label is if all labels before it are evenly spread.
+    #[cold]
+    fn find_farther(&self, label: u64, value: &Value) -> Option<usize>
+        ensures { IfSome result (λ i. is_at value.now i self.now.items ≡ true) }
+    {
+        let index = self.labels.from_end(label, self.list.len());
+        if self.has_at(index, value) {
+            return Some(index);
         }
+        let index = self
+            .labels
+            .search(self.list.len(), label, |index| self.label_at(index));
+        if self.has_at(index, value) {
+            return Some(index);
+        }
+        None
     }
 
     /// Whether a value is at an index.
     fn has_at(&self, index: usize, value: &Value) -> bool
-        ensures { result ≡ true → list_any (same_value value.now) self.now.items ≡ true }
+        ensures { result ≡ is_at value.now index self.now.items }
     {
         match self.list.get(index) {
             Some(other) => value == other,
             None => false,
+        }
+    }
+
+    /// The label of the value at an index; 0 past the end.
+    fn label_at(&self, index: usize) -> u64 {
+        let Some(value) = self.list.get(index) else {
+            return 0;
+        };
+        match self.hashes.get(hash_of(value)) {
+            Some(counted) => counted.label,
+            None => 0,
         }
     }
 
@@ -141,13 +184,42 @@ impl CountedList {
         ensures spare { self.old.spare ≤ self.new.spare + 1 }
     {
         let hash = hash_of(&value);
+        let label = self.label_before(index);
         match self.list.insert(index, value) {
             Ok(()) => {}
             Err(_) => unreachable!(),
         }
         // The length is a usize, so no count overflows.
         let len = self.list.len();
-        self.hashes.add(hash, index, len.saturating_sub(index));
+        self.hashes.add(hash, label);
+        self.labels.put(label, len);
+    }
+
+    /// A label for a value that is put in before the value at an index, or at the end.
+    fn label_before(&self, index: usize) -> u64 {
+        if index == self.list.len() {
+            return self.labels.after();
+        }
+        if index == 0 {
+            return self.labels.before();
+        }
+        if self.is_labelled {
+            return self.label_amid(index, index);
+        }
+        self.labels.near(index)
+    }
+
+    /// A label between that of the value before an index and that of the value at `next`. If there is no such value, the label is before or
+    /// after all others.
+    #[cold]
+    fn label_amid(&self, index: usize, next: usize) -> u64 {
+        if next >= self.list.len() {
+            return self.labels.after();
+        }
+        match index.checked_sub(1) {
+            Some(before) => label_between(self.label_at(before), self.label_at(next)),
+            None => self.labels.before(),
+        }
     }
 
     /// Takes out the value at an index. Takes no memory.
@@ -156,8 +228,48 @@ impl CountedList {
         ensures items { self.new.items ≡ remove self.old.items index }
         ensures spare { self.old.spare ≤ self.new.spare }
     {
+        self.try_label(index);
         let value = self.list.remove(index);
         self.hashes.take(hash_of(&value));
+        self.labels.take(index, self.list.len());
+    }
+
+    /// Looks at some removals whether the value at the index is found by its label. If it is not, all values get new labels, and labels are
+    /// kept from then on.
+    fn try_label(&mut self, index: usize)
+        ensures items { self.new.items ≡ self.old.items }
+        ensures spare { self.new.spare ≡ self.old.spare }
+    {
+        if is_tried(index) && !self.is_found(index) {
+            self.label_all();
+        }
+    }
+
+    /// Whether the value at an index is found by its label.
+    #[cold]
+    fn is_found(&self, index: usize) -> bool {
+        match self.list.get(index) {
+            Some(value) => match self.hashes.get(hash_of(value)) {
+                Some(counted) => self.find(counted.label, value).is_some(),
+                None => false,
+            },
+            None => false,
+        }
+    }
+
+    /// Gives all values new labels.
+    #[cold]
+    fn label_all(&mut self)
+        ensures items { self.new.items ≡ self.old.items }
+        ensures spare { self.new.spare ≡ self.old.spare }
+    {
+        self.is_labelled = true;
+        let len = self.list.len();
+        self.labels = Labels::of(len);
+        for index in 0..len {
+            self.hashes
+                .label(hash_at(&self.list, index), new_label(index));
+        }
     }
 
     /// Moves the value at `from`, so that it is then at `to`. Takes no memory.
@@ -168,6 +280,22 @@ impl CountedList {
         ensures spare { self.new.spare ≡ self.old.spare }
     {
         self.list.move_to(to, from);
+        self.label_moved(to);
+    }
+
+    /// Gives the value at an index, which was moved there, a label between those of its neighbours, if labels are kept.
+    fn label_moved(&mut self, index: usize)
+        ensures items { self.new.items ≡ self.old.items }
+        ensures spare { self.new.spare ≡ self.old.spare }
+    {
+        if !self.is_labelled {
+            return;
+        }
+        let label = self.label_amid(index, index.saturating_add(1));
+        if let Some(value) = self.list.get(index) {
+            self.hashes.label(hash_of(value), label);
+            self.labels.put(label, self.list.len());
+        }
     }
 
     /// Takes the list out, without its table and with all its capacity, and leaves an empty list. Takes no memory.
@@ -175,7 +303,7 @@ impl CountedList {
         ensures items { result.items ≡ self.old.items }
         ensures spare { self.old.spare ≤ result.spare }
     {
-        let CountedList { list, hashes: _ } = mem::replace(self, CountedList::new(alloc));
+        let CountedList { list, .. } = mem::replace(self, CountedList::new(alloc));
         list
     }
 }
@@ -189,7 +317,7 @@ fn counted(alloc: Global, list: &SlotList<Value>) -> Result<HashCounts, AllocErr
     let places = len.checked_add(list.spare()).ok_or(AllocError)?;
     let mut hashes = HashCounts::with_capacity(alloc, places)?;
     for index in 0..len {
-        hashes.add(hash_at(list, index), index, len - index);
+        hashes.add(hash_at(list, index), new_label(index));
     }
     Ok(hashes)
 }

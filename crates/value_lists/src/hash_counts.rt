@@ -1,4 +1,4 @@
-//! How many values of a list have each hash.
+//! How many values of a list have each hash, and the label by which one of them is found.
 ghost use Rattle.std.specs.Prelude.{◌≡◌, ℕ, ◌+◌, ◌-◌, ◌^◌, ◌<◌, ◌≤◌, fold, nat_eq, nat_lt, IfOk, OnOk, if◌then◌else◌};
 ghost use Rattle.std.specs.Hash.DefaultHasher as sip;
 ghost use Rattle.indexmap.specs.IndexMap.{spare};
@@ -9,14 +9,11 @@ use mm_types::Value;
 use std::alloc::{AllocError, Global};
 use std::hash::{DefaultHasher, Hash, Hasher};
 
-/// How many values have a hash, and where the last of them was put in.
+/// How many values have a hash, and the label of the last of them that got one.
 #[derive(Clone, Copy)]
 pub(crate) struct Counted {
     pub count: usize,
-    /// Its index when it was put in.
-    pub from_front: usize,
-    /// How far it was from the end then; 1 if it was the last.
-    pub from_end: usize,
+    pub label: u64,
 }
 
 /// For each hash that any value has, how many have it.
@@ -71,8 +68,8 @@ impl HashCounts {
         self.counts.reserve(additional)
     }
 
-    /// Counts one more value, which was put in so far from the front and from the end. Takes no memory.
-    pub fn add(&mut self, hash: u64, from_front: usize, from_end: usize)
+    /// Counts one more value, which has a label. Takes no memory.
+    pub fn add(&mut self, hash: u64, label: u64)
         requires room { 0 < spare self.old.counts }
         requires fits { count_in self.old hash + 1 < 2 ^ 64 }
         ensures counts { (h : ℕ) → count_in self.new h ≡ count_in self.old h + (if nat_eq hash h then 1 else 0) }
@@ -80,12 +77,21 @@ impl HashCounts {
     {
         let counted = Counted {
             count: self.count(hash) + 1,
-            from_front,
-            from_end,
+            label,
         };
         match self.counts.insert(hash, counted) {
             Ok(_) => {}
             Err(_) => unreachable!(),
+        }
+    }
+
+    /// Gives the values of a hash, if there are any, another label. Takes no memory.
+    pub fn label(&mut self, hash: u64, label: u64)
+        ensures counts { (h : ℕ) → count_in self.new h ≡ count_in self.old h }
+        ensures spare { spare self.new.counts ≡ spare self.old.counts }
+    {
+        if let Some(counted) = self.counts.get_mut(&hash) {
+            counted.label = label;
         }
     }
 

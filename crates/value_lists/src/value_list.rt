@@ -98,7 +98,8 @@ impl ValueList {
         }
     }
 
-    /// The index of the first value that is the same.
+    /// The index of the first value that is the same. If the hashes are counted, there are two cases in which the list is not gone through: no
+    /// value of the list has the hash of the value, or only one has, and it is found by its label.
     pub fn position(&self, value: &Value) -> Option<usize>
         ensures { result ≡ position (same_value value.now) self.now.items }
     {
@@ -112,8 +113,7 @@ impl ValueList {
     }
 
     /// Whether a value is there. If the hashes are counted, there are two cases in which the list is not gone through: no value of the list
-    /// has the hash of the value, or the value is still at the index at which the last value of its hash was put in, counted from the front
-    /// or from the end.
+    /// has the hash of the value, or the value is found by the label of its hash.
     pub fn has(&self, value: &Value) -> bool
         ensures { result ≡ list_any (same_value value.now) self.now.items }
     {

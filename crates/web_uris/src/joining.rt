@@ -74,7 +74,7 @@ fn text_of(alloc: Global, url: &Url) -> Result<String, UriFault>
     String::from_str(alloc, url.as_str()).map_err(|_| UriFault::Memory)
 }
 
-/// The URI of a reference, as `url` writes it: of the reference by itself if that is a URI, else joined with a base.
+/// The URI of a reference, as `url` writes it: the reference itself if it is a URI, otherwise the reference joined with a base.
 ///
 /// `Bad` if it is no URI either way, if the URI's scheme is neither http nor https, or if it has a `#`. `Memory`
 /// if memory is refused, or the URI would be longer than URIs can be.

@@ -22,6 +22,9 @@ pub struct Path {
     pub steps: Seq<Step>,
 }
 
+/// How many bytes most texts of paths take at most.
+const SHORT: usize = 24;
+
 fn push_number(text: &mut String, number: u32) -> Result<(), AllocError>
     ensures { OnOk result (string_bytes text.new ≡ string_bytes text.old ++ decimal number) }
 {
@@ -60,7 +63,8 @@ impl Path {
     pub fn text(&self, alloc: Global, is_root_left_out: bool) -> Result<String, AllocError>
         ensures { IfOk result (λ t. string_bytes t ≡ path_text is_root_left_out self.now) }
     {
-        let mut text = String::from_str(alloc, "/")?;
+        let mut text = String::with_capacity(alloc, SHORT)?;
+        text.push_str("/")?;
         if !is_root_left_out {
             push_number(&mut text, self.root)?;
         }

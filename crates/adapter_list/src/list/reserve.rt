@@ -10,8 +10,8 @@ use adapters::{Adapter, NoRoom};
 use notice_chain::Notice;
 
 impl<A: Adapter> AdapterList<A> {
-    /// Makes sure that each adapter has capacity for the copies that it gets, and for one more for each of its targets. Each adapter that
-    /// gets copies is asked once, in attach order, and the first refusal is returned. No adapter loses capacity.
+    /// Makes sure that each adapter has capacity for the copies that it gets, and for a last notification from each of its targets. Each
+    /// adapter that gets copies is asked once, in attach order, and the first refusal is returned. No adapter loses capacity.
     pub(super) fn reserve_places(&mut self, copies: &[(usize, Notice)]) -> Result<(), NoRoom>
         requires within { AllByRecursion (λ c. c.0 < length self.old.1) copies.now }
         ensures kept { self.new.0 ≡ self.old.0 }
@@ -59,7 +59,8 @@ impl<A: Adapter> AdapterList<A> {
         Ok(())
     }
 
-    /// Makes sure that the adapter at `ordinal` has capacity for as many copies, and for one more for each of its targets.
+    /// Makes sure that the adapter at `ordinal` has capacity for this number of copies, and for a last notification from each of its
+    /// targets.
     fn reserve_for(&mut self, ordinal: usize, count: usize) -> Result<(), NoRoom>
         requires within { ordinal < length self.old.1 }
         requires fits { count < 2 ^ 63 }

@@ -7,12 +7,12 @@ ghost use Rattle.notice_chain.specs.declared.notice.Notice.{Notice};
 ghost use Rattle.adapter_list.specs.Hearing.{AreKnown, copies_at};
 ghost use Rattle.adapter_list.specs.Reserved.{IsReserved, reserved_round};
 ghost use Rattle.adapter_list.specs.Targets.{targets_at};
-ghost use Rattle.adapter_list.specs.Rounds.{RoundFits, copies_from, round_of, adapters_after_copies, tell_at, told_by, use_place};
+ghost use Rattle.adapter_list.specs.Rounds.{CopiesFit, RoundFits, copies_from, round_of, adapters_after_copies, tell_at, told_by, use_place};
 
 use super::AdapterList;
 use crate::hearers::Hearers;
 use crate::refusal::refusal;
-use crate::round::Round;
+use crate::round::{Copies, Round};
 use adapters::Adapter;
 use links::LinkStore;
 use mm_types::{AdapterNo, Refused};
@@ -39,9 +39,9 @@ impl<A: Adapter> AdapterList<A> {
         Ok(numbers)
     }
 
-    /// Reserves all that a chain needs: for each adapter capacity for its notifications, and for one more for each of its targets; and the
-    /// copies of the notifications. The containers that `store` has now decide which adapters get them, so it is called before the change.
-    /// Whatever it returns, the adapters were notified of nothing and none has less capacity, so a round that fitted them still does.
+    /// Reserves all that a chain needs: the copies of its notifications, and for each adapter capacity for its copies and for a last
+    /// notification from each of its targets. The containers that `store` has now decide which adapters get them, so it is called before
+    /// the change. Whatever it returns, no adapter was notified or has less capacity, so a round that fitted the adapters still fits them.
     ///
     /// Refused with AdapterFull if an adapter can't count the notifications that it gets, or with Memory if memory is refused. The first
     /// adapter that refuses, in attach order, decides; with AdapterFull, each adapter before it has the capacity that it needs.
@@ -86,10 +86,21 @@ impl<A: Adapter> AdapterList<A> {
         ensures by_number { result.items ≡ told_by round.copies self.old.0 }
     {
         let (copies, told) = round.into_parts();
+        match copies {
+            Copies::One((ordinal, notice)) => self.tell_at(ordinal, notice),
+            Copies::Many(list) => self.tell_each(list),
+        }
+        told
+    }
+
+    /// Notifies the adapters of some copies, in their order.
+    fn tell_each(&mut self, copies: Vec<(usize, Notice)>)
+        requires fits { CopiesFit self.old.0 self.old.1 copies.items }
+        ensures heard { self.new.0 ≡ adapters_after_copies copies.items self.old.0 }
+    {
         for (ordinal, notice) in copies {
             self.tell_at(ordinal, notice);
         }
-        told
     }
 
     /// Notifies the adapter at `ordinal`.
@@ -166,9 +177,14 @@ impl<A: Adapter> AdapterList<A> {
         };
         round.reserve(ordinals.len())?;
         for ordinal in others {
-            round.add(*ordinal, self.attached[*ordinal].no, notice.clone()?)?;
+            round.add(
+                self.alloc,
+                *ordinal,
+                self.attached[*ordinal].no,
+                notice.clone()?,
+            )?;
         }
-        round.add(*last, self.attached[*last].no, notice)?;
+        round.add(self.alloc, *last, self.attached[*last].no, notice)?;
         Ok(())
     }
 }

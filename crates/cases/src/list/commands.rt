@@ -55,7 +55,7 @@ fn named(alloc: Global) -> Result<Notice, AllocError> {
     })
 }
 
-/// What that notification makes of the snapshot of the first book.
+/// The snapshot of the first book, after a replay of that notification.
 pub(super) fn renamed<L: LinkStore, A: Adapter>(
     alloc: Global,
     repository: &Repository<L, A>,
@@ -65,7 +65,7 @@ pub(super) fn renamed<L: LinkStore, A: Adapter>(
     Ok(view_of(alloc, snapshot, notices.as_slice())?)
 }
 
-/// Attaches the first adapter; one that is refused is dropped.
+/// Attaches the first adapter; a refused adapter is dropped.
 pub(super) fn watch<L: LinkStore, A: Adapter>(
     repository: &mut Repository<L, A>,
     target: Node,

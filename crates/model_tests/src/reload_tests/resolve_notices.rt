@@ -25,7 +25,7 @@ fn attach<L: LinkStore>(
     made_attached(repository.attach(AdapterNo(no), target, deep, counter))
 }
 
-/// Each loaded node, with how many notifications a flat adapter and a deep adapter there get. A proxy gives one notification at its own
+/// Each loaded node, with the numbers of notifications that a flat and a deep adapter there get. A proxy gives one notification at its own
 /// end; if its reference has an opposite, it gives another one at the other end.
 const HEARD: [(Node, u64, u64); 11] = [
     (Node::Object(ObjectNo(0)), 5, 6),

@@ -131,7 +131,7 @@ fn check_at_once<L: LinkStore>(
     check_saved(repository, texts, order)
 }
 
-/// Whether the proxy at a location is resolved. It is gone already if it was the other end of a link that was resolved before.
+/// Whether the proxy at a location is resolved. A proxy is gone already if it was the other end of a link that was resolved before.
 fn is_resolved<L: LinkStore>(repository: &mut Network<L>, site: Site) -> Result<bool, Refused> {
     match made(repository.resolve(site.object, site.feature, site.index)) {
         Ok(()) => Ok(true),

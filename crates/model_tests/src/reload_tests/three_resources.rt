@@ -10,7 +10,7 @@ use std::test::Fail;
 const LAST_FIRST: [u32; 3] = [2, 1, 0];
 
 /// The order in which the resources are made, and how many proxies are resolved and left after each load. The documents are loaded in the
-/// opposite order, in the first case the first, the second and the third.
+/// opposite order of the resources: in the first case first, second, third.
 const LOADS: [([u32; 3], [(u64, u64); 3]); 6] = [
     ([2, 1, 0], [(0, 6), (3, 6), (7, 0)]),
     ([1, 2, 0], [(0, 6), (4, 5), (6, 0)]),

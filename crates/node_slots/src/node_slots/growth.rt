@@ -74,11 +74,30 @@ impl NodeSlots {
         }
     }
 
-    /// Takes back the capacity that is reserved at each end to which an edit adds something; at its own end only if that is not done yet.
+    /// Whether the values of an end are to get labels, by which they are found.
+    fn needs_labels(&self, end: End) -> bool {
+        match self.slot(end) {
+            Some(slot) => slot.values.needs_labels(),
+            None => false,
+        }
+    }
+
+    /// Gives the values of an end labels, if they are to get them and there is memory. Reserving capacity does so; it is taken back.
+    fn label(&mut self, end: End)
+        ensures { cells self.new ≡ cells self.old }
+    {
+        if self.needs_labels(end) && self.promise(end, false).is_ok() {
+            self.forget(end);
+        }
+    }
+
+    /// Takes back the capacity that is reserved at each end to which an edit adds something; at its own end only if that is not done yet. An
+    /// end from which a cut takes a value may get labels, so that the cut finds the value.
     fn forget_edit(&mut self, edit: &Edit, is_done: bool)
         ensures { cells self.new ≡ cells self.old }
     {
         match edit {
+            Edit::Cut { end, .. } => self.label(*end),
             Edit::PutProxy { end, .. } if !is_done => self.forget(*end),
             Edit::Put(link) => {
                 if !is_done {

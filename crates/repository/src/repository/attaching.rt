@@ -50,8 +50,8 @@ impl<L: LinkStore, A: Adapter> Repository<L, A> {
     }
 
     /// Gives an adapter one more target, flat or deep (EMF: Notifier.eAdapters().add of an adapter that is attached elsewhere). It gets a
-    /// notification once, however many of its targets bring the notification in. If the node is a target of it already, returns false and
-    /// nothing changes; a flat target stays flat, and a deep one deep.
+    /// notification once, even if the change is at several of its targets or below them. If the node is a target of it already, returns
+    /// false and nothing changes; a flat target stays flat, and a deep one deep.
     ///
     /// Refused, the first that applies: `NoObject`, `NoResource`, `Limit` if there are 100,000 targets, `NoAdapter` if the number is not
     /// attached, `AdapterFull` if it can't count a last notification from each target, `Memory`. If the node is a target of it already,

@@ -16,14 +16,13 @@ ghost use Rattle.repository.specs.Proper.{IsProper};
 
 use super::Repository;
 use crate::preparing::{Prepared, prepare, prepare_links, prepare_values};
-use crate::replies::{replied_done, replied_object, reply};
-use crate::reply::{Answer, Reply};
+use crate::replies::{replied, replied_object, reply};
+use crate::reply::{Answer, Brief, Reply};
 use adapters::Adapter;
 use change_plans::{attribute_refusal, plan_set};
 use handshake::{Act, Change, early_refusal};
 use links::LinkStore;
 use mm_types::{ClassNo, End, FeatureNo, Node, ObjectNo, Refused, Value};
-use mm_values::ValuePlan;
 
 impl<L: LinkStore, A: Adapter> Repository<L, A> {
     /// Makes an object of a class; each of its attributes has its default (EMF: EFactory.create). Notifies no adapter.
@@ -52,19 +51,15 @@ impl<L: LinkStore, A: Adapter> Repository<L, A> {
     ) -> Result<Reply<A>, Refused>
         ensures { Executed self.old (commands.set node feature value) (change_outcome (changed_view A.heard result)) self.new }
     {
-        let end = End { node, feature };
-        if self.meta.is_reference(feature) {
-            return self.set_link(end, value);
+        match self.set_brief(node, feature, value) {
+            Brief::Unheard(done) => replied(self.alloc, done, Answer::Done),
+            Brief::Replied(reply) => reply,
         }
-        if !self.is_heard(node) {
-            return replied_done(self.alloc, self.set_value(end, value));
-        }
-        self.set_heard(end, value)
     }
 
     /// Unsets a feature of an object (EMF: EObject.eUnset): a single attribute gets its default, a single reference becomes null, a list
-    /// becomes empty, and the opposites follow. Notifies the adapters at each opposite. Then it notifies the adapters at the feature: of a
-    /// single feature with UNSET, whether it was set or not; of a list with one REMOVE for each value, from the last to the first.
+    /// becomes empty, and the opposites follow. Notifies the adapters at each opposite. Then it notifies the adapters at the feature: for a
+    /// single feature of UNSET, whether it was set or not; for a list of one REMOVE for each value, from the last to the first.
     ///
     /// Refused, the first that applies: `NoObject`, `NoResource`, `NoFeature`, `AdapterFull`, `Memory`.
     pub fn e_unset(&mut self, node: Node, feature: FeatureNo) -> Result<Reply<A>, Refused>
@@ -126,8 +121,9 @@ impl<L: LinkStore, A: Adapter> Repository<L, A> {
         Ok(reply(self.alloc, prepared.answer))
     }
 
-    /// A set of an attribute that may notify an adapter.
-    fn set_heard(&mut self, end: End, value: Value) -> Result<Reply<A>, Refused>
+    /// A set of an attribute that may notify an adapter. It is never inlined into the way of a set that notifies none.
+    #[inline(never)]
+    pub(super) fn set_heard(&mut self, end: End, value: Value) -> Result<Reply<A>, Refused>
         requires attribute { (shape self.old.model.metamodel end.feature).is_reference ≡ false }
         ensures { Executed self.old (At end (Set value)) (change_outcome (changed_view A.heard result)) self.new }
     {
@@ -152,17 +148,6 @@ impl<L: LinkStore, A: Adapter> Repository<L, A> {
         }
     }
 
-    /// A set of a reference.
-    fn set_link(&mut self, end: End, value: Value) -> Result<Reply<A>, Refused>
-        requires reference { (shape self.old.model.metamodel end.feature).is_reference ≡ true }
-        ensures { Executed self.old (At end (Set value)) (change_outcome (changed_view A.heard result)) self.new }
-    {
-        match self.set_lone_link(end, &value) {
-            Some(outcome) => replied_done(self.alloc, outcome),
-            None => self.change_links(Change::At(end, Act::Set(value))),
-        }
-    }
-
     /// A change that edits only links: a reference of one node. It destroys nothing, so no target is taken away.
     #[inline(never)]
     pub(super) fn change_links(&mut self, change: Change) -> Result<Reply<A>, Refused>
@@ -176,15 +161,7 @@ impl<L: LinkStore, A: Adapter> Repository<L, A> {
             Ok(prepared) => prepared,
             Err(refused) => return Err(refused),
         };
-        let values = ValuePlan::none(self.alloc);
-        let spots = Vec::new(self.alloc);
-        self.finish(
-            prepared.answer,
-            prepared.edits,
-            values,
-            prepared.chain,
-            spots,
-        )
+        self.tell_links(prepared.answer, prepared.edits, prepared.chain)
     }
 
     /// Plans a change, and makes it. For a change that loads a document, it does what `load` does for each text that is read as this

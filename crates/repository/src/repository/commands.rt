@@ -8,7 +8,7 @@ ghost use Rattle.mm_types.specs.declared.read.Read.TheVariants as asks;
 
 use super::Repository;
 use crate::command::Command;
-use crate::replies::{outcome, replied};
+use crate::replies::{outcome, replied_read};
 use crate::reply::{Answer, Failure, Reply};
 use adapters::Adapter;
 use handshake::{Act, Change};
@@ -37,9 +37,7 @@ impl<L: LinkStore, A: Adapter> Repository<L, A> {
             Command::Create(class) => outcome(self.create(class)),
             Command::Delete(object) => outcome(self.delete(object)),
             Command::CreateResource(text) => outcome(self.create_resource(text.as_str())),
-            Command::Load(resource, text) => {
-                outcome(self.load(resource, text.as_str().as_bytes()))
-            }
+            Command::Load(resource, text) => outcome(self.load_text(resource, text.as_str())),
             Command::ResolveAll => outcome(self.resolve_all()),
             Command::Attach {
                 no,
@@ -53,7 +51,7 @@ impl<L: LinkStore, A: Adapter> Repository<L, A> {
             Command::Read(Read::Of(object, ObjectRead::Fragment)) => {
                 outcome(self.fragment_reply(object))
             }
-            Command::Read(read) => outcome(replied(self.alloc, self.read(read))),
+            Command::Read(read) => outcome(replied_read(self.alloc, self.read(read))),
         }
     }
 

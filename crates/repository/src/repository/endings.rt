@@ -7,7 +7,7 @@ ghost use Rattle.repository.specs.Views.{changed_view, command_of};
 
 use super::Repository;
 use crate::leaving::notify;
-use crate::preparing::reserve;
+use crate::preparing::{reserve, reserve_links};
 use crate::remembered::forget_touched;
 use crate::reply::{Answer, Reply};
 use adapters::Adapter;
@@ -87,6 +87,45 @@ impl<L: LinkStore, A: Adapter> Repository<L, A> {
             Ok(()) => {}
             Err(_) => return Err(Refused::Memory),
         }
+        let told = self.adapters.deliver(round);
+        Ok(Reply {
+            answer,
+            told: Seq::from_vec(told),
+            released: Seq::new(self.alloc),
+        })
+    }
+
+    /// Makes a change that edits links alone and destroys nothing. It takes all memory, and all capacity at adapters, that the change needs.
+    /// Then it edits and notifies, which can't fail.
+    #[inline(always)]
+    pub(super) fn tell_links(
+        &mut self,
+        answer: Answer,
+        edits: Plan,
+        chain: Chain,
+    ) -> Result<Reply<A>, Refused>
+        requires ready { (change : Change) × IsReady self.old [] change answer [] edits [] chain }
+        ensures { (change : Change) → IsReady self.old [] change answer [] edits [] chain → Executed self.old (command_of [] change) (change_outcome (changed_view A.heard result)) self.new }
+    {
+        let round = match reserve_links(
+            &mut self.store,
+            &mut self.adapters,
+            &edits,
+            chain,
+            &mut self.hearers,
+        ) {
+            Ok(round) => round,
+            Err(refused) => return Err(refused),
+        };
+        // The plan destroys no object, so no target is taken away.
+        forget_touched(
+            &mut self.paths,
+            &mut self.hearers,
+            &self.meta,
+            &edits,
+            false,
+        );
+        self.store.apply(edits);
         let told = self.adapters.deliver(round);
         Ok(Reply {
             answer,

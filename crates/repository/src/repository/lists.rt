@@ -1,15 +1,11 @@
 //! Changes of the lists of objects.
-ghost use Rattle.std.specs.Prelude.{◌≡◌, true};
-ghost use Rattle.mm_types.specs.Shapes.{shape};
 ghost use Rattle.repository.specs.Run.{Executed, change_outcome};
 ghost use Rattle.repository.specs.Views.{changed_view};
-ghost use Rattle.handshake.specs.declared.act.Act.TheVariants.{Add};
 ghost use Rattle.repository.specs.Commands as commands;
-ghost use Rattle.repository.specs.declared.command.Command.TheVariants.{At};
 
 use super::Repository;
-use crate::replies::replied_added;
-use crate::reply::Reply;
+use crate::replies::replied;
+use crate::reply::{Answer, Brief, Reply};
 use adapters::Adapter;
 use handshake::{Act, Change};
 use links::LinkStore;
@@ -23,7 +19,7 @@ impl<L: LinkStore, A: Adapter> Repository<L, A> {
     ///
     /// Refused, the first that applies: `NoObject` if the node or the value is an object that does not live, `NoResource`, `NoFeature`,
     /// `NotMany` if the feature is single, `WrongType`, `TextLength` above 65,535 bytes, `Index` above the length, `Duplicate` if a unique
-    /// list already has the value that is added at an index, `Bound` if the list, or the opposite one, has as many values as its upper
+    /// list already has the value that is added at an index, `Bound` if the list or the opposite list has as many values as its upper
     /// bound, `Recursive` if an object would contain itself, `Limit` if one of the two has 1,000,000 values, `AdapterFull`, `Memory`.
     pub fn add(
         &mut self,
@@ -34,15 +30,14 @@ impl<L: LinkStore, A: Adapter> Repository<L, A> {
     ) -> Result<Reply<A>, Refused>
         ensures { Executed self.old (commands.add node feature value index) (change_outcome (changed_view A.heard result)) self.new }
     {
-        let end = End { node, feature };
-        if self.meta.is_reference(feature) {
-            return self.add_link(end, value, index);
+        match self.add_brief(node, feature, value, index) {
+            Brief::Unheard(done) => replied(self.alloc, done, Answer::Flag(true)),
+            Brief::Replied(reply) => reply,
         }
-        self.change(Change::At(end, Act::Add(value, index)))
     }
 
     /// Takes the value at an index out of a list, and returns it (EMF: EList.remove). A link is cut at both ends. Notifies the adapters at
-    /// the opposite, and those at the list with REMOVE.
+    /// the opposite end, and the adapters at the list with REMOVE.
     ///
     /// Refused, the first that applies: `NoObject`, `NoResource`, `NoFeature`, `NotMany`, `Index` if there is no such value, `AdapterFull`,
     /// `Memory`.
@@ -88,16 +83,5 @@ impl<L: LinkStore, A: Adapter> Repository<L, A> {
         ensures { Executed self.old (commands.move node feature to from) (change_outcome (changed_view A.heard result)) self.new }
     {
         self.change(Change::At(End { node, feature }, Act::Move { to, from }))
-    }
-
-    /// An addition to a reference.
-    fn add_link(&mut self, end: End, value: Value, index: Option<u32>) -> Result<Reply<A>, Refused>
-        requires reference { (shape self.old.model.metamodel end.feature).is_reference ≡ true }
-        ensures { Executed self.old (At end (Add value index)) (change_outcome (changed_view A.heard result)) self.new }
-    {
-        match self.add_lone_link(end, &value, index) {
-            Some(outcome) => replied_added(self.alloc, outcome),
-            None => self.change_links(Change::At(end, Act::Add(value, index))),
-        }
     }
 }

@@ -13,7 +13,7 @@ use handshake::Change;
 use links::LinkStore;
 use mm_types::{DocFault, Refused, ResourceNo};
 use models::{ModelRef, contents_end};
-use resource_docs::read_doc;
+use resource_docs::{read_doc, read_doc_text};
 
 impl<L: LinkStore, A: Adapter> Repository<L, A> {
     /// Loads a document, `bytes` as JSON, into an empty resource (EMF: Resource.load): all its objects with their values, links and
@@ -31,6 +31,21 @@ impl<L: LinkStore, A: Adapter> Repository<L, A> {
             return Err(Refused::NoResource);
         };
         match read_doc(self.alloc, model.meta(), uri, bytes) {
+            Ok(doc) => self.carry_out(Change::Load(resource, doc)),
+            Err(Refused::Document(fault)) => Err(fault_refusal(&model, resource, fault)),
+            Err(_) => Err(Refused::Memory),
+        }
+    }
+
+    /// Loads the document of a text as `load` does, and is refused as `load` is. The text is not tested as UTF-8 again.
+    pub fn load_text(&mut self, resource: ResourceNo, text: &str) -> Result<Reply<A>, Refused>
+        ensures { Executed self.old (Load resource text.now) (change_outcome (changed_view A.heard result)) self.new }
+    {
+        let model = self.model();
+        let Some(uri) = model.uri(resource) else {
+            return Err(Refused::NoResource);
+        };
+        match read_doc_text(self.alloc, model.meta(), uri, text) {
             Ok(doc) => self.carry_out(Change::Load(resource, doc)),
             Err(Refused::Document(fault)) => Err(fault_refusal(&model, resource, fault)),
             Err(_) => Err(Refused::Memory),

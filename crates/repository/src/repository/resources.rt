@@ -18,8 +18,8 @@ impl<L: LinkStore, A: Adapter> Repository<L, A> {
     /// URL Standard has it. Notifies no adapter.
     ///
     /// Refused, the first that applies: `TextLength` if the text, or the URI that it gives, has more than 65,535 bytes, `Limit` if 100,000
-    /// resources were made, `BadUri` if the text gives no http or https URI, or one with a fragment, `ResourceExists` if a resource has the
-    /// URI, `Memory`.
+    /// resources were made, `BadUri` if the text gives no URI of http or https, or a URI with a fragment, `ResourceExists` if a resource
+    /// has the URI, `Memory`.
     pub fn create_resource(&mut self, text: &str) -> Result<Reply<A>, Refused>
         ensures { Executed self.old (CreateResource text.now) (change_outcome (changed_view A.heard result)) self.new }
     {

@@ -1,15 +1,16 @@
 //! Changes that notify no adapter. Most commands of a script are such changes, and a reply with lists of notified adapters takes longer to
 //! make than the change itself. Each call here does what a call with a reply does, which its docstring names.
-ghost use Rattle.std.specs.Prelude.{◌≡◌, ◌&&◌, ◌||◌, [], None, false, true, IfErr, IfOk, MatchOption, is_some};
+ghost use Rattle.std.specs.Prelude.{◌≡◌, ◌&&◌, ◌||◌, [], None, false, true, MatchOption, is_some};
 ghost use Rattle.mm_types.specs.Shapes.{shape};
+ghost use Rattle.handshake.specs.Changes.{edits_one_kind};
 ghost use Rattle.handshake.specs.Refusals.{early_refusal as early_refusal_of};
 ghost use Rattle.handshake.specs.declared.change.Change.{Change};
 ghost use Rattle.handshake.specs.declared.change.Change.TheVariants as change;
 ghost use Rattle.adapter_list.specs.Hearing.{is_heard as is_heard_by};
 ghost use Rattle.repository.specs.Puts.{IsPutAlone, is_put_heard};
-ghost use Rattle.repository.specs.Run.{Executed, read_outcome};
+ghost use Rattle.repository.specs.Run.{Executed, brief_outcome, change_outcome, read_outcome};
 ghost use Rattle.repository.specs.State.{reads};
-ghost use Rattle.repository.specs.Views.{command_of};
+ghost use Rattle.repository.specs.Views.{changed_view, command_of};
 ghost use Rattle.handshake.specs.declared.act.Act.TheVariants.{Add, Set};
 ghost use Rattle.repository.specs.Commands as commands;
 ghost use Rattle.repository.specs.declared.command.Command.TheVariants.{At, Create};
@@ -19,9 +20,10 @@ ghost use Rattle.repository.specs.declared.reply.Answer.TheVariants as answer;
 use super::Repository;
 use crate::lone_puts::{forget_put, put_value};
 use crate::preparing::next_object;
+use crate::reply::{Brief, Reply};
 use adapters::Adapter;
 use change_plans::{attribute_refusal, create_refusal, lone_add, lone_set};
-use handshake::{list_early_refusal, set_early_refusal};
+use handshake::{Act, Change, list_early_refusal, set_early_refusal};
 use links::{LinkStore, NewLink};
 use mm_types::{ClassNo, End, FeatureNo, Node, ObjectNo, Refused, Value};
 
@@ -43,52 +45,57 @@ impl<L: LinkStore, A: Adapter> Repository<L, A> {
         Ok(object)
     }
 
-    /// Sets a single feature as `e_set` does, or returns the refusal. If an adapter has to be notified, or the new link displaces another,
-    /// it gives the value back and has done nothing; then `e_set` is to be called.
+    /// Sets a single feature as `e_set` does. The outcome has a reply only if an adapter may be notified, or if the new link displaces
+    /// another.
     #[inline(always)]
-    pub fn set_unheard(
-        &mut self,
-        node: Node,
-        feature: FeatureNo,
-        value: Value,
-    ) -> Result<Result<(), Refused>, Value>
-        ensures done { IfOk result (λ r. Executed self.old (commands.set node feature value) (read_outcome (λ u. answer.Done) r) self.new) }
-        ensures left { IfErr result (λ v. (v ≡ value) × (self.new ≡ self.old)) }
+    pub fn set_brief(&mut self, node: Node, feature: FeatureNo, value: Value) -> Brief<A>
+        ensures { Executed self.old (commands.set node feature value) (brief_outcome A.heard answer.Done result) self.new }
     {
         let end = End { node, feature };
-        if !self.meta.is_reference(feature) {
-            if self.is_heard(node) {
-                return Err(value);
-            }
-            return Ok(self.set_value(end, value));
+        if self.meta.is_reference(feature) {
+            return match self.set_lone_link(end, &value) {
+                Some(done) => Brief::Unheard(done),
+                None => Brief::Replied(self.displace(end, Act::Set(value))),
+            };
         }
-        match self.set_lone_link(end, &value) {
-            Some(done) => Ok(done),
-            None => Err(value),
+        if self.is_heard(node) {
+            return Brief::Replied(self.set_heard(end, value));
         }
+        Brief::Unheard(self.set_value(end, value))
     }
 
-    /// Adds an object to a list as an `add` that changes the list does, or returns the refusal. If an adapter has to be notified, the new
-    /// link displaces another, the list has the object, or the feature is an attribute, it gives the value back and has done nothing; then
-    /// `add` is to be called.
+    /// Adds a value to a list as `add` does. The outcome has no reply if one link is put that notifies no adapter and displaces no other
+    /// link; then the list has changed.
     #[inline(always)]
-    pub fn add_unheard(
+    pub fn add_brief(
         &mut self,
         node: Node,
         feature: FeatureNo,
         value: Value,
         index: Option<u32>,
-    ) -> Result<Result<(), Refused>, Value>
-        ensures done { IfOk result (λ r. Executed self.old (commands.add node feature value index) (read_outcome (λ u. answer.Flag true) r) self.new) }
-        ensures left { IfErr result (λ v. (v ≡ value) × (self.new ≡ self.old)) }
+    ) -> Brief<A>
+        ensures { Executed self.old (commands.add node feature value index) (brief_outcome A.heard (answer.Flag true) result) self.new }
     {
-        if !self.meta.is_reference(feature) {
-            return Err(value);
+        let end = End { node, feature };
+        if self.meta.is_reference(feature) {
+            return match self.add_lone_link(end, &value, index) {
+                Some(done) => Brief::Unheard(done),
+                None => Brief::Replied(self.displace(end, Act::Add(value, index))),
+            };
         }
-        match self.add_lone_link(End { node, feature }, &value, index) {
-            Some(done) => Ok(done),
-            None => Err(value),
-        }
+        Brief::Replied(self.change(Change::At(end, Act::Add(value, index))))
+    }
+
+    /// A change of a reference that is not refused early. It is never inlined into the way of a change that notifies no adapter, which would
+    /// then zero the stack slots of a `Change`.
+    #[inline(never)]
+    fn displace(&mut self, end: End, act: Act) -> Result<Reply<A>, Refused>
+        requires reference { (shape self.old.model.metamodel end.feature).is_reference ≡ true }
+        requires one { edits_one_kind (change.At end act) ≡ true }
+        requires asked { early_refusal_of (reads self.old) (change.At end act) ≡ None }
+        ensures { Executed self.old (At end act) (change_outcome (changed_view A.heard result)) self.new }
+    {
+        self.change_links(Change::At(end, act))
     }
 
     /// Whether an adapter gets the notifications of a node. Takes no memory.

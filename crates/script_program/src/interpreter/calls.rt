@@ -1,8 +1,5 @@
 //! Calls that no line of a script makes: reads of lists that do not fetch the list, and loads of documents of any length.
 ghost use Rattle.std.specs.Prelude.{◌≡◌, IfOk};
-ghost use Rattle.notice_chain.specs.View.{View};
-ghost use Rattle.repository.specs.Run.{change_outcome};
-ghost use Rattle.repository.specs.Views.{changed_view, outcome_view};
 ghost use Rattle.repository.specs.declared.command.Command.TheVariants.{Load};
 ghost use Rattle.script_program.specs.Lists.{list_len_printed, list_value_printed};
 ghost use Rattle.script_program.specs.Script.{RunsCommand};
@@ -10,28 +7,14 @@ ghost use Rattle.script_program.specs.Session.{session};
 ghost use Rattle.script_answers.specs.Turns.{printed_line};
 
 use super::Interpreter;
-use crate::answers::{print_found, print_outcome, print_refusal};
+use crate::answers::{print_found, print_refusal};
 use crate::bind::{NOTHING, feature_number};
-use crate::line::turn_of;
+use crate::line::finish_change;
 use adapters::Adapter;
 use links::LinkStore;
-use mm_types::{FeatureNo, Node, Refused, ResourceNo};
-use repository::{Failure, Reply};
+use mm_types::{FeatureNo, Node, ResourceNo};
 use script_answers::Turn;
 use std::alloc::AllocError;
-
-/// The outcome of a command that takes no adapter.
-fn outcome_of<A>(reply: Result<Reply<A>, Refused>) -> Result<Reply<A>, Failure<A>>
-    ensures { (heard : A → View) → outcome_view heard result ≡ change_outcome (changed_view heard reply) }
-{
-    match reply {
-        Ok(reply) => Ok(reply),
-        Err(refused) => Err(Failure {
-            refused,
-            given_back: None,
-        }),
-    }
-}
 
 impl<L: LinkStore, A: Adapter> Interpreter<L, A> {
     /// Reads how many values a list has, and returns how the read is counted. From then on the text is the number, or the refusal.
@@ -56,8 +39,8 @@ impl<L: LinkStore, A: Adapter> Interpreter<L, A> {
         }
     }
 
-    /// Reads the value at an index of a list, and returns how the read is counted. From then on the text is the value, as `get` prints one,
-    /// or the refusal.
+    /// Reads the value at an index of a list, and returns how the read is counted. From then on the text is the value, as `get` prints a
+    /// value, or the refusal.
     ///
     /// Fails only if memory is refused for the text.
     pub fn list_value(&mut self, node: Node, feature: &str, index: u32) -> Result<Turn, AllocError>
@@ -92,11 +75,8 @@ impl<L: LinkStore, A: Adapter> Interpreter<L, A> {
             (session self.new.repository self.new.pool)) }
     {
         self.output.clear();
-        let outcome = outcome_of(self.repository.load(resource, document));
-        let meta = self.repository.meta();
-        print_outcome(&mut self.output, meta, FeatureNo(NOTHING), &outcome)?;
-        let turn = turn_of(&outcome);
-        self.pool.give_back(None, outcome);
-        Ok(turn)
+        let outcome = self.repository.load(resource, document);
+        let (pool, output) = (&mut self.pool, &mut self.output);
+        finish_change(&self.repository, pool, output, FeatureNo(NOTHING), outcome)
     }
 }

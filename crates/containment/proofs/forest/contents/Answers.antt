@@ -1,4 +1,4 @@
-use Rattle.std.proofs.Common.{◌∙◌, ap, sym}
+use Rattle.std.proofs.Common.{◌∙◌, sym}
 use Rattle.models.specs.Model.{reading}
 use Rattle.models.specs.Reading.{all_features_of}
 use Rattle.containment.proofs.ForestLemmas.{no-parts, parts-step}

@@ -43,9 +43,9 @@ loop-ordinal-preserved g c =
     let all = ordinals cs in
     let i = c.loop-ordinal.ordinal-index in
     let x = get_or all i 0 in
+    let asked = c.in_default.ensures in
     let low : i < length all = omega (arith, ordinals-len cs, c.loop-ordinal-test.true) in
     let at = ordinal-at cs i c.loop-ordinal-item.result c.loop-ordinal-test.true c.loop-ordinal-item.is in
-    let asked = c.in_default.ensures in
     let there : IsReadyFor rs qs x 1 = subst (λ (k : ℕ). IsReadyFor rs qs k 1) (sym at) (subst (λ (ss : List Listed). IsReadyFor ss qs c.loop-ordinal-item.result.0 1) c.loop-ordinal.invariant.kept asked.ok) in
     let ready : IsReadyFor rs qs x (copies_len cs x) = subst (IsReadyFor rs qs x) (sym (one-each None cs i c.requires.ascending low)) there in
     record {

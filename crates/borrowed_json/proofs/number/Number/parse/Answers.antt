@@ -1,6 +1,8 @@
-use Rattle.std.proofs.Common.{◌≡◌, drop, get_or, true, false, ◌==◌, sym, ap, ◌∙◌, arith, take_all, length-drop}
+use Rattle.std.proofs.Common.{◌≡◌, ℕ, ◌<◌, ◌^◌, Some, drop, get_or, true, false, ◌==◌, sym, subst, ap, ◌∙◌, arith, take_all, length-drop}
 use Rattle.fast_float.specs.Text.{scan}
 use Rattle.serde_json.specs.Read.{number_of, number_from}
+use Rattle.serde_json.specs.Data.{unsigned}
+use Rattle.borrowed_json.proofs.NumberLemmas.{digits-read}
 use Rattle.borrowed_json.proofs.number.Number.parse.Goals as goal
 
 pub returns-then-has_minus : goal.returns-then-has_minus
@@ -19,3 +21,11 @@ returns-else-has_minus c =
     let unsigned : (get_or s 0 0 == 45) ≡ false = sym c.if-has_minus.ensures.value in
     let read : number_from false (scan s) ≡ number_of s = rw unsigned in
     c.unsigned.ensures ∙ ap (number_from false) c.scan-else-has_minus.ensures.parts ∙ read ∙ ap number_of c.as_bytes-bytes.ensures.value
+
+pub returns-in-Some : goal.returns-in-Some
+returns-in-Some c =
+    let (digits, some, fits, value) = rw c.in-Some.is at c.few_digits.ensures in
+    sym
+    (ap number_of (sym c.as_bytes-bytes.ensures.value)
+    ∙ digits-read c.as_bytes-bytes.result.now digits some (subst (λ (k : ℕ). k < 2 ^ 64) value fits)
+    ∙ ap (λ (k : ℕ). Some (unsigned k)) (sym value))

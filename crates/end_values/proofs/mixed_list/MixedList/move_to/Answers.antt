@@ -1,4 +1,4 @@
-use Rattle.std.proofs.Common.{◌<◌, Bool, Option, false, length, sym, ap, ◌∙◌, subst, arith}
+use Rattle.std.proofs.Common.{◌<◌, Option, false, length, sym, ap, ◌∙◌, subst, arith}
 use Rattle.std.specs.Option.{option_map_or}
 use Rattle.mm_types.specs.declared.value.Value.{Value}
 use Rattle.end_values.specs.Proxies.{HasNoProxyBefore, is_proxy}

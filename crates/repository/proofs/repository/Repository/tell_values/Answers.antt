@@ -17,7 +17,7 @@ use Rattle.repository.specs.declared.reply.Answer.{Answer}
 use Rattle.repository.proofs.InsideLemmas.{made-told, same-told}
 use Rattle.repository.proofs.LegalLemmas.{stepped-legal}
 use Rattle.repository.proofs.PlanLemmas.{chain_err, out_of_memory}
-use Rattle.repository.proofs.ValueLemmas.{changed-values}
+use Rattle.repository.proofs.ValueLemmas.{changed-ready}
 use Rattle.repository.proofs.repository.Repository.tell_values.Goals as goal
 
 -- a change that is ready for the abstract state is ready for the state of the repository
@@ -107,7 +107,7 @@ returns g c =
     c.deliver-told.ensures.heard ∙ ap (λ (rs : List Listed). adapters_after_copies c.in-Ok.round.copies rs) reserved.kept ∙ ap (λ (r : RoundView). adapters_after_copies r.copies s.adapters) is ∙ adapters_after_copies-round_copies up ns s.adapters in
     let t : State = record { model = model_of c.self.inside.meta (values_of c.try_apply.new.self) (g.L.LinkStore.links c.self.inside.store); adapters = c.deliver-told.new.self.0 } in
     rw (← c.self.view_is)
-    (changed-values s t change c.args.values ns c.args.answer c.from_vec.result (views_of g.A.Adapter.heard c.new.result) p reserved.counted
+    (changed-ready s t change [] c.args.values ns c.args.answer c.from_vec.result (views_of g.A.Adapter.heard c.new.result) p reserved.counted
     (c.from_vec.ensures ∙ c.deliver-told.ensures.told ∙ ap (λ (r : RoundView). r.told) is) (ap (views_of g.A.Adapter.heard) c.new.ensures)
     (λ i. model_of c.self.inside.meta (values i) (p.links_made i)) adapters)
 

@@ -1,0 +1,111 @@
+//! The features by which the objects of a class refer to others.
+ghost use Rattle.std.specs.Prelude.{◌≡◌, ◌∷◌, ◌++◌, [], IsTrue, OnOk, filter};
+ghost use Rattle.doc_writer.specs.References.{may_refer};
+
+use mm_meta::Meta;
+use mm_types::{ClassNo, FeatureNo};
+use std::alloc::{AllocError, Global};
+
+/// Whether objects may refer to others by a feature: a reference that is neither a containment nor a container reference. Takes no memory.
+fn is_referring(meta: &Meta, feature: FeatureNo) -> bool
+    ensures { result ≡ may_refer meta.now feature }
+{
+    meta.is_reference(feature) && !meta.is_containment(feature) && !meta.is_container(feature)
+}
+
+/// Adds a feature, if objects may refer to others by it.
+fn push_referring(
+    meta: &Meta,
+    feature: FeatureNo,
+    features: &mut Vec<FeatureNo>,
+) -> Result<(), AllocError>
+    ensures { OnOk result (features.new.items ≡ features.old.items ++ filter (may_refer meta.now) (feature ∷ [])) }
+{
+    if is_referring(meta, feature) {
+        features.push(feature)?;
+    }
+    Ok(())
+}
+
+/// Adds those of some features by which objects may refer to others.
+fn push_all_referring(
+    meta: &Meta,
+    features: &[FeatureNo],
+    found: &mut Vec<FeatureNo>,
+) -> Result<(), AllocError>
+    ensures { OnOk result (found.new.items ≡ found.old.items ++ filter (may_refer meta.now) features.now) }
+{
+    'features: for feature in features {
+        push_referring(meta, *feature, found)?;
+    }
+    Ok(())
+}
+
+/// The features by which the objects of a class may refer to others. Objects that are asked for one after another mostly have the same class,
+/// so the features of a class are not looked through for each of them.
+#[derive(Drop)]
+pub(crate) struct ClassReferences {
+    class: Option<ClassNo>,
+    features: Vec<FeatureNo>,
+}
+
+impl ClassReferences {
+    ghost use Rattle.mm_types.specs.Resolved.{Metamodel};
+    ghost use Rattle.doc_writer.specs.References.{IsReferences, IsReferencesOf};
+
+    /// No class. Takes no memory.
+    pub fn none(alloc: Global) -> Self
+        ensures { (m : Metamodel) → IsReferences m result }
+    {
+        ClassReferences {
+            class: None,
+            features: Vec::new(alloc),
+        }
+    }
+
+    /// Makes it the features of a class, if it was made for a different one. Fails only if memory is refused.
+    #[inline(always)]
+    pub fn turn_to(&mut self, meta: &Meta, class: Option<ClassNo>) -> Result<(), AllocError>
+        requires { IsReferences meta.now self.old }
+        ensures { OnOk result (IsReferencesOf meta.now class self.new) }
+    {
+        if self.is_of(class) {
+            return Ok(());
+        }
+        self.make(meta, class)
+    }
+
+    /// Whether it has the features of a class.
+    #[inline(always)]
+    fn is_of(&self, class: Option<ClassNo>) -> bool
+        ensures { IsTrue result → self.now.class ≡ class }
+    {
+        match (self.class, class) {
+            (Some(own), Some(other)) => own.0 == other.0,
+            (None, None) => true,
+            _ => false,
+        }
+    }
+
+    /// Makes it the features of a class.
+    fn make(&mut self, meta: &Meta, class: Option<ClassNo>) -> Result<(), AllocError>
+        ensures { OnOk result (IsReferencesOf meta.now class self.new) }
+    {
+        let all = match class {
+            Some(number) => meta.features(number).unwrap_or(&[]),
+            None => &[],
+        };
+        self.features.truncate(0);
+        push_all_referring(meta, all, &mut self.features)?;
+        self.class = class;
+        Ok(())
+    }
+
+    /// The features.
+    #[inline(always)]
+    pub fn as_slice(&self) -> &[FeatureNo]
+        ensures { result.now ≡ self.now.features.items }
+    {
+        self.features.as_slice()
+    }
+}

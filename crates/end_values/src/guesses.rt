@@ -1,0 +1,59 @@
+//! Guesses at the index of a value in a list without labels.
+
+use crate::mixed_list::MixedList;
+use index_guesses::by_rank;
+use mm_types::{ObjectNo, Value};
+use slot_lists::ShortList;
+
+/// The index of an object, if the numbers of the objects rise or fall along the list. Otherwise any index.
+pub(crate) fn guess_object(list: &ShortList<ObjectNo>, object: ObjectNo) -> usize {
+    by_rank(list.len(), u64::from(object.0), |index| {
+        rank_of(list.get(index))
+    })
+}
+
+fn rank_of(object: Option<&ObjectNo>) -> Option<u64> {
+    object.map(|object| u64::from(object.0))
+}
+
+/// Whether the object at an index is not at the index at which it would be guessed.
+#[cold]
+pub(crate) fn is_out_of_order(list: &ShortList<ObjectNo>, index: usize) -> bool {
+    match list.get(index) {
+        Some(object) => guess_object(list, *object) != index,
+        None => false,
+    }
+}
+
+/// A guess at the index of a value. If proxies are resolved in the order of their list, the texts that are left come after the objects.
+#[cold]
+pub(crate) fn guess_value(list: &MixedList, value: &Value) -> usize {
+    match value {
+        Value::Object(object) => by_rank(list.len(), u64::from(object.0), |index| {
+            value_rank(list.get(index))
+        }),
+        _ => first_text(list),
+    }
+}
+
+fn value_rank(value: Option<&Value>) -> Option<u64> {
+    match value? {
+        Value::Object(object) => Some(u64::from(object.0)),
+        _ => None,
+    }
+}
+
+/// The index of the first text, if the objects come before the texts. Otherwise any index.
+fn first_text(list: &MixedList) -> usize {
+    let mut low = 0;
+    let mut high = list.len();
+    while low < high {
+        let middle = low + (high - low) / 2;
+        if value_rank(list.get(middle)).is_some() {
+            low = middle + 1;
+        } else {
+            high = middle;
+        }
+    }
+    low
+}

@@ -1,0 +1,213 @@
+//! Objects in no order, which are found by labels.
+ghost use Rattle.std.specs.Prelude.{◌≡◌, ◌+◌, ◌<◌, ◌≤◌, length, slice_get, position, option_copied, IfOk, OnErr, OnOk};
+ghost use Rattle.std.specs.List.{insert, remove};
+ghost use Rattle.slot_lists.specs.Moved.{list_after_move};
+
+use index_guesses::{Labels, is_tried, label_between, new_label};
+use indexmap::IndexMap;
+use mm_types::ObjectNo;
+use slot_lists::ShortList;
+use std::alloc::{AllocError, Global};
+use std::marker::Model;
+use std::mem;
+
+/// A list of objects, and a label for each of them. If no memory was left for a label, the object has none, and is not found by it.
+/// Contracts see it as the list.
+#[derive(Drop)]
+pub(crate) struct LabelledObjects {
+    list: ShortList<ObjectNo>,
+    labels: IndexMap<u32, u64>,
+    ends: Labels,
+}
+
+impl Model for LabelledObjects {
+    ghost use Rattle.slot_lists.specs.Places.{Places};
+    ghost use Rattle.mm_types.specs.declared.numbers.ObjectNo.{ObjectNo};
+
+    ghost Value = { Places ObjectNo };
+
+    ghost view = { λ a. a.list };
+}
+
+impl LabelledObjects {
+    /// Moves a list into a `Box`, and gives each object a label. Fails only if memory is refused, and then the list stays where it is.
+    #[cold]
+    pub fn of(
+        alloc: Global,
+        list: &mut ShortList<ObjectNo>,
+    ) -> Result<Box<LabelledObjects>, AllocError>
+        ensures items { IfOk result (λ b. b.value.items ≡ list.old.items) }
+        ensures spare { IfOk result (λ b. list.old.spare ≤ b.value.spare) }
+        ensures err { OnErr result (list.new ≡ list.old) }
+    {
+        let empty = LabelledObjects {
+            list: ShortList::new(),
+            labels: IndexMap::with_capacity(alloc, list.len())?,
+            ends: Labels::of(0),
+        };
+        let mut boxed = Box::new(alloc, empty)?;
+        boxed.take_list(list);
+        Ok(boxed)
+    }
+
+    /// Takes the objects of a list, in place of those that were there, and gives each a label.
+    fn take_list(&mut self, list: &mut ShortList<ObjectNo>)
+        ensures { self.new ≡ list.old }
+    {
+        self.list = mem::replace(list, ShortList::new());
+        self.label_all();
+    }
+
+    /// How many objects there are.
+    #[cold]
+    pub fn len(&self) -> usize
+        ensures { result ≡ length self.now.items }
+    {
+        self.list.len()
+    }
+
+    /// How many objects may be inserted with no memory taken.
+    pub fn spare(&self) -> usize
+        ensures { result ≡ self.now.spare }
+    {
+        self.list.spare()
+    }
+
+    /// The objects without their labels.
+    pub fn objects(&self) -> &ShortList<ObjectNo>
+        ensures { result.now ≡ self.now }
+    {
+        &self.list
+    }
+
+    /// The index of an object, if its label and those of the others go up along the list. Otherwise any index.
+    #[cold]
+    pub fn guess(&self, object: ObjectNo) -> usize {
+        match self.labels.get(&object.0) {
+            Some(label) => self
+                .ends
+                .search(self.list.len(), *label, |index| self.label_at(index)),
+            None => 0,
+        }
+    }
+
+    /// The label of the object at an index; 0 if there is none.
+    fn label_at(&self, index: usize) -> u64 {
+        let Some(object) = self.list.get(index) else {
+            return 0;
+        };
+        match self.labels.get(&object.0) {
+            Some(label) => *label,
+            None => 0,
+        }
+    }
+
+    /// A label between that of the object before an index and that of the object at `next`. If there is no such object, the label is before
+    /// or after all others.
+    fn label_amid(&self, index: usize, next: usize) -> u64 {
+        if next >= self.list.len() {
+            return self.ends.after();
+        }
+        match index.checked_sub(1) {
+            Some(before) => label_between(self.label_at(before), self.label_at(next)),
+            None => self.ends.before(),
+        }
+    }
+
+    /// Gives all objects new labels.
+    fn label_all(&mut self)
+        ensures { self.new ≡ self.old }
+    {
+        let len = self.list.len();
+        self.ends = Labels::of(len);
+        for index in 0..len {
+            put_label(&mut self.labels, self.list.get(index), new_label(index));
+        }
+    }
+
+    /// Reserves capacity for more objects, and for their labels. Fails only if memory is refused for the objects; they stay then.
+    #[cold]
+    pub fn reserve(&mut self, alloc: Global, additional: usize) -> Result<(), AllocError>
+        ensures items { self.new.items ≡ self.old.items }
+        ensures ok { OnOk result (additional ≤ self.new.spare) }
+        ensures spare { self.old.spare ≤ self.new.spare }
+    {
+        self.list.reserve(alloc, additional)?;
+        match self.labels.reserve(additional) {
+            Ok(()) => {}
+            Err(_) => {}
+        }
+        Ok(())
+    }
+
+    /// Inserts an object before the object at an index, or at the end, for which there is capacity. Takes no memory.
+    #[cold]
+    pub fn insert(&mut self, index: usize, object: ObjectNo)
+        requires room { 0 < self.old.spare }
+        requires in_range { index ≤ length self.old.items }
+        ensures items { self.new.items ≡ insert self.old.items index object }
+        ensures spare { self.old.spare ≤ self.new.spare + 1 }
+    {
+        let label = self.label_amid(index, index);
+        self.list.insert(index, object);
+        self.ends.put(label, self.list.len());
+        put_label(&mut self.labels, Some(&object), label);
+    }
+
+    /// Takes out the object at an index. Some removals look whether the object is found by its label, and give all objects new labels if it
+    /// is not. Takes no memory.
+    #[cold]
+    pub fn remove(&mut self, index: usize)
+        requires { index < length self.old.items }
+        ensures items { self.new.items ≡ remove self.old.items index }
+        ensures spare { self.old.spare ≤ self.new.spare }
+    {
+        if is_tried(index) && !self.is_guessed(index) {
+            self.label_all();
+        }
+        if let Some(object) = self.list.get(index) {
+            self.labels.swap_remove(&object.0);
+        }
+        self.list.remove(index);
+        self.ends.take(index, self.list.len());
+    }
+
+    /// Whether the object at an index is found by its label.
+    fn is_guessed(&self, index: usize) -> bool {
+        match self.list.get(index) {
+            Some(object) => self.guess(*object) == index,
+            None => true,
+        }
+    }
+
+    /// Moves the object at `from`, so that it is then at `to` (EMF: EList.move). Takes no memory.
+    #[cold]
+    pub fn move_to(&mut self, to: usize, from: usize)
+        requires to { to < length self.old.items }
+        requires from { from < length self.old.items }
+        ensures items { self.new.items ≡ list_after_move self.old.items to from }
+        ensures spare { self.new.spare ≡ self.old.spare }
+    {
+        self.list.move_to(to, from);
+        let label = self.label_amid(to, to.saturating_add(1));
+        self.ends.put(label, self.list.len());
+        put_label(&mut self.labels, self.list.get(to), label);
+    }
+}
+
+/// Gives an object a label, if there is an object and capacity for its label.
+fn put_label(labels: &mut IndexMap<u32, u64>, object: Option<&ObjectNo>, label: u64) {
+    let Some(object) = object else {
+        return;
+    };
+    if let Some(kept) = labels.get_mut(&object.0) {
+        *kept = label;
+        return;
+    }
+    if labels.len() < labels.capacity() {
+        match labels.insert(object.0, label) {
+            Ok(_) => {}
+            Err(_) => {}
+        }
+    }
+}

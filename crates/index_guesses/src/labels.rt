@@ -1,0 +1,165 @@
+//! Numbers along a list, by which a value is found without going through the list.
+//!
+//! A label is a hint: an index that was found by labels counts only if the value is there.
+ghost use Rattle.std.specs.Prelude.{◌-◌, ◌<◌, ◌≤◌};
+
+/// How far the labels of two values are apart that are put in at the end one after the other.
+const GAP: u64 = 1 << 40;
+
+/// The label of the first value of a list whose labels are new.
+const MIDDLE: u64 = 1 << 63;
+
+/// So many steps of a search take the labels to be evenly spread; the further ones halve what is left.
+const EVEN_STEPS: usize = 8;
+
+/// The labels of the first value and of the last value of a list. They are estimates after a value was taken out at an end.
+#[derive(Clone, Copy)]
+pub struct Labels {
+    first: u64,
+    last: u64,
+}
+
+/// The indexes between which a label is searched, and the labels there.
+#[derive(Clone, Copy)]
+struct Span {
+    low: usize,
+    high: usize,
+    below: u64,
+    above: u64,
+    steps: usize,
+}
+
+/// The label of the value at an index of a list whose labels are new.
+pub fn new_label(index: usize) -> u64 {
+    MIDDLE.saturating_add((index as u64).saturating_mul(GAP))
+}
+
+/// A label between two others, if there is one.
+pub fn label_between(below: u64, above: u64) -> u64 {
+    below.saturating_add(above.saturating_sub(below) / 2)
+}
+
+impl Labels {
+    /// The labels of a list of some values that have new labels.
+    pub fn of(len: usize) -> Self {
+        Labels {
+            first: MIDDLE,
+            last: new_label(len).saturating_sub(GAP),
+        }
+    }
+
+    /// A label for a value that is put in before the others.
+    pub fn before(self) -> u64 {
+        self.first.saturating_sub(GAP)
+    }
+
+    /// A label for a value that is put in after the others.
+    pub fn after(self) -> u64 {
+        self.last.saturating_add(GAP)
+    }
+
+    /// A label for a value that is put in at an index, if the labels are evenly spread.
+    pub fn near(self, index: usize) -> u64 {
+        self.first
+            .saturating_add((index as u64).saturating_mul(GAP))
+    }
+
+    /// Notes that one of `len` values got a label.
+    pub fn put(&mut self, label: u64, len: usize) {
+        if len <= 1 {
+            self.first = label;
+            self.last = label;
+        } else {
+            self.first = self.first.min(label);
+            self.last = self.last.max(label);
+        }
+    }
+
+    /// Notes that the value at an index was taken out; `len` values are left.
+    pub fn take(&mut self, index: usize, len: usize) {
+        if index == len {
+            self.last = self.last.saturating_sub(GAP);
+        } else if index == 0 {
+            self.first = self.first.saturating_add(GAP);
+        }
+    }
+
+    /// The index of a label, counted from the front, if the labels before it are evenly spread.
+    pub fn from_front(self, label: u64) -> usize {
+        (label.saturating_sub(self.first) / GAP) as usize
+    }
+
+    /// The index of a label among `len`, counted from the end, if the labels after it are evenly spread.
+    pub fn from_end(self, label: u64, len: usize) -> usize {
+        let after = (self.last.saturating_sub(label) / GAP) as usize;
+        len.saturating_sub(after).saturating_sub(1)
+    }
+
+    /// The index of a label among `len`, if the labels go up along the list. Otherwise any index.
+    pub fn search<F: Fn(usize) -> u64>(self, len: usize, label: u64, label_at: F) -> usize
+        requires { F.IsAlwaysCallable label_at }
+    {
+        let mut span = self.span(len);
+        while span.low < span.high {
+            let middle = span.middle(label);
+            let found = label_at(middle);
+            if found == label {
+                return middle;
+            }
+            span = span.rest(middle, found, label);
+        }
+        span.low
+    }
+
+    /// All indexes of a list of `len` values.
+    fn span(self, len: usize) -> Span {
+        Span {
+            low: 0,
+            high: len,
+            below: self.first,
+            above: self.last,
+            steps: 0,
+        }
+    }
+}
+
+impl Span {
+    /// The index at which a label is searched next.
+    fn middle(self, label: u64) -> usize
+        requires { self.low < self.high }
+        ensures low { self.low ≤ result }
+        ensures high { result < self.high }
+    {
+        let places = self.high - self.low;
+        if self.steps >= EVEN_STEPS {
+            return self.low + places / 2;
+        }
+        let spread = self.above.saturating_sub(self.below) / (places as u64);
+        let before = label.saturating_sub(self.below) / spread.max(1);
+        self.low + (before as usize).min(places - 1)
+    }
+
+    /// The indexes that are left after a look at the label at `middle`.
+    fn rest(self, middle: usize, found: u64, label: u64) -> Self
+        requires low { self.low ≤ middle }
+        requires high { middle < self.high }
+        ensures { result.high - result.low < self.high - self.low }
+    {
+        let steps = self.steps.saturating_add(1);
+        if found < label {
+            Span {
+                low: middle + 1,
+                below: found,
+                steps,
+                ..self
+            }
+        } else {
+            Span {
+                high: middle,
+                above: found,
+                steps,
+                ..self
+            }
+        }
+    }
+}

@@ -1,0 +1,18 @@
+//! Guesses at the index of a value in a long list, so that the list need not be gone through.
+//!
+//! A guess may be wrong: its caller looks whether the value is there.
+#![tactic(auto)]
+
+mod labels;
+mod ranks;
+
+pub use labels::{Labels, label_between, new_label};
+pub use ranks::by_rank;
+
+/// Of this many indexes, a removal at the last one looks whether the value there is guessed right.
+const TRIED: usize = 64;
+
+/// Whether a removal at an index looks whether the value there is guessed right. A value near the front is found soon without a guess.
+pub fn is_tried(index: usize) -> bool {
+    index % TRIED == TRIED - 1
+}

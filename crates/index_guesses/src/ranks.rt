@@ -1,0 +1,27 @@
+//! The index of a value in a list that is in the order of its values' ranks.
+
+/// The index of a rank among `len` ranks, if it is the first or the last, or if the ranks rise or fall. Otherwise any index.
+pub fn by_rank<F: Fn(usize) -> Option<u64>>(len: usize, rank: u64, rank_at: F) -> usize
+    requires { F.IsAlwaysCallable rank_at }
+{
+    let last = len.saturating_sub(1);
+    if rank_at(last) == Some(rank) {
+        return last;
+    }
+    let first = rank_at(0);
+    if first == Some(rank) {
+        return 0;
+    }
+    let rises = first < rank_at(last);
+    let mut low = 0;
+    let mut high = last;
+    while low < high {
+        let middle = low + (high - low) / 2;
+        match rank_at(middle) {
+            Some(found) if found == rank => return middle,
+            Some(found) if (found < rank) == rises => low = middle + 1,
+            _ => high = middle,
+        }
+    }
+    low
+}
