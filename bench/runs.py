@@ -1,5 +1,6 @@
 """Runs a program on a script, and measures time, memory and instructions."""
 import re
+import resource
 import subprocess
 import sys
 import time
@@ -23,6 +24,15 @@ def best_time(command, script, runs, wanted):
         if ran.stdout != wanted:
             sys.exit(f'{command[0]} does not print what the workload says')
     return min(times)
+
+
+def spent(command, script):
+    """What a run prints, its processor time in seconds (of its own code, and of the system for it) and its peak memory in kilobytes."""
+    before = resource.getrusage(resource.RUSAGE_CHILDREN)
+    ran = run(['/usr/bin/time', '-f', '%M', *command], script)
+    after = resource.getrusage(resource.RUSAGE_CHILDREN)
+    seconds = after.ru_utime - before.ru_utime + after.ru_stime - before.ru_stime
+    return ran.stdout.decode(), seconds, int(ran.stderr.split()[-1])
 
 
 def peak_memory(command, script):

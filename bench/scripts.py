@@ -10,7 +10,7 @@ def write_script(workload, size, path):
 
 
 def metamodel(name, size, folder):
-    """The file of the metamodel of a workload; it is written first if it grows with the size."""
+    """The file of the metamodel of a workload; it is written first if it is made for the workload."""
     if name not in CLASSES:
         return METAMODELS.get(name, METAMODEL)
     path = folder / 'metamodel.json'

@@ -12,8 +12,8 @@ METAMODELS = {name: TOP / 'bench/authors.json' for name in ('linked', 'unlinked'
     'paired_back': TOP / 'crates/cases/data/club.json',
 }
 
-# The metamodels that grow with the size of the workload.
-CLASSES = {'inherited': metamodels.chain}
+# The classes of metamodels that are made for a workload and a size.
+CLASSES = {'inherited': metamodels.chain, 'namesakes': metamodels.same_names}
 
 # The program `cases` measures calls that no script makes. It takes the size as its argument: a view takes a snapshot of `size` books, is
 # notified that each gets a name, and replays the notifications.

@@ -148,6 +148,28 @@ def books_moved(size):
         yield f'move #0 books {to} {of}', f'#{book}'
 
 
+def removed_in_no_order(size, owner, feature):
+    """A new object gets `size` books in a random order, and each is then removed by `removevalue`, in another random order."""
+    yield f'new {owner}', '#0'
+    for i in range(1, size + 1):
+        yield 'new Book', f'#{i}'
+    shuffled = random.Random(SEED)
+    for i in shuffled.sample(range(1, size + 1), size):
+        yield f'add #0 {feature} #{i}', 'true'
+    for i in shuffled.sample(range(1, size + 1), size):
+        yield f'removevalue #0 {feature} #{i}', 'true'
+
+
+def books_removed_random(size):
+    """`size` books are added to one library in a random order, and each is then removed, in another random order."""
+    return removed_in_no_order(size, 'Library', 'books')
+
+
+def likes_removed_random(size):
+    """The same of the books that one person likes, by a list without an opposite."""
+    return removed_in_no_order(size, 'Person', 'likes')
+
+
 def joined(size):
     """`size` members are added to one library, by a list without an opposite."""
     yield 'new Library', '#0'
@@ -269,6 +291,7 @@ def unlinked(size):
 
 WORKLOADS = [
     wide_added, wide_set, tree, tree_up, books, deep_added, deep_set, deep_filled, deep_raised, deep_deleted, stolen_front,
-    stolen_back, stolen_random, books_inserted, books_moved, joined, liked_by_all, liked_deleted, shuffled_deleted, unliked,
-    unliked_random, library_deleted, wide_fragments, wide_contents, deep_fragments, fragment_again, linked, unlinked,
+    stolen_back, stolen_random, books_inserted, books_moved, books_removed_random, likes_removed_random, joined, liked_by_all,
+    liked_deleted, shuffled_deleted, unliked, unliked_random, library_deleted, wide_fragments, wide_contents, deep_fragments,
+    fragment_again, linked, unlinked,
 ]

@@ -1,4 +1,7 @@
 """Workloads on attributes and on lists of values."""
+import random
+
+SEED = 1
 
 
 def attributes(size):
@@ -39,6 +42,13 @@ def removed(size):
         yield f'remove #0 tags 0', f'"{i}"'
 
 
+def removed_random(size):
+    """The tags of `appended`, each of which is removed by its text, in a random order."""
+    yield from appended(size)
+    for i in random.Random(SEED).sample(range(size), size):
+        yield f'removevalue #0 tags "{i}"', 'true'
+
+
 def repeated(size):
     """The tags of `appended`, each of which is added again; this changes nothing."""
     yield from appended(size)
@@ -46,4 +56,4 @@ def repeated(size):
         yield f'add #0 tags "{i}"', 'false'
 
 
-WORKLOADS = [attributes, appended, inserted, moved, removed, repeated]
+WORKLOADS = [attributes, appended, inserted, moved, removed, removed_random, repeated]

@@ -1,4 +1,5 @@
-"""bench/measure_emf: EMF does the same work as the program, over the same metamodel. Skipped without EMF, a JDK or /usr/bin/time."""
+"""bench/measure_emf: EMF does the same work as the program, over the same metamodel. Skipped without EMF, a JDK or /usr/bin/time.
+bench/hostile and bench/journal: their tables are those of docs/SPEED.md. Skipped without /usr/bin/time."""
 
 import json
 import re
@@ -43,3 +44,32 @@ class Measured(ToolTest):
         head, rows = table.split('|---|---|---|---|---|\n')
         page = (TOP / 'docs/SPEED.md').read_text().split(head)[1].split('\n\n')[0].split('\n', 1)[1]
         self.assertEqual(works(rows), works(page))
+
+
+@unittest.skipUnless(TIME.exists(), f'no {TIME}: the package time is not installed')
+class Tables(ToolTest):
+    """The scripts that print tables of the page, on little work."""
+
+    def table(self, name, *words):
+        """The tables that a script prints."""
+        command = [sys.executable, str(TOP / 'bench' / name), str(PROGRAM), *words]
+        done = subprocess.run(command, env=ENVIRONMENT, stdout=subprocess.PIPE, stderr=subprocess.PIPE)
+        self.assertEqual((done.returncode, done.stderr.decode()), (0, ''))
+        return done.stdout.decode().split('\n\n')
+
+    def test_hostile(self):
+        """Each document gets the answer that the script names, and the rows are those of the page."""
+        documents, metamodels = self.table('hostile', '--runs', '1', '--small')
+        titles = [row.split(' | ')[0] for row in documents.splitlines()]
+        page = (TOP / 'docs/SPEED.md').read_text().splitlines()
+        begin = next(number for number, line in enumerate(page) if line.startswith(titles[0]))
+        self.assertEqual(titles[2:], [line.split(' | ')[0] for line in page[begin + 2 : begin + len(titles)]])
+        self.assertEqual(len(metamodels.splitlines()), 5)
+
+    def test_journal(self):
+        """Each line is in its journal, and the heads of the tables are those of the page."""
+        dialogues, starts = self.table('journal', '--trips', '5', '--runs', '1', '--sizes', '100,200')
+        page = (TOP / 'docs/SPEED.md').read_text()
+        for table, count in ((dialogues, 5), (starts, 4)):
+            self.assertIn(table.splitlines()[0], page)
+            self.assertEqual(len(table.splitlines()), count)
