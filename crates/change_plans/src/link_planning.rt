@@ -1,5 +1,5 @@
 //! The plans of changes that edit only links; and changes that put one link, and edit nothing else.
-ghost use Rattle.std.specs.Prelude.{◌≡◌, false, true, IfErr, IfOk, IfSome, None, Some, if◌then◌else◌};
+ghost use Rattle.std.specs.Prelude.{◌≡◌, [], false, true, IfErr, IfOk, IfSome, None, Some, if◌then◌else◌};
 ghost use Rattle.mm_types.specs.Shapes.{shape};
 ghost use Rattle.mm_types.specs.declared.value.Value.TheVariants.{Object};
 ghost use Rattle.models.specs.Model.{reading};
@@ -12,7 +12,9 @@ ghost use Rattle.handshake.specs.declared.act.Act.TheVariants.{Add, Set};
 ghost use Rattle.handshake.specs.declared.change.Change.TheVariants.{At};
 ghost use Rattle.mm_types.specs.Conditions.{is_memory_refusal};
 
-use crate::planning::{self, add_late_refusal, links_and_notices, new_set_refusal};
+use crate::planning::{
+    self, add_late_refusal, links_and_notices, new_set_refusal, unheard_link_edits,
+};
 use handshake::{Change, displaces, is_plain_add};
 use links::{LinkStore, NewLink, Plan};
 use mm_types::{End, ObjectNo, Refused, Value};
@@ -20,24 +22,43 @@ use models::ModelRef;
 use notice_chain::Chain;
 use std::alloc::Global;
 
-/// The edits of links that a change makes, and its notifications if an adapter may have to get them; or the first refusal that planning
-/// finds. This is `plan` for a change that edits only links.
-pub fn plan_links<L: LinkStore>(
+/// The edits of links that a change makes, or the first refusal that planning finds. This is `plan` for a change that edits only links and
+/// notifies no adapter.
+pub fn plan_link_edits<L: LinkStore>(
     alloc: Global,
     model: &ModelRef<L>,
     change: &Change,
-    is_heard: bool,
-) -> Result<(Plan, Chain), Refused>
+) -> Result<Plan, Refused>
     requires asked { early_refusal (reading model.now) change.now ≡ None }
     requires links { edits_links_alone model.now.metamodel change.now ≡ true }
-    ensures planned { IfOk result (λ p. IsPlanOf is_heard model.now change.now (of_links p.0 p.1)) }
+    ensures planned { IfOk result (λ p. IsPlanOf false model.now change.now (of_links p [])) }
     ensures refused { IfErr result (λ r. late_refusal (reading model.now) change.now ≡ (if is_memory_refusal r then None else Some r)) }
 {
     model.lemma_is_legal();
     if let Some(refused) = planning::late_refusal(model, change, None) {
         return Err(refused);
     }
-    let (edits, chain) = links_and_notices(alloc, model, change, &None, None, is_heard)?;
+    let edits = unheard_link_edits(alloc, model, change, &None, None)?;
+    Ok(edits)
+}
+
+/// The edits of links that a change makes, and its notifications; or the first refusal that planning finds. This is `plan` for a change
+/// that edits only links.
+pub fn plan_links<L: LinkStore>(
+    alloc: Global,
+    model: &ModelRef<L>,
+    change: &Change,
+) -> Result<(Plan, Chain), Refused>
+    requires asked { early_refusal (reading model.now) change.now ≡ None }
+    requires links { edits_links_alone model.now.metamodel change.now ≡ true }
+    ensures planned { IfOk result (λ p. IsPlanOf true model.now change.now (of_links p.0 p.1)) }
+    ensures refused { IfErr result (λ r. late_refusal (reading model.now) change.now ≡ (if is_memory_refusal r then None else Some r)) }
+{
+    model.lemma_is_legal();
+    if let Some(refused) = planning::late_refusal(model, change, None) {
+        return Err(refused);
+    }
+    let (edits, chain) = links_and_notices(alloc, model, change, &None, None, true)?;
     Ok((edits, chain))
 }
 

@@ -156,6 +156,26 @@ pub(crate) fn links_and_notices<L: LinkStore>(
     Ok((edits, chain))
 }
 
+/// The edits of links that make a change of which no adapter is notified.
+pub(crate) fn unheard_link_edits<L: LinkStore>(
+    alloc: Global,
+    model: &ModelRef<L>,
+    change: &Change,
+    removal: &Option<Removal>,
+    target: Option<ResolvedProxy>,
+) -> Result<Plan, AllocError>
+    requires asked { refusals.early_refusal (reading model.now) change.now ≡ None }
+    requires allowed { refusals.late_refusal (reading model.now) change.now ≡ None }
+    requires removal { IsRemovalOf (reading model.now) change.now removal.now }
+    requires found { target ≡ t.target_of (reading model.now) change.now }
+    requires fits { HasFittingDocument (reading model.now).next change.now }
+    requires one { t.resolves_all change.now ≡ false }
+    ensures { IfOk result (λ p. p ≡ e.link_edits (reading model.now) change.now) }
+{
+    let link_ends = cut_link_ends(alloc, model, change, removal, target)?;
+    link_edits(alloc, model, link_ends, change, target)
+}
+
 /// The first refusal that planning finds. Takes no memory.
 pub(crate) fn late_refusal<L: LinkStore>(
     model: &ModelRef<L>,
@@ -295,6 +315,7 @@ fn uri_refusal<L: LinkStore>(model: &ModelRef<L>, uri: &Text) -> Option<Refused>
 }
 
 /// Why a feature can't hold a value: `WrongType` or `TextLength`.
+#[inline(always)]
 fn type_refusal<L: LinkStore>(
     model: &ModelRef<L>,
     feature: FeatureNo,

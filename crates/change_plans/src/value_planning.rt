@@ -21,25 +21,43 @@ use models::{ModelRef, class_refusal};
 use notice_chain::Chain;
 use std::alloc::{AllocError, Global};
 
-/// The edits of values that a change makes, and its notifications if an adapter may have to get them; or the first refusal that planning
-/// finds. This is `plan` for a change that edits no link.
-pub fn plan_values<L: LinkStore>(
+/// The edits of values that a change makes, or the first refusal that planning finds. This is `plan` for a change that edits no link and
+/// notifies no adapter.
+pub fn plan_value_edits<L: LinkStore>(
     alloc: Global,
     model: &ModelRef<L>,
     change: Change,
-    is_heard: bool,
-) -> Result<(ValuePlan, Chain), Refused>
+) -> Result<ValuePlan, Refused>
     requires asked { refusals.early_refusal (reading model.now) change ≡ None }
     requires values { edits_values_alone model.now.metamodel change ≡ true }
-    ensures values { IfOk result (λ p. p.0 ≡ value_edits_of (reading model.now) change) }
-    ensures chain { IfOk result (λ p. p.1 ≡ (if is_heard then chain (reading model.now) change else [])) }
+    ensures values { IfOk result (λ p. p ≡ value_edits_of (reading model.now) change) }
     ensures allowed { OnOk result (refusals.late_refusal (reading model.now) change ≡ None) }
     ensures refused { IfErr result (λ r. refusals.late_refusal (reading model.now) change ≡ (if is_memory_refusal r then None else Some r)) }
 {
     if let Some(refused) = late_refusal(model, &change, None) {
         return Err(refused);
     }
-    let chain = heard_chain(alloc, model, &change, &None, None, &[], is_heard)?;
+    Ok(value_edits(alloc, model, change, &None)?)
+}
+
+/// The edits of values that a change makes, and its notifications; or the first refusal that planning finds. This is `plan` for a change
+/// that edits no link.
+pub fn plan_values<L: LinkStore>(
+    alloc: Global,
+    model: &ModelRef<L>,
+    change: Change,
+) -> Result<(ValuePlan, Chain), Refused>
+    requires asked { refusals.early_refusal (reading model.now) change ≡ None }
+    requires values { edits_values_alone model.now.metamodel change ≡ true }
+    ensures values { IfOk result (λ p. p.0 ≡ value_edits_of (reading model.now) change) }
+    ensures chain { IfOk result (λ p. p.1 ≡ chain (reading model.now) change) }
+    ensures allowed { OnOk result (refusals.late_refusal (reading model.now) change ≡ None) }
+    ensures refused { IfErr result (λ r. refusals.late_refusal (reading model.now) change ≡ (if is_memory_refusal r then None else Some r)) }
+{
+    if let Some(refused) = late_refusal(model, &change, None) {
+        return Err(refused);
+    }
+    let chain = heard_chain(alloc, model, &change, &None, None, &[], true)?;
     let values = value_edits(alloc, model, change, &None)?;
     Ok((values, chain))
 }

@@ -10,11 +10,8 @@ use mm_types::FeatureNo;
 pub(crate) fn lower_of(meta: &Meta, feature: FeatureNo) -> Option<FeatureNo>
     ensures { result ≡ p.lower_of (shape meta.now feature) feature }
 {
-    if meta.containing(feature).is_some() {
-        return None;
-    }
     match meta.opposite(feature) {
-        Some(other) if other.0 < feature.0 => Some(other),
+        Some(other) if other.0 < feature.0 && meta.containing(feature).is_none() => Some(other),
         _ => None,
     }
 }

@@ -1,5 +1,6 @@
 pub mod DataLemmas
 pub mod ContentLemmas
+pub mod ClassLemmas
 pub mod PlaceLemmas
 pub mod WayLemmas
 pub mod FindLemmas

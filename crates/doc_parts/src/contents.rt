@@ -1,26 +1,43 @@
 //! Whether the content of a feature is of the feature's type, and has not too many values.
-ghost use Rattle.std.specs.Prelude.{◌≡◌, ◌||◌, is_some, map};
+ghost use Rattle.std.specs.Prelude.{◌≡◌, ◌||◌, Some, is_some, map, true};
+ghost use Rattle.mm_types.specs.Lookups.{conforms};
 ghost use Rattle.std.specs.List.{list_all};
 ghost use Rattle.mm_types.specs.Shapes.{is_bounded as bounded, shape};
 ghost use Rattle.serde_json.specs.Find.{as_array};
 ghost use Rattle.borrowed_json.specs.View.{view};
 ghost use Rattle.doc_parts.specs.Contents.{attribute_value, is_content as is_meant, is_value as is_value_meant, may_stand as may_be};
 ghost use Rattle.doc_parts.specs.Faults.{is_long as long};
-ghost use Rattle.doc_parts.specs.Parts.{new_entry, values_of as values_meant};
+ghost use Rattle.doc_parts.specs.Parts.{class_of as class_meant, new_entry, values_of as values_meant};
 
 use crate::attributes::is_attribute_value;
 use crate::entries::{class_of, values_of};
+use crate::layout::written;
 use borrowed_json::Json;
 use mm_meta::Meta;
 use mm_types::{ClassNo, FeatureNo, Kind, limits};
 
+/// Whether an object is written with the name of a class. No name is looked up.
+fn names_class(meta: &Meta, class: ClassNo, json: &Json) -> bool
+    ensures class { result ≡ true → class_meant meta.now (view json.now) ≡ Some class }
+    ensures conforms { result ≡ true → conforms meta.now class class ≡ true }
+{
+    meta.lemma_is_of_document();
+    match (written(json), meta.class(class)) {
+        (Some(object), Some(found)) => object.class == found.name.as_str(),
+        _ => false,
+    }
+}
+
 /// Whether a JSON value may be under a containment of a class: it is an object, and its class conforms if there is such
-/// a class.
+/// a class. Most objects are of the very class of their containment.
 fn may_stand(meta: &Meta, target: ClassNo, json: &Json) -> bool
     ensures { result ≡ may_be meta.now target (view json.now) }
 {
     if !json.is_object() {
         return false;
+    }
+    if names_class(meta, target, json) {
+        return true;
     }
     match class_of(meta, json) {
         Some(class) => meta.conforms(class, target),

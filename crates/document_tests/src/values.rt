@@ -3,18 +3,27 @@ use mm_types::{ObjectNo, Seq, Text, Value};
 use std::alloc::{AllocError, Global};
 use std::test::Fail;
 
-/// A text as it is, its copy, and its `String`.
+/// A short and a long text, each as it is and its copy; and the text of a `String`.
 fn texts(alloc: Global) -> Result<String, AllocError> {
-    let text = Text::from_str(alloc, "a é")?;
-    let copy = text.clone()?;
-    let made = Text::from_string(copy.into_string());
-    format!(in alloc; "{} {}", text.as_str(), made.as_str())
+    let short = Text::from_str(alloc, "a é")?;
+    let long = Text::from_str(alloc, "a text in a block")?;
+    let other_short = short.clone()?;
+    let other_long = long.clone()?;
+    let made = Text::from_string(format!(in alloc;
+        "{} {}",
+        other_short.as_str(),
+        other_long.as_str()
+    )?);
+    format!(in alloc; "{} {} {}", short.as_str(), long.as_str(), made.as_str())
 }
 
 #[test]
-fn texts_keep_their_string(rt: HostRuntime) -> Result<(), Fail> {
+fn texts_keep_their_bytes(rt: HostRuntime) -> Result<(), Fail> {
     let found = texts(rt.alloc())?;
-    assert_eq!(rt; found.as_str(), "a é a é");
+    assert_eq!(rt;
+        found.as_str(),
+        "a é a text in a block a é a text in a block"
+    );
     Ok(())
 }
 

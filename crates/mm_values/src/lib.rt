@@ -11,6 +11,7 @@ mod list_edit;
 mod new_values;
 mod objects;
 mod plan;
+mod uri;
 mod uris;
 mod value_edit;
 mod values;

@@ -4,6 +4,7 @@ ghost use Rattle.std.specs.Option.{option_map};
 ghost use Rattle.std.specs.Str.{bytes_eq};
 ghost use Rattle.mm_values.specs.Values.{with_uri};
 
+use crate::uri::Uri;
 use indexmap::IndexSet;
 use mm_types::{ResourceNo, Text};
 use std::alloc::{AllocError, Global};
@@ -15,17 +16,17 @@ const NUMBERS: usize = 1 << 32;
 /// The URIs in the order of their resources, each once.
 #[derive(Drop)]
 pub(crate) struct Uris {
-    set: IndexSet<String>,
+    set: IndexSet<Uri>,
 }
 
 impl Model for Uris {
-    ghost use Rattle.std.specs.Prelude.{◌-◌, ◌^◌, ◌≤◌, length, map, min, string_bytes};
+    ghost use Rattle.std.specs.Prelude.{◌-◌, ◌^◌, ◌≤◌, length, map, min};
     ghost use Rattle.indexmap.specs.IndexSet.{spare as spare_of};
     ghost use Rattle.mm_values.specs.Uris.{UriRow};
 
     ghost Value = { UriRow };
 
-    ghost view = { λ a. record { uris = map (λ t. string_bytes t) a.set.keys; room = min (spare_of a.set) (2 ^ 32 - length a.set.keys) } };
+    ghost view = { λ a. record { uris = map (λ u. u.text) a.set.keys; room = min (spare_of a.set) (2 ^ 32 - length a.set.keys) } };
 
     ghost invariant = { λ a. length a.set.keys ≤ 2 ^ 32 };
 }
@@ -81,7 +82,7 @@ impl Uris {
         ensures uris { self.new.uris ≡ with_uri self.old.uris uri }
         ensures room { self.old.room ≤ self.new.room + 1 }
     {
-        match self.set.insert(uri.into_string()) {
+        match self.set.insert(Uri::new(uri)) {
             Ok(_) => (),
             Err(_) => unreachable!(),
         }

@@ -102,6 +102,7 @@ impl<'a, L: LinkStore> ModelRef<'a, L> {
     }
 
     /// Whether an end is set (EMF: EObject.eIsSet).
+    #[inline(always)]
     pub fn is_set(&self, end: End) -> bool
         ensures { result ≡ r.is_set (reading self.now) end }
     {
@@ -213,6 +214,7 @@ fn attribute_at<'a>(meta: &'a Meta, values: &'a Values, end: End) -> Option<&'a 
 }
 
 /// Whether an attribute is set: a list if it has values, an unsettable attribute by its flag, and another one if its value is not the default.
+#[inline(always)]
 #[tactic(auto, using(crate::proofs::ReadLemmas::is_nil_shown, crate::proofs::ReadLemmas::set_by))]
 fn is_attribute_set(
     values: &Values,

@@ -25,7 +25,9 @@ use crate::leaving::{Leaving, room_for, spots_gone};
 use crate::reply::Answer;
 use adapter_list::{AdapterList, Hearers, Round};
 use adapters::Adapter;
-use change_plans::{Finding, Planned, plan, plan_links, plan_values};
+use change_plans::{
+    Finding, Planned, plan, plan_link_edits, plan_links, plan_value_edits, plan_values,
+};
 use handshake::{Act, Change, is_repeat};
 use links::{LinkStore, Plan};
 use mm_types::{AdapterNo, End, Node, ObjectNo, Refused, ResourceNo, Value};
@@ -71,7 +73,42 @@ pub(crate) fn prepare<L: LinkStore, A: Adapter>(
     })
 }
 
-/// The answer of a change that edits only values, its edits, and its notifications if an adapter may have to get them.
+/// The answer of a change that is not refused, if the change has it before it is planned. Fails only if memory is refused.
+fn known_answer<L: LinkStore>(
+    alloc: Global,
+    model: &ModelRef<L>,
+    change: &Change,
+) -> Result<Answer, AllocError>
+    requires proper { (text : List ℕ) × IsProper (reading model.now) text change.now }
+    requires known { is_answered_late change.now ≡ false }
+    ensures { IfOk result (λ a. (rs : List Listed) (text : List ℕ) → IsProper (reading model.now) text change.now → a ≡ answer_of (reading model.now) rs (command_of text change.now)) }
+{
+    match early_answer(alloc, model, change)? {
+        Some(answer) => Ok(answer),
+        None => unreachable!(),
+    }
+}
+
+/// Prepares a change that edits only values and notifies no adapter: its answer and its edits, or the refusal that planning finds.
+pub(crate) fn prepare_edits<L: LinkStore>(
+    alloc: Global,
+    model: &ModelRef<L>,
+    change: Change,
+) -> Result<(Answer, ValuePlan), Refused>
+    requires asked { early_refusal_of (reading model.now) change ≡ None }
+    requires proper { (text : List ℕ) × IsProper (reading model.now) text change }
+    requires values { edits_values_alone model.now.metamodel change ≡ true }
+    ensures answer { IfOk result (λ p. (rs : List Listed) (text : List ℕ) → IsProper (reading model.now) text change → p.0 ≡ answer_of (reading model.now) rs (command_of text change)) }
+    ensures planned { IfOk result (λ p. IsPlanOf false model.now change (of_values p.1 [])) }
+    ensures refused { IfErr result (λ r. IsPlanRefusal model.now change r) }
+{
+    model.lemma_is_legal();
+    let answer = known_answer(alloc, model, &change)?;
+    let values = plan_value_edits(alloc, model, change)?;
+    Ok((answer, values))
+}
+
+/// The answer of a change that edits only values, its edits, and its notifications.
 #[derive(Drop)]
 pub(crate) struct PreparedValues {
     pub answer: Answer,
@@ -84,20 +121,17 @@ pub(crate) fn prepare_values<L: LinkStore>(
     alloc: Global,
     model: &ModelRef<L>,
     change: Change,
-    is_heard: bool,
 ) -> Result<PreparedValues, Refused>
     requires asked { early_refusal_of (reading model.now) change ≡ None }
     requires proper { (text : List ℕ) × IsProper (reading model.now) text change }
     requires values { edits_values_alone model.now.metamodel change ≡ true }
     ensures answer { IfOk result (λ p. (rs : List Listed) (text : List ℕ) → IsProper (reading model.now) text change → p.answer ≡ answer_of (reading model.now) rs (command_of text change)) }
-    ensures planned { IfOk result (λ p. IsPlanOf is_heard model.now change (of_values p.values p.chain)) }
+    ensures planned { IfOk result (λ p. IsPlanOf true model.now change (of_values p.values p.chain)) }
     ensures refused { IfErr result (λ r. IsPlanRefusal model.now change r) }
 {
     model.lemma_is_legal();
-    let Some(answer) = early_answer(alloc, model, &change)? else {
-        unreachable!()
-    };
-    let (values, chain) = plan_values(alloc, model, change, is_heard)?;
+    let answer = known_answer(alloc, model, &change)?;
+    let (values, chain) = plan_values(alloc, model, change)?;
     Ok(PreparedValues {
         answer,
         values,
@@ -105,7 +139,25 @@ pub(crate) fn prepare_values<L: LinkStore>(
     })
 }
 
-/// The answer of a change that edits only links, its edits, and its notifications if an adapter may have to get them.
+/// Prepares a change that edits only links and notifies no adapter: its answer and its edits, or the refusal that planning finds.
+pub(crate) fn prepare_link_edits<L: LinkStore>(
+    alloc: Global,
+    model: &ModelRef<L>,
+    change: &Change,
+) -> Result<(Answer, Plan), Refused>
+    requires asked { early_refusal_of (reading model.now) change.now ≡ None }
+    requires proper { (text : List ℕ) × IsProper (reading model.now) text change.now }
+    requires links { edits_links_alone model.now.metamodel change.now ≡ true }
+    ensures answer { IfOk result (λ p. (rs : List Listed) (text : List ℕ) → IsProper (reading model.now) text change.now → p.0 ≡ answer_of (reading model.now) rs (command_of text change.now)) }
+    ensures planned { IfOk result (λ p. IsPlanOf false model.now change.now (of_links p.1 [])) }
+    ensures refused { IfErr result (λ r. IsPlanRefusal model.now change.now r) }
+{
+    let answer = known_answer(alloc, model, change)?;
+    let edits = plan_link_edits(alloc, model, change)?;
+    Ok((answer, edits))
+}
+
+/// The answer of a change that edits only links, its edits, and its notifications.
 #[derive(Drop)]
 pub(crate) struct PreparedLinks {
     pub answer: Answer,
@@ -114,23 +166,20 @@ pub(crate) struct PreparedLinks {
 }
 
 /// Prepares a change that edits only links, or gives the refusal that planning finds.
-pub(crate) fn prepare_links<L: LinkStore, A: Adapter>(
+pub(crate) fn prepare_links<L: LinkStore>(
     alloc: Global,
     model: &ModelRef<L>,
-    adapters: &AdapterList<A>,
     change: &Change,
 ) -> Result<PreparedLinks, Refused>
     requires asked { early_refusal_of (reading model.now) change.now ≡ None }
     requires proper { (text : List ℕ) × IsProper (reading model.now) text change.now }
     requires links { edits_links_alone model.now.metamodel change.now ≡ true }
     ensures answer { IfOk result (λ p. (rs : List Listed) (text : List ℕ) → IsProper (reading model.now) text change.now → p.answer ≡ answer_of (reading model.now) rs (command_of text change.now)) }
-    ensures planned { IfOk result (λ p. IsPlanOf (nat_lt 0 (length adapters.now.0)) model.now change.now (of_links p.edits p.chain)) }
+    ensures planned { IfOk result (λ p. IsPlanOf true model.now change.now (of_links p.edits p.chain)) }
     ensures refused { IfErr result (λ r. IsPlanRefusal model.now change.now r) }
 {
-    let Some(answer) = early_answer(alloc, model, change)? else {
-        unreachable!()
-    };
-    let (edits, chain) = plan_links(alloc, model, change, adapters.len() > 0)?;
+    let answer = known_answer(alloc, model, change)?;
+    let (edits, chain) = plan_links(alloc, model, change)?;
     Ok(PreparedLinks {
         answer,
         edits,

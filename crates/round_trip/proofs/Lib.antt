@@ -1,5 +1,4 @@
 pub mod PartsListLemmas
-pub mod ClassLemmas
 pub mod NameLemmas
 pub mod LevelLemmas
 pub mod ObjectLemmas

@@ -28,7 +28,7 @@ use Rattle.doc_writer.specs.Document.{class_name, content_data, two_members}
 use Rattle.doc_writer.specs.Written.{written_features}
 use Rattle.round_trip.specs.PartsLaws.{IsPart}
 use Rattle.round_trip.specs.Parts.{data_of, entry_of, features_data}
-use Rattle.round_trip.proofs.ClassLemmas.{own-class}
+use Rattle.doc_parts.proofs.ClassLemmas.{own-class}
 use Rattle.round_trip.proofs.LevelLemmas.{data-is}
 use Rattle.round_trip.proofs.NameLemmas.{NamesAreApart, entries-read, names-apart}
 

@@ -1,12 +1,12 @@
 -- One step through the words of a line.
 use Rattle.std.proofs.Common.{ap, ◌∙◌, ◌&&◌, ◌==◌, sub-one, ◌≡◌, ◌≢◌, ◌+◌, ◌-◌, ◌<◌, ◌≤◌, ◌++◌, ℕ, zero, suc, Bool, true, false, List, [], ◌∷◌, None, Some, nat_lt, add-one, append_assoc, arith, cond, drop, drop-cons, get_or, length, not, position, refl, sym, take, true≢false}
-use Rattle.std.proofs.lemmas.Bool.{and_parts}
+use Rattle.std.proofs.lemmas.Bool.{and_parts, or_parts}
 use Rattle.std.proofs.lemmas.Bool.Decides.{nat_tests}
 use Rattle.std.proofs.lemmas.List.Quantifiers.{position-Some}
 use Rattle.std.proofs.lemmas.List.Sums.{prefix_len-le-length}
 use Rattle.std.proofs.Math.Seq.{drop-length, take-length}
 use Rattle.std.specs.List.{after_first, before_first, list_all, position_or_len}
-use Rattle.script_lines.specs.Words.{is_space, quoted_len, word_len, words_after}
+use Rattle.script_lines.specs.Words.{is_mark, is_space, quoted_len, word_len, words_after}
 
 -- ---- the length of a word
 
@@ -41,6 +41,17 @@ quoted_backslash bs i n within is h = let e = head_at false bs i within in grind
 pub quoted_other : (bs : List ℕ) (i n : ℕ) → i < length bs → get_or bs i 0 ≢ 34 → get_or bs i 0 ≢ 92
     → i + quoted_len false (drop i bs) ≡ n → i + 1 + quoted_len false (drop (i + 1) bs) ≡ n
 quoted_other bs i n within quote slash h = let e = head_at false bs i within in grind arith
+
+-- the first mark ends the quoted part, if it is a quotation mark
+pub quoted_unescaped : (bs : List ℕ) (i : ℕ) → i < length bs → ((k : ℕ) → k < i → is_mark (get_or bs k 0) ≡ false) → get_or bs i 0 ≡ 34
+    → quoted_len false bs ≡ i + 1 + position_or_len is_space (drop (i + 1) bs)
+quoted_unescaped [] i within none is = absurd (omega arith)
+quoted_unescaped (c ∷ cs) zero within none is = let e : (c == 34) ≡ true = grind (arith, nat_tests) in rw e (omega arith)
+quoted_unescaped (c ∷ cs) (suc i) within none is =
+    let first = or_parts (c == 34) (c == 92) (none 0 (omega arith)) in
+    let rest = quoted_unescaped cs i (omega arith) (λ k low. none (suc k) (omega arith)) is in
+    let e : suc i + 1 ≡ suc (i + 1) = omega arith in
+    rw (first.0, first.1, e, rest) (omega arith)
 
 words_after-drop : (k : ℕ) (bs : List ℕ) → words_after k bs ≡ words_after 0 (drop k bs)
 words_after-drop zero bs = refl

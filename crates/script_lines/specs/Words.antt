@@ -1,11 +1,15 @@
 -- The words of a line are separated by spaces. A word that begins with a quotation mark goes on at least to the next
 -- quotation mark that no backslash escapes.
-use Rattle.std.specs.Prelude.{ℕ, zero, suc, ◌==◌, ◌-◌, Bool, true, false, List, [], ◌∷◌, take, if◌then◌else◌}
+use Rattle.std.specs.Prelude.{ℕ, zero, suc, ◌==◌, ◌||◌, ◌-◌, Bool, true, false, List, [], ◌∷◌, take, if◌then◌else◌}
 use Rattle.std.specs.List.{position_or_len}
 use Rattle.script_lines.specs.declared.grammar.TheConstants.{BACKSLASH, QUOTE, SPACE}
 
 abbrev pub is_space : ℕ → Bool
 is_space c = c == SPACE
+
+-- whether a byte ends a quotation, or escapes the next byte
+abbrev pub is_mark : ℕ → Bool
+is_mark c = c == QUOTE || c == BACKSLASH
 
 -- the bytes after their leading spaces
 abbrev pub after_spaces : List ℕ → List ℕ

@@ -58,10 +58,14 @@ fn parts_of(rest: &str) -> Option<(ResourceNo, &str)>
     Some((resource, text))
 }
 
-/// The resource and the text of a `load` line; `None` if the line has a different verb, or is bad.
+/// The resource and the text of a `load` line; `None` if the line has a different verb, or is bad. A line that begins with a space is left
+/// to the general reader, so that spaces are not looked through twice.
 pub fn load_parts(line: &str) -> Option<(ResourceNo, &str)>
     ensures { IfSome result (λ p. text_line line.now ≡ asked.Form (asks.Load p.0 p.1.now)) }
 {
+    if line.as_bytes().first() == Some(&SPACE) {
+        return None;
+    }
     match loaded_of(line) {
         Some(rest) => parts_of(rest),
         None => None,

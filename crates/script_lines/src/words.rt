@@ -2,7 +2,7 @@
 ghost use Rattle.std.specs.Prelude.{◌≡◌, ◌<◌, ◌≤◌, ◌+◌, ◌∷◌, [], drop, false, length, map, position, slice_index, take, true};
 ghost use Rattle.std.specs.List.{after_first, before_first};
 ghost use Rattle.std.specs.Str.{IsUtf8};
-ghost use Rattle.script_lines.specs.Words.{is_space, plain_len, quoted_len, word_len, words};
+ghost use Rattle.script_lines.specs.Words.{is_mark, is_space, plain_len, quoted_len, word_len, words};
 
 use crate::grammar::{BACKSLASH, QUOTE, SPACE};
 use arrayvec::ArrayVec;
@@ -25,8 +25,27 @@ fn plain_len_of(bytes: &[u8]) -> usize
     }
 }
 
-/// How many bytes of a word follow its first quotation mark.
+/// The first quotation mark or backslash.
+fn first_mark(bytes: &[u8]) -> Option<usize>
+    ensures { result ≡ position is_mark bytes.now }
+{
+    bytes.iter().position(|b| *b == QUOTE || *b == BACKSLASH)
+}
+
+/// How many bytes of a word follow its first quotation mark. Most words have no escape, so the next mark mostly ends the quotation.
 fn quoted_len_of(bytes: &[u8]) -> usize
+    ensures value { result ≡ quoted_len false bytes.now }
+    ensures within { result ≤ length bytes.now }
+    ensures end { result < length bytes.now → slice_index bytes.now result ≡ SPACE }
+{
+    match first_mark(bytes) {
+        Some(i) if bytes[i] == QUOTE => i + 1 + plain_len_of(&bytes[i + 1..]),
+        _ => escaped_len_of(bytes),
+    }
+}
+
+/// How many bytes of a word, which may have escapes, follow its first quotation mark.
+fn escaped_len_of(bytes: &[u8]) -> usize
     ensures value { result ≡ quoted_len false bytes.now }
     ensures within { result ≤ length bytes.now }
     ensures end { result < length bytes.now → slice_index bytes.now result ≡ SPACE }

@@ -25,7 +25,7 @@ use crate::line::{finish_change, print_bad, run_command, run_get, turn_of_refusa
 use crate::pool::Pool;
 use adapters::Adapter;
 use links::LinkStore;
-use mm_types::{End, FeatureNo, Node, ObjectNo, Refused, Value};
+use mm_types::{End, Node, ObjectNo, Refused};
 use repository::{Brief, Command, EndRead, Read, Repository};
 use script_answers::Turn;
 use script_lines::{Frequent, Name, Word, WrittenValue, value_of};
@@ -118,51 +118,6 @@ enum SetOrAdd {
     Add,
 }
 
-/// The request of a line that gives a feature of an object a value.
-#[derive(Drop)]
-struct Asked<'a> {
-    edit: SetOrAdd,
-    object: ObjectNo,
-    feature: Name<'a>,
-    value: WrittenValue<'a>,
-}
-
-/// The request of a line of these parts; `None` if its last word is no value. Fails only if memory is refused for the text of the word.
-fn asked_of<'a>(
-    alloc: Global,
-    edit: SetOrAdd,
-    object: ObjectNo,
-    feature: Name<'a>,
-    word: Word<'a>,
-) -> Result<Option<Asked<'a>>, AllocError>
-    ensures { IfOk result (λ o. MatchOption o (value_in word.entry ≡ None)
-        (λ a. (a.edit ≡ edit) × (a.object ≡ object) × (a.feature ≡ feature.entry) × (value_in word.entry ≡ Some a.value))) }
-{
-    match value_of(alloc, word.as_str())? {
-        Some(value) => Ok(Some(Asked {
-            edit,
-            object,
-            feature,
-            value,
-        })),
-        None => Ok(None),
-    }
-}
-
-/// The number of the feature of the line, and the value for it.
-#[inline(always)]
-fn bound<L: LinkStore, A: Adapter>(
-    repository: &Repository<L, A>,
-    asked: Asked<'_>,
-) -> (FeatureNo, Value)
-    ensures feature { result.0 ≡ b.feature_number repository.now (node.Object asked.entry.object) asked.entry.feature }
-    ensures value { result.1 ≡ b.named_value repository.now (node.Object asked.entry.object) asked.entry.feature asked.entry.value }
-{
-    let node = Node::Object(asked.object);
-    let feature = feature_number(repository, node, asked.feature.as_str());
-    (feature, value_in(repository.meta(), feature, asked.value))
-}
-
 /// Prints the outcome of a change that notified no adapter; `done` is the text of its answer. Fails only if memory is refused for the
 /// output.
 #[inline(always)]
@@ -189,16 +144,20 @@ fn run_edit<L: LinkStore, A: Adapter>(
     repository: &mut Repository<L, A>,
     pool: &mut Pool<A>,
     output: &mut Output,
-    asked: Asked<'_>,
+    edit: SetOrAdd,
+    object: ObjectNo,
+    name: Name<'_>,
+    written: WrittenValue<'_>,
 ) -> Result<Turn, AllocError>
     ensures ok { IfOk result (λ t. Adds output.old output.new t (λ p. RunsCommand (session repository.old pool.old)
-        (edit_command repository.old asked.entry.edit (node.Object asked.entry.object) asked.entry.feature asked.entry.value)
+        (edit_command repository.old edit (node.Object object) name.entry written.entry)
         p (session repository.new pool.new))) }
     ensures left { OnErr result (IsLeft (RunsCommand (session repository.old pool.old)
-        (edit_command repository.old asked.entry.edit (node.Object asked.entry.object) asked.entry.feature asked.entry.value)) repository.old repository.new) }
+        (edit_command repository.old edit (node.Object object) name.entry written.entry)) repository.old repository.new) }
 {
-    let (edit, node) = (asked.edit, Node::Object(asked.object));
-    let (feature, value) = bound(repository, asked);
+    let node = Node::Object(object);
+    let feature = feature_number(repository, node, name.as_str());
+    let value = value_in(repository.meta(), feature, written);
     match edit {
         SetOrAdd::Set => match repository.set_brief(node, feature, value) {
             Brief::Unheard(outcome) => print_change(output, outcome, "ok\n"),
@@ -232,14 +191,30 @@ pub(crate) fn run_frequent<L: LinkStore, A: Adapter>(
         }
         Frequent::Container(object) => run_container(repository, output, object),
         Frequent::Set(object, feature, word) => {
-            match asked_of(alloc, SetOrAdd::Set, object, feature, word)? {
-                Some(asked) => run_edit(repository, pool, output, asked),
+            match value_of(alloc, word.as_str())? {
+                Some(written) => run_edit(
+                    repository,
+                    pool,
+                    output,
+                    SetOrAdd::Set,
+                    object,
+                    feature,
+                    written,
+                ),
                 None => print_bad(output),
             }
         }
         Frequent::Add(object, feature, word) => {
-            match asked_of(alloc, SetOrAdd::Add, object, feature, word)? {
-                Some(asked) => run_edit(repository, pool, output, asked),
+            match value_of(alloc, word.as_str())? {
+                Some(written) => run_edit(
+                    repository,
+                    pool,
+                    output,
+                    SetOrAdd::Add,
+                    object,
+                    feature,
+                    written,
+                ),
                 None => print_bad(output),
             }
         }

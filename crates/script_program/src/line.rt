@@ -12,6 +12,7 @@ ghost use Rattle.repository.specs.declared.command.Command.TheVariants.{At, Load
 ghost use Rattle.repository.specs.Commands.{get};
 ghost use Rattle.script_lines.specs.Forms as forms;
 ghost use Rattle.script_lines.specs.Source.{bytes_of};
+ghost use Rattle.script_lines.specs.declared.form.Form.TheVariants as form;
 ghost use Rattle.script_lines.specs.declared.line.Line.TheVariants as asked;
 ghost use Rattle.script_program.specs.Answers as a;
 ghost use Rattle.script_program.specs.Bind.{IsGiven, pool_of, request_view};
@@ -28,7 +29,7 @@ use crate::pool::Pool;
 use crate::request::Request;
 use adapters::Adapter;
 use links::LinkStore;
-use mm_types::{AdapterNo, End, FeatureNo, Refused};
+use mm_types::{AdapterNo, End, FeatureNo, Refused, ResourceNo};
 use repository::{Command, EndRead, Failure, Read, Reply, Repository};
 use script_answers::Turn;
 use script_lines::{Line, Source, frequent_of, load_parts, text_line_of};
@@ -196,6 +197,23 @@ pub(crate) fn print_bad(output: &mut Output) -> Result<Turn, AllocError>
     Ok(Turn::Bad)
 }
 
+/// Loads a document into a resource, and prints the answer. It is never inlined into `run_text`, whose frame would then be larger for every
+/// line. Fails only if memory is refused for the output.
+#[inline(never)]
+fn run_load<L: LinkStore, A: Adapter>(
+    repository: &mut Repository<L, A>,
+    pool: &mut Pool<A>,
+    output: &mut Output,
+    resource: ResourceNo,
+    document: &str,
+) -> Result<Turn, AllocError>
+    ensures ok { IfOk result (λ t. Adds output.old output.new t (λ p. RunsLine (session repository.old pool.old) (asked.Form (form.Load resource document.now)) p (session repository.new pool.new))) }
+    ensures left { OnErr result (IsLeft (RunsLine (session repository.old pool.old) (asked.Form (form.Load resource document.now))) repository.old repository.new) }
+{
+    let outcome = repository.load_text(resource, document);
+    finish_change(repository, pool, output, FeatureNo(NOTHING), outcome)
+}
+
 /// Runs a line that is a text: parses it, runs its command and prints the answer.
 ///
 /// Fails only if memory is refused for a text that is the value of the line, or for the output.
@@ -211,8 +229,7 @@ fn run_text<L: LinkStore, A: Adapter>(
     ensures left { OnErr result (IsLeft (RunsLine (session repository.old pool.old) (forms.text_line text.now)) repository.old repository.new) }
 {
     if let Some((resource, document)) = load_parts(text) {
-        let outcome = repository.load_text(resource, document);
-        return finish_change(repository, pool, output, FeatureNo(NOTHING), outcome);
+        return run_load(repository, pool, output, resource, document);
     }
     match text_line_of(alloc, text)? {
         Line::Blank => Ok(Turn::Blank),

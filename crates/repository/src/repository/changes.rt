@@ -1,21 +1,24 @@
 //! Changes of objects, their values and their links.
-ghost use Rattle.std.specs.Prelude.{◌≡◌, ℕ, List, [], None, Some, false, true};
+ghost use Rattle.std.specs.Prelude.{◌≡◌, ◌<◌, ℕ, List, [], None, Some, false, length, true};
 ghost use Rattle.mm_types.specs.Shapes.{shape};
 ghost use Rattle.adapter_list.specs.Hearing.{IsUnheard};
 ghost use Rattle.handshake.specs.FeatureChanges.{chain};
 ghost use Rattle.handshake.specs.Changes.{edits_links_alone, edits_values_alone};
 ghost use Rattle.handshake.specs.declared.change.Change.{Change};
 ghost use Rattle.handshake.specs.Refusals.{early_refusal as early_refusal_of};
-ghost use Rattle.repository.specs.Run.{Executed, change_outcome};
+ghost use Rattle.repository.specs.Run.{Executed, brief_outcome, change_outcome};
 ghost use Rattle.repository.specs.State.{reads};
 ghost use Rattle.repository.specs.Views.{changed_view, command_of};
 ghost use Rattle.repository.specs.Commands as commands;
 ghost use Rattle.repository.specs.declared.command.Command.TheVariants.{At, Create, Delete};
+ghost use Rattle.repository.specs.declared.reply.Answer.TheVariants as answer;
 ghost use Rattle.handshake.specs.declared.act.Act.TheVariants.{Set};
 ghost use Rattle.repository.specs.Proper.{IsProper};
 
 use super::Repository;
-use crate::preparing::{Prepared, prepare, prepare_links, prepare_values};
+use crate::preparing::{
+    Prepared, prepare, prepare_edits, prepare_link_edits, prepare_links, prepare_values,
+};
 use crate::replies::{replied, replied_object, reply};
 use crate::reply::{Answer, Brief, Reply};
 use adapters::Adapter;
@@ -23,6 +26,7 @@ use change_plans::{attribute_refusal, plan_set};
 use handshake::{Act, Change, early_refusal};
 use links::LinkStore;
 use mm_types::{ClassNo, End, FeatureNo, Node, ObjectNo, Refused, Value};
+use notice_chain::Chain;
 
 impl<L: LinkStore, A: Adapter> Repository<L, A> {
     /// Makes an object of a class; each of its attributes has its default (EMF: EFactory.create). Notifies no adapter.
@@ -97,43 +101,58 @@ impl<L: LinkStore, A: Adapter> Repository<L, A> {
         self.carry_out(change)
     }
 
-    /// A change that edits only values. Most commands change attributes, so there is a short way: if the change notifies no adapter, the
-    /// edits are made as their memory is taken, and no reply is prepared.
+    /// A change that edits only values. If it notifies no adapter, no notification is made, and the edits are made as their memory is taken.
+    #[inline(never)]
     fn change_values(&mut self, change: Change) -> Result<Reply<A>, Refused>
         requires proper { IsProper (reads self.old) [] change }
         requires asked { early_refusal_of (reads self.old) change ≡ None }
         requires values { edits_values_alone self.old.model.metamodel change ≡ true }
         ensures { Executed self.old (command_of [] change) (change_outcome (changed_view A.heard result)) self.new }
     {
-        let is_heard = self.hears_values(&change);
+        if self.hears_values(&change) {
+            return self.change_heard_values(change);
+        }
         let model = self.model();
-        let prepared = match prepare_values(self.alloc, &model, change, is_heard) {
+        let (answer, values) = match prepare_edits(self.alloc, &model, change) {
             Ok(prepared) => prepared,
             Err(refused) => return Err(refused),
         };
-        if is_heard {
-            return self.tell_values(prepared.answer, prepared.values, prepared.chain);
-        }
-        match self.values.try_apply(prepared.values) {
+        match self.values.try_apply(values) {
             Ok(()) => {}
             Err(_) => return Err(Refused::Memory),
         }
-        Ok(reply(self.alloc, prepared.answer))
+        Ok(reply(self.alloc, answer))
+    }
+
+    /// A change that edits only values and may notify an adapter.
+    #[inline(never)]
+    fn change_heard_values(&mut self, change: Change) -> Result<Reply<A>, Refused>
+        requires proper { IsProper (reads self.old) [] change }
+        requires asked { early_refusal_of (reads self.old) change ≡ None }
+        requires values { edits_values_alone self.old.model.metamodel change ≡ true }
+        ensures { Executed self.old (command_of [] change) (change_outcome (changed_view A.heard result)) self.new }
+    {
+        let model = self.model();
+        let prepared = match prepare_values(self.alloc, &model, change) {
+            Ok(prepared) => prepared,
+            Err(refused) => return Err(refused),
+        };
+        self.tell_values(prepared.answer, prepared.values, prepared.chain)
     }
 
     /// A set of an attribute that may notify an adapter. It is never inlined into the way of a set that notifies none.
     #[inline(never)]
-    pub(super) fn set_heard(&mut self, end: End, value: Value) -> Result<Reply<A>, Refused>
+    pub(super) fn set_heard(&mut self, end: End, value: Value) -> Brief<A>
         requires attribute { (shape self.old.model.metamodel end.feature).is_reference ≡ false }
-        ensures { Executed self.old (At end (Set value)) (change_outcome (changed_view A.heard result)) self.new }
+        ensures { Executed self.old (At end (Set value)) (brief_outcome A.heard answer.Done result) self.new }
     {
         let model = self.model();
         if let Some(refused) = attribute_refusal(&model, end, &value) {
-            return Err(refused);
+            return Brief::Unheard(Err(refused));
         }
         match plan_set(self.alloc, &model, end, value) {
-            Ok((values, chain)) => self.tell_values(Answer::Done, values, chain),
-            Err(_) => Err(Refused::Memory),
+            Ok((values, chain)) => Brief::Replied(self.tell_values(Answer::Done, values, chain)),
+            Err(_) => Brief::Unheard(Err(Refused::Memory)),
         }
     }
 
@@ -148,7 +167,8 @@ impl<L: LinkStore, A: Adapter> Repository<L, A> {
         }
     }
 
-    /// A change that edits only links: a reference of one node. It destroys nothing, so no target is taken away.
+    /// A change that edits only links: a reference of one node. It destroys nothing, so no target is taken away. Without adapters no
+    /// notification is made.
     #[inline(never)]
     pub(super) fn change_links(&mut self, change: Change) -> Result<Reply<A>, Refused>
         requires proper { IsProper (reads self.old) [] change }
@@ -156,8 +176,28 @@ impl<L: LinkStore, A: Adapter> Repository<L, A> {
         requires links { edits_links_alone self.old.model.metamodel change ≡ true }
         ensures { Executed self.old (command_of [] change) (change_outcome (changed_view A.heard result)) self.new }
     {
+        if self.adapters.len() > 0 {
+            return self.change_heard_links(change);
+        }
         let model = self.model();
-        let prepared = match prepare_links(self.alloc, &model, &self.adapters, &change) {
+        let (answer, edits) = match prepare_link_edits(self.alloc, &model, &change) {
+            Ok(prepared) => prepared,
+            Err(refused) => return Err(refused),
+        };
+        self.tell_links(answer, edits, Chain::new(self.alloc))
+    }
+
+    /// A change that edits only links and may notify an adapter.
+    #[inline(never)]
+    fn change_heard_links(&mut self, change: Change) -> Result<Reply<A>, Refused>
+        requires proper { IsProper (reads self.old) [] change }
+        requires asked { early_refusal_of (reads self.old) change ≡ None }
+        requires links { edits_links_alone self.old.model.metamodel change ≡ true }
+        requires heard { 0 < length self.old.adapters }
+        ensures { Executed self.old (command_of [] change) (change_outcome (changed_view A.heard result)) self.new }
+    {
+        let model = self.model();
+        let prepared = match prepare_links(self.alloc, &model, &change) {
             Ok(prepared) => prepared,
             Err(refused) => return Err(refused),
         };

@@ -8,9 +8,9 @@ ghost use Rattle.handshake.specs.declared.change.Change.{Change};
 ghost use Rattle.handshake.specs.declared.change.Change.TheVariants as change;
 ghost use Rattle.adapter_list.specs.Hearing.{is_heard as is_heard_by};
 ghost use Rattle.repository.specs.Puts.{IsPutAlone, is_put_heard};
-ghost use Rattle.repository.specs.Run.{Executed, brief_outcome, change_outcome, read_outcome};
+ghost use Rattle.repository.specs.Run.{Executed, brief_outcome, read_outcome};
 ghost use Rattle.repository.specs.State.{reads};
-ghost use Rattle.repository.specs.Views.{changed_view, command_of};
+ghost use Rattle.repository.specs.Views.{command_of};
 ghost use Rattle.handshake.specs.declared.act.Act.TheVariants.{Add, Set};
 ghost use Rattle.repository.specs.Commands as commands;
 ghost use Rattle.repository.specs.declared.command.Command.TheVariants.{At, Create};
@@ -20,7 +20,7 @@ ghost use Rattle.repository.specs.declared.reply.Answer.TheVariants as answer;
 use super::Repository;
 use crate::lone_puts::{forget_put, put_value};
 use crate::preparing::next_object;
-use crate::reply::{Brief, Reply};
+use crate::reply::Brief;
 use adapters::Adapter;
 use change_plans::{attribute_refusal, create_refusal, lone_add, lone_set};
 use handshake::{Act, Change, list_early_refusal, set_early_refusal};
@@ -55,11 +55,11 @@ impl<L: LinkStore, A: Adapter> Repository<L, A> {
         if self.meta.is_reference(feature) {
             return match self.set_lone_link(end, &value) {
                 Some(done) => Brief::Unheard(done),
-                None => Brief::Replied(self.displace(end, Act::Set(value))),
+                None => self.displace(end, Act::Set(value)),
             };
         }
         if self.is_heard(node) {
-            return Brief::Replied(self.set_heard(end, value));
+            return self.set_heard(end, value);
         }
         Brief::Unheard(self.set_value(end, value))
     }
@@ -80,7 +80,7 @@ impl<L: LinkStore, A: Adapter> Repository<L, A> {
         if self.meta.is_reference(feature) {
             return match self.add_lone_link(end, &value, index) {
                 Some(done) => Brief::Unheard(done),
-                None => Brief::Replied(self.displace(end, Act::Add(value, index))),
+                None => self.displace(end, Act::Add(value, index)),
             };
         }
         Brief::Replied(self.change(Change::At(end, Act::Add(value, index))))
@@ -89,13 +89,13 @@ impl<L: LinkStore, A: Adapter> Repository<L, A> {
     /// A change of a reference that is not refused early. It is never inlined into the way of a change that notifies no adapter, which would
     /// then zero the stack slots of a `Change`.
     #[inline(never)]
-    fn displace(&mut self, end: End, act: Act) -> Result<Reply<A>, Refused>
+    fn displace(&mut self, end: End, act: Act) -> Brief<A>
         requires reference { (shape self.old.model.metamodel end.feature).is_reference ≡ true }
         requires one { edits_one_kind (change.At end act) ≡ true }
         requires asked { early_refusal_of (reads self.old) (change.At end act) ≡ None }
-        ensures { Executed self.old (At end act) (change_outcome (changed_view A.heard result)) self.new }
+        ensures { (a : Answer) → Executed self.old (At end act) (brief_outcome A.heard a result) self.new }
     {
-        self.change_links(Change::At(end, act))
+        Brief::Replied(self.change_links(Change::At(end, act)))
     }
 
     /// Whether an adapter gets the notifications of a node. Takes no memory.

@@ -33,7 +33,7 @@ pub returns-clause-answer : goal.returns-clause-answer
 returns-clause-answer g c = λ rs text proper.
     let early = c.in_ok-early.ensures rs text proper in
     let plan = c.in_ok-planned.ensures in
-    elim c.match-early-7.branch [
+    elim c.match-early-9.branch [
       | in-Some w ↦ w.answer-is ∙ found-early (is_answered_late c.args.change) _ _ _ early w.in-Some.is
       | in-None w ↦ w.answer-is ∙ same_Some _ _ (w.planned_answer-answer.ensures ∙ answer-planned (reading c.args.model.now) rs text c.args.change c.in_ok-planned.planned.finding (found-late (is_answered_late c.args.change) _ _ early w.in-None.is) plan.allowed plan.removed plan.found plan.resolved)
     ]

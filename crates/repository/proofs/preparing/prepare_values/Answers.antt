@@ -1,13 +1,12 @@
-use Rattle.std.proofs.Common.{◌∙◌, [], sym}
-use Rattle.std.proofs.lemmas.Bool.{false≢true}
+use Rattle.std.proofs.Common.{true}
 use Rattle.std.proofs.lemmas.Result.{err_from_is_err_and}
-use Rattle.models.specs.Model.{reading}
 use Rattle.change_plans.proofs.ValueLemmas.{values-planned}
-use Rattle.repository.specs.Answers.{is_answered_late}
-use Rattle.repository.proofs.LeavingLemmas.{found-early, found-late}
 use Rattle.repository.proofs.PlanLemmas.{plan_refusal}
 use Rattle.repository.proofs.ValueLemmas.{answered-early-values}
 use Rattle.repository.proofs.preparing.prepare_values.Goals as goal
+
+pub known_answer-requires : goal.known_answer-requires
+known_answer-requires g c = record { proper = c.requires.proper; known = answered-early-values c.args.model.now.metamodel c.args.change c.requires.values }
 
 pub returns-in_err-values-clause-refused : goal.returns-in_err-values-clause-refused
 returns-in_err-values-clause-refused g c =
@@ -15,12 +14,4 @@ returns-in_err-values-clause-refused g c =
     rw (p.1, p.2) (plan_refusal c.args.model.now c.args.change _ (λ _. c.in_err-values.ensures.refused))
 
 pub returns-clause-planned : goal.returns-clause-planned
-returns-clause-planned g c = values-planned c.args.is_heard c.args.model.now c.args.change _ _ c.requires.values c.lemma_is_legal.ensures c.requires.asked c.in_ok-values.ensures.allowed c.in_ok-values.ensures.values c.in_ok-values.ensures.chain
-
-pub unreachable-requires : goal.unreachable-requires
-unreachable-requires g c =
-    let late = found-late (is_answered_late c.args.change) _ _ (c.in_ok-answer.ensures [] c.requires.proper.0 c.requires.proper.1) c.in_default.is in
-    false≢true (sym (answered-early-values c.args.model.now.metamodel c.args.change c.requires.values) ∙ late)
-
-pub returns-clause-answer : goal.returns-clause-answer
-returns-clause-answer g c = λ rs text proper. found-early (is_answered_late c.args.change) _ _ _ (c.in_ok-answer.ensures rs text proper) c.in-Some.is
+returns-clause-planned g c = values-planned true c.args.model.now c.args.change _ _ c.requires.values c.lemma_is_legal.ensures c.requires.asked c.in_ok-values.ensures.allowed c.in_ok-values.ensures.values c.in_ok-values.ensures.chain

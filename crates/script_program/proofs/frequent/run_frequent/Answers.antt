@@ -1,7 +1,8 @@
-use Rattle.std.proofs.Common.{◌≡◌, ◌∙◌, None, Some, ap, option_map}
+use Rattle.std.proofs.Common.{◌≡◌, ◌∙◌, None, Some, ap, option_map, sym}
 use Rattle.mm_types.specs.declared.numbers.Node.TheVariants as node
 use Rattle.script_lines.specs.Forms.{line_with}
 use Rattle.script_lines.specs.Frequent.{frequent_line}
+use Rattle.script_lines.specs.Values.{value_in}
 use Rattle.script_lines.specs.declared.form.FeatureForm.TheVariants as feature
 use Rattle.script_lines.specs.declared.form.Form.TheVariants as asks
 use Rattle.script_lines.specs.declared.line.Line.TheVariants as line
@@ -17,31 +18,31 @@ returns-in-Container-clause-ok g c = rw (ap frequent_line c.in-Container.is) (c.
 
 pub returns-in-Some-clause-ok : goal.returns-in-Some-clause-ok
 returns-in-Some-clause-ok g c =
-    let a = c.in-Some.asked in
-    let parts = rw c.in-Some.is at c.in_ok-asked-in-Set.ensures in
-    let asked : frequent_line c.args.line ≡ line.Form (asks.At (node.Object c.in-Set.object) c.in-Set.feature (feature.Set a.value)) =
-    ap frequent_line c.in-Set.is ∙ ap (λ x. line_with (option_map (λ v. asks.At (node.Object c.in-Set.object) c.in-Set.feature (feature.Set v)) x)) parts.3 in
-    rw asked (rw (parts.0, parts.1, parts.2) at c.run_edit.ensures.ok)
+    let v = c.in-Some.written in
+    let writes : value_in c.in-Set.word ≡ Some v = ap value_in (sym c.as_str-in-Set.ensures) ∙ sym c.in_ok-written-in-Set.ensures ∙ c.in-Some.is in
+    let asked : frequent_line c.args.line ≡ line.Form (asks.At (node.Object c.in-Set.object) c.in-Set.feature (feature.Set v)) =
+    ap frequent_line c.in-Set.is ∙ ap (λ x. line_with (option_map (λ w. asks.At (node.Object c.in-Set.object) c.in-Set.feature (feature.Set w)) x)) writes in
+    rw asked c.run_edit.ensures.ok
 
 pub returns-in-Some-2-clause-ok : goal.returns-in-Some-2-clause-ok
 returns-in-Some-2-clause-ok g c =
-    let a = c.in-Some-2.asked in
-    let parts = rw c.in-Some-2.is at c.in_ok-asked-in-Add.ensures in
-    let asked : frequent_line c.args.line ≡ line.Form (asks.At (node.Object c.in-Add.object) c.in-Add.feature (feature.Add a.value)) =
-    ap frequent_line c.in-Add.is ∙ ap (λ x. line_with (option_map (λ v. asks.At (node.Object c.in-Add.object) c.in-Add.feature (feature.Add v)) x)) parts.3 in
-    rw asked (rw (parts.0, parts.1, parts.2) at c.run_edit-in-Some-2.ensures.ok)
+    let v = c.in-Some-2.written in
+    let writes : value_in c.in-Add.word ≡ Some v = ap value_in (sym c.as_str-in-Add.ensures) ∙ sym c.in_ok-written-in-Add.ensures ∙ c.in-Some-2.is in
+    let asked : frequent_line c.args.line ≡ line.Form (asks.At (node.Object c.in-Add.object) c.in-Add.feature (feature.Add v)) =
+    ap frequent_line c.in-Add.is ∙ ap (λ x. line_with (option_map (λ w. asks.At (node.Object c.in-Add.object) c.in-Add.feature (feature.Add w)) x)) writes in
+    rw asked c.run_edit-in-Some-2.ensures.ok
 
 -- the last word writes no value
 pub returns-in-None-clause-ok : goal.returns-in-None-clause-ok
 returns-in-None-clause-ok g c =
-    let none = rw c.in-None.is at c.in_ok-asked-in-Set.ensures in
-    let bad : frequent_line c.args.line ≡ line.Bad = ap frequent_line c.in-Set.is ∙ ap (λ x. line_with (option_map (λ v. asks.At (node.Object c.in-Set.object) c.in-Set.feature (feature.Set v)) x)) none in
+    let none : value_in c.in-Set.word ≡ None = ap value_in (sym c.as_str-in-Set.ensures) ∙ sym c.in_ok-written-in-Set.ensures ∙ c.in-None.is in
+    let bad : frequent_line c.args.line ≡ line.Bad = ap frequent_line c.in-Set.is ∙ ap (λ x. line_with (option_map (λ w. asks.At (node.Object c.in-Set.object) c.in-Set.feature (feature.Set w)) x)) none in
     rw bad (c.print_bad.ensures (session c.args.repository.now c.args.pool.now))
 
 pub returns-in-None-2-clause-ok : goal.returns-in-None-2-clause-ok
 returns-in-None-2-clause-ok g c =
-    let none = rw c.in-None-2.is at c.in_ok-asked-in-Add.ensures in
-    let bad : frequent_line c.args.line ≡ line.Bad = ap frequent_line c.in-Add.is ∙ ap (λ x. line_with (option_map (λ v. asks.At (node.Object c.in-Add.object) c.in-Add.feature (feature.Add v)) x)) none in
+    let none : value_in c.in-Add.word ≡ None = ap value_in (sym c.as_str-in-Add.ensures) ∙ sym c.in_ok-written-in-Add.ensures ∙ c.in-None-2.is in
+    let bad : frequent_line c.args.line ≡ line.Bad = ap frequent_line c.in-Add.is ∙ ap (λ x. line_with (option_map (λ w. asks.At (node.Object c.in-Add.object) c.in-Add.feature (feature.Add w)) x)) none in
     rw bad (c.print_bad-in-None-2.ensures (session c.args.repository.now c.args.pool.now))
 
 -- ---- what is left if the answer could not be added
@@ -51,19 +52,19 @@ returns-in-Container-clause-left g c = unchanged c.run_container.result _ c.args
 
 pub returns-in-Some-clause-left : goal.returns-in-Some-clause-left
 returns-in-Some-clause-left g c =
-    let a = c.in-Some.asked in
-    let parts = rw c.in-Some.is at c.in_ok-asked-in-Set.ensures in
-    let asked : frequent_line c.args.line ≡ line.Form (asks.At (node.Object c.in-Set.object) c.in-Set.feature (feature.Set a.value)) =
-    ap frequent_line c.in-Set.is ∙ ap (λ x. line_with (option_map (λ v. asks.At (node.Object c.in-Set.object) c.in-Set.feature (feature.Set v)) x)) parts.3 in
-    rw asked (rw (parts.0, parts.1, parts.2) at c.run_edit.ensures.left)
+    let v = c.in-Some.written in
+    let writes : value_in c.in-Set.word ≡ Some v = ap value_in (sym c.as_str-in-Set.ensures) ∙ sym c.in_ok-written-in-Set.ensures ∙ c.in-Some.is in
+    let asked : frequent_line c.args.line ≡ line.Form (asks.At (node.Object c.in-Set.object) c.in-Set.feature (feature.Set v)) =
+    ap frequent_line c.in-Set.is ∙ ap (λ x. line_with (option_map (λ w. asks.At (node.Object c.in-Set.object) c.in-Set.feature (feature.Set w)) x)) writes in
+    rw asked c.run_edit.ensures.left
 
 pub returns-in-Some-2-clause-left : goal.returns-in-Some-2-clause-left
 returns-in-Some-2-clause-left g c =
-    let a = c.in-Some-2.asked in
-    let parts = rw c.in-Some-2.is at c.in_ok-asked-in-Add.ensures in
-    let asked : frequent_line c.args.line ≡ line.Form (asks.At (node.Object c.in-Add.object) c.in-Add.feature (feature.Add a.value)) =
-    ap frequent_line c.in-Add.is ∙ ap (λ x. line_with (option_map (λ v. asks.At (node.Object c.in-Add.object) c.in-Add.feature (feature.Add v)) x)) parts.3 in
-    rw asked (rw (parts.0, parts.1, parts.2) at c.run_edit-in-Some-2.ensures.left)
+    let v = c.in-Some-2.written in
+    let writes : value_in c.in-Add.word ≡ Some v = ap value_in (sym c.as_str-in-Add.ensures) ∙ sym c.in_ok-written-in-Add.ensures ∙ c.in-Some-2.is in
+    let asked : frequent_line c.args.line ≡ line.Form (asks.At (node.Object c.in-Add.object) c.in-Add.feature (feature.Add v)) =
+    ap frequent_line c.in-Add.is ∙ ap (λ x. line_with (option_map (λ w. asks.At (node.Object c.in-Add.object) c.in-Add.feature (feature.Add w)) x)) writes in
+    rw asked c.run_edit-in-Some-2.ensures.left
 
 pub returns-in-None-clause-left : goal.returns-in-None-clause-left
 returns-in-None-clause-left g c = unchanged c.print_bad.result _ c.args.repository.now

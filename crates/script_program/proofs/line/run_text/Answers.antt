@@ -1,15 +1,10 @@
 use Rattle.std.proofs.Common.{◌≡◌, ◌∙◌, sym, subst}
-use Rattle.notice_chain.specs.View.{View}
-use Rattle.repository.specs.Run.{change_outcome}
-use Rattle.repository.specs.Views.{changed_view}
-use Rattle.repository.specs.declared.command.Command.{Command}
-use Rattle.repository.specs.declared.command.Command.TheVariants.{Load}
 use Rattle.script_lines.specs.Forms.{text_line}
 use Rattle.script_lines.specs.declared.line.Line.TheVariants as line
 use Rattle.script_program.specs.Bind.{IsGiven}
 use Rattle.script_program.specs.Session.{Session, session}
 use Rattle.script_program.proofs.SessionLemmas.{bind-given}
-use Rattle.script_program.proofs.LeftLemmas.{as_executed, unchanged}
+use Rattle.script_program.proofs.LeftLemmas.{unchanged}
 use Rattle.script_program.proofs.line.run_text.Goals as goal
 
 pub returns-in-Form-clause-ok : goal.returns-in-Form-clause-ok
@@ -33,7 +28,4 @@ pub returns-in-Bad-clause-left : goal.returns-in-Bad-clause-left
 returns-in-Bad-clause-left g c = unchanged c.print_bad.result _ c.args.repository.now
 
 pub returns-in-Some-clause-left : goal.returns-in-Some-clause-left
-returns-in-Some-clause-left g c =
-    let s : Session = session c.args.repository.now c.args.pool.now in
-    let k : Command View = Load c.in-Some.resource c.in-Some.document.now in
-    rw c.in-Some.ensures (as_executed c.finish_change.result s k (change_outcome (changed_view g.A.Adapter.heard c.load_text-outcome.result)) c.load_text-outcome.new.self c.load_text-outcome.ensures)
+returns-in-Some-clause-left g c = rw c.in-Some.ensures c.run_load.ensures.left

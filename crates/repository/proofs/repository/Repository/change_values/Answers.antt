@@ -18,7 +18,7 @@ use Rattle.repository.proofs.InsideLemmas.{made, refused}
 use Rattle.repository.proofs.LegalLemmas.{stepped-legal}
 use Rattle.repository.proofs.LoadLemmas.{proper-steady}
 use Rattle.repository.proofs.PlanLemmas.{out_of_memory, planned_err}
-use Rattle.repository.proofs.ValueLemmas.{changed-unheard, values-ready}
+use Rattle.repository.proofs.ValueLemmas.{changed-unheard}
 use Rattle.repository.proofs.repository.Repository.change_values.Goals as goal
 
 pub returns-in-Err : goal.returns-in-Err
@@ -40,14 +40,6 @@ returns-in-Err-try_apply g c =
 pub invariant_of-self : goal.invariant_of-self
 invariant_of-self g c = refused g.L.LinkStore.links g.L.LinkStore.kinds c.self.inside c.try_apply.new.self c.in-Err-try_apply.ensures.err c.self.invariant
 
-pub tell_values-requires : goal.tell_values-requires
-tell_values-requires g c =
-    record { ready = (c.args.change, values-ready c.args.self.now c.model-model.result c.args.change c.in-Ok.prepared.answer c.model-model.ensures c.requires.asked c.requires.proper c.in-Ok.ensures.answer c.hears_values-is_heard.result c.in-Ok.prepared.values c.in-Ok.prepared.chain c.requires.values c.in-Ok.ensures.planned c.hears_values-is_heard.ensures) }
-
-pub returns-then-is_heard : goal.returns-then-is_heard
-returns-then-is_heard g c =
-    c.tell_values.ensures c.args.change (values-ready c.args.self.now c.model-model.result c.args.change c.in-Ok.prepared.answer c.model-model.ensures c.requires.asked c.requires.proper c.in-Ok.ensures.answer c.hears_values-is_heard.result c.in-Ok.prepared.values c.in-Ok.prepared.chain c.requires.values c.in-Ok.ensures.planned c.hears_values-is_heard.ensures)
-
 pub returns : goal.returns
 returns g c =
     let s : State = state g.L.LinkStore.links c.self.inside in
@@ -55,14 +47,14 @@ returns g c =
     let early : early_refusal (reads s) c.args.change ≡ None = subst (λ (t : State). early_refusal (reads t) c.args.change ≡ None) (sym c.self.view_is) c.requires.asked in
     let proper : IsProper (reads s) [] c.args.change = subst (λ (t : State). IsProper (reads t) [] c.args.change) (sym c.self.view_is) c.requires.proper in
     let alone : edits_values_alone s.model.metamodel c.args.change ≡ true = subst (λ (t : State). edits_values_alone t.model.metamodel c.args.change ≡ true) (sym c.self.view_is) c.requires.values in
-    let unheard = subst (λ (t : State). IsUnheard (reads t).above (chain (reads t) c.args.change) t.adapters) (sym c.self.view_is) (c.hears_values-is_heard.ensures c.if-is_heard.false) in
-    let vs = c.in-Ok.prepared.values in
-    let plan = subst (λ (m : Model). IsPlanOf c.hears_values-is_heard.result m c.args.change (of_values vs c.in-Ok.prepared.chain)) is c.in-Ok.ensures.planned in
+    let unheard = subst (λ (t : State). IsUnheard (reads t).above (chain (reads t) c.args.change) t.adapters) (sym c.self.view_is) (c.hears_values.ensures c.if-hears_values.false) in
+    let vs = c.in-Ok.prepared.1 in
+    let plan = subst (λ (m : Model). IsPlanOf false m c.args.change (of_values vs [])) is c.in-Ok.ensures.planned in
     let values = c.in-Ok-try_apply.ensures.ok ∙ plan.values_made in
-    let answered = subst (λ (m : Model). c.in-Ok.prepared.answer ≡ answer_of (reading m) s.adapters (command_of [] c.args.change)) is (c.in-Ok.ensures.answer s.adapters [] (subst (λ (m : Model). IsProper (reading m) [] c.args.change) (sym is) proper)) in
+    let answered = subst (λ (m : Model). c.in-Ok.prepared.0 ≡ answer_of (reading m) s.adapters (command_of [] c.args.change)) is (c.in-Ok.ensures.answer s.adapters [] (subst (λ (m : Model). IsProper (reading m) [] c.args.change) (sym is) proper)) in
     let t : State = record { model = model_of c.self.inside.meta (values_of c.try_apply.new.self) (g.L.LinkStore.links c.self.inside.store); adapters = c.self.inside.adapters.0 } in
     rw (← c.self.view_is, c.reply.ensures)
-    (changed-unheard s t [] c.args.change c.in-Ok.prepared.answer [] [] unheard (sym (is-plain (reads s) c.args.change alone).whose) refl refl proper early plan.allowed answered
+    (changed-unheard s t [] c.args.change c.in-Ok.prepared.0 [] [] unheard (sym (is-plain (reads s) c.args.change alone).whose) refl refl proper early plan.allowed answered
     (λ i. model_of c.self.inside.meta (values i) (plan.links_made i)) refl)
 
 pub invariant_of-self-2 : goal.invariant_of-self-2
@@ -70,7 +62,7 @@ invariant_of-self-2 g c =
     let s : State = state g.L.LinkStore.links c.self.inside in
     let is : c.model-model.result ≡ s.model = c.model-model.ensures ∙ ap (λ (t : State). t.model) (sym c.self.view_is) in
     let proper : IsProper (reads s) [] c.args.change = subst (λ (t : State). IsProper (reads t) [] c.args.change) (sym c.self.view_is) c.requires.proper in
-    let vs = c.in-Ok.prepared.values in
-    let plan = subst (λ (m : Model). IsPlanOf c.hears_values-is_heard.result m c.args.change (of_values vs c.in-Ok.prepared.chain)) is c.in-Ok.ensures.planned in
+    let vs = c.in-Ok.prepared.1 in
+    let plan = subst (λ (m : Model). IsPlanOf false m c.args.change (of_values vs [])) is c.in-Ok.ensures.planned in
     let legal = stepped-legal _ _ (command_of [] c.args.change) _ (subst IsLegal c.self.view_is c.self.invariant.legal) (returns g c) in
-    made g.L.LinkStore.links g.L.LinkStore.kinds c.self.inside c.try_apply.new.self c.hears_values-is_heard.result c.args.change vs c.in-Ok.prepared.chain plan c.in-Ok-try_apply.ensures.ok (proper-steady (reads s) [] c.args.change proper) legal c.self.invariant
+    made g.L.LinkStore.links g.L.LinkStore.kinds c.self.inside c.try_apply.new.self false c.args.change vs [] plan c.in-Ok-try_apply.ensures.ok (proper-steady (reads s) [] c.args.change proper) legal c.self.invariant

@@ -1,14 +1,15 @@
 -- In a metamodel of a document, a class is found by its name.
-use Rattle.std.proofs.Common.{◌≡◌, ◌∙◌, ◌+◌, ◌++◌, ◌||◌, ℕ, zero, suc, Bool, false, cond, List, [], ◌∷◌, Option, Some, None, map, take, arith, inl, refl, sym, ap, subst}
+use Rattle.std.proofs.Common.{eq-eqb, nat_lt, length, true, ◌<◌, ◌≡◌, ◌∙◌, ◌+◌, ◌++◌, ◌||◌, ℕ, zero, suc, Bool, false, cond, List, [], ◌∷◌, Option, Some, None, map, take, arith, inl, refl, sym, ap, subst}
 use Rattle.std.specs.Prelude.{option_map, slice_get}
 use Rattle.std.specs.List.{list_any, position_from}
 use Rattle.std.specs.Option.{option_map_or}
 use Rattle.std.specs.Str.{bytes_eq}
-use Rattle.std.proofs.lemmas.Bool.{false_from_ne_true, false≢true, or_left, or_parts, or_right}
+use Rattle.std.proofs.lemmas.Bool.{and_from, lt-ltb, false_from_ne_true, false≢true, or_left, or_parts, or_right}
 use Rattle.std.proofs.lemmas.Iterator.Adapters.{position_from-zero}
 use Rattle.std.proofs.lemmas.List.Folds.{list_any-append}
-use Rattle.std.proofs.lemmas.Option.{none-some, same_Some, slice_get-map}
+use Rattle.std.proofs.lemmas.Option.{none-some, same_Some, slice_get-map, slice_get_within}
 use Rattle.std.proofs.lemmas.Slice.Eq.{bytes_eq-Decides}
+use Rattle.mm_types.specs.Graph.{by_class}
 use Rattle.mm_types.specs.Lookups as lookups
 use Rattle.mm_types.specs.Names.{repeats}
 use Rattle.mm_types.specs.OfDocument.{IsOfDocument}
@@ -67,3 +68,13 @@ class-first raw well c k here =
 -- a class is the one of its name
 pub own-class : (m : Metamodel) → IsOfDocument m → (c : ClassNo) (k : Class) → lookups.class m c ≡ Some k → lookups.class_by_name m k.name ≡ Some c
 own-class m d c k = subst (λ (n : Metamodel). lookups.class n c ≡ Some k → lookups.class_by_name n k.name ≡ Some c) (sym d.is) (class-first d.raw d.well_formed c k)
+
+within-self : (g : List (List ℕ)) (n c : ℕ) → lookups.conforms_within g n c c ≡ true
+within-self g zero c = eq-eqb c c refl
+within-self g (suc n) c = ap (λ (b : Bool). b || list_any (λ e. lookups.conforms_within g n e c) (by_class g c)) (eq-eqb c c refl)
+
+-- a class conforms to itself
+pub conforms-self : (m : Metamodel) (c : ClassNo) (k : Class) → lookups.class m c ≡ Some k → lookups.conforms m c c ≡ true
+conforms-self m c k here =
+    and_from (nat_lt c.0 (length m.classes)) (lookups.conforms_within (lookups.supertypes m) (length m.classes) c.0 c.0)
+    (lt-ltb c.0 (length m.classes) (slice_get_within m.classes c.0 k here)) (within-self (lookups.supertypes m) (length m.classes) c.0)

@@ -1,0 +1,16 @@
+use Rattle.std.proofs.Common.{◌∙◌, sym}
+use Rattle.models.specs.Model.{reading}
+use Rattle.change_plans.proofs.RefusalLemmas.{late-refused}
+use Rattle.change_plans.proofs.ValueLemmas.{is-plain}
+use Rattle.change_plans.proofs.value_planning.plan_value_edits.Goals as goal
+
+pub late_refusal-requires : goal.late_refusal-requires
+late_refusal-requires g c = record { found = (is-plain (reading c.args.model.now) c.args.change c.requires.values).found }
+
+pub returns-in-Some-clause-refused : goal.returns-in-Some-clause-refused
+returns-in-Some-clause-refused g c = late-refused (reading c.args.model.now) c.args.change c.in-Some.refused (sym c.late_refusal.ensures ∙ c.in-Some.is)
+
+pub value_edits-requires : goal.value_edits-requires
+value_edits-requires g c =
+    let plain = is-plain (reading c.args.model.now) c.args.change c.requires.values in
+    record { removal = record { whose = plain.whose; found = tt }; fits = plain.fits }

@@ -1,0 +1,8 @@
+-- The bytes of a text, however it is kept.
+use Rattle.std.specs.Prelude.{ℕ, List, string_bytes}
+use Rattle.mm_types.specs.declared.text.Layout.{Layout}
+use Rattle.mm_types.specs.declared.text.Layout.TheVariants.{Long, Short}
+
+abbrev pub bytes_of : Layout → List ℕ
+bytes_of (Short text) = text.bytes
+bytes_of (Long text) = string_bytes text
