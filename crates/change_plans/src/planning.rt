@@ -339,6 +339,7 @@ fn index_refusal(is_there: bool) -> Option<Refused>
 }
 
 /// Why a single end can't be set to a value of its type.
+#[inline(always)]
 fn set_refusal<L: LinkStore>(model: &ModelRef<L>, end: End, value: &Value) -> Option<Refused>
     requires taken { takes (reading model.now) end.feature value.now ≡ true }
     ensures { result ≡ refusals.set_refusal (reading model.now) end value.now }

@@ -1,14 +1,12 @@
 -- The answers of commands that are not refused.
-use Rattle.std.specs.Prelude.{◌≡◌, ℕ, ◌&&◌, ◌||◌, Bool, List, filter, length, not, pos, int_le, int_lt, Option, Some, None, is_some, unwrap_or, if◌then◌else◌, [], true, false}
+use Rattle.std.specs.Prelude.{◌≡◌, ℕ, ◌||◌, Bool, List, length, not, Option, Some, None, is_some, unwrap_or, if◌then◌else◌, [], true, false}
 use Rattle.std.specs.Option.{option_map_or}
 use Rattle.mm_types.specs.declared.numbers.AdapterNo.{AdapterNo}
 use Rattle.notice_chain.specs.View.{View}
 use Rattle.notice_chain.specs.Listed.{Listed, adapter, is_target}
 use Rattle.mm_types.specs.Ends.{has_value, value_in}
 use Rattle.mm_types.specs.declared.end.End.{End}
-use Rattle.mm_types.specs.declared.numbers.Node.TheVariants as node
-use Rattle.mm_types.specs.declared.value.Value.TheVariants as value
-use Rattle.models.specs.Reading.{Reading, at_end, is_repeat, is_set, shape_at, value_at, all_features_of}
+use Rattle.models.specs.Reading.{Reading, at_end, is_repeat, is_set, shape_at, value_at}
 use Rattle.containment.specs.Above.{resource_of}
 use Rattle.containment.specs.Forest.{container, contents, subtree}
 use Rattle.repository.specs.declared.command.Command.{Command}
@@ -25,13 +23,11 @@ use Rattle.repository.specs.declared.reply.Answer.{Answer}
 use Rattle.repository.specs.declared.reply.Answer.TheVariants as answer
 use Rattle.repository.specs.declared.reply.FeatureValue.{FeatureValue}
 use Rattle.repository.specs.declared.reply.FeatureValue.TheVariants as feature_value
-use Rattle.mm_types.specs.Same.{same_value}
-use Rattle.mm_types.specs.declared.numbers.FeatureNo.{FeatureNo}
-use Rattle.mm_types.specs.declared.numbers.ObjectNo.{ObjectNo}
 use Rattle.fragment_paths.specs.Fragments.{fragment}
 use Rattle.fragment_paths.specs.Finding.{at}
 use Rattle.doc_writer.specs.Document.{saved_text}
 use Rattle.snapshots.specs.Snapshots.{snapshot_of}
+use Rattle.validation.specs.Bounds.{short_features}
 use Rattle.repository.specs.Loads.{objects_of, reads_into}
 use Rattle.proxies.specs.Resolving.{target_at}
 use Rattle.proxies.specs.ResolvingAll.{resolved_count, unresolved_count}
@@ -51,22 +47,6 @@ feature_value_at r e = if (shape_at r e).is_single then feature_value.One (value
 abbrev pub got_answer : FeatureValue → Answer
 got_answer (feature_value.One v) = answer.Value v
 got_answer (feature_value.Many vs) = answer.Values vs
-
--- whether a single end has no value: it is null, or unsettable and not set
-abbrev pub is_missing : Reading → End → Bool
-is_missing r e = same_value value.Null (value_at r e) || ((shape_at r e).is_unsettable && not (is_set r e))
-
--- whether an end has too few values: a list has fewer than its lower bound, or a single feature with a lower bound of at least 1 has no
--- value
-abbrev pub is_too_few : Reading → End → Bool
-is_too_few r e =
-    let a = shape_at r e in
-    if a.is_single
-    then int_le (pos 1) a.lower && is_missing r e
-    else int_lt (pos (length (r.values e))) a.lower
-
-abbrev pub short_features : Reading → ObjectNo → List FeatureNo
-short_features r o = filter (λ f. is_too_few r (at_end (node.Object o) f)) (all_features_of r (node.Object o))
 
 -- `add` gives whether the list changed, `remove` and `move` the value, `remove_value` whether the value was there, and `resolve` the object
 -- that the proxy finds

@@ -1,10 +1,10 @@
 //! When the remembered fragments, and the adapters that are notified at a node, are forgotten.
 ghost use Rattle.std.specs.FinMap as map;
 ghost use Rattle.std.specs.Prelude.{◌≡◌, false, if◌then◌else◌, is_some, List};
-ghost use Rattle.links.specs.Laws.{contains_by, edit_end, touches_containment as touches};
+ghost use Rattle.links.specs.Laws.{touches_containment as touches};
 ghost use Rattle.models.specs.Legal.{kinds_of};
 ghost use Rattle.notice_chain.specs.Listed.{Above, Listed};
-ghost use Rattle.repository.specs.Remembered.{is_move as is_move_of, may_change_containers};
+ghost use Rattle.repository.specs.Remembered.{may_change_containers};
 ghost use Rattle.adapter_list.specs.Hearing.{AreKnown};
 
 use adapter_list::Hearers;
@@ -12,25 +12,14 @@ use fragment_paths::PathCache;
 use links::{Edit, Plan};
 use mm_meta::Meta;
 
-/// Whether an edit is of a link that contains: at an end of a containment or of a container reference.
-fn is_of_containment(meta: &Meta, edit: &Edit) -> bool
-    ensures { result ≡ contains_by (kinds_of meta.now) (edit_end edit.now).feature }
-{
-    meta.containing(edit.end().feature).is_some()
-}
-
-/// Whether a plan edits a link that contains.
+/// Whether a plan edits a link that contains: at an end of a containment or of a container reference.
 fn touches_containment(meta: &Meta, edits: &Plan) -> bool
     ensures { result ≡ touches (kinds_of meta.now) edits.now }
 {
-    edits.as_slice().iter().any(|e| is_of_containment(meta, e))
-}
-
-/// Whether a plan moves one value within its list, and edits nothing else.
-fn is_move(edits: &Plan) -> bool
-    ensures { result ≡ is_move_of edits.now }
-{
-    matches!(edits.as_slice(), [Edit::Shift { .. }])
+    edits
+        .as_slice()
+        .iter()
+        .any(|e| meta.containing(e.end().feature).is_some())
 }
 
 /// Forgets what may be wrong after a change: the fragments, if the plan edits a link that contains; and the adapters that are notified at a
@@ -49,7 +38,8 @@ pub(crate) fn forget_touched(
     if touched {
         paths.clear();
     }
-    if (touched && !is_move(edits)) || targets_go {
+    let moves = matches!(edits.as_slice(), [Edit::Shift { .. }]);
+    if (touched && !moves) || targets_go {
         hearers.forget();
     }
 }

@@ -15,7 +15,6 @@ mod reads;
 mod resolving;
 mod resources;
 mod unheard;
-mod validation;
 
 use adapter_list::{AdapterList, Hearers};
 use adapters::Adapter;

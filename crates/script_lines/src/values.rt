@@ -102,6 +102,7 @@ fn word_value_of(word: &str) -> Option<WrittenValue<'_>>
 }
 
 /// The number of a word, as a value.
+#[inline(always)]
 fn number_value_of(word: &str) -> Option<WrittenValue<'_>>
     requires { 0 < length word.now }
     ensures { result ≡ option_map written.Int (integer word.now) }
@@ -124,7 +125,22 @@ fn marked_value_of(word: &str) -> Option<WrittenValue<'_>>
     }
 }
 
+/// The value of a word that is no number. It is never inlined into the way of a number.
+#[inline(never)]
+fn other_value_of(alloc: Global, word: &str) -> Result<Option<WrittenValue<'_>>, AllocError>
+    requires some { 0 < length word.now }
+    requires no_minus { slice_index word.now 0 ≢ MINUS }
+    requires no_digit { is_ascii_digit (slice_index word.now 0) ≡ false }
+    ensures { IfOk result (λ o. o ≡ value_in word.now) }
+{
+    if word.as_bytes()[0] == QUOTE {
+        return text_value_of(alloc, word);
+    }
+    Ok(marked_value_of(word))
+}
+
 /// The value of a word; its first byte says which kind of value it is.
+#[inline(always)]
 pub fn value_of(alloc: Global, word: &str) -> Result<Option<WrittenValue<'_>>, AllocError>
     ensures { IfOk result (λ o. o ≡ value_in word.now) }
 {
@@ -135,10 +151,7 @@ pub fn value_of(alloc: Global, word: &str) -> Result<Option<WrittenValue<'_>>, A
     if first.is_ascii_digit() || first == MINUS {
         return Ok(number_value_of(word));
     }
-    if first == QUOTE {
-        return text_value_of(alloc, word);
-    }
-    Ok(marked_value_of(word))
+    other_value_of(alloc, word)
 }
 
 /// The node, the name of one of its features, and the value for it, that three words give: `#3 pages 100`.

@@ -32,7 +32,9 @@ fn first_mark(bytes: &[u8]) -> Option<usize>
     bytes.iter().position(|b| *b == QUOTE || *b == BACKSLASH)
 }
 
-/// How many bytes of a word follow its first quotation mark. Most words have no escape, so the next mark mostly ends the quotation.
+/// How many bytes of a word follow its first quotation mark. Most words have no escape, so the next mark mostly ends the quotation. It is
+/// never inlined into the way of a word without quotation marks.
+#[inline(never)]
 fn quoted_len_of(bytes: &[u8]) -> usize
     ensures value { result ≡ quoted_len false bytes.now }
     ensures within { result ≤ length bytes.now }

@@ -161,6 +161,8 @@ fn literal_number(meta: &Meta, feature: FeatureNo, name: &str) -> u32
     meta.literal_by_name(e, name).unwrap_or(NOTHING)
 }
 
+/// The value that a written value stands for under a feature; only a literal needs the metamodel.
+#[inline(always)]
 pub(crate) fn value_in(meta: &Meta, feature: FeatureNo, written: WrittenValue<'_>) -> Value
     ensures { result ≡ b.value_in meta.now feature written.entry }
 {

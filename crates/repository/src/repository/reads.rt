@@ -19,6 +19,7 @@ use links::LinkStore;
 use mm_types::{ClassNo, End, FeatureNo, Node, ObjectNo, Refused, ResourceNo, Seq};
 use models::{Found, copied, copied_list, end_refusal, node_refusal, object_refusal};
 use snapshots::Snapshot;
+use validation::short_features;
 
 impl<L: LinkStore, A: Adapter> Repository<L, A> {
     /// What a feature of an object holds (EMF: EObject.eGet): for a single attribute the value that was set or the default, for a single
@@ -149,5 +150,22 @@ impl<L: LinkStore, A: Adapter> Repository<L, A> {
             Some(class) => Ok(class),
             None => Err(Refused::NoObject),
         }
+    }
+
+    /// The features of an object that have fewer values than their lower bounds, in the order of all features of its class (EMF:
+    /// Diagnostician.validate, of multiplicities; MOF 2.5.1: MultiplicityElement.lower). A single feature whose lower bound is 1 has too
+    /// few if its value is null, or if it is unsettable and not set.
+    ///
+    /// Refused, the first that applies: `NoObject` if no live object has the number, `Memory`.
+    #[tactic(auto, using(crate::proofs::QuietLemmas::validate_done))]
+    pub fn validate(&self, object: ObjectNo) -> Result<Seq<FeatureNo>, Refused>
+        ensures { Executed self.now (commands.validate object) (read_outcome answer.Features result) self.now }
+    {
+        let model = self.model();
+        if let Some(refused) = object_refusal(&model, object) {
+            return Err(refused);
+        }
+        let features = short_features(self.alloc, &model, object)?;
+        Ok(Seq::from_vec(features))
     }
 }

@@ -53,15 +53,24 @@ impl<L: LinkStore, A: Adapter> Repository<L, A> {
     {
         let end = End { node, feature };
         if self.meta.is_reference(feature) {
-            return match self.set_lone_link(end, &value) {
-                Some(done) => Brief::Unheard(done),
-                None => self.displace(end, Act::Set(value)),
-            };
+            return self.set_reference(end, value);
         }
         if self.is_heard(node) {
             return self.set_heard(end, value);
         }
         Brief::Unheard(self.set_value(end, value))
+    }
+
+    /// `set_brief` of a reference.
+    #[inline(always)]
+    fn set_reference(&mut self, end: End, value: Value) -> Brief<A>
+        requires reference { (shape self.old.model.metamodel end.feature).is_reference ≡ true }
+        ensures { Executed self.old (At end (Set value)) (brief_outcome A.heard answer.Done result) self.new }
+    {
+        match self.set_lone_link(end, &value) {
+            Some(done) => Brief::Unheard(done),
+            None => self.displace(end, Act::Set(value)),
+        }
     }
 
     /// Adds a value to a list as `add` does. The outcome has no reply if one link is put that notifies no adapter and displaces no other

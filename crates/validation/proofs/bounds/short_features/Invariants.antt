@@ -2,8 +2,8 @@ use Rattle.std.proofs.Common.{◌≡◌, ◌++◌, drop, filter}
 use Rattle.mm_types.specs.declared.numbers.FeatureNo.{FeatureNo}
 use Rattle.models.specs.Model.{reading}
 use Rattle.models.specs.Reading.{at_end}
-use Rattle.repository.specs.Answers.{is_too_few}
-use Rattle.repository.proofs.repository.validation.short_features.Given as goal
+use Rattle.validation.specs.Bounds.{is_too_few}
+use Rattle.validation.proofs.bounds.short_features.Given as goal
 
 abbrev pub invariant-loop-feature : goal.invariant-loop-feature
 invariant-loop-feature g l =

@@ -5,45 +5,23 @@ ghost use Rattle.mm_types.specs.Shapes.{shape};
 ghost use Rattle.mm_types.specs.declared.value.Value.TheVariants.{Null};
 ghost use Rattle.models.specs.Found.{found_value};
 ghost use Rattle.models.specs.Model.{reading};
-ghost use Rattle.repository.specs.Answers as a;
-ghost use Rattle.repository.specs.Commands as commands;
-ghost use Rattle.repository.specs.Run.{Executed, read_outcome};
-ghost use Rattle.repository.specs.declared.reply.Answer.TheVariants as answer;
+ghost use Rattle.validation.specs.Bounds as bounds;
 
-use super::Repository;
-use adapters::Adapter;
 use links::LinkStore;
 use mm_meta::Meta;
-use mm_types::{End, FeatureNo, Node, ObjectNo, Refused, Seq, Value};
-use models::{Found, ModelRef, is_same, object_refusal};
+use mm_types::{End, FeatureNo, Node, ObjectNo, Value};
+use models::{Found, ModelRef, is_same};
 use std::alloc::{AllocError, Global};
 
-impl<L: LinkStore, A: Adapter> Repository<L, A> {
-    /// The features of an object that have fewer values than their lower bounds, in the order of all features of its class (EMF:
-    /// Diagnostician.validate, of multiplicities; MOF 2.5.1: MultiplicityElement.lower). A single feature whose lower bound is 1 has too
-    /// few if its value is null, or if it is unsettable and not set.
-    ///
-    /// Refused, the first that applies: `NoObject` if no live object has the number, `Memory`.
-    #[tactic(auto, using(crate::proofs::QuietLemmas::validate_done))]
-    pub fn validate(&self, object: ObjectNo) -> Result<Seq<FeatureNo>, Refused>
-        ensures { Executed self.now (commands.validate object) (read_outcome answer.Features result) self.now }
-    {
-        let model = self.model();
-        if let Some(refused) = object_refusal(&model, object) {
-            return Err(refused);
-        }
-        let features = short_features(self.alloc, &model, object)?;
-        Ok(Seq::from_vec(features))
-    }
-}
-
-/// The features of an object that have too few values, in the order of all features. Fails only if memory is refused.
-fn short_features<L: LinkStore>(
+/// The features of an object that have fewer values than their lower bounds, in the order of all features of its class (EMF:
+/// Diagnostician.validate, of multiplicities; MOF 2.5.1: MultiplicityElement.lower). A single feature whose lower bound is 1 has too few if
+/// its value is null, or if it is unsettable and not set. Fails only if memory is refused.
+pub fn short_features<L: LinkStore>(
     alloc: Global,
     model: &ModelRef<L>,
     object: ObjectNo,
 ) -> Result<Vec<FeatureNo>, AllocError>
-    ensures { IfOk result (λ fs. fs.items ≡ a.short_features (reading model.now) object) }
+    ensures { IfOk result (λ fs. fs.items ≡ bounds.short_features (reading model.now) object) }
 {
     let mut out = Vec::new(alloc);
     let node = Node::Object(object);
@@ -62,7 +40,7 @@ fn short_features<L: LinkStore>(
 
 /// Whether an end has too few values.
 fn is_too_few<L: LinkStore>(model: &ModelRef<L>, end: End) -> bool
-    ensures { result ≡ a.is_too_few (reading model.now) end }
+    ensures { result ≡ bounds.is_too_few (reading model.now) end }
 {
     let lower = lower_bound(model.meta(), end.feature);
     if model.meta().is_single(end.feature) {
@@ -83,7 +61,7 @@ fn lower_bound(meta: &Meta, feature: FeatureNo) -> i32
 
 /// Whether a single end is null, or unsettable and not set.
 fn is_missing<L: LinkStore>(model: &ModelRef<L>, end: End) -> bool
-    ensures { result ≡ a.is_missing (reading model.now) end }
+    ensures { result ≡ bounds.is_missing (reading model.now) end }
 {
     is_null(model.value_at(end)) || model.meta().is_unsettable(end.feature) && !model.is_set(end)
 }

@@ -1,0 +1,8 @@
+//! The features of an object that have fewer values than their lower bounds.
+//!
+//! `specs/Bounds.antt` says when a feature has too few.
+#![tactic(auto)]
+
+mod bounds;
+
+pub use bounds::short_features;
