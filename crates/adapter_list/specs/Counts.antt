@@ -19,6 +19,12 @@ IsCounted (Some n) rest all = (0 < n) × (n + rest ≡ all)
 abbrev pub told_at_ordinal : List Listed → ℕ → ℕ
 told_at_ordinal rs k = slice_index (map (λ r. r.view.told) rs) k
 
+-- the adapters are as they were, and none has lost capacity
+pub record HasGrown (old new : List Listed × List ℕ) : Type 0 where
+  pub kept : new.0 ≡ old.0
+  pub as_many : length new.1 ≡ length old.1
+  pub no_fewer : (k : ℕ) → slice_index old.1 k ≤ slice_index new.1 k
+
 -- the adapter at index k has capacity for n notifications and one more for each of its targets, and can count them all
 pub record IsReadyFor (rs : List Listed) (ps : List ℕ) (k n : ℕ) : Type 0 where
   pub places : k < length ps → n + targets_at rs k ≤ slice_index ps k

@@ -34,7 +34,7 @@ use Rattle.handshake.proofs.ActLemmas.{act-puts}
 use Rattle.handshake.proofs.CutLinkEndLemmas.{act-cuts, plain-not}
 use Rattle.handshake.specs.Effects.{act_edits, value_edits}
 use Rattle.handshake.specs.Changes.{HasFittingDocument, HasReadDocument, edits_links_alone, edits_one_kind, edits_values_alone, is_at_reference}
-use Rattle.change_plans.specs.Plans.{IsPlanOf, of_links, of_values}
+use Rattle.change_plans.specs.Plans.{IsAllowed, IsPlanOf, of_links, of_values}
 use Rattle.handshake.specs.Refusals.{early_refusal, late_refusal}
 use Rattle.handshake.specs.FeatureChanges.{all_lost, before_gain, chain, changes_of_remove, changes_of_unset, destroyed_by, feature_changes, feature_changes_with, gain_at, resolved_by, resolves_all, target_of}
 use Rattle.change_plans.proofs.NotifierLemmas.{change_notices-notifiers}
@@ -60,6 +60,10 @@ is-plain r c h = plain-of r c (and_parts (edits_one_kind c) (not (is_at_referenc
 
 pub is-plain-link : (r : Reading) (c : Change) → edits_links_alone r.metamodel c ≡ true → IsPlain r c
 is-plain-link r c h = plain-of r c (and_parts (edits_one_kind c) (is_at_reference r.metamodel c) h).0
+
+-- it deletes nothing and resolves no proxy
+pub plain-allowed : (r : Reading) (c : Change) → IsPlain r c → early_refusal r c ≡ None → late_refusal r c ≡ None → IsAllowed r c None None
+plain-allowed r c plain early late = record { asked = early; allowed = late; removal = record { whose = plain.whose; found = tt }; found = plain.found; fits = plain.fits; one = plain.one }
 
 no-values : (r : Reading) (c : Change) → edits_links_alone r.metamodel c ≡ true → [] ≡ value_edits r c
 no-values r (At e (Resolve i)) h = absurd (false≢true h)

@@ -7,19 +7,29 @@ use Rattle.links.specs.Plans as links
 use Rattle.links.specs.declared.plan.Edit.{Edit}
 use Rattle.models.specs.Legal.{kinds_of}
 use Rattle.models.specs.Model.{Model, reading}
+use Rattle.models.specs.Reading.{Reading}
 use Rattle.notice_chain.specs.declared.notice.Notice.{Notice}
 use Rattle.proxies.specs.declared.resolved.Resolved.{Resolved}
 use Rattle.proxies.specs.declared.resolved_proxy.ResolvedProxy.{ResolvedProxy}
 use Rattle.removal.specs.declared.gone.Removal.{Removal}
 use Rattle.handshake.specs.declared.change.Change.{Change}
-use Rattle.handshake.specs.Changes.{IsRemovalOf}
+use Rattle.handshake.specs.Changes.{HasFittingDocument, IsRemovalOf}
 use Rattle.handshake.specs.Effects.{model_after}
-use Rattle.handshake.specs.Refusals.{late_refusal}
-use Rattle.handshake.specs.FeatureChanges.{chain, resolved_by, resolves_one, target_of}
+use Rattle.handshake.specs.Refusals.{early_refusal, late_refusal}
+use Rattle.handshake.specs.FeatureChanges.{chain, resolved_by, resolves_all, resolves_one, target_of}
 use Rattle.change_plans.specs.declared.planned.Finding.{Finding}
 use Rattle.change_plans.specs.declared.planned.Finding.TheVariants as finding
 use Rattle.change_plans.specs.declared.planned.Planned.{Planned}
 use Rattle.mm_types.specs.Conditions.{is_memory_refusal}
+
+-- A change that nothing refuses, with the objects that it deletes, and with the target of the one proxy that it resolves.
+pub record IsAllowed (r : Reading) (c : Change) (x : Option Removal) (t : Option ResolvedProxy) : Type 0 where
+  pub asked : early_refusal r c ≡ None
+  pub allowed : late_refusal r c ≡ None
+  pub removal : IsRemovalOf r c x
+  pub found : t ≡ target_of r c
+  pub fits : HasFittingDocument r.next c
+  pub one : resolves_all c ≡ false
 
 -- the objects that a deletion destroys, among what planning finds
 abbrev pub removal_in : Finding → Option Removal

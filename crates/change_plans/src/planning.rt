@@ -9,7 +9,7 @@ ghost use Rattle.handshake.specs.Displaced as d;
 ghost use Rattle.handshake.specs.Edits as e;
 ghost use Rattle.handshake.specs.Effects.{value_edits as value_edits_of};
 ghost use Rattle.handshake.specs.Changes.{HasFittingDocument, HasReadDocument, IsRemovalOf};
-ghost use Rattle.change_plans.specs.Plans.{IsPlanOf, Plans, removal_in, resolved_in, target_in};
+ghost use Rattle.change_plans.specs.Plans.{IsAllowed, IsPlanOf, Plans, removal_in, resolved_in, target_in};
 ghost use Rattle.handshake.specs.Refusals as refusals;
 ghost use Rattle.handshake.specs.FeatureChanges as t;
 ghost use Rattle.handshake.specs.declared.act.Act.TheVariants.{Add};
@@ -141,12 +141,7 @@ pub(crate) fn links_and_notices<L: LinkStore>(
     target: Option<ResolvedProxy>,
     is_heard: bool,
 ) -> Result<(Plan, Chain), AllocError>
-    requires asked { refusals.early_refusal (reading model.now) change.now ≡ None }
-    requires allowed { refusals.late_refusal (reading model.now) change.now ≡ None }
-    requires removal { IsRemovalOf (reading model.now) change.now removal.now }
-    requires found { target ≡ t.target_of (reading model.now) change.now }
-    requires fits { HasFittingDocument (reading model.now).next change.now }
-    requires one { t.resolves_all change.now ≡ false }
+    requires { IsAllowed (reading model.now) change.now removal.now target }
     ensures edits { IfOk result (λ p. p.0 ≡ e.link_edits (reading model.now) change.now) }
     ensures chain { IfOk result (λ p. p.1 ≡ (if is_heard then t.chain (reading model.now) change.now else [])) }
 {
@@ -164,12 +159,7 @@ pub(crate) fn unheard_link_edits<L: LinkStore>(
     removal: &Option<Removal>,
     target: Option<ResolvedProxy>,
 ) -> Result<Plan, AllocError>
-    requires asked { refusals.early_refusal (reading model.now) change.now ≡ None }
-    requires allowed { refusals.late_refusal (reading model.now) change.now ≡ None }
-    requires removal { IsRemovalOf (reading model.now) change.now removal.now }
-    requires found { target ≡ t.target_of (reading model.now) change.now }
-    requires fits { HasFittingDocument (reading model.now).next change.now }
-    requires one { t.resolves_all change.now ≡ false }
+    requires { IsAllowed (reading model.now) change.now removal.now target }
     ensures { IfOk result (λ p. p ≡ e.link_edits (reading model.now) change.now) }
 {
     let link_ends = cut_link_ends(alloc, model, change, removal, target)?;
@@ -362,13 +352,8 @@ pub(crate) fn heard_chain<L: LinkStore>(
     link_ends: &[LinkEnd],
     is_heard: bool,
 ) -> Result<Chain, AllocError>
-    requires asked { refusals.early_refusal (reading model.now) change.now ≡ None }
-    requires allowed { refusals.late_refusal (reading model.now) change.now ≡ None }
-    requires removal { IsRemovalOf (reading model.now) change.now removal.now }
-    requires found { target ≡ t.target_of (reading model.now) change.now }
+    requires allowed { IsAllowed (reading model.now) change.now removal.now target }
     requires cut { link_ends.now ≡ d.cut_link_ends (reading model.now) change.now }
-    requires fits { HasFittingDocument (reading model.now).next change.now }
-    requires one { t.resolves_all change.now ≡ false }
     ensures { IfOk result (λ c. c ≡ (if is_heard then t.chain (reading model.now) change.now else [])) }
 {
     if !is_heard {

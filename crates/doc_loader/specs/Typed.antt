@@ -38,8 +38,8 @@ pub record IsTypedObject (m : Metamodel) (doc : Doc) (o : DocObject) : Type 0 wh
   pub concrete : lookups.is_concrete m o.class ≡ true
   pub contents : All (IsTypedContent m doc o.class) o.contents
 
--- each object is of a concrete class and its contents are typed; the roots are objects of the document, and not more than a resource may
--- have
+-- Each object is of a concrete class, and its contents have the types of their features. The roots are objects of the document, and a
+-- resource may have so many roots.
 pub record IsTyped (m : Metamodel) (doc : Doc) : Type 0 where
   pub objects : All (IsTypedObject m doc) doc.objects
   pub roots : All (λ (o : ObjectNo). o.0 < length doc.objects) doc.roots

@@ -50,7 +50,7 @@ fn push_objects(objects: &[DocObject], edits: &mut Vec<ValueEdit>) -> Result<(),
     Ok(())
 }
 
-/// Adds the edits that give objects of a document, each by its position there, the values of their attributes.
+/// Adds the edits that set the attributes of the objects of a document. An object has its position in the document as its number.
 fn push_lists(
     meta: &Meta,
     next: usize,

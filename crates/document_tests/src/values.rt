@@ -3,26 +3,28 @@ use mm_types::{ObjectNo, Seq, Text, Value};
 use std::alloc::{AllocError, Global};
 use std::test::Fail;
 
-/// A short and a long text, each as it is and its copy; and the text of a `String`.
-fn texts(alloc: Global) -> Result<String, AllocError> {
-    let short = Text::from_str(alloc, "a é")?;
-    let long = Text::from_str(alloc, "a text in a block")?;
-    let other_short = short.clone()?;
-    let other_long = long.clone()?;
-    let made = Text::from_string(format!(in alloc;
-        "{} {}",
-        other_short.as_str(),
-        other_long.as_str()
-    )?);
-    format!(in alloc; "{} {} {}", short.as_str(), long.as_str(), made.as_str())
+/// The text as it is, its copy, and the text of a `String`.
+fn texts(alloc: Global, text: &str) -> Result<String, AllocError> {
+    let text = Text::from_str(alloc, text)?;
+    let copy = text.clone()?;
+    let made = Text::from_string(alloc, String::from_str(alloc, copy.as_str())?)?;
+    format!(in alloc; "{} {} {}", text.as_str(), copy.as_str(), made.as_str())
 }
 
 #[test]
 fn texts_keep_their_bytes(rt: HostRuntime) -> Result<(), Fail> {
-    let found = texts(rt.alloc())?;
+    let alloc = rt.alloc();
+    let found = format!(in alloc;
+        "{}|{}|{}|{}",
+        texts(alloc, "")?,
+        texts(alloc, "é")?,
+        texts(alloc, "of-twenty-two-bytes-22")?,
+        texts(alloc, "of-twenty-three-bytes-3")?
+    )?;
     assert_eq!(rt;
         found.as_str(),
-        "a é a text in a block a é a text in a block"
+        "  |é é é|of-twenty-two-bytes-22 of-twenty-two-bytes-22 of-twenty-two-bytes-22|\
+         of-twenty-three-bytes-3 of-twenty-three-bytes-3 of-twenty-three-bytes-3"
     );
     Ok(())
 }

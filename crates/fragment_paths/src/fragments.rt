@@ -39,7 +39,7 @@ fn fragment_by<L: LinkStore>(
     ensures { IfOk result (λ t. t ≡ Some (located_text (reading model.now) found.now)) }
 {
     let text = text_of(alloc, model, found)?;
-    Ok(Some(Text::from_string(text)))
+    Ok(Some(Text::from_string(alloc, text)?))
 }
 
 /// The fragment of an object in its resource (EMF: Resource.getURIFragment): the position of its root, which is left out if the resource
@@ -69,7 +69,7 @@ fn address_by<L: LinkStore>(
         Some(uri) => {
             let fragment = text_of(alloc, model, found)?;
             let text = address_of(alloc, uri, fragment.as_str())?;
-            Ok(Some(Text::from_string(text)))
+            Ok(Some(Text::from_string(alloc, text)?))
         }
         None => Ok(None),
     }

@@ -86,7 +86,7 @@ abbrev pub with_value : Links → Reading → End → Option ℕ → Value → L
 with_value s r e i (value.Object o) = put s e (unwrap_or i (length (end s e))) o (shape_at r e).opposite (shape_at r e).containing
 with_value s r e i v = s
 
--- the value that a new link has last at the opposite end moves to index n
+-- a new link, which is the last value of the counterpart's end and has the index n there, moves to the index of the counterpart
 abbrev pub put_back : Links → ℕ → Counterpart → Links
 put_back s n c = shift s c.end c.index n
 

@@ -35,7 +35,8 @@ type_refusal r f v =
     WrongType unless takes r f v else_by
     TextLength unless is_short v
 
--- whether a new link would put a node into itself: of its two nodes, the container by the containment h is the other node or below it
+-- Whether a new link would put a node into itself or into a node below it. If e is an end of the containment h, its node would contain the
+-- object o; otherwise o would contain the node.
 abbrev pub is_recursive_for : Reading → End → ObjectNo → FeatureNo → Bool
 is_recursive_for r e o h =
     if same_feature e.feature h then is_within r (node.Object o) e.node else is_within r e.node (node.Object o)

@@ -1,6 +1,6 @@
 -- What a crash leaves after each call of a commit.
 use Rattle.std.proofs.Common.{◌≡◌, inl, ℕ, ◌+◌, ◌<◌, ◌≤◌, List, [], ◌∷◌, ◌++◌, length, ◌∙◌, ap, subst, arith}
-use Rattle.journal.specs.Disk.{Elapses, Follows, IsDurable, LeavesOnly, Overwrites, Torn}
+use Rattle.journal.specs.Disk.{Elapses, Follows, IsDurable, LeavesNoOther, LeavesOnly, Overwrites, Torn}
 use Rattle.journal.specs.Journal.{IsBeforeOrAfter}
 use Rattle.journal.specs.Lines.{at_rest, entries, recovered_lines}
 use Rattle.journal.specs.declared.entries.TheConstants.{MARK}
@@ -30,9 +30,6 @@ module _ {D : Type 0} (seen : D → List ℕ) (may_leave : D → List ℕ → Ty
   abbrev Goes : D → D → Type 0
   Goes old new = Elapses (moment old) (moment new) (left_since old) (left_since new) (may_leave new)
 
-  abbrev Loses : D → D → Type 0
-  Loses old new = (c : List ℕ) → may_leave new c → may_leave old c
-
   abbrev staged_file : List ℕ
   staged_file = staged (seen d) text end file ends text_is some
 
@@ -51,7 +48,7 @@ module _ {D : Type 0} (seen : D → List ℕ) (may_leave : D → List ℕ → Ty
     after_write = goes_on moment left_since d d d1 P (may_leave d1) at_start time1 first
 
     -- its sync
-    module _ (d2 : D) (fewer2 : Loses d1 d2) (time2 : Goes d1 d2) where
+    module _ (d2 : D) (fewer2 : LeavesNoOther (may_leave d1) (may_leave d2)) (time2 : Goes d1 d2) where
       pub after_sync : Leaves d2
       after_sync = goes_on moment left_since d d1 d2 P (may_leave d2) after_write time2 (λ c left. first c (fewer2 c left))
 
@@ -75,6 +72,6 @@ module _ {D : Type 0} (seen : D → List ℕ) (may_leave : D → List ℕ → Ty
               marked_is (seen d) text end file ends text_is some (seen d3) (subst (λ (f : List ℕ). Overwrites end (MARK ∷ []) f (seen d3)) (same2 ∙ first_is) written3)
 
           -- the last sync
-          module _ (d4 : D) (fewer4 : Loses d3 d4) (time4 : Goes d3 d4) where
+          module _ (d4 : D) (fewer4 : LeavesNoOther (may_leave d3) (may_leave d4)) (time4 : Goes d3 d4) where
             pub after_last : Leaves d4
             after_last = goes_on moment left_since d d3 d4 P (may_leave d4) after_mark time4 (λ c left. second c (fewer4 c left))

@@ -1,7 +1,7 @@
 -- What a crash leaves after each call of a repair.
 use Rattle.std.proofs.Common.{◌≡◌, ℕ, zero, suc, ◌+◌, ◌-◌, ◌≤◌, List, [], ◌∷◌, ◌++◌, length, take, drop, sym, ◌∙◌, ap, subst, arith, length-append, length-drop, take-append-drop}
 use Rattle.std.proofs.lemmas.List.{append-nil, drop_all, take_all, take_at}
-use Rattle.journal.specs.Disk.{Elapses, Follows, IsDurable, LeavesOnly, Overwrites, PartlyCut, Torn}
+use Rattle.journal.specs.Disk.{Elapses, Follows, IsDurable, LeavesNoOther, LeavesOnly, Overwrites, PartlyCut, Torn}
 use Rattle.journal.specs.Journal.{StandsFor}
 use Rattle.journal.specs.Lines.{at_rest, entries, recovered_lines}
 use Rattle.journal.specs.declared.entries.TheConstants.{NEWLINE}
@@ -69,9 +69,6 @@ module _ {D : Type 0} (seen : D → List ℕ) (may_leave : D → List ℕ → Ty
   abbrev Goes : D → D → Type 0
   Goes old new = Elapses (moment old) (moment new) (left_since old) (left_since new) (may_leave new)
 
-  abbrev Loses : D → D → Type 0
-  Loses old new = (c : List ℕ) → may_leave new c → may_leave old c
-
   at_start : Leaves d
   at_start = begins moment left_since d P (λ c left. ap recovered_lines (durable c (only_now d c left)))
 
@@ -86,7 +83,7 @@ module _ {D : Type 0} (seen : D → List ℕ) (may_leave : D → List ℕ → Ty
     after_cut = goes_on moment left_since d d d1 P (may_leave d1) at_start time1 first
 
     -- its sync
-    module _ (d2 : D) (fewer2 : Loses d1 d2) (time2 : Goes d1 d2) where
+    module _ (d2 : D) (fewer2 : LeavesNoOther (may_leave d1) (may_leave d2)) (time2 : Goes d1 d2) where
       pub after_sync : Leaves d2
       after_sync = goes_on moment left_since d d1 d2 P (may_leave d2) after_cut time2 (λ c left. first c (fewer2 c left))
 
@@ -112,6 +109,6 @@ module _ {D : Type 0} (seen : D → List ℕ) (may_leave : D → List ℕ → Ty
               newline_is (seen d) end split ends none (seen d3) (subst (λ (f : List ℕ). Overwrites end (NEWLINE ∷ []) f (seen d3)) (same2 ∙ first_is) written3)
 
           -- the last sync
-          module _ (d4 : D) (fewer4 : Loses d3 d4) (time4 : Goes d3 d4) where
+          module _ (d4 : D) (fewer4 : LeavesNoOther (may_leave d3) (may_leave d4)) (time4 : Goes d3 d4) where
             pub after_last : Leaves d4
             after_last = goes_on moment left_since d d3 d4 P (may_leave d4) after_newline time4 (λ c left. second c (fewer4 c left))

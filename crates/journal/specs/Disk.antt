@@ -28,6 +28,10 @@ Follows step old new = (c : List ℕ) → new c → (d : List ℕ) × old d × s
 abbrev pub IsDurable : List ℕ → (List ℕ → Type 0) → Type 0
 IsDurable bytes may_leave = (c : List ℕ) → may_leave c → c ≡ bytes
 
+-- each file that a crash may leave now could be left before
+abbrev pub LeavesNoOther : (List ℕ → Type 0) → (List ℕ → Type 0) → Type 0
+LeavesNoOther old new = (c : List ℕ) → new c → old c
+
 -- The clock of a disk moved on. A file that a crash at any moment since then may leave is a file that a crash before may have left, or a
 -- file that a crash now may leave.
 pub record Elapses (before now : ℕ) (past since : ℕ → List ℕ → Type 0) (may_leave : List ℕ → Type 0) : Type 0 where

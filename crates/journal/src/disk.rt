@@ -1,7 +1,7 @@
 //! A file as a journal sees it: the bytes that it has, and what a crash may leave of it.
 ghost use Rattle.std.specs.Prelude.{◌≡◌, ◌≤◌, List, ℕ, length, take, OnOk};
 ghost use Rattle.journal.specs.declared.disk.DiskFault.TheVariants.{Memory};
-ghost use Rattle.journal.specs.Disk.{Elapses, Follows, HasCause, IsDurable, Overwrites, PartlyCut, Torn};
+ghost use Rattle.journal.specs.Disk.{Elapses, Follows, HasCause, IsDurable, LeavesNoOther, Overwrites, PartlyCut, Torn};
 
 use std::alloc::{AllocError, AllocFailed};
 
@@ -73,7 +73,7 @@ pub trait Disk {
     fn sync(&mut self) -> Result<(), DiskFault>
         ensures durable { OnOk result (IsDurable (seen self.old) (may_leave self.new)) }
         ensures seen { seen self.new ≡ seen self.old }
-        ensures crash { (c : List ℕ) → may_leave self.new c → may_leave self.old c }
+        ensures crash { LeavesNoOther (may_leave self.old) (may_leave self.new) }
         ensures time { Elapses (moment self.old) (moment self.new) (left_since self.old) (left_since self.new) (may_leave self.new) }
         ensures cause { HasCause (faults self.old) (faults self.new) result };
 

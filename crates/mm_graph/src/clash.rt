@@ -14,7 +14,7 @@ use std::alloc::{AllocError, Global};
 pub fn has_repeats(alloc: Global, names: &[&str]) -> Result<bool, AllocError>
     ensures { IfOk result (λ b. b ≡ repeats [] (map (λ n. n.now) names.now)) }
 {
-    let mut seen: IndexSet<&str> = IndexSet::new(alloc);
+    let mut seen: IndexSet<&str> = IndexSet::with_capacity(alloc, names.len())?;
     for name in names {
         let is_new = seen.insert(*name)?;
         if !is_new {

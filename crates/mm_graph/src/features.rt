@@ -8,12 +8,13 @@ ghost use Rattle.mm_graph.specs.Rows.{with_rows};
 
 use indexmap::IndexSet;
 use mm_types::Seq;
-use std::alloc::{AllocError, AllocFailed, Global};
+use std::alloc::{AllocError, Global};
 
 /// Adds the new features of a list, after the features that were found.
-fn add_new(found: &mut IndexSet<u32>, features: &[u32]) -> Result<(), AllocFailed<u32>>
+fn add_new(found: &mut IndexSet<u32>, features: &[u32]) -> Result<(), AllocError>
     ensures { OnOk result (found.new.keys ≡ with_new found.old.keys features.now) }
 {
+    found.reserve(features.len())?;
     for feature in features {
         found.insert(*feature)?;
     }

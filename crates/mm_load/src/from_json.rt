@@ -41,9 +41,9 @@ impl FromJson for i32 {
 impl FromJson for Text {
     ghost reads = { text };
 
-    fn from_json(_alloc: Global, value: Value) -> Result<Text, ReadFault> {
+    fn from_json(alloc: Global, value: Value) -> Result<Text, ReadFault> {
         match value {
-            Value::String(text) => Ok(Text::from_string(text)),
+            Value::String(text) => Ok(Text::from_string(alloc, text)?),
             _ => Err(ReadFault::Layout),
         }
     }

@@ -4,5 +4,5 @@ use Rattle.mm_types.specs.declared.text.Layout.{Layout}
 use Rattle.mm_types.specs.declared.text.Layout.TheVariants.{Long, Short}
 
 abbrev pub bytes_of : Layout → List ℕ
-bytes_of (Short text) = text.bytes
-bytes_of (Long text) = string_bytes text
+bytes_of (Short text) = text
+bytes_of (Long text) = string_bytes text.value

@@ -60,7 +60,8 @@ HasDeepTarget number target s = IsTrue (is_deep_target number target s)
 abbrev pub IsAtOrBelow : Node → Node → State → Type 0
 IsAtOrBelow target n s = is_within (reads s) target n ≡ true
 
--- for one node, the notifications, replayed on the snapshot of a target, give the state that the snapshot at the end of a run has
+-- The notifications of a run, replayed on a snapshot of the target before the run, give a node the state that it has in a snapshot after the
+-- run.
 abbrev pub AreEnough : State → List (Command View) → Node → Node → List Notice → Type 0
 AreEnough s cs target n ns = state_at n (replayed_notices (snapshot_of (reads s) target) ns) ≡ state_at n (snapshot_of (reads (run s cs).after) target)
 

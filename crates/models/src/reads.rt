@@ -85,8 +85,7 @@ impl<'a> Found<'a> {
 fn proxy_of(alloc: Global, text: &str) -> Result<Value, AllocError>
     ensures { IfOk result (λ v. v ≡ value.Proxy text.now) }
 {
-    let text = String::from_str(alloc, text)?;
-    Ok(Value::Proxy(Text::from_string(text)))
+    Ok(Value::Proxy(Text::from_str(alloc, text)?))
 }
 
 impl<'a, L: LinkStore> ModelRef<'a, L> {

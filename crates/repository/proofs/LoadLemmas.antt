@@ -12,7 +12,7 @@ use Rattle.mm_types.specs.declared.numbers.ResourceNo.{ResourceNo}
 use Rattle.mm_types.specs.declared.refused.Refused.{Refused}
 use Rattle.mm_types.specs.declared.refused.Refused.TheVariants.{AdapterFull, Document, Memory, NotEmpty}
 use Rattle.models.specs.Reading.{Reading}
-use Rattle.resource_docs.specs.Causes.{IsRead, parsed_json, reads_bytes, reads_if}
+use Rattle.resource_docs.specs.Causes.{Answers, IsRead, Reads, parsed_json, reads_bytes, reads_if}
 use Rattle.resource_docs.specs.Texts.{base_of}
 use Rattle.resource_docs.specs.declared.doc.Doc.{Doc}
 use Rattle.doc_loader.specs.Loading.{is_empty_resource}
@@ -59,6 +59,10 @@ proper-steady r text _ proper = tt
 -- a resource's text is read in its URI
 pub read-into : (s : State) (k : ResourceNo) (text : List ℕ) (m : Metamodel) (uri : List ℕ) (x : Result Doc DocFault) → m ≡ s.model.metamodel → Some uri ≡ slice_get s.model.values.uris k.0 → reads_bytes m uri text ≡ x → reads_into (reads s) k text ≡ x
 read-into s k text m uri x is some h = (λ i. reads_bytes (sym is i) (sym (ap (λ (o : Option (List ℕ)). unwrap_or o []) some) i) text) ∙ h
+
+-- the result of reading a text in the URI of a resource
+pub read-answers : (s : State) (k : ResourceNo) (text : List ℕ) (m : Metamodel) (uri : List ℕ) (x : Result Doc Refused) → m ≡ s.model.metamodel → Some uri ≡ slice_get s.model.values.uris k.0 → Reads x m uri text → Answers x (reads_into (reads s) k text)
+read-answers s k text m uri x is some h = subst (Answers x) (sym (read-into s k text m uri _ is some refl)) h
 
 below-length : {X : Type 0} (xs : List X) (i : ℕ) (x : X) → Some x ≡ slice_get xs i → nat_lt i (length xs) ≡ true
 below-length [] i x h = absurd (none-some x (sym h))

@@ -1,7 +1,8 @@
 -- The step of a command, by its plan or the refusal of the plan.
 use Rattle.std.proofs.Common.{◌≡◌, inl, inr, Bool, true, false, not, List, [], ◌++◌, Option, Some, None, Ok, Err, if◌then◌else◌, refl, ap, sym, subst, ◌∙◌}
-use Rattle.std.specs.Prelude.{MatchBool, Result, ◌&&◌, is_some, ℕ, option_map, IsFalse}
+use Rattle.std.specs.Prelude.{MatchBool, Result, ◌&&◌, is_some, ℕ, option_map, IfErr, IsErrAnd, IsFalse}
 use Rattle.std.specs.Option.{option_map_or}
+use Rattle.std.proofs.lemmas.Result.{err_from_is_err_and}
 use Rattle.mm_types.specs.Conditions.{◌else_by◌, ◌unless◌, ◌where_so◌, is_memory_refusal}
 use Rattle.mm_types.specs.declared.refused.Refused.{Refused}
 use Rattle.mm_types.specs.declared.refused.Refused.TheVariants.{NoObject, NoResource, NoClass, Abstract, NoFeature, NotSingle, NotMany, TextLength, AdapterFull, Memory}
@@ -176,6 +177,10 @@ plan_refusal s c r h =
       | true ↦ λ _. tt
       | false ↦ λ found. found refl
     ] h
+
+-- the same of a refusal that `?` passes on
+pub passed_refusal : {T : Type 0} (s : Model) (c : Change) (r : Refused) (result : Result T Refused) → IsErrAnd result (λ q. q ≡ r) → IsPlanRefusal s c r → IfErr result (IsPlanRefusal s c)
+passed_refusal s c r result is refused = let p = err_from_is_err_and result is in rw (p.1, p.2) refused
 
 -- a change that planning refuses
 pub planned_err : (s : State) (text : List ℕ) (c : Change) (r : Refused) → IsProper (reads s) text c → early_refusal (reads s) c ≡ None → IsPlanRefusal s.model c r → Executed s (command_of text c) (Err (record { refused = r; given_back = None })) s

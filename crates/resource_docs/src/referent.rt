@@ -46,7 +46,8 @@ fn target_in(
         return Ok(Referent::Here(path));
     }
     let address = address_of(alloc, meant, rest)?;
-    Ok(Referent::Elsewhere(Text::from_string(address)))
+    let text = Text::from_string(alloc, address)?;
+    Ok(Referent::Elsewhere(text))
 }
 
 /// What a part before `#` and a fragment after it lead to.

@@ -16,7 +16,7 @@ use Rattle.script_lines.specs.Forms.{line_of, line_with, text_line}
 use Rattle.script_lines.specs.Frequent.{ReadsFeature, ReadsValue, frequent_line, verb_text}
 use Rattle.script_lines.specs.Values.{name_in, node_in, object, object_in, value_in}
 use Rattle.script_lines.specs.Words.{is_space, words}
-use Rattle.mm_types.specs.declared.read.ObjectRead.TheVariants.{Container}
+use Rattle.mm_types.specs.declared.read.ObjectRead.TheVariants.{Container, Fragment}
 use Rattle.mm_types.specs.declared.read.Read.TheVariants as read
 use Rattle.script_lines.specs.declared.form.FeatureForm.TheVariants as feature
 use Rattle.script_lines.specs.declared.form.Form.TheVariants as asks
@@ -192,3 +192,11 @@ container_line rest o one h =
 
 pub ascii_container : (bytes : List ℕ) → bytes ≡ codes "container " ++ drop 10 bytes → (9 < length bytes) × (slice_index bytes 9 < 128)
 ascii_container bytes is = rw is (omega arith, omega arith)
+
+pub fragment_line : (rest : List ℕ) (o : ObjectNo) → words rest ≡ rest ∷ [] → object_in rest ≡ Some o → text_line (codes "fragment " ++ rest) ≡ frequent_line (frequent.Fragment o)
+fragment_line rest o one h =
+    other_line (codes "fragment " ++ rest) (no_load_begins (codes "fragment " ++ rest) refl)
+    ∙ (ap (λ ws. line_of (codes "fragment" ∷ ws)) one ∙ ap (λ x. line_with (option_map (λ y. asks.Read (read.Of y Fragment)) x)) h)
+
+pub ascii_fragment : (bytes : List ℕ) → bytes ≡ codes "fragment " ++ drop 9 bytes → (8 < length bytes) × (slice_index bytes 8 < 128)
+ascii_fragment bytes is = rw is (omega arith, omega arith)

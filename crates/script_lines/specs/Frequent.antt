@@ -3,7 +3,7 @@ use Rattle.std.specs.Prelude.{◌≡◌, ℕ, List, [], ◌∷◌, Some, codes, 
 use Rattle.mm_types.specs.declared.numbers.Node.TheVariants as node
 use Rattle.mm_types.specs.declared.numbers.ObjectNo.{ObjectNo}
 use Rattle.mm_types.specs.declared.read.EndRead.TheVariants.{Get}
-use Rattle.mm_types.specs.declared.read.ObjectRead.TheVariants.{Container}
+use Rattle.mm_types.specs.declared.read.ObjectRead.TheVariants.{Container, Fragment}
 use Rattle.mm_types.specs.declared.read.Read.TheVariants as read
 use Rattle.script_lines.specs.Forms.{line_with}
 use Rattle.script_lines.specs.Values.{name_in, object_in, value_in}
@@ -30,6 +30,7 @@ frequent_line (frequent.Get o f) = line.Form (asks.At (node.Object o) f (feature
 frequent_line (frequent.Set o f w) = line_with (option_map (λ v. asks.At (node.Object o) f (feature.Set v)) (value_in w))
 frequent_line (frequent.Add o f w) = line_with (option_map (λ v. asks.At (node.Object o) f (feature.Add v)) (value_in w))
 frequent_line (frequent.Container o) = line.Form (asks.Read (read.Of o Container))
+frequent_line (frequent.Fragment o) = line.Form (asks.Read (read.Of o Fragment))
 
 -- a text has as words an object, a name, and the words of the rest
 pub record ReadsFeature (o : ObjectNo) (f rest text : List ℕ) : Type 0 where

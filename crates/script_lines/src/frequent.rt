@@ -29,6 +29,8 @@ pub enum Frequent<'a> {
     Add(ObjectNo, Name<'a>, Word<'a>),
     /// `container OBJ`
     Container(ObjectNo),
+    /// `fragment OBJ`
+    Fragment(ObjectNo),
 }
 
 /// The verb of a frequent line.
@@ -75,16 +77,31 @@ fn asks_container(line: &str) -> bool
     )
 }
 
-/// A line that asks for the container of an object.
-fn container_line_of(line: &str) -> Option<Frequent<'_>>
+/// Whether a line begins with `fragment` and a space.
+fn asks_fragment(line: &str) -> bool
+    ensures { result ≡ true → line.now ≡ codes "fragment " ++ drop 9 line.now }
+{
+    matches!(
+        line.as_bytes(),
+        [b'f', b'r', b'a', b'g', b'm', b'e', b'n', b't', b' ', ..]
+    )
+}
+
+/// A line that asks for the container or for the fragment of an object.
+fn object_line_of(line: &str) -> Option<Frequent<'_>>
     ensures { IfSome result (λ f. text_line line.now ≡ frequent_line f) }
 {
-    if !asks_container(line) {
-        return None;
+    if asks_container(line) {
+        let word = word_of(&line[10..])?;
+        let object = object_of(word.as_str())?;
+        return Some(Frequent::Container(object));
     }
-    let word = word_of(&line[10..])?;
-    let object = object_of(word.as_str())?;
-    Some(Frequent::Container(object))
+    if asks_fragment(line) {
+        let word = word_of(&line[9..])?;
+        let object = object_of(word.as_str())?;
+        return Some(Frequent::Fragment(object));
+    }
+    None
 }
 
 /// The object before the first space of a text, and the text after that space.
@@ -155,7 +172,7 @@ pub fn frequent_of(line: &str) -> Option<Frequent<'_>>
     ensures { IfSome result (λ f. text_line line.now ≡ frequent_line f) }
 {
     let Some(verb) = verb_of(line) else {
-        return container_line_of(line);
+        return object_line_of(line);
     };
     let rest = &line[4..];
     if let Verb::New = verb {

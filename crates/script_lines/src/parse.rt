@@ -7,6 +7,7 @@ use crate::form::{FeatureForm, Form};
 use crate::name::Name;
 use crate::numbers::natural_of;
 use crate::values::{feature_of, feature_value_of, node_of, object_of, resource_no_of, string_of};
+use crate::words::is_verb;
 use mm_types::{EndRead, Node, NodeRead, ObjectRead, Read};
 use std::alloc::{AllocError, Global};
 
@@ -227,7 +228,7 @@ fn move_of<'a>(node: &str, feature: &'a str, to: &str, from: &str) -> Option<For
 fn alone_of<'a>(verb: &str) -> Option<Form<'a>>
     ensures { result ≡ lone_verb_form verb.now }
 {
-    if verb == "resolveall" {
+    if is_verb(verb, "resolveall") {
         Some(Form::ResolveAll)
     } else {
         None
@@ -238,15 +239,15 @@ fn alone_of<'a>(verb: &str) -> Option<Form<'a>>
 fn object_read_of(verb: &str) -> Option<ObjectRead>
     ensures { result ≡ object_read verb.now }
 {
-    if verb == "class" {
+    if is_verb(verb, "class") {
         Some(ObjectRead::Class)
-    } else if verb == "container" {
+    } else if is_verb(verb, "container") {
         Some(ObjectRead::Container)
-    } else if verb == "within" {
+    } else if is_verb(verb, "within") {
         Some(ObjectRead::Resource)
-    } else if verb == "validate" {
+    } else if is_verb(verb, "validate") {
         Some(ObjectRead::Validate)
-    } else if verb == "fragment" {
+    } else if is_verb(verb, "fragment") {
         Some(ObjectRead::Fragment)
     } else {
         None
@@ -257,7 +258,7 @@ fn object_read_of(verb: &str) -> Option<ObjectRead>
 fn with_object_of<'a>(verb: &str, object: &str) -> Option<Form<'a>>
     ensures { result ≡ with_object verb.now object.now }
 {
-    if verb == "delete" {
+    if is_verb(verb, "delete") {
         return delete_of(object);
     }
     let read = object_read_of(verb)?;
@@ -268,13 +269,13 @@ fn with_object_of<'a>(verb: &str, object: &str) -> Option<Form<'a>>
 fn with_word_of<'a>(verb: &str, word: &str) -> Option<Form<'a>>
     ensures { result ≡ with_word verb.now word.now }
 {
-    if verb == "save" {
+    if is_verb(verb, "save") {
         save_of(word)
-    } else if verb == "contents" {
+    } else if is_verb(verb, "contents") {
         contents_of(word)
-    } else if verb == "detach" {
+    } else if is_verb(verb, "detach") {
         detach_of(word)
-    } else if verb == "seen" {
+    } else if is_verb(verb, "seen") {
         seen_of(word)
     } else {
         with_object_of(verb, word)
@@ -285,11 +286,11 @@ fn with_word_of<'a>(verb: &str, word: &str) -> Option<Form<'a>>
 fn with_one_of<'a>(alloc: Global, verb: &str, a: &'a str) -> Result<Option<Form<'a>>, AllocError>
     ensures { IfOk result (λ o. o ≡ with_one verb.now a.now) }
 {
-    if verb == "new" {
+    if is_verb(verb, "new") {
         Ok(new_of(a))
-    } else if verb == "resource" {
+    } else if is_verb(verb, "resource") {
         resource_of(alloc, a)
-    } else if verb == "at" {
+    } else if is_verb(verb, "at") {
         at_of(alloc, a)
     } else {
         Ok(with_word_of(verb, a))
@@ -300,13 +301,13 @@ fn with_one_of<'a>(alloc: Global, verb: &str, a: &'a str) -> Result<Option<Form<
 fn with_two_of<'a>(verb: &str, a: &str, b: &'a str) -> Option<Form<'a>>
     ensures { result ≡ with_two verb.now a.now b.now }
 {
-    if verb == "get" {
+    if is_verb(verb, "get") {
         get_of(a, b)
-    } else if verb == "isset" {
+    } else if is_verb(verb, "isset") {
         isset_of(a, b)
-    } else if verb == "unset" {
+    } else if is_verb(verb, "unset") {
         unset_of(a, b)
-    } else if verb == "unwatch" {
+    } else if is_verb(verb, "unwatch") {
         unwatch_of(a, b)
     } else {
         None
@@ -323,19 +324,19 @@ fn with_three_of<'a>(
 ) -> Result<Option<Form<'a>>, AllocError>
     ensures { IfOk result (λ o. o ≡ with_three verb.now a.now b.now c.now) }
 {
-    if verb == "set" {
+    if is_verb(verb, "set") {
         set_of(alloc, a, b, c)
-    } else if verb == "attach" {
+    } else if is_verb(verb, "attach") {
         Ok(attach_of(a, b, c))
-    } else if verb == "add" {
+    } else if is_verb(verb, "add") {
         add_of(alloc, a, b, c)
-    } else if verb == "remove" {
+    } else if is_verb(verb, "remove") {
         Ok(remove_of(a, b, c))
-    } else if verb == "removevalue" {
+    } else if is_verb(verb, "removevalue") {
         removevalue_of(alloc, a, b, c)
-    } else if verb == "resolve" {
+    } else if is_verb(verb, "resolve") {
         Ok(resolve_of(a, b, c))
-    } else if verb == "watch" {
+    } else if is_verb(verb, "watch") {
         Ok(watch_of(a, b, c))
     } else {
         Ok(None)
@@ -353,9 +354,9 @@ fn with_four_of<'a>(
 ) -> Result<Option<Form<'a>>, AllocError>
     ensures { IfOk result (λ o. o ≡ with_four verb.now a.now b.now c.now d.now) }
 {
-    if verb == "add" {
+    if is_verb(verb, "add") {
         add_at_of(alloc, a, b, c, d)
-    } else if verb == "move" {
+    } else if is_verb(verb, "move") {
         Ok(move_of(a, b, c, d))
     } else {
         Ok(None)

@@ -35,12 +35,12 @@ fn plain_text(word: &str) -> Option<&str>
 }
 
 /// The text of a JSON value that is a string; it is moved.
-fn string_of(value: Value) -> Option<Text>
-    ensures { result ≡ as_str (view value) }
+fn string_of(alloc: Global, value: Value) -> Result<Option<Text>, AllocError>
+    ensures { IfOk result (λ o. o ≡ as_str (view value)) }
 {
     match value {
-        Value::String(text) => Some(Text::from_string(text)),
-        _ => None,
+        Value::String(text) => Ok(Some(Text::from_string(alloc, text)?)),
+        _ => Ok(None),
     }
 }
 
@@ -53,7 +53,7 @@ fn escaped_text(alloc: Global, word: &str) -> Result<Option<Text>, AllocError>
         return Ok(None);
     }
     match Value::from_str(alloc, word) {
-        Ok(value) => Ok(string_of(value)),
+        Ok(value) => string_of(alloc, value),
         Err(error) if error.is_memory() => Err(AllocError),
         Err(_) => Ok(None),
     }

@@ -1,7 +1,7 @@
 //! A line is cut into words at its spaces. A word that begins with a quotation mark goes on at least to the next quotation mark.
 ghost use Rattle.std.specs.Prelude.{◌≡◌, ◌<◌, ◌≤◌, ◌+◌, ◌∷◌, [], drop, false, length, map, position, slice_index, take, true};
 ghost use Rattle.std.specs.List.{after_first, before_first};
-ghost use Rattle.std.specs.Str.{IsUtf8};
+ghost use Rattle.std.specs.Str.{IsUtf8, bytes_eq};
 ghost use Rattle.script_lines.specs.Words.{is_mark, is_space, plain_len, quoted_len, word_len, words};
 
 use crate::grammar::{BACKSLASH, QUOTE, SPACE};
@@ -114,6 +114,14 @@ pub fn cut_at_space(text: &str) -> (&str, &str)
     ensures after { result.1.now ≡ after_first is_space text.now }
 {
     cut_at(text, plain_len_of(text.as_bytes()))
+}
+
+/// Whether a word is a verb. It is inlined, so that a word of another length takes no call.
+#[inline(always)]
+pub(crate) fn is_verb(word: &str, verb: &str) -> bool
+    ensures { result ≡ bytes_eq word.now verb.now }
+{
+    word.len() == verb.len() && word == verb
 }
 
 /// Whether a text is one word.

@@ -6,7 +6,7 @@ ghost use Rattle.mm_types.specs.declared.numbers.Node.TheVariants as node;
 ghost use Rattle.notice_chain.specs.View.{View};
 ghost use Rattle.repository.specs.Run.{change_outcome, read_outcome};
 ghost use Rattle.repository.specs.declared.command.Command.{Command};
-ghost use Rattle.repository.specs.Commands.{container};
+ghost use Rattle.repository.specs.Commands.{container, fragment as fragment_of};
 ghost use Rattle.repository.specs.declared.reply.Answer.{Answer};
 ghost use Rattle.repository.specs.declared.reply.Answer.TheVariants as answer;
 ghost use Rattle.script_lines.specs.Frequent.{frequent_line};
@@ -25,7 +25,7 @@ use crate::line::{finish_change, print_bad, run_command, run_get, turn_of_refusa
 use crate::pool::Pool;
 use adapters::Adapter;
 use links::LinkStore;
-use mm_types::{End, Node, ObjectNo, Refused};
+use mm_types::{End, Node, ObjectNo, Refused, Text};
 use repository::{Brief, Command, EndRead, Read, Repository};
 use script_answers::Turn;
 use script_lines::{Frequent, Name, Word, WrittenValue, value_of};
@@ -105,6 +105,34 @@ fn run_container<L: LinkStore, A: Adapter>(
             output.line_end()?;
             Ok(Turn::Done)
         }
+        Err(refused) => print_refused(output, refused),
+    }
+}
+
+/// Prints a fragment. Fails only if memory is refused for the output.
+fn print_fragment(output: &mut Output, fragment: &Text) -> Result<Turn, AllocError>
+    ensures { (m : Metamodel) (c : Command View) → IfOk result (λ t. Adds output.old output.new t
+        (λ p. p ≡ command_printed m c (read_outcome answer.Fragment (Ok fragment.now)))) }
+{
+    output.json(fragment.as_str())?;
+    output.line_end()?;
+    Ok(Turn::Done)
+}
+
+/// Reads the fragment of an object, which is remembered, and prints it. Fails only if memory is refused for the output.
+#[inline(never)]
+fn run_fragment<L: LinkStore, A: Adapter>(
+    repository: &mut Repository<L, A>,
+    output: &mut Output,
+    object: ObjectNo,
+) -> Result<Turn, AllocError>
+    ensures ok { (pool : PoolView)
+        → IfOk result (λ t. Adds output.old output.new t (λ p. RunsCommand (session repository.old pool) (fragment_of object) p (session repository.new pool))) }
+    ensures left { (pool : PoolView)
+        → OnErr result (IsLeft (RunsCommand (session repository.old pool) (fragment_of object)) repository.old repository.new) }
+{
+    match repository.remembered_fragment(object) {
+        Ok(fragment) => print_fragment(output, &fragment),
         Err(refused) => print_refused(output, refused),
     }
 }
@@ -190,6 +218,7 @@ pub(crate) fn run_frequent<L: LinkStore, A: Adapter>(
             run_read(repository, pool, output, object, feature.as_str())
         }
         Frequent::Container(object) => run_container(repository, output, object),
+        Frequent::Fragment(object) => run_fragment(repository, output, object),
         Frequent::Set(object, feature, word) => {
             match value_of(alloc, word.as_str())? {
                 Some(written) => run_edit(

@@ -1,14 +1,12 @@
 //! A line of a script is run.
-ghost use Rattle.std.specs.Prelude.{◌≡◌, ℕ, List, Err, true, IfOk, OnErr};
+ghost use Rattle.std.specs.Prelude.{◌≡◌, [], Err, true, IfOk, OnErr};
 ghost use Rattle.mm_types.specs.Shapes.{shape};
 ghost use Rattle.notice_chain.specs.View.{View};
-ghost use Rattle.mm_types.specs.declared.end.End.{End};
-ghost use Rattle.mm_types.specs.declared.numbers.ResourceNo.{ResourceNo};
-ghost use Rattle.handshake.specs.declared.act.Act.{Act};
 ghost use Rattle.repository.specs.Run.{Executed, change_outcome};
 ghost use Rattle.repository.specs.State.{State};
+ghost use Rattle.repository.specs.Step.{attached_adapters};
+ghost use Rattle.repository.specs.declared.command.Command.{Command as CommandView};
 ghost use Rattle.repository.specs.Views.{changed_view, command_view, outcome_view};
-ghost use Rattle.repository.specs.declared.command.Command.TheVariants.{At, Load};
 ghost use Rattle.repository.specs.Commands.{get};
 ghost use Rattle.script_lines.specs.Forms as forms;
 ghost use Rattle.script_lines.specs.Source.{bytes_of};
@@ -132,8 +130,8 @@ pub(crate) fn run_command<L: LinkStore, A: Adapter>(
     Ok(turn)
 }
 
-/// Prints the outcome of a change that was made at an end, or of a load. Adapters that the change released go back to the pool. Fails only
-/// if memory is refused for the output. It is never inlined into the way of a change that notifies no adapter.
+/// Prints the outcome of a change, and puts the adapters that the change released back into the pool. Fails only if memory is refused for
+/// the output. It is never inlined into the way of a change that notifies no adapter.
 #[inline(never)]
 pub(crate) fn finish_change<L: LinkStore, A: Adapter>(
     repository: &Repository<L, A>,
@@ -142,10 +140,8 @@ pub(crate) fn finish_change<L: LinkStore, A: Adapter>(
     feature: FeatureNo,
     outcome: Result<Reply<A>, Refused>,
 ) -> Result<Turn, AllocError>
-    ensures at { (s : State) (end : End) (act : Act) → end.feature ≡ feature → Executed s (At end act) (change_outcome (changed_view A.heard outcome)) repository.now
-        → IfOk result (λ t. Adds output.old output.new t (λ p. RunsCommand (session s pool.old) (At end act) p (session repository.now pool.new))) }
-    ensures load { (s : State) (k : ResourceNo) (text : List ℕ) → a.feature_of (Load k text) ≡ feature → Executed s (Load k text) (change_outcome (changed_view A.heard outcome)) repository.now
-        → IfOk result (λ t. Adds output.old output.new t (λ p. RunsCommand (session s pool.old) (Load k text) p (session repository.now pool.new))) }
+    ensures { (s : State) (k : CommandView View) → attached_adapters k ≡ [] → a.feature_of k ≡ feature → Executed s k (change_outcome (changed_view A.heard outcome)) repository.now
+        → IfOk result (λ t. Adds output.old output.new t (λ p. RunsCommand (session s pool.old) k p (session repository.now pool.new))) }
 {
     match outcome {
         Ok(reply) => {

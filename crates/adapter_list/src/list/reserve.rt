@@ -1,7 +1,7 @@
 //! The capacity that the adapters reserve for the copies of a round.
 ghost use Rattle.std.specs.Prelude.{◌≡◌, None, true, ◌≤◌, ◌<◌, ◌+◌, ◌^◌, ◌↔◌, ℕ, map, length, slice_index, OnOk, IfErr, IsErrOf};
 ghost use Rattle.std.specs.List.{AllByRecursion};
-ghost use Rattle.adapter_list.specs.Counts.{IsFirstFull, IsReadyFor, ascends, copies_len, ordinals, told_at_ordinal};
+ghost use Rattle.adapter_list.specs.Counts.{HasGrown, IsFirstFull, IsReadyFor, ascends, copies_len, ordinals, told_at_ordinal};
 ghost use Rattle.adapter_list.specs.Targets.{targets_at};
 
 use super::AdapterList;
@@ -14,9 +14,7 @@ impl<A: Adapter> AdapterList<A> {
     /// adapter that gets copies is asked once, in attach order, and the first refusal is returned. No adapter loses capacity.
     pub(super) fn reserve_places(&mut self, copies: &[(usize, Notice)]) -> Result<(), NoRoom>
         requires within { AllByRecursion (λ c. c.0 < length self.old.1) copies.now }
-        ensures kept { self.new.0 ≡ self.old.0 }
-        ensures as_many { length self.new.1 ≡ length self.old.1 }
-        ensures no_fewer { (k : ℕ) → slice_index self.old.1 k ≤ slice_index self.new.1 k }
+        ensures grown { HasGrown self.old self.new }
         ensures ok { OnOk result ((k : ℕ) → IsReadyFor self.old.0 self.new.1 k (copies_len copies.now k)) }
         ensures full { IfErr result (λ e. e ≡ NoRoom.Full → (k : ℕ) × IsFirstFull self.old.0 self.new.1 copies.now k) }
     {
@@ -44,9 +42,7 @@ impl<A: Adapter> AdapterList<A> {
     fn reserve_each(&mut self, copies: &[(usize, Notice)]) -> Result<(), NoRoom>
         requires within { AllByRecursion (λ c. c.0 < length self.old.1) copies.now }
         requires ascending { ascends None (ordinals copies.now) ≡ true }
-        ensures kept { self.new.0 ≡ self.old.0 }
-        ensures as_many { length self.new.1 ≡ length self.old.1 }
-        ensures no_fewer { (k : ℕ) → slice_index self.old.1 k ≤ slice_index self.new.1 k }
+        ensures grown { HasGrown self.old self.new }
         ensures ok { OnOk result ((k : ℕ) → IsReadyFor self.old.0 self.new.1 k (copies_len copies.now k)) }
         ensures full { IfErr result (λ e. e ≡ NoRoom.Full → (k : ℕ) × IsFirstFull self.old.0 self.new.1 copies.now k) }
     {
@@ -64,9 +60,7 @@ impl<A: Adapter> AdapterList<A> {
     fn reserve_for(&mut self, ordinal: usize, count: usize) -> Result<(), NoRoom>
         requires within { ordinal < length self.old.1 }
         requires fits { count < 2 ^ 63 }
-        ensures kept { self.new.0 ≡ self.old.0 }
-        ensures as_many { length self.new.1 ≡ length self.old.1 }
-        ensures no_fewer { (k : ℕ) → slice_index self.old.1 k ≤ slice_index self.new.1 k }
+        ensures grown { HasGrown self.old self.new }
         ensures ok { OnOk result (IsReadyFor self.old.0 self.new.1 ordinal count) }
         ensures full { IsErrOf result NoRoom.Full ↔ (2 ^ 64 ≤ told_at_ordinal self.old.0 ordinal + (count + targets_at self.old.0 ordinal)) }
     {

@@ -177,7 +177,7 @@ fn commands_attach_count_and_detach(rt: HostRuntime) -> Result<(), Fail> {
     Ok(())
 }
 
-/// Commands that are refused if the number 5 is attached, and 9 is not.
+/// Commands that are refused if an adapter has the number 5 and none has the number 9.
 fn refused_commands(alloc: Global) -> Result<Vec<Command<Counter>>, AllocError> {
     let heard = || Counter::starting_at(41);
     let full = Counter::starting_at(18446744073709551615);

@@ -39,7 +39,8 @@ fn documents(alloc: Global, features: &str) -> Result<Vec<Text>, AllocError> {
     let first = format!(in alloc;
         r#"{{"format":2,"roots":[{{"class":"Item","features":{{{features}}}}},{{"class":"Item","features":{{}}}}]}}"#
     )?;
-    Ok(vec![in alloc; Text::from_string(first), Text::from_str(alloc, SECOND)?]?)
+    let first = Text::from_string(alloc, first)?;
+    Ok(vec![in alloc; first, Text::from_str(alloc, SECOND)?]?)
 }
 
 /// Attaches an adapter to each of the five objects, and a deep adapter to each of the two resources.

@@ -41,7 +41,7 @@ const HEARD: [(Node, u64, u64); 11] = [
     (Node::Resource(ResourceNo(2)), 0, 5),
 ];
 
-/// The number of the deep adapter at the node of a flat one.
+/// Each node has a flat adapter and a deep adapter: the number of the deep one, from the number of the flat one.
 fn deep_beside(no: u32) -> u32 {
     no.wrapping_add(100)
 }

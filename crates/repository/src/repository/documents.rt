@@ -26,16 +26,10 @@ impl<L: LinkStore, A: Adapter> Repository<L, A> {
     /// position is left out if the resource has one root.
     ///
     /// Refused, the first that applies: `NoObject` if no live object has the number, `Dangling` if the object is in no resource, `Memory`.
-    pub fn fragment(&self, object: ObjectNo) -> Result<Text, Refused>
-        ensures { Executed self.now (commands.fragment object) (read_outcome answer.Fragment result) self.now }
-    {
-        self.fragment_now(object)
-    }
-
-    /// The same as `fragment`; its contract also says that the text is the fragment.
     #[tactic(auto, using(crate::proofs::DocumentLemmas::fragment_read))]
-    fn fragment_now(&self, object: ObjectNo) -> Result<Text, Refused>
+    pub fn fragment(&self, object: ObjectNo) -> Result<Text, Refused>
         ensures executed { Executed self.now (commands.fragment object) (read_outcome answer.Fragment result) self.now }
+        // The text is the fragment; what is remembered has this as a premise.
         ensures found { IfOk result (λ t. fragment_in (reads self.now) object ≡ Some t) }
     {
         if let Some(refused) = object_refusal(&self.model(), object) {
@@ -60,11 +54,11 @@ impl<L: LinkStore, A: Adapter> Repository<L, A> {
         }
     }
 
-    /// The same as `fragment`, but the answer is remembered until a containing link changes, for up to 1,024 objects.
-    fn remembered_fragment(&mut self, object: ObjectNo) -> Result<Text, Refused>
+    /// The same as `fragment`, but the answer is remembered until a containing link changes, for up to 1,024 objects. Refused as `fragment`.
+    pub fn remembered_fragment(&mut self, object: ObjectNo) -> Result<Text, Refused>
         ensures { Executed self.old (commands.fragment object) (read_outcome answer.Fragment result) self.new }
     {
-        let fragment = self.fragment_now(object)?;
+        let fragment = self.fragment(object)?;
         if self.paths.get(object).is_none() {
             self.paths.keep(object, fragment.as_str());
         }
@@ -114,7 +108,7 @@ impl<L: LinkStore, A: Adapter> Repository<L, A> {
             return Err(refused);
         }
         match write_doc(self.alloc, &model, resource) {
-            Ok(text) => Ok(Text::from_string(text)),
+            Ok(text) => Ok(Text::from_string(self.alloc, text)?),
             Err(refused) => Err(refused),
         }
     }

@@ -44,12 +44,13 @@ impl<L: LinkStore, A: Adapter> Repository<L, A> {
             Ok(reserved) => reserved,
             Err(refused) => return Err(refused),
         };
+        let targets_go = leaving.is_some();
         forget_touched(
             &mut self.paths,
             &mut self.hearers,
             &self.meta,
             &edits,
-            leaving.is_some(),
+            targets_go,
         );
         // The edits.
         self.store.apply(edits);

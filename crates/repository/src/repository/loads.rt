@@ -1,8 +1,12 @@
 //! Resources that are loaded.
-ghost use Rattle.std.specs.Prelude.{◌≡◌, Err, Some};
+ghost use Rattle.std.specs.Prelude.{◌≡◌, ℕ, List, Err, None, Some};
+ghost use Rattle.mm_types.specs.declared.numbers.Node.TheVariants as node;
+ghost use Rattle.resource_docs.specs.Causes.{Answers};
+ghost use Rattle.models.specs.Existence.{node_refusal};
 ghost use Rattle.models.specs.Model.{reading};
-ghost use Rattle.repository.specs.Loads.{load_refusal};
+ghost use Rattle.repository.specs.Loads.{load_refusal, reads_into};
 ghost use Rattle.repository.specs.Run.{Executed, change_outcome};
+ghost use Rattle.repository.specs.State.{reads};
 ghost use Rattle.repository.specs.Views.{changed_view};
 ghost use Rattle.repository.specs.declared.command.Command.TheVariants.{Load};
 
@@ -13,7 +17,7 @@ use handshake::Change;
 use links::LinkStore;
 use mm_types::{DocFault, Refused, ResourceNo};
 use models::{ModelRef, contents_end};
-use resource_docs::{read_doc, read_doc_text};
+use resource_docs::{Doc, read_doc, read_doc_text};
 
 impl<L: LinkStore, A: Adapter> Repository<L, A> {
     /// Loads a document, `bytes` as JSON, into an empty resource (EMF: Resource.load): all its objects with their values, links and
@@ -30,11 +34,8 @@ impl<L: LinkStore, A: Adapter> Repository<L, A> {
         let Some(uri) = model.uri(resource) else {
             return Err(Refused::NoResource);
         };
-        match read_doc(self.alloc, model.meta(), uri, bytes) {
-            Ok(doc) => self.carry_out(Change::Load(resource, doc)),
-            Err(Refused::Document(fault)) => Err(fault_refusal(&model, resource, fault)),
-            Err(_) => Err(Refused::Memory),
-        }
+        let read = read_doc(self.alloc, model.meta(), uri, bytes);
+        self.load_read(resource, read)
     }
 
     /// Loads the document of a text as `load` does, and is refused as `load` is. The text is not tested as UTF-8 again.
@@ -45,9 +46,23 @@ impl<L: LinkStore, A: Adapter> Repository<L, A> {
         let Some(uri) = model.uri(resource) else {
             return Err(Refused::NoResource);
         };
-        match read_doc_text(self.alloc, model.meta(), uri, text) {
+        let read = read_doc_text(self.alloc, model.meta(), uri, text);
+        self.load_read(resource, read)
+    }
+
+    /// Loads a document that was read; `read` is the document, or why it can't be read.
+    fn load_read(
+        &mut self,
+        resource: ResourceNo,
+        read: Result<Doc, Refused>,
+    ) -> Result<Reply<A>, Refused>
+        requires there { node_refusal (reads self.old) (node.Resource resource) ≡ None }
+        requires read { (text : List ℕ) × Answers read (reads_into (reads self.old) resource text) }
+        ensures { (text : List ℕ) → Answers read (reads_into (reads self.old) resource text) → Executed self.old (Load resource text) (change_outcome (changed_view A.heard result)) self.new }
+    {
+        match read {
             Ok(doc) => self.carry_out(Change::Load(resource, doc)),
-            Err(Refused::Document(fault)) => Err(fault_refusal(&model, resource, fault)),
+            Err(Refused::Document(fault)) => Err(fault_refusal(&self.model(), resource, fault)),
             Err(_) => Err(Refused::Memory),
         }
     }

@@ -27,7 +27,10 @@ impl<L: LinkStore, A: Adapter> Repository<L, A> {
             return Err(Refused::TextLength);
         }
         match joined(self.alloc, "", text) {
-            Ok(uri) => self.change(Change::NewResource(Text::from_string(uri))),
+            Ok(url) => {
+                let uri = Text::from_string(self.alloc, url)?;
+                self.change(Change::NewResource(uri))
+            }
             Err(UriFault::Bad) if self.values.resources() >= limits::RESOURCES => Err(
                 Refused::Limit,
             ),

@@ -1,7 +1,7 @@
 use Rattle.std.proofs.Common.{◌∙◌, false, refl, sym}
 use Rattle.models.specs.Model.{reading}
 use Rattle.change_plans.proofs.RefusalLemmas.{late-refused}
-use Rattle.change_plans.proofs.ValueLemmas.{is-plain-link, links-planned}
+use Rattle.change_plans.proofs.ValueLemmas.{is-plain-link, links-planned, plain-allowed}
 use Rattle.change_plans.proofs.link_planning.plan_link_edits.Goals as goal
 
 pub late_refusal-requires : goal.late_refusal-requires
@@ -11,16 +11,7 @@ pub returns-in-Some-clause-refused : goal.returns-in-Some-clause-refused
 returns-in-Some-clause-refused g c = late-refused (reading c.args.model.now) c.args.change.now c.in-Some.refused (sym c.late_refusal.ensures ∙ c.in-Some.is)
 
 pub unheard_link_edits-requires : goal.unheard_link_edits-requires
-unheard_link_edits-requires g c =
-    let plain = is-plain-link (reading c.args.model.now) c.args.change.now c.requires.links in
-    record {
-      asked = c.requires.asked;
-      allowed = sym c.late_refusal.ensures ∙ c.in_default.is;
-      removal = record { whose = plain.whose; found = tt };
-      found = plain.found;
-      fits = plain.fits;
-      one = plain.one;
-    }
+unheard_link_edits-requires g c = plain-allowed (reading c.args.model.now) c.args.change.now (is-plain-link (reading c.args.model.now) c.args.change.now c.requires.links) c.requires.asked (sym c.late_refusal.ensures ∙ c.in_default.is)
 
 pub returns-clause-planned : goal.returns-clause-planned
 returns-clause-planned g c =

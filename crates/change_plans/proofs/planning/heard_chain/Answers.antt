@@ -14,7 +14,7 @@ pub returns-in-Some : goal.returns-in-Some
 returns-in-Some g c =
     let x = c.in-Some.removal in
     let some = ap (λ q. option_map (λ y. y.object) q) c.in-Some.is in
-    let is = destroyed-heard c.args.model.now c.args.change.now (option_map (λ y. y.object) c.args.removal.now) x.object c.lemma_is_legal.ensures c.requires.asked c.requires.removal.whose (sym some) c.args.is_heard c.if-not-is_heard.false in
+    let is = destroyed-heard c.args.model.now c.args.change.now (option_map (λ y. y.object) c.args.removal.now) x.object c.lemma_is_legal.ensures c.requires.allowed.asked c.requires.allowed.removal.whose (sym some) c.args.is_heard c.if-not-is_heard.false in
     subst (λ x. IfOk c.lost_notices.result (λ y. y ≡ x)) is c.lost_notices.ensures
 
 pub returns-in-Load : goal.returns-in-Load
@@ -23,14 +23,14 @@ returns-in-Load g c =
     let k = c.in-Load.resource in
     let doc = c.in-Load.doc in
     let end = c.contents_end-roots.ensures ∙ ap (λ m. contents_end m k) c.meta.ensures in
-    let late = subst (λ x. late_refusal (reading s) x ≡ None) c.in-Load.is c.requires.allowed in
+    let late = subst (λ x. late_refusal (reading s) x ≡ None) c.in-Load.is c.requires.allowed.allowed in
     let is = (λ i. map (root_notice (c.next.ensures i) (end i)) (enumerate_from 0 (c.as_slice.ensures i)))
     ∙ loaded-heard s k doc c.lemma_is_legal.ensures late c.args.is_heard c.if-not-is_heard.false ∙ ap (λ x. if c.args.is_heard then chain (reading s) x else []) (sym c.in-Load.is) in
     subst (λ x. IfOk c.root_notices.result (λ y. y ≡ x)) is c.root_notices.ensures
 
 pub returns : goal.returns
 returns g c =
-    let none = nothing-destroyed c.args.change.now c.args.removal.now c.requires.removal.whose c.in_default.not-Some in
+    let none = nothing-destroyed c.args.change.now c.args.removal.now c.requires.allowed.removal.whose c.in_default.not-Some in
     let unloaded = nothing-loaded c.args.change.now c.in_default-change.not-Load in
-    let is = made-chain c.args.model.now c.args.change.now c.args.link_ends.now c.in_ok-feature_changes.feature_changes.items c.requires.one c.lemma_is_legal.ensures none unloaded c.requires.asked c.requires.allowed c.requires.cut c.in_ok-feature_changes.ensures c.args.is_heard c.if-not-is_heard.false in
+    let is = made-chain c.args.model.now c.args.change.now c.args.link_ends.now c.in_ok-feature_changes.feature_changes.items c.requires.allowed.one c.lemma_is_legal.ensures none unloaded c.requires.allowed.asked c.requires.allowed.allowed c.requires.cut c.in_ok-feature_changes.ensures c.args.is_heard c.if-not-is_heard.false in
     subst (λ x. IfOk c.notices.result (λ y. y ≡ x)) is c.notices.ensures

@@ -1,7 +1,7 @@
 use Rattle.std.proofs.Common.{◌∙◌, sym}
 use Rattle.models.specs.Model.{reading}
 use Rattle.change_plans.proofs.RefusalLemmas.{late-refused}
-use Rattle.change_plans.proofs.ValueLemmas.{is-plain, no-cuts}
+use Rattle.change_plans.proofs.ValueLemmas.{is-plain, no-cuts, plain-allowed}
 use Rattle.change_plans.proofs.value_planning.plan_values.Goals as goal
 
 pub late_refusal-requires : goal.late_refusal-requires
@@ -13,15 +13,9 @@ returns-in-Some-clause-refused g c = late-refused (reading c.args.model.now) c.a
 pub heard_chain-requires : goal.heard_chain-requires
 heard_chain-requires g c =
     let r = reading c.args.model.now in
-    let plain = is-plain r c.args.change c.requires.values in
     record {
-      asked = c.requires.asked;
-      allowed = sym c.late_refusal.ensures ∙ c.in_default.is;
-      removal = record { whose = plain.whose; found = tt };
-      found = plain.found;
+      allowed = plain-allowed r c.args.change (is-plain r c.args.change c.requires.values) c.requires.asked (sym c.late_refusal.ensures ∙ c.in_default.is);
       cut = no-cuts r c.args.change c.requires.values;
-      fits = plain.fits;
-      one = plain.one;
     }
 
 pub value_edits-requires : goal.value_edits-requires

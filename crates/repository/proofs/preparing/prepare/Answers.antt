@@ -1,11 +1,10 @@
 use Rattle.std.proofs.Common.{◌∙◌, [], ap, is_some}
 use Rattle.std.proofs.lemmas.Option.{same_Some}
-use Rattle.std.proofs.lemmas.Result.{err_from_is_err_and}
 use Rattle.models.specs.Model.{reading}
 use Rattle.repository.specs.Answers.{is_answered_late}
 use Rattle.repository.proofs.LeavingLemmas.{answer-planned, found-early, found-late, spots-found}
 use Rattle.repository.proofs.LoadLemmas.{proper-read}
-use Rattle.repository.proofs.PlanLemmas.{plan_refusal}
+use Rattle.repository.proofs.PlanLemmas.{passed_refusal, plan_refusal}
 use Rattle.repository.proofs.preparing.prepare.Goals as goal
 use Rattle.repository.proofs.preparing.prepare.Goals.{in-None, in-Some}
 
@@ -13,9 +12,7 @@ pub plan-requires-clause-read : goal.plan-requires-clause-read
 plan-requires-clause-read g c = proper-read (reading c.args.model.now) c.requires.proper.0 c.args.change c.requires.proper.1
 
 pub returns-in_err-planned-clause-refused : goal.returns-in_err-planned-clause-refused
-returns-in_err-planned-clause-refused g c =
-    let p = err_from_is_err_and c.from_residual-in_err-planned.result c.from_residual-in_err-planned.ensures.1 in
-    rw (p.1, p.2) (plan_refusal c.args.model.now c.args.change _ c.in_err-planned.ensures)
+returns-in_err-planned-clause-refused g c = passed_refusal c.args.model.now c.args.change _ c.from_residual-in_err-planned.result c.from_residual-in_err-planned.ensures.1 (plan_refusal c.args.model.now c.args.change _ c.in_err-planned.ensures)
 
 pub spots_gone-requires : goal.spots_gone-requires
 spots_gone-requires g c = (reading c.args.model.now, c.in_ok-planned.ensures.removed.found)

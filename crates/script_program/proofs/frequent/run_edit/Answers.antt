@@ -45,7 +45,7 @@ pub returns-in-Replied-clause-ok : goal.returns-in-Replied-clause-ok
 returns-in-Replied-clause-ok g c =
     let b = bound c.args.repository.now (node.Object c.args.object) c.args.name _ c.args.written _ _ _ c.as_str.ensures c.meta.ensures c.feature_number-feature.ensures c.value_in-value.ensures in
     rw (c.in-Set.is, b.1, b.0)
-    (c.finish_change.ensures.at (session c.args.repository.now c.args.pool.now).state (at_end (node.Object c.args.object) c.feature_number-feature.result) (Set c.value_in-value.result) refl (rw c.in-Replied.is at c.set_brief.ensures))
+    (c.finish_change.ensures c.args.repository.now (set (node.Object c.args.object) c.feature_number-feature.result c.value_in-value.result) refl refl (rw c.in-Replied.is at c.set_brief.ensures))
 
 pub returns-in-Unheard-add_brief-clause-ok : goal.returns-in-Unheard-add_brief-clause-ok
 returns-in-Unheard-add_brief-clause-ok g c =
@@ -65,7 +65,7 @@ pub returns-in-Replied-add_brief-clause-ok : goal.returns-in-Replied-add_brief-c
 returns-in-Replied-add_brief-clause-ok g c =
     let b = bound c.args.repository.now (node.Object c.args.object) c.args.name _ c.args.written _ _ _ c.as_str.ensures c.meta.ensures c.feature_number-feature.ensures c.value_in-value.ensures in
     rw (c.in-Add.is, b.1, b.0)
-    (c.finish_change-in-Replied-add_brief.ensures.at (session c.args.repository.now c.args.pool.now).state (at_end (node.Object c.args.object) c.feature_number-feature.result) (Add c.value_in-value.result None) refl (rw c.in-Replied-add_brief.is at c.add_brief.ensures))
+    (c.finish_change-in-Replied-add_brief.ensures c.args.repository.now (add (node.Object c.args.object) c.feature_number-feature.result c.value_in-value.result None) refl refl (rw c.in-Replied-add_brief.is at c.add_brief.ensures))
 
 -- ---- what is left if the answer could not be added
 

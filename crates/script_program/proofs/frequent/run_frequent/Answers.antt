@@ -16,6 +16,9 @@ returns-in-New-clause-ok g c = rw (ap frequent_line c.in-New.is) (c.run_create.e
 pub returns-in-Container-clause-ok : goal.returns-in-Container-clause-ok
 returns-in-Container-clause-ok g c = rw (ap frequent_line c.in-Container.is) (c.run_container.ensures c.args.pool.now)
 
+pub returns-in-Fragment-clause-ok : goal.returns-in-Fragment-clause-ok
+returns-in-Fragment-clause-ok g c = rw (ap frequent_line c.in-Fragment.is) (c.run_fragment.ensures.ok c.args.pool.now)
+
 pub returns-in-Some-clause-ok : goal.returns-in-Some-clause-ok
 returns-in-Some-clause-ok g c =
     let v = c.in-Some.written in
@@ -77,3 +80,6 @@ returns-in-New-clause-left g c = rw (ap frequent_line c.in-New.is) (c.run_create
 
 pub returns-in-Get-clause-left : goal.returns-in-Get-clause-left
 returns-in-Get-clause-left g c = rw (ap frequent_line c.in-Get.is) (rw c.as_str.ensures at c.run_read.ensures.left)
+
+pub returns-in-Fragment-clause-left : goal.returns-in-Fragment-clause-left
+returns-in-Fragment-clause-left g c = rw (ap frequent_line c.in-Fragment.is) (c.run_fragment.ensures.left c.args.pool.now)

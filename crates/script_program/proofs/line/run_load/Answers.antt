@@ -1,3 +1,4 @@
+use Rattle.std.proofs.Common.{refl}
 use Rattle.notice_chain.specs.View.{View}
 use Rattle.repository.specs.Run.{change_outcome}
 use Rattle.repository.specs.Views.{changed_view}
@@ -6,6 +7,9 @@ use Rattle.repository.specs.declared.command.Command.TheVariants.{Load}
 use Rattle.script_program.specs.Session.{Session, session}
 use Rattle.script_program.proofs.LeftLemmas.{as_executed}
 use Rattle.script_program.proofs.line.run_load.Goals as goal
+
+pub returns-clause-ok : goal.returns-clause-ok
+returns-clause-ok g c = c.finish_change.ensures c.args.repository.now (Load c.args.resource c.args.document.now) refl refl c.load_text-outcome.ensures
 
 pub returns-clause-left : goal.returns-clause-left
 returns-clause-left g c =

@@ -33,7 +33,7 @@ returns-in-Err-clause-full g c = λ is.
     subst (λ (k : ℕ). 2 ^ 64 ≤ told_at_ordinal rs k + (1 + targets_at rs k)) (sym at) (subst (λ (ss : List Listed). 2 ^ 64 ≤ told_at_ordinal ss c.loop-ordinal-item.result.0 + (1 + targets_at ss c.loop-ordinal-item.result.0)) c.loop-ordinal.invariant.kept past) in
     let one = one-each None cs i c.requires.ascending low in
     let full : IsFullFor rs cs x = record { within = omega (arith, within, c.lemma_keeps_rules.ensures.places); some = asked-some cs all (ordinals-are cs) i low; full = omega (arith, here, one) } in
-    (x, first-full rs c.loop-ordinal.self.1 c.reserve_for.new.self.1 cs all i (ascending-sorted None all c.requires.ascending) low c.in-Err.ensures.as_many c.in-Err.ensures.no_fewer c.loop-ordinal.invariant.asked full)
+    (x, first-full rs c.loop-ordinal.self.1 c.reserve_for.new.self.1 cs all i (ascending-sorted None all c.requires.ascending) low c.in-Err.ensures.grown.as_many c.in-Err.ensures.grown.no_fewer c.loop-ordinal.invariant.asked full)
 
 pub loop-ordinal-preserved : goal.loop-ordinal-preserved
 loop-ordinal-preserved g c =
@@ -49,10 +49,10 @@ loop-ordinal-preserved g c =
     let there : IsReadyFor rs qs x 1 = subst (λ (k : ℕ). IsReadyFor rs qs k 1) (sym at) (subst (λ (ss : List Listed). IsReadyFor ss qs c.loop-ordinal-item.result.0 1) c.loop-ordinal.invariant.kept asked.ok) in
     let ready : IsReadyFor rs qs x (copies_len cs x) = subst (IsReadyFor rs qs x) (sym (one-each None cs i c.requires.ascending low)) there in
     record {
-      kept = asked.kept ∙ c.loop-ordinal.invariant.kept;
-      as_many = asked.as_many ∙ c.loop-ordinal.invariant.as_many;
-      no_fewer = λ k. let more = asked.no_fewer k in let before = c.loop-ordinal.invariant.no_fewer k in omega (arith, more, before);
-      asked = asked-more rs c.loop-ordinal.self.1 qs cs all i low asked.as_many asked.no_fewer ready c.loop-ordinal.invariant.asked;
+      kept = asked.grown.kept ∙ c.loop-ordinal.invariant.kept;
+      as_many = asked.grown.as_many ∙ c.loop-ordinal.invariant.as_many;
+      no_fewer = λ k. let more = asked.grown.no_fewer k in let before = c.loop-ordinal.invariant.no_fewer k in omega (arith, more, before);
+      asked = asked-more rs c.loop-ordinal.self.1 qs cs all i low asked.grown.as_many asked.grown.no_fewer ready c.loop-ordinal.invariant.asked;
     }
 
 pub returns-clause-ok : goal.returns-clause-ok

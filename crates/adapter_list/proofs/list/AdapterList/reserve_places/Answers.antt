@@ -39,7 +39,7 @@ returns-in-Err-clause-full g c = λ is.
     let here : 2 ^ 64 ≤ told_at_ordinal rs x + (c.unwrap_or-count.result + targets_at rs x) = subst (λ (ss : List Listed). 2 ^ 64 ≤ told_at_ordinal ss x + (c.unwrap_or-count.result + targets_at ss x)) c.loop-ordinal.invariant.kept past in
     let sorted : IsStrictlySortedBy nat_cmp all = subst (IsStrictlySortedBy nat_cmp) (sym c.deref-ordinal-items.ensures.value) c.in-Ok-ordinals_of.ensures.sorted in
     let full : IsFullFor rs cs x = record { within = omega (arith, within, c.lemma_keeps_rules.ensures.places); some = asked-some cs all places i c.loop-ordinal-test.true; full = omega (arith, here, count) } in
-    (x, first-full rs c.loop-ordinal.self.1 c.reserve_for.new.self.1 cs all i sorted c.loop-ordinal-test.true c.in-Err.ensures.as_many c.in-Err.ensures.no_fewer c.loop-ordinal.invariant.asked full)
+    (x, first-full rs c.loop-ordinal.self.1 c.reserve_for.new.self.1 cs all i sorted c.loop-ordinal-test.true c.in-Err.ensures.grown.as_many c.in-Err.ensures.grown.no_fewer c.loop-ordinal.invariant.asked full)
 
 pub loop-ordinal-preserved : goal.loop-ordinal-preserved
 loop-ordinal-preserved g c =
@@ -53,10 +53,10 @@ loop-ordinal-preserved g c =
     let count : c.unwrap_or-count.result ≡ copies_len cs x = c.unwrap_or-count.ensures ∙ ap (λ o. unwrap_or o 0) (c.copied.ensures ∙ c.get.ensures.value) ∙ count-is cs x _ (c.in-Ok.ensures x) in
     let ready : IsReadyFor rs qs x (copies_len cs x) = subst (IsReadyFor rs qs x) count (subst (λ (ss : List Listed). IsReadyFor ss qs x c.unwrap_or-count.result) c.loop-ordinal.invariant.kept asked.ok) in
     record {
-      kept = asked.kept ∙ c.loop-ordinal.invariant.kept;
-      as_many = asked.as_many ∙ c.loop-ordinal.invariant.as_many;
-      no_fewer = λ k. let more = asked.no_fewer k in let before = c.loop-ordinal.invariant.no_fewer k in omega (arith, more, before);
-      asked = asked-more rs c.loop-ordinal.self.1 qs cs all i c.loop-ordinal-test.true asked.as_many asked.no_fewer ready c.loop-ordinal.invariant.asked;
+      kept = asked.grown.kept ∙ c.loop-ordinal.invariant.kept;
+      as_many = asked.grown.as_many ∙ c.loop-ordinal.invariant.as_many;
+      no_fewer = λ k. let more = asked.grown.no_fewer k in let before = c.loop-ordinal.invariant.no_fewer k in omega (arith, more, before);
+      asked = asked-more rs c.loop-ordinal.self.1 qs cs all i c.loop-ordinal-test.true asked.grown.as_many asked.grown.no_fewer ready c.loop-ordinal.invariant.asked;
     }
 
 pub returns-clause-ok : goal.returns-clause-ok

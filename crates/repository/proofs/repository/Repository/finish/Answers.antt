@@ -123,7 +123,7 @@ invariant_of-self-2 g c =
           let known : AreKnown (above old) rs c.reserve.new.hearers = subst (λ (qs : List Listed). AreKnown (above old) qs c.reserve.new.hearers) (sym c.reserve.ensures.adapters) c.reserve.ensures.known in
           let told = known-adapters_after_copies (above old) copies rs c.reserve.new.hearers known in
           let moved = hearers-kept m (values_of c.self.inside.values) w old edits c.self.invariant.legal.model legal_after p.fits p.of_kind (adapters_after_copies copies rs) c.reserve.new.hearers told out in
-          let nobody : spots_in c.in-Ok.reserved.1 ≡ [] = none-go c.in-Ok.reserved.1 (sym c.is_some.ensures ∙ stay) in
+          let nobody : spots_in c.in-Ok.reserved.1 ≡ [] = none-go c.in-Ok.reserved.1 (sym c.is_some-targets_go.ensures ∙ stay) in
           let others : c.notify-told.new.adapters.0 ≡ adapters_after_copies copies rs = c.notify-told.ensures.others ∙ ap (λ (ss : List Spot). (leavers ss copies rs).others) nobody in
           subst (λ (l : Links). AreKnown (above l) c.notify-told.new.adapters.0 c.reserve.new.hearers) (sym applied_links)
           (subst (λ (qs : List Listed). AreKnown (above (links.links_after_edits old edits)) qs c.reserve.new.hearers) (sym others) moved));
