@@ -12,11 +12,11 @@ from distributed import Client, LocalCluster
 from mmrepo import shards
 
 
-def checked(folder, metamodel, executor, *options):
-    """Runs the `check` command; returns its status, and its standard error, or its standard output if standard error is empty."""
-    command = [sys.executable, '-m', 'mmrepo', 'check', metamodel, folder, '--executor', executor, *options]
-    done = subprocess.run(command, stdout=subprocess.PIPE, stderr=subprocess.PIPE, env={**os.environ, 'DASK_DISTRIBUTED__COMM__TIMEOUTS__CONNECT': '2s'})
-    return done.returncode, (done.stderr or done.stdout).decode()
+def checked(folder, metamodel, executor, **environment):
+    """Runs the `check` command; returns its status, its standard output and its standard error."""
+    command = [sys.executable, '-m', 'mmrepo', 'check', metamodel, folder, '--executor', executor]
+    done = subprocess.run(command, stdout=subprocess.PIPE, stderr=subprocess.PIPE, env={**os.environ, **environment})
+    return done.returncode, done.stdout.decode(), done.stderr.decode()
 
 
 def main(folder, metamodel, objects):
@@ -31,7 +31,7 @@ def main(folder, metamodel, objects):
         said['died'] = not os.path.exists(os.environ['DIES_ONCE'])
         said['workers'] = list(client.run(os.getpid).values())
         said['check'] = checked(folder, metamodel, cluster.scheduler_address.replace('tcp', 'dask'))
-        said['no scheduler'] = checked(folder, metamodel, 'dask://127.0.0.1:1')
+        said['no scheduler'] = checked(folder, metamodel, 'dask://127.0.0.1:1', DASK_DISTRIBUTED__COMM__TIMEOUTS__CONNECT='2s')
     print(json.dumps(said))
 
 

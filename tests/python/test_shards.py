@@ -233,6 +233,7 @@ class Dask(ShardTest):
         self.assertEqual(said['results'], right)
         self.assertEqual(said['after a death'], right)
         self.assertEqual((said['died'], len(said['workers'])), (True, 2))
-        self.assertEqual(said['check'], [0, f'no findings in {FILES} files with {FILES * OBJECTS} objects\n'])
-        self.assertEqual(said['no scheduler'][0], 2)
-        self.assertTrue(said['no scheduler'][1].startswith('error: --executor dask://127.0.0.1:1: '))
+        # Dask reports on standard error what it tries again on a busy machine, so the standard error of this check is not compared.
+        self.assertEqual(said['check'][:2], [0, f'no findings in {FILES} files with {FILES * OBJECTS} objects\n'], said['check'][2])
+        self.assertEqual(said['no scheduler'][:2], [2, ''])
+        self.assertIn('error: --executor dask://127.0.0.1:1: ', said['no scheduler'][2])
