@@ -209,8 +209,8 @@ impl Output {
         self.json(text)
     }
 
-    /// Adds a value: `null`, `true`, `-12`, `"Emma"`, `:NOVEL`, `#3`, `proxy "http://m.example/b#/0"` or `A7`. If it
-    /// is a literal, `literal` is its name; else `literal` is not looked at.
+    /// Adds a value: `null`, `true`, `-12`, `"Emma"`, `:NOVEL`, `#3`, or `proxy "http://m.example/b#/0"`. If it is a literal, `literal` is
+    /// its name; otherwise `literal` is not looked at.
     pub fn value(&mut self, value: &Value, literal: &str) -> Result<(), AllocError>
         ensures ok { OnOk result (self.new ≡ self.old ++ value_text literal.now value.now) }
     {

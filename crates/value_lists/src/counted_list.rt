@@ -126,7 +126,8 @@ impl CountedList {
         self.find_farther(label, value)
     }
 
-    /// As `find`, but not at the index at which the label is if all labels before it are evenly spread.
+    /// The part of `find` after the first guess, which takes the labels before the label to be evenly spread. An index of the value; `None` if
+    /// it is not found so.
     #[cold]
     fn find_farther(&self, label: u64, value: &Value) -> Option<usize>
         ensures { IfSome result (λ i. is_at value.now i self.now.items ≡ true) }
