@@ -10,7 +10,7 @@ use Rattle.adapter_list.specs.Targets.{targets_at}
 abbrev pub copies_len : List (ℕ × Notice) → ℕ → ℕ
 copies_len cs k = length (copies_for k cs)
 
--- the counted copies and the rest are all copies together; if none was counted, there is no count
+-- the number of counted copies and the number of the rest add up to the number of all copies; if no copy was counted, the count is None
 abbrev pub IsCounted : Option ℕ → ℕ → ℕ → Type 0
 IsCounted None rest all = rest ≡ all
 IsCounted (Some n) rest all = (0 < n) × (n + rest ≡ all)

@@ -1,5 +1,5 @@
--- The result of a call that takes one target from an adapter: its last notification from there, and the adapter if that was its last
--- target.
+-- The result of a call that takes one target from an adapter: the last notification from that target, and the adapter itself if it has no
+-- target left.
 use Rattle.std.specs.Prelude.{Bool, List, [], ◌∷◌, Option, None, Some}
 use Rattle.mm_types.specs.declared.numbers.AdapterNo.{AdapterNo}
 use Rattle.notice_chain.specs.View.{View}

@@ -1,4 +1,5 @@
--- The adapters that have each node as a target: the entries of the table, and the entries that the list of adapters calls for.
+-- For each node, the adapters that have the node as a target: the entries that the table has, and the entries that it must have by the list
+-- of adapters.
 use Rattle.std.specs.Prelude.{◌≡◌, ℕ, ◌<◌, ◌&&◌, ◌||◌, not, Bool, true, false, List, [], ◌∷◌, get_or, slice_get, length, map, nat_eq, slice_index, Option, option_map, IfSome, ⊤, if◌then◌else◌}
 use Rattle.std.specs.List.{IsDistinct, filter_map, find}
 use Rattle.std.specs.Option.{option_map_or}
@@ -64,7 +65,7 @@ is_marked bs (node.Resource k) = true
 abbrev pub AreSameMarks : List Bool → List Bool → Type 0
 AreSameMarks old new = (i : ℕ) → get_or new i false ≡ get_or old i false
 
--- the marks stay, but the mark of a node is b
+-- the new marks are the old marks, except that the mark of the node x is b
 abbrev pub AreSetAt : List Bool → Node → Bool → List Bool → Type 0
 AreSetAt old x b new = (o : ObjectNo) → get_or new o.0 false ≡ (if same_node x (node.Object o) then b else get_or old o.0 false)
 

@@ -23,8 +23,8 @@ use std::collections::VecDeque;
 use std::marker::Model;
 use std::mem;
 
-/// The parts of a list while targets are taken away. Meanwhile an adapter may have no target left. It is given back before the parts become
-/// a list again.
+/// The parts of a list while targets are taken away. Meanwhile some adapters may have no target left. These adapters are given back before
+/// the parts become a list again.
 #[derive(Drop)]
 pub(crate) struct Going<A: Adapter> {
     alloc: Global,
@@ -134,8 +134,8 @@ impl<A: Adapter> Going<A> {
         room.pop().map(|one| one.1)
     }
 
-    /// Takes one target from an adapter, and gives the adapter back if that was its last one. Takes no memory, since the adapter goes
-    /// through an empty list that has capacity for all adapters.
+    /// Takes one target from an adapter, and gives the adapter back if that was its last target. Takes no memory, since the adapter is
+    /// given back through an empty list that has capacity for all adapters.
     pub(crate) fn detach(
         &mut self,
         no: AdapterNo,

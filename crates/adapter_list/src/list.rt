@@ -41,7 +41,7 @@ pub struct AdapterList<A: Adapter> {
     pub(crate) marks: Vec<bool>,
     /// How many targets there are.
     pub(crate) targets_len: usize,
-    /// Always empty: `close` fills it, and takes no memory for that.
+    /// Empty between calls. `close` fills this list, and takes no memory for that.
     pub(crate) released: Vec<(AdapterNo, A)>,
 }
 

@@ -11,7 +11,7 @@ pub(crate) struct Count {
 }
 
 impl Count {
-    /// A count that is at `told`.
+    /// A count that begins at `told`.
     pub(crate) fn starting_at(told: u64) -> Count
         ensures { result.told ≡ told }
     {
@@ -25,7 +25,7 @@ impl Count {
         self.told
     }
 
-    /// Full exactly if it can't count `n` more; never Memory.
+    /// Fails with Full exactly if `n` more notifications can't be counted; never fails with Memory.
     pub(crate) fn reserve(&self, n: u64) -> Result<(), NoRoom>
         ensures { IsCounted (λ c. c.told) n self.now self.now result }
     {

@@ -8,11 +8,11 @@ ghost use Rattle.borrowed_json.specs.View.{members_view, view};
 use crate::value::{Json, Members};
 use std::alloc::AllocError;
 
-/// The number of last members among which a key is searched before it is added. An object with at most this number of keys has each key
+/// How many of the last members are searched for a key before the key is added. An object with at most this number of keys has each key
 /// once, however often the key is written.
 const SEARCHED: usize = 256;
 
-/// The last index of a key among the last members.
+/// The last index of a key among the last `SEARCHED` members.
 fn last_of(members: Members, key: &str) -> Option<usize>
     ensures { IfSome result (λ i. (i < length members.now) × (list_all (λ m. not (bytes_eq m.0.now key.now)) (drop (i + 1) members.now) ≡ true)) }
 {

@@ -6,9 +6,9 @@ use std::alloc::Global;
 /// A case: a metamodel, a script over it, and what the two must give.
 #[derive(Drop)]
 pub struct Case<'a> {
-    /// What it shows.
+    /// The name of the case, which says what the case shows.
     pub name: &'a str,
-    /// The name of its metamodel's file, without `.json`; without a name, the document is the metamodel.
+    /// The name of the metamodel's file, without `.json`. If there is no name, `document` is the metamodel.
     pub metamodel: Option<&'a str>,
     /// The metamodel's text, if it is in the case.
     pub document: Vec<u8>,

@@ -1,4 +1,4 @@
-//! A list of commands is done by one call of a repository, which no script makes, and a snapshot follows notifications.
+//! One call of a repository does a list of commands; no script makes this call. And a snapshot follows notifications.
 mod commands;
 mod printed;
 mod views;
@@ -19,7 +19,7 @@ use views::followed;
 const BOOKS: &str =
     r#"{"classes":[{"name":"Book","features":[{"name":"name","kind":"attribute","type":"EString"}]}]}"#;
 
-/// Does commands, and prints what each gives, or the commands that come back.
+/// Does commands, and prints the outcome of each command. If there is no memory for the outcomes, prints the commands, which come back.
 fn do_all<L: LinkStore, A: Adapter, W: Write>(
     writer: &mut W,
     repository: &mut Repository<L, A>,
@@ -61,7 +61,7 @@ fn session<L: LinkStore, A: Adapter, W: Write>(
     Ok(())
 }
 
-/// Does that in a repository of its own.
+/// Does what `session` does, in a new repository.
 fn run<L: LinkStore, A: Adapter, W: Write>(
     alloc: Global,
     writer: &mut W,

@@ -57,7 +57,7 @@ target_by r g t x = option_and_then (λ o. unless_refused r g x.site (found_by r
 abbrev pub joint : ProxySite → ResolvedProxy → Joint
 joint p x = record { site = p; target = x }
 
--- whether a key is the key of the counterpart's location; and `is_far_link`, of the object that is there afterwards
+-- whether k is the key of the counterpart's location; and `is_far_link`, whether k is the key of the object that is there after the resolve
 abbrev pub is_far_site : ResolvedProxy → Counterpart → ReferenceKey → Bool
 is_far_site x c k = same_reference_key k (reference_key x.object c.end.feature c.index)
 
@@ -95,8 +95,8 @@ edits_by r j =
 abbrev pub told_by : Joint → List FeatureChange
 told_by j = changes_of_resolve (end_of j.site) j.site.index j.target
 
--- these proxies were resolved, and `ends` are the values since. A proxy is gone from each location in `gone`, and from no other; an object
--- is at a reference if it was there before, or `linked` has it
+-- the proxies js were resolved, and `ends` has the values of each end after that. Exactly the proxies at the locations in `gone` are gone;
+-- an object is at a reference now if it was there before or `linked` has it
 pub record IsKnown (r : Reading) (js : List Joint) (ends : End → List Value) (g : Progress) : Type 0 where
   pub joints : g.joints.items ≡ js
   pub gone : (p : ProxySite) → is_proxy_site (record r { values = ends }) p ≡ (is_proxy_site r p && not (has g.gone (key_of p)))

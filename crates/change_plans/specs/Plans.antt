@@ -67,11 +67,12 @@ of_values vs ns = record { finding = finding.Nothing; edits = []; values = vs; c
 abbrev pub of_links : List Edit → List Notice → Planned
 of_links es ns = record { finding = finding.Nothing; edits = es; values = []; chain = ns }
 
--- whether planning looks for something with memory before it looks for refusals: for the target of a proxy
+-- whether planning takes memory before it looks for refusals: it does so only to find the target of a proxy
 abbrev pub looks_first : Change → Bool
 looks_first c = resolves_one c
 
--- the result of planning: the plan, or the refusal that applies. `Memory` comes only if no refusal applies, or while planning looks first
+-- the result of planning: the plan, or the refusal that applies. The result is `Memory` only if no refusal applies, or if `looks_first` is
+-- true of the change
 abbrev pub Plans : Bool → Result Planned Refused → Model → Change → Type 0
 Plans is_heard (Ok p) s c = IsPlanOf is_heard s c p
 Plans is_heard (Err r) s c = IsFalse (is_memory_refusal r && looks_first c) → late_refusal (reading s) c ≡ (if is_memory_refusal r then None else Some r)

@@ -73,7 +73,8 @@ fn push_made<L: LinkStore>(
     Ok(())
 }
 
-/// Adds the edits that put a link in place of its proxies; none if no object is at their address.
+/// Adds the edits that put a link in place of its proxies. Adds no edit if no target was found, since no object is at the address of the
+/// proxy.
 pub(crate) fn push_joining<L: LinkStore>(
     model: &ModelRef<L>,
     end: End,

@@ -20,7 +20,8 @@ pub(crate) struct Joint {
     pub target: ResolvedProxy,
 }
 
-/// What was resolved so far: the proxies in order, all locations whose proxies are gone, and the objects that took their positions.
+/// What was resolved so far: the proxies in order, the locations of all proxies that are gone, and the objects that took the positions of
+/// these proxies.
 #[derive(Drop)]
 pub(crate) struct Progress {
     pub joints: Vec<Joint>,

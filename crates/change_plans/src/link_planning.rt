@@ -62,7 +62,8 @@ pub fn plan_links<L: LinkStore>(
     Ok((edits, chain))
 }
 
-/// The put of a set of an object, if that is the whole plan: the set is not refused, and displaces no link. Takes no memory.
+/// The link that a set of an object puts, if the plan puts this link and does nothing else: the set is not refused, and displaces no link.
+/// Takes no memory.
 #[inline(always)]
 pub fn lone_set<L: LinkStore>(model: &ModelRef<L>, end: End, value: &Value) -> Option<NewLink>
     requires asked { early_refusal (reading model.now) (At end (Set value.now)) ≡ None }
@@ -73,7 +74,7 @@ pub fn lone_set<L: LinkStore>(model: &ModelRef<L>, end: End, value: &Value) -> O
     put_of_set(model, end, value)
 }
 
-/// The put of an addition of an object, if that is the whole plan. Takes no memory.
+/// The link that an addition of an object puts, if the plan puts this link and does nothing else. Takes no memory.
 #[inline(always)]
 pub fn lone_add<L: LinkStore>(
     model: &ModelRef<L>,
@@ -134,8 +135,8 @@ fn put_of_add<L: LinkStore>(
     Some(put_at(model, end, model.position_for(end, index), *object))
 }
 
-/// Whether an addition of an object makes no link, if it displaces none. If the reference is a containment, the object has no container, so
-/// the list does not have it and is not searched.
+/// Whether an addition of an object makes no link. The addition must displace no link. So at a containment the object has no container: the
+/// list does not have the object, and is not searched.
 #[inline(always)]
 fn adds_no_link<L: LinkStore>(
     model: &ModelRef<L>,
@@ -154,7 +155,7 @@ fn adds_no_link<L: LinkStore>(
     is_plain_add(model, end, value)
 }
 
-/// The put of an object at a position of an end.
+/// The new link that puts an object at a position of an end.
 pub(crate) fn put_at<L: LinkStore>(
     model: &ModelRef<L>,
     end: End,

@@ -33,8 +33,8 @@ pub(crate) fn load_refusal<L: LinkStore>(
     None
 }
 
-/// The notifications that an end gains the roots of a document, in their order, if it has none and the first object gets the number
-/// `next`.
+/// The notifications that an end without values gains the roots of a document, in the order of the roots. The first object of the document
+/// gets the number `next`.
 pub(crate) fn root_notices(
     alloc: Global,
     next: usize,
@@ -52,7 +52,7 @@ pub(crate) fn root_notices(
     Ok(chain)
 }
 
-/// The notification that an end gains the root of a document at a position, after the roots before it.
+/// The notification that an end gains a root of a document at a position. The earlier roots of the document are at the end already.
 fn root_notice(next: usize, end: End, position: u32, root: ObjectNo) -> Notice
     requires fits { IsNumbered next root }
     ensures { result ≡ root_notice_of next end (position, root) }

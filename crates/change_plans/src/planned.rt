@@ -5,7 +5,7 @@ use notice_chain::Chain;
 use proxies::{Resolved, ResolvedProxy};
 use removal::Removal;
 
-/// What planning finds besides edits. The answers of some changes are made of it.
+/// What planning finds besides edits. The answers of some changes are made of this finding.
 #[derive(Drop)]
 pub enum Finding {
     /// Nothing: the answer does not depend on the plan.

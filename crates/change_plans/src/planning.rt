@@ -92,7 +92,8 @@ fn made<L: LinkStore>(
     })
 }
 
-/// What was found for a change that doesn't resolve all proxies. A change that destroys objects resolves no proxy.
+/// The `Finding` of a change that doesn't resolve all proxies, made of the removal or of the target that was found. A change that destroys
+/// objects resolves no proxy, so at most one of the two is there.
 fn finding(removal: Option<Removal>, target: Option<ResolvedProxy>) -> Finding
     requires one { is_some removal ≡ true → target ≡ None }
     ensures removal { removal_in result ≡ removal }
@@ -184,7 +185,7 @@ pub(crate) fn late_refusal<L: LinkStore>(
     }
 }
 
-/// `late_refusal` of what is done at an end.
+/// What `late_refusal` returns for a change that does an act at an end.
 fn act_late_refusal<L: LinkStore>(
     model: &ModelRef<L>,
     end: End,
@@ -234,7 +235,7 @@ pub(crate) fn set_late_refusal<L: LinkStore>(
     set_refusal(model, end, value)
 }
 
-/// `set_late_refusal` of a value that the end does not have already.
+/// What `set_late_refusal` returns for a value that the end does not have yet.
 pub(crate) fn new_set_refusal<L: LinkStore>(
     model: &ModelRef<L>,
     end: End,
@@ -252,7 +253,7 @@ pub(crate) fn new_set_refusal<L: LinkStore>(
     }
 }
 
-/// `late_refusal` of an addition; the caller knows whether a unique list has the value already.
+/// What `late_refusal` returns for an addition. In `repeats` the caller passes whether the end is a unique list that already has the value.
 pub(crate) fn add_late_refusal<L: LinkStore>(
     model: &ModelRef<L>,
     end: End,

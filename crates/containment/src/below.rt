@@ -18,11 +18,11 @@ use models::ModelRef;
 /// How many objects can wait on the way down. If more objects would have to wait, only the search upwards goes on.
 const MOST_WAITING: usize = 32;
 
-/// The numbers of objects that are still to be looked at, each with the objects below it.
+/// The numbers of objects that are still to be looked at. The objects below each of these objects are still to be looked at too.
 type Waiting = ArrayVec<u32, MOST_WAITING>;
 
-/// Whether an object is above a node. The nodes above the node and the objects below the object are looked at in turn. So if few objects
-/// are below the object, few steps show that it is not above the node, however deep the node is. Takes no memory.
+/// Whether an object is above a node. The search looks in turn at a node above the node and at an object below the object. So if the object
+/// has few objects below it, few steps show that the object is not above the node, however deep the node is. Takes no memory.
 pub(crate) fn is_object_above<L: LinkStore>(
     model: &ModelRef<L>,
     object: ObjectNo,

@@ -14,8 +14,8 @@ use mm_types::{FeatureNo, Node, ObjectNo};
 use models::{ModelRef, at_end};
 use std::alloc::{AllocError, Global};
 
-/// An object and all objects below it, each before its contents (EMF: the object, then EObject.eAllContents). For a number that no object
-/// has, just the number. Fails only if memory is refused.
+/// An object and all objects below it, each before its contents (EMF: the object, then EObject.eAllContents). If no object has the number,
+/// the result has only that number. Fails only if memory is refused.
 pub fn subtree<L: LinkStore>(
     alloc: Global,
     model: &ModelRef<L>,
@@ -46,7 +46,8 @@ pub fn node_subtree<L: LinkStore>(
     }
 }
 
-/// Objects and all objects below them; the last of these objects comes first. Fails only if memory is refused.
+/// The objects of `waiting` and all objects below them, each before its contents. The last object of `waiting` comes first. Fails only if
+/// memory is refused.
 fn all_below<L: LinkStore>(
     alloc: Global,
     model: &ModelRef<L>,
@@ -72,9 +73,9 @@ pub fn is_within<L: LinkStore>(model: &ModelRef<L>, above: Node, node: Node) -> 
     above == node || is_below(model, above, node)
 }
 
-/// Whether a node is below another one. A node at the top is below none, and an object that contains nothing is above none. If an object
-/// has few objects below it, few steps show that it is above no other. So a chain that grows at its lower end is not climbed to its top for
-/// each new object.
+/// Whether a node is below another one. A node that nothing contains is below no node, and no node is below an object that contains
+/// nothing. If an object has few objects below it, few steps show that a node is not below this object. So a chain that grows at its lower
+/// end is not climbed to its top for each new object.
 fn is_below<L: LinkStore>(model: &ModelRef<L>, above: Node, node: Node) -> bool
     requires apart { same_node above node ≡ false }
     ensures { result ≡ list_any (same_node above) ((reading model.now).above node) }

@@ -39,7 +39,7 @@ abbrev pub last_index : List (ReferenceKey × ℕ) → ReferenceKey → Option �
 last_index [] k = None
 last_index (x ∷ xs) k = option_or (last_index xs k) (if same_reference_key x.0 k then Some x.1 else None)
 
--- the index of an object in a list of the document that has these objects
+-- the index that the lists of a document give for a reference key, 0 if they give none; os are the objects of the document
 abbrev pub index_among : Metamodel → List DocObject → ReferenceKey → ℕ
 index_among m os k = unwrap_or (last_index (all_indexes m os) k) 0
 

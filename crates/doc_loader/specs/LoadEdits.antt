@@ -1,9 +1,10 @@
--- The edits that make a document's links and proxies, in an order in which each gets the position that the document says. Of two opposites
--- that contain nothing, one feature has the lower number. First come the roots, then the lists of all references except the higher feature
--- of each pair: each value is put last, so each list gets the order of the document. By these links the ends of the higher features gain
--- objects in the order of their numbers. If the document has another order at an end, its links are cut and put again in that order, each
--- at the position that it had at its lower end. Last come the proxies at the ends of the higher features, each at its position: by then the
--- objects are there in their order.
+-- The edits that make a document's links and proxies, in an order in which each link and proxy gets the position that the document says. If
+-- two features are opposites and neither is a containment, one of them has the lower number. The roots come first. The lists of all
+-- references follow, except those of the higher feature of each pair: each value is put last, so each list gets the order of the document.
+-- These links also give objects to the ends of the higher features, in the order of the numbers of these objects. If the document has
+-- another order at such an end, the links of the end are cut and put again in the order of the document; each link keeps the position that
+-- it had at its lower end. The proxies at the ends of the higher features come last, each at its position: the objects are in their order
+-- by then.
 use Rattle.std.specs.Prelude.{ℕ, suc, ◌&&◌, Bool, true, not, List, [], ◌∷◌, ◌++◌, flat_map, map, nat_le, is_some, if◌then◌else◌}
 use Rattle.std.specs.List.{enumerate_from}
 use Rattle.std.specs.Option.{option_map_or}
@@ -55,7 +56,8 @@ is_ascending_from k [] = true
 is_ascending_from k (value.Object a ∷ vs) = nat_le k a.0 && is_ascending_from (suc a.0) vs
 is_ascending_from k (v ∷ vs) = is_ascending_from k vs
 
--- cuts the link from an object a to an object b, and puts it again with b at its index. So a becomes the last value at the opposite end of b
+-- cuts the link from the object a to the object b, and puts the link again: b gets its index in the list of a, and a becomes the last value
+-- at the opposite end of b
 abbrev pub puts_again : Metamodel → ℕ → (ReferenceKey → ℕ) → ObjectNo → FeatureNo → Value → List Edit
 puts_again m n index_of b f (value.Object a) =
     let e = object_end n a f in

@@ -69,7 +69,7 @@ is_empty_resource r k = is_nil (r.values (contents_end r.metamodel k))
 abbrev pub far_index : Shape → Doc → ObjectNo → FeatureNo → ObjectNo → FeatureNo → ℕ
 far_index a doc o f b g = if is_feature f a.containing then 0 else unwrap_or (position (same_value (value.Object o)) (values_in doc b g)) 0
 
--- the link between index i of feature f, of the document's object o, and the document's object b
+-- the link from the object o, at index i of the feature f, to the object b; o and b are numbered as in the document
 abbrev pub link_to : Metamodel → ℕ → Doc → ObjectNo → FeatureNo → ℕ → ObjectNo → Option FeatureNo → Link
 link_to m n doc o f i b None = record { end = object_end n o f; index = i; far = Alone (loaded_number n b); container = (shape m f).containing }
 link_to m n doc o f i b (Some g) =

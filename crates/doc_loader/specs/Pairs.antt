@@ -14,7 +14,7 @@ if_below g f = if is_below f g then Some f else None
 abbrev pub lower_of : Shape → FeatureNo → Option FeatureNo
 lower_of a g = if is_some a.containing then None else option_and_then (if_below g) a.opposite
 
--- whether a feature is the lower of a pair of which neither is a containment
+-- whether a feature has an opposite with a higher number, and neither of the two is a containment
 abbrev pub is_lower : Shape → FeatureNo → Bool
 is_lower a f = not (is_some a.containing) && option_map_or (is_below f) a.opposite false
 

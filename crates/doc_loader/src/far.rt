@@ -165,7 +165,8 @@ fn push_content(
     push_values(source, object, lower, values, edits)
 }
 
-/// Adds the edits that take an object out of the ends of values and put it there again.
+/// For each object among `values`, adds the edits that take `object` out of that other object's end under `lower` and put it in there
+/// again.
 fn push_values(
     source: &LoadContext,
     object: ObjectNo,
@@ -183,7 +184,7 @@ fn push_values(
     Ok(())
 }
 
-/// Adds the edits that take an object out of the end of a value and put it there again.
+/// If `value` is an object, adds the edits that take `object` out of the end of `value` under `lower` and put it in there again.
 fn push_again(
     source: &LoadContext,
     object: ObjectNo,

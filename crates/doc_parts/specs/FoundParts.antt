@@ -78,7 +78,7 @@ parts_under path name single ds =
 abbrev pub parts_at : Metamodel → Path → Members → FeatureNo → List Part
 parts_at m path ms f = option_map_or (λ d. parts_in m path (new_entry f d)) (content_at m ms f) []
 
--- more parts were found below a part among those that were found before
+-- the part with the number `number` was found before; the parts that `more` gives for its path were found after it
 abbrev pub FindsBelow : Metamodel → FoundParts → FoundParts → ℕ → ℕ → (Path → List Part) → Type 0
 FindsBelow m old new number level more =
     (ps : List Part) (p : Part) → Knows m old ps → number_of ps p.path ≡ Some number → level ≡ suc (level_of p) → Knows m new (ps ++ more p.path)

@@ -9,7 +9,7 @@ use Rattle.doc_parts.specs.declared.found.PartKey.{PartKey}
 use Rattle.doc_parts.specs.declared.found.PartKey.TheVariants.{Root, Under}
 use Rattle.doc_parts.specs.declared.found.Numbers.{Numbers}
 
--- the key of a part: a root's position; or the number of the part above it, and the step from there
+-- the key of a part: for a root, its position; for any other part, the number of the part above it, and the step from that part to it
 pub data Key : Type 0 where
   RootKey : ℕ → Key
   UnderKey : ℕ → List ℕ → Option ℕ → Key

@@ -7,7 +7,8 @@ use mm_types::ClassNo;
 use std::alloc::{AllocError, Global};
 use web_uris::{Path, Step};
 
-/// The key of a part: the position of a root; or the number of the first part of a path, and a step from there.
+/// The key of a part. For a root, the key is the position of the root. For any other part, the key is a step, and the number of the first
+/// part that has the path from which the step leads on.
 #[derive(Clone, Copy, PartialEq, Eq, Hash)]
 pub enum PartKey<'m> {
     Root(u32),
@@ -18,7 +19,7 @@ pub enum PartKey<'m> {
     },
 }
 
-/// A position as a key has it. Takes no memory; fails if it does not fit 32 bits.
+/// A position as a key has it, in 32 bits. Takes no memory; fails if the position does not fit 32 bits.
 pub fn index_of(position: usize) -> Result<u32, AllocError>
     ensures index { IfOk result (λ i. i ≡ position) }
     ensures refused { IfErr result (λ _. 2 ^ 32 ≤ position) }
@@ -35,7 +36,7 @@ pub struct Numbers<'m> {
     numbers: IndexMap<PartKey<'m>, u32>,
 }
 
-/// A part: its JSON value, its class and members if the class is known, its level, and the number of the first part of its path.
+/// A part: its JSON value, its class and members if the class is known, its level, and the number of the first part that has the same path.
 #[derive(Clone, Copy)]
 pub struct FoundPart<'t> {
     pub json: &'t Json<'t>,
@@ -93,7 +94,7 @@ impl<'m> Numbers<'m> {
         self.numbers.get(&key).copied()
     }
 
-    /// The number of the part at a key, which is looked for first at the number that it is likely to have. Takes no memory.
+    /// The number of the part at a key. The number `likely` is tried first. Takes no memory.
     pub fn at_likely(&self, key: PartKey, likely: u32) -> Option<u32>
         ensures { result ≡ number_at self.now (key_of key.entry) }
     {
@@ -141,7 +142,7 @@ impl<'m> Numbers<'m> {
         Ok(had)
     }
 
-    /// The number of the part at a key: `next`, if the key has no number yet.
+    /// The number of the part at a key. A key that has no number yet gets the number `next`.
     pub fn number(&mut self, key: PartKey<'m>, next: u32) -> Result<u32, AllocError>
         ensures { IfOk result (λ n. (ps : List Part) (p : Part) → next ≡ length ps → Finds self.old ps → IsPlaced ps (key_of key.entry) p.path
             → Finds self.new (ps ++ p ∷ []) × (number_of (ps ++ p ∷ []) p.path ≡ Some n)) }
@@ -181,8 +182,8 @@ impl<'t, 'm> FoundParts<'t, 'm> {
         self.numbers.reserve(count)
     }
 
-    /// Adds a part, and returns the number of the first part of its path. Fails if memory is refused, or if there are 2^32 parts already;
-    /// then the parts may not be used any more.
+    /// Adds a part, and returns the number of the first part that has the same path. Fails if memory is refused, or if there are 2^32 parts
+    /// already; then the parts may not be used any more.
     pub fn add(
         &mut self,
         key: PartKey<'m>,

@@ -60,7 +60,8 @@ fn is_in_order(members: Members) -> bool
     members.len() == 2 && is_class(members[0].0) && is_features(members[1].0)
 }
 
-/// The object of the values of its two members.
+/// The class and the features of an object, from the values of its two members. `None` if the class is no text or the features are no JSON
+/// object.
 fn of_two<'t>(class: &'t Json<'t>, features: &'t Json<'t>) -> Option<ObjectMembers<'t>>
     ensures { option_map (λ w. new_written w.class.now (members_view w.features.now)) result ≡ written_by (as_str (view class.now)) (as_object (view features.now)) }
 {

@@ -12,10 +12,10 @@ use Rattle.doc_writer.specs.declared.class_references.ClassReferences.{ClassRefe
 abbrev pub may_refer : Metamodel → FeatureNo → Bool
 may_refer m f = (shape m f).is_reference && (not (is_containment m f) && is_writable m f)
 
--- the features of a class, if there is one, by which its objects may refer to others
+-- the features are made for the class c, if there is one, and are the features of c by which objects may refer to others
 abbrev pub IsReferencesOf : Metamodel → Option ClassNo → ClassReferences → Type 0
 IsReferencesOf m c r = (r.class ≡ c) × (r.features.items ≡ filter (may_refer m) (unwrap_or (option_and_then (lookups.features m) c) []))
 
--- the same for the class for which they were made
+-- the features are right for the class that they were made for, if there is one
 abbrev pub IsReferences : Metamodel → ClassReferences → Type 0
 IsReferences m r = IsReferencesOf m r.class r

@@ -45,7 +45,7 @@ save_refusal r k =
     Dangling where_so list_any (has_dangling r) (objects_in r k) else_by
     TooDeep where_so list_any (is_too_deep r) (objects_in r k)
 
--- a text is read as the document of a resource, if the document is not deeper than JSON that can be read
+-- if the document of a resource is not too deep to be read as JSON, a text is read as that document
 abbrev pub IsReadAs : Reading → ResourceNo → List ℕ → Type 0
 IsReadAs r k text = depth (document r k) ≤ max_depth → read text ≡ Some (document r k)
 

@@ -27,7 +27,7 @@ fn push_referring(
     Ok(())
 }
 
-/// Adds those of some features by which objects may refer to others.
+/// From a list of features, adds those by which objects may refer to others.
 fn push_all_referring(
     meta: &Meta,
     features: &[FeatureNo],
@@ -63,7 +63,7 @@ impl ClassReferences {
         }
     }
 
-    /// Makes it the features of a class, if it was made for a different one. Fails only if memory is refused.
+    /// Replaces the features by those of a class, unless they are the features of this class already. Fails only if memory is refused.
     #[inline(always)]
     pub fn turn_to(&mut self, meta: &Meta, class: Option<ClassNo>) -> Result<(), AllocError>
         requires { IsReferences meta.now self.old }
@@ -75,7 +75,7 @@ impl ClassReferences {
         self.make(meta, class)
     }
 
-    /// Whether it has the features of a class.
+    /// Whether the features are those of a given class.
     #[inline(always)]
     fn is_of(&self, class: Option<ClassNo>) -> bool
         ensures { IsTrue result → self.now.class ≡ class }
@@ -87,7 +87,7 @@ impl ClassReferences {
         }
     }
 
-    /// Makes it the features of a class.
+    /// Replaces the features by those of a class.
     fn make(&mut self, meta: &Meta, class: Option<ClassNo>) -> Result<(), AllocError>
         ensures { OnOk result (IsReferencesOf meta.now class self.new) }
     {

@@ -20,7 +20,7 @@ use links::LinkStore;
 use mm_types::{ObjectNo, ResourceNo, limits};
 use std::alloc::{AllocError, Global};
 
-/// Writes the roots of a resource and all in them. The features of the class of the first root are put in order for all of them.
+/// Writes the roots of a resource and all objects in them. The features of the first root's class are put in order, for use with all roots.
 fn write_roots<L: LinkStore>(
     source: &WriteContext<L>,
     roots: &[ObjectNo],

@@ -84,7 +84,7 @@ fn write_item<L: LinkStore>(
     }
 }
 
-/// The class of the first object that an end contains; if it contains none, the class of an order.
+/// The class of the first object that an end contains. If the end contains no object, the class of `order`.
 fn first_class<L: LinkStore>(
     source: &WriteContext<L>,
     order: &ClassOrder,
@@ -100,7 +100,8 @@ fn first_class<L: LinkStore>(
     }
 }
 
-/// Writes all values of an end. If they are contained objects, the features of the class of the first are put in order for all of them.
+/// Writes all values of an end. If the values are contained objects, the features of the first object's class are put in order, for use
+/// with all of these objects.
 #[cycle(object)]
 fn write_items<L: LinkStore>(
     source: &WriteContext<L>,
@@ -232,7 +233,7 @@ fn write_class<L: LinkStore>(
     write_text(class_name(source.positions.model(), object), out)
 }
 
-/// Writes the features of an object as a member. `order` may be of another class.
+/// Writes the features of an object as a member. The class of `order` may be a different one.
 #[cycle(object)]
 fn write_members<L: LinkStore>(
     source: &WriteContext<L>,

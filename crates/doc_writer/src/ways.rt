@@ -108,7 +108,7 @@ fn note_features<L: LinkStore>(
 }
 
 /// Notes the ways to the objects that an object refers to, up to the first that is in no resource. Returns whether there is such an object.
-/// `by_class` is made for the class of the object, if it was for a different one.
+/// If `by_class` has the features of a different class, they are replaced by those of the object's class.
 fn note_object<L: LinkStore>(
     positions: &mut Positions<L>,
     by_class: &mut ClassReferences,

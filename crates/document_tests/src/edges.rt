@@ -28,7 +28,7 @@ fn with_reference(alloc: Global, bytes: usize) -> Result<String, AllocError> {
     of_roots(alloc, root.as_str())
 }
 
-/// Folders, each in the folder before, with a given number of levels.
+/// A document of nested folders, one at each of `levels` levels.
 fn with_levels(alloc: Global, levels: usize) -> Result<String, AllocError> {
     let mut root = String::new(alloc);
     add_times(
@@ -41,7 +41,7 @@ fn with_levels(alloc: Global, levels: usize) -> Result<String, AllocError> {
     of_roots(alloc, root.as_str())
 }
 
-/// So many folders as roots.
+/// A document with `count` folders as its roots.
 fn with_roots(alloc: Global, count: usize) -> Result<String, AllocError> {
     let mut roots = String::from_str(alloc, r#"{"class":"Folder","features":{}}"#)?;
     add_times(

@@ -109,7 +109,7 @@ fn count(
     }
 }
 
-/// Counts the answers to a text that is cut after each of its bytes but the last, and before the first.
+/// Counts the answers to each beginning of a text: the text is cut before its first byte, and after each byte but the last.
 fn cut(alloc: Global, meta: &Meta, input: &Input) -> Result<Counts, Fail> {
     let mut counts = [0; 13];
     for at in 0..input.text.len() {

@@ -175,7 +175,7 @@ const LITERALS: [(u32, u32, &str); 5] = [
     (1, 0, "PLAY"),
 ];
 
-/// The results of these look-ups: each by the index, and by the name.
+/// The results of these look-ups. Each line has the name that is found by the index, and the index that is found by the name.
 const FOUND: &str = "Some(\"NOVEL\") Some(0)
 Some(\"POEM\") Some(1)
 Some(\"PLAY\") Some(2)

@@ -10,9 +10,9 @@ use Rattle.mm_types.specs.declared.limits.TheConstants.{INPUT_BYTES}
 use Rattle.journal.specs.Journal.{IsBeforeOrAfter, StandsFor}
 use Rattle.durable.specs.Printed.{Printed, Runs, RunsLines, answers, kept_lines}
 
--- The text that was written when a run stopped for a fault: the answers to the first lines; the next lines were run but not answered. A
--- read fails only when all lines that were run are answered. Only a failed write cuts the answers short, and then all lines that were run
--- are on the disk.
+-- The text that was written when a run stopped for a fault. The text has the answers to the first lines; the lines of `next` were run but
+-- not answered. A read fails only when all lines that were run are answered. Only a failed write cuts the answers short; all lines that
+-- were run are on the disk in that case.
 abbrev pub WritesUntil : RunFault → List (List ℕ) → Option (List ℕ) → Option (List ℕ) → List ℕ → Type 0
 WritesUntil Read next old new text = (next ≡ []) × Appends old new text
 WritesUntil Write next old new text = (next ≡ []) × AppendsFront old new text

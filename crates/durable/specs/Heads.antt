@@ -6,7 +6,7 @@ use Rattle.journal.specs.Lines.{recovered_lines}
 use Rattle.durable.specs.declared.opening.JournalFault.{JournalFault}
 use Rattle.durable.specs.declared.opening.JournalFault.TheVariants as refused
 
--- the lines of a journal that is begun: only the head, if there was no line
+-- the lines of a journal after it is begun: the head alone if the file had no line, else the lines that the file had
 abbrev pub begun_lines : List ℕ → List (List ℕ) → List (List ℕ)
 begun_lines head [] = head ∷ []
 begun_lines head (l ∷ ls) = l ∷ ls
@@ -16,7 +16,7 @@ abbrev pub FindsLines : Option (Bor (List ℕ)) → List ℕ → List ℕ → Ty
 FindsLines None bytes head = recovered_lines bytes ≡ []
 FindsLines (Some rest) bytes head = recovered_lines bytes ≡ head ∷ recovered_lines rest.now
 
--- a file stands for these lines, or for the lines of the journal that is begun
+-- the lines that are recovered from a file are ls, or the lines of the journal that is begun with ls
 abbrev pub IsBegunOrNot : List ℕ → List (List ℕ) → List ℕ → Type 0
 IsBegunOrNot head ls file = StandsFor ls file ⊎ StandsFor (begun_lines head ls) file
 

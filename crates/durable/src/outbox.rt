@@ -11,7 +11,7 @@ use script_streams::{RunFault, Waits, write_all};
 use std::alloc::Global;
 use std::io::Write;
 
-/// As soon as this many bytes of answers are held back, they are given.
+/// If at least this many bytes of answers are held back, `settle_if_full` writes the answers.
 const HELD_BYTES: usize = 1 << 16;
 
 /// A journal, answers that are held back, and the writer for them.
@@ -109,7 +109,7 @@ impl<D: Disk, W: Write> Outbox<D, W> {
         Ok(())
     }
 
-    /// Settles if many bytes of answers are held back.
+    /// Calls `settle` if at least `HELD_BYTES` bytes of answers are held back.
     pub(crate) fn settle_if_full(&mut self) -> Result<(), RunFault>
         requires { IsAtRest D.seen D.may_leave self.old }
         ensures ok { OnOk result ((self.new ≡ self.old) ⊎ Gives W.contents D.seen D.may_leave self.old self.new) }

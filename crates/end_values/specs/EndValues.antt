@@ -23,7 +23,7 @@ abbrev pub CanHave : Bool → Value → Type 0
 CanHave mixed (value.Object o) = Unit {0}
 CanHave mixed v = mixed ≡ true
 
--- whether there is a value w, and v is w
+-- whether the optional value is present and is the same as v
 abbrev pub is_value : Value → Option Value → Bool
 is_value v None = false
 is_value v (Some w) = same_value v w

@@ -18,8 +18,8 @@ use std::alloc::{AllocError, Global};
 use std::marker::Model;
 use std::mem;
 
-/// The layout of the values of an end in memory. Most ends have only objects: four bytes each. A long list that a removal found in no order
-/// is `Shuffled` until there is memory for labels.
+/// The layout of the values of an end in memory. Most ends have only objects: four bytes each. If a removal finds that the objects of a
+/// long list are in no order, the list is `Shuffled` until there is memory for labels.
 #[derive(Drop)]
 enum Layout {
     Objects(ShortList<ObjectNo>),
@@ -135,8 +135,8 @@ impl EndValueList {
         }
     }
 
-    /// A guess at the index of a value. It is right if the numbers of the objects rise or fall along the list, or if the list has labels
-    /// that do. Otherwise any index.
+    /// A guess at the index of a value. The guess is right if the numbers of the objects rise or fall along the list, or if the list has
+    /// labels that rise or fall along it. Otherwise the guess may be any index.
     pub fn guess(&self, value: &Value) -> usize {
         match (&self.layout, value) {
             (Layout::Objects(list) | Layout::Shuffled(list), Value::Object(object)) => {
@@ -148,12 +148,12 @@ impl EndValueList {
         }
     }
 
-    /// Whether a removal found the list in no order, and it has no labels yet.
+    /// Whether a removal found that the objects of the list are in no order, and the list has no labels yet.
     pub fn needs_labels(&self) -> bool {
         matches!(self.layout, Layout::Shuffled(_))
     }
 
-    /// Makes it a list that may have other values than objects. Fails only if memory is refused, and then nothing has changed.
+    /// Turns the list into one that may have other values than objects. Fails only if memory is refused, and then nothing has changed.
     pub fn mix(&mut self, alloc: Global) -> Result<(), AllocError>
         ensures items { self.new.items ≡ self.old.items }
         ensures spare { self.old.spare ≤ self.new.spare }
@@ -196,7 +196,7 @@ impl EndValueList {
         }
     }
 
-    /// Gives the objects labels, if a removal found them in no order and there is memory.
+    /// Gives the objects labels, if a removal found that they are in no order, and if there is memory for the labels.
     #[cold]
     fn label(&mut self, alloc: Global)
         ensures items { self.new.items ≡ self.old.items }
@@ -210,7 +210,7 @@ impl EndValueList {
         }
     }
 
-    /// Inserts a value before the value at an index, or at the end, for which there is capacity. Takes no memory. A value that is no object
+    /// Inserts a value, for which there is capacity, before the value at an index or at the end. Takes no memory. A value that is no object
     /// is inserted only after `mix`.
     #[tactic(auto, using(crate::proofs::EndValueLemmas::length_objects))]
     #[inline(always)]
@@ -247,7 +247,7 @@ impl EndValueList {
         }
     }
 
-    /// Looks at some removals whether the object at the index is guessed right. If it is not, the list is to get labels.
+    /// At some removals, checks whether the guess for the object at the index is right. If the guess is wrong, the list is to get labels.
     fn try_guess(&mut self, index: usize)
         ensures { self.new ≡ self.old }
     {
@@ -324,7 +324,7 @@ fn is_number(there: Option<&ObjectNo>, object: ObjectNo) -> bool
     }
 }
 
-/// Inserts an object before the value at an index, or at the end, for which there is capacity.
+/// Inserts an object before the value at an index or at the end. The list has capacity for the object.
 #[tactic(auto, using(crate::proofs::EndValueLemmas::insert_objects))]
 fn insert_object(list: &mut ShortList<ObjectNo>, index: usize, value: Value)
     requires room { 0 < list.old.spare }
@@ -339,7 +339,7 @@ fn insert_object(list: &mut ShortList<ObjectNo>, index: usize, value: Value)
     }
 }
 
-/// As `insert_object`, into a list that is to get labels.
+/// Inserts an object into a list that is to get labels, before the value at an index or at the end. The list has capacity for the object.
 #[cold]
 fn insert_shuffled(list: &mut ShortList<ObjectNo>, index: usize, value: Value)
     requires room { 0 < list.old.spare }
@@ -351,7 +351,7 @@ fn insert_shuffled(list: &mut ShortList<ObjectNo>, index: usize, value: Value)
     insert_object(list, index, value);
 }
 
-/// As `insert_object`, into a list with labels.
+/// Inserts an object into a list with labels, before the value at an index or at the end. The list has capacity for the object.
 #[cold]
 #[tactic(auto, using(crate::proofs::EndValueLemmas::insert_objects))]
 fn insert_labelled(list: &mut LabelledObjects, index: usize, value: Value)

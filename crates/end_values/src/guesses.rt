@@ -16,7 +16,7 @@ fn rank_of(object: Option<&ObjectNo>) -> Option<u64> {
     object.map(|object| u64::from(object.0))
 }
 
-/// Whether the object at an index is not at the index at which it would be guessed.
+/// Whether the guess for the object at an index is a different index.
 #[cold]
 pub(crate) fn is_out_of_order(list: &ShortList<ObjectNo>, index: usize) -> bool {
     match list.get(index) {

@@ -102,8 +102,8 @@ impl LabelledObjects {
         }
     }
 
-    /// A label between that of the object before an index and that of the object at `next`. If there is no such object, the label is before
-    /// or after all others.
+    /// A label between the label of the object before `index` and the label of the object at `next`. If one of the two objects is missing,
+    /// the label is before or after all other labels.
     fn label_amid(&self, index: usize, next: usize) -> u64 {
         if next >= self.list.len() {
             return self.ends.after();
@@ -140,7 +140,7 @@ impl LabelledObjects {
         Ok(())
     }
 
-    /// Inserts an object before the object at an index, or at the end, for which there is capacity. Takes no memory.
+    /// Inserts an object, for which there is capacity, before the object at an index or at the end. Takes no memory.
     #[cold]
     pub fn insert(&mut self, index: usize, object: ObjectNo)
         requires room { 0 < self.old.spare }

@@ -88,7 +88,7 @@ impl MixedList {
         self.values.reserve(additional)
     }
 
-    /// Inserts a value before the value at an index, or at the end, for which there is capacity. Takes no memory.
+    /// Inserts a value, for which there is capacity, before the value at an index or at the end. Takes no memory.
     pub fn insert(&mut self, index: usize, value: Value)
         requires room { 0 < self.old.spare }
         requires in_range { index ≤ length self.old.items }

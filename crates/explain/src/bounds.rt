@@ -25,7 +25,7 @@ pub(crate) fn explain_bounds(
     )
 }
 
-/// Says which literals a default may have, for a type that is no enumeration.
+/// Says how a default may be written, for a type that is no enumeration.
 fn literals_of(type_name: &str) -> &'static str {
     match type_name {
         "EBoolean" => "true or false",

@@ -21,11 +21,11 @@ pub enum Sort {
 
 /// A key of an object.
 pub struct Field {
-    /// Its name.
+    /// The name of the key.
     pub key: &'static str,
-    /// How its value is written.
+    /// How the value of the key is written.
     pub sort: Sort,
-    /// Whether it may not be absent.
+    /// Whether an object must have the key.
     pub is_required: bool,
 }
 
@@ -235,7 +235,7 @@ pub(crate) const ADVICE: [Hint; 3] = [
     ),
 ];
 
-/// The entry of a table for a word.
+/// The text that a table has for a given word.
 pub(crate) fn advice_in(table: &[Hint], word: &str) -> Option<&'static str> {
     for field in table {
         if field.0 == word {

@@ -4,7 +4,8 @@ use mm_types::{Place, RawMeta};
 use std::alloc::{AllocError, Global};
 use std::fmt;
 
-/// A class that was reached through supertypes, and the class from which it was reached, by its position among the reached classes.
+/// A class that was reached through supertypes, and the class from which it was reached: `before` is the position of that class among the
+/// reached classes.
 #[derive(Drop)]
 struct Reached {
     class: usize,
@@ -71,7 +72,7 @@ fn add_features(places: &mut Vec<Place>, class: usize, count: usize) -> Result<(
     Ok(())
 }
 
-/// The classes on a way, from the last to the first, in words for a reader.
+/// The classes on a path of supertypes, in words for a reader: from the last class to the first.
 #[derive(Drop)]
 struct Way<'m> {
     raw: &'m RawMeta,

@@ -10,7 +10,7 @@ use crate::values::explain_value;
 use serde_json::{Map, Value};
 use std::alloc::{AllocError, Global};
 
-/// How many bytes of an explanation are enough. When it has as many, no further object is looked at.
+/// If an explanation has more than this many bytes, no further object is looked at.
 const ENOUGH: usize = 4096;
 
 /// The names of the keys that are listed.

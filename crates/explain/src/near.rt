@@ -8,8 +8,8 @@ const LONGEST: usize = 64;
 /// The greatest number of edits between a word and a near word.
 const MOST_EDITS: usize = 2;
 
-/// Of some words the nearest to a given word: the word that takes the fewest edits, at most two and fewer than the given word has letters.
-/// Fails only if memory is refused.
+/// The word of a list that takes the fewest edits from a given word: at most two edits, and fewer than the found word has bytes. Fails only
+/// if memory is refused.
 pub fn nearest<'a>(
     alloc: Global,
     word: &str,
@@ -30,7 +30,7 @@ pub fn nearest<'a>(
     Ok(found)
 }
 
-/// Whether a word is one of some.
+/// Whether a list of words has a given word.
 pub(crate) fn is_among(words: &[&str], word: &str) -> bool {
     for other in words {
         if *other == word {

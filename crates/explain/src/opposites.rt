@@ -48,7 +48,7 @@ fn wrong_with<'m>(at: Named<'_>, feature: &RawFeature, other: &'m RawFeature) ->
     Wrong::IsItself
 }
 
-/// Whether a class inherits from another one, both by their names.
+/// Whether a class inherits from another class. Both classes are given by their names.
 fn inherits(alloc: Global, raw: &RawMeta, name: &str, from: &str) -> Result<bool, AllocError> {
     let (Some(class), Some(other)) = (class_named(raw, name), class_named(raw, from)) else {
         return Ok(false);
@@ -104,7 +104,7 @@ fn is_reference(feature: &RawFeature) -> bool {
     matches!(feature.kind, RawKind::Reference { .. })
 }
 
-/// Whether a reference of a name is at a place.
+/// Whether the feature at a place is a reference with a given name.
 fn is_reference_at(raw: &RawMeta, place: Place, name: &str) -> bool {
     match feature_at(raw, place) {
         Some(feature) => is_reference(feature) && feature.name.as_str() == name,
@@ -112,7 +112,8 @@ fn is_reference_at(raw: &RawMeta, place: Place, name: &str) -> bool {
     }
 }
 
-/// The class from which the type of a reference inherits another reference of a name.
+/// The name of the class that declares a reference with a given name: the type of another reference, or a class from which that type
+/// inherits.
 fn declaring<'m>(
     alloc: Global,
     raw: &'m RawMeta,

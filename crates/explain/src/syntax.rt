@@ -17,7 +17,7 @@ pub(crate) enum NoJson<'b> {
     ByteOrderMark,
     /// The first byte from there on is not UTF-8.
     NotUtf8,
-    /// They are no JSON; this text begins at the place.
+    /// The bytes from the place on are no JSON; they begin with this text.
     Shown(&'b str),
 }
 

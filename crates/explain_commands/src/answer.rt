@@ -67,7 +67,7 @@ const REFUSALS: [Refused; 27] = [
     Refused::Unmatched,
 ];
 
-/// The cause of a name.
+/// The cause that has this name.
 fn cause_named(name: &str) -> Option<DocFault> {
     for cause in CAUSES.iter() {
         if cause.name() == name {
@@ -77,7 +77,7 @@ fn cause_named(name: &str) -> Option<DocFault> {
     None
 }
 
-/// The refusal of a name.
+/// The refusal that has this name.
 fn refusal_named(name: &str) -> Option<Refused> {
     for refused in REFUSALS.iter() {
         if refused.name() == name {

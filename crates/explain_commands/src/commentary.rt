@@ -17,7 +17,7 @@ use web_uris::{UriFault, joined};
 pub struct Talk {
     /// Whether each bad line and each refusal is explained.
     pub explains: bool,
-    /// Whether a person types. Then a line says what to type instead of `help`, `quit` and `exit`.
+    /// Whether a person types the lines. If so, a comment says what to type instead of `help`, `quit` and `exit`.
     pub guides: bool,
 }
 

@@ -50,7 +50,7 @@ fn values_called(alloc: Global, len: u32) -> Result<String, AllocError> {
 }
 
 impl<L: LinkStore, A: Adapter> Scene<'_, L, A> {
-    /// Explains an index of a single feature; only a proxy has one there.
+    /// Explains an index that a line gives for a single feature. At a single feature, only a proxy has an index.
     fn explain_single(&self, out: &mut String, form: &Form<'_>, called: &str) -> Written {
         let prefix = self.prefix;
         match resolved_index(form) {

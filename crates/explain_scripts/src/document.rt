@@ -131,7 +131,8 @@ fn explain_json(
     }
 }
 
-/// Adds a line for each fault in a document that belongs to the cause with which it is refused. Fails only if memory is refused.
+/// A document is refused with a cause. Adds a line for each fault of the document that belongs to this cause. Fails only if memory is
+/// refused.
 pub fn explain_document(
     alloc: Global,
     out: &mut String,

@@ -37,7 +37,7 @@ pub(crate) static FORMS: [&str; 28] = [
 /// A word of a form that stands for other words.
 pub(crate) struct Sort {
     name: &'static str,
-    /// The beginning of a line that becomes a line of the language with a word of this kind.
+    /// The beginning of a line. With a word of this kind after it, the line fits a form of the language.
     before: &'static str,
     /// What a word of this kind is, in words for a reader.
     pub(crate) wanted: &'static str,
@@ -119,7 +119,7 @@ pub(crate) fn count_of(form: &str) -> usize {
     form.split(' ').count()
 }
 
-/// The form of a verb that has `count` words, or else the first form of the verb.
+/// The form with this verb and `count` words; or else the first form with this verb.
 pub(crate) fn form_of(verb: &str, count: usize) -> Option<&'static str> {
     let mut found = None;
     for form in FORMS.iter() {

@@ -7,13 +7,13 @@ use web_uris::{UriFault, address_of, joined, parse, split_address};
 /// What the text of a reference leads to.
 #[derive(Drop)]
 pub(crate) enum Led {
-    /// It is no fragment, and no URI with a fragment.
+    /// The text is neither a fragment nor a URI with a fragment.
     Bad,
-    /// No object of the document.
+    /// The text leads into the document, but to no object.
     Nowhere,
-    /// The part of a number.
+    /// The text leads to the part that has this number.
     Here(usize),
-    /// Another resource: the address there, with the whole URI.
+    /// The text leads to another resource, at this address with the whole URI.
     Elsewhere(String),
 }
 
@@ -32,8 +32,8 @@ pub(crate) fn fragments_of<'p>(
     Ok(fragments)
 }
 
-/// The target of an address, given as the text before its `#` and the fragment after it, if it is no object of the
-/// document itself.
+/// The target of an address, if the address does not lead into the document itself. The address is given as the text before its `#` and the
+/// fragment after it.
 fn led_elsewhere(
     alloc: Global,
     uri: &str,

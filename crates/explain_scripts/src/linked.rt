@@ -147,7 +147,7 @@ fn explain_class(
     )
 }
 
-/// Explains lost references.
+/// Explains references that lead nowhere, or to an object of a wrong class.
 pub(crate) fn explain_references(
     out: &mut String,
     meta: &Meta,

@@ -39,8 +39,9 @@ fn unique_values<'v>(meta: &Meta, entry: &Entry<'v>) -> &'v [Value] {
     }
 }
 
-/// A link with its target: the part and the feature that have the link; then the number of the target part plus one, or 0 and the target's
-/// address.
+/// A link with its target. The first two numbers are the part and the feature that have the link. If the target is a part of the document,
+/// the third number is the part's number plus one, and the text is empty. Else the third number is 0, and the text is the address of the
+/// target.
 type LinkKey<'l> = (usize, u32, usize, &'l str);
 
 fn target_of<'l>(link: &'l Link<'_>) -> Option<LinkKey<'l>> {

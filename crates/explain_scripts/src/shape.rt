@@ -151,7 +151,7 @@ fn explain_names_in(
     }
 }
 
-/// Explains the names in a document that it may not have at their places.
+/// Explains each name in a document that is not allowed at its place.
 pub(crate) fn explain_names(
     alloc: Global,
     out: &mut String,

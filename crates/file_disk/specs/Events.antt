@@ -63,7 +63,7 @@ abbrev pub MayLeave : List Event → List ℕ → Type 0
 MayLeave [] c = c ≡ []
 MayLeave (e ∷ es) c = left_after e (file_bytes es) (MayLeave es) c
 
--- a crash could have left a file of these bytes, at some moment at which there had been t events or more
+-- at some moment after t or more events, a crash could have left a file of these bytes
 abbrev pub LeftSince : List Event → ℕ → List ℕ → Type 0
 LeftSince [] t c = (t ≤ 0) × MayLeave [] c
 LeftSince (e ∷ es) t c = ((t ≤ length (e ∷ es)) × MayLeave (e ∷ es) c) ⊎ LeftSince es t c

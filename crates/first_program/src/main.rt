@@ -139,7 +139,8 @@ fn metamodel(alloc: Global) -> Result<Meta, MetaFault> {
     check_document(alloc, LIBRARY.as_bytes())
 }
 
-/// Loads what is saved of a repository into another one, and prints how many objects its only resource directly contains.
+/// Loads the saved documents of one repository into a second one, and prints how many objects the only resource of the second one contains
+/// directly.
 fn load_second<L: LinkStore, W: Write>(
     writer: &mut W,
     first: &Repository<L, Tally>,

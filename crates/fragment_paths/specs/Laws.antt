@@ -34,7 +34,8 @@ FindsEach r = (o : ObjectNo) (k : ResourceNo) → resource_of r.above o ≡ Some
 abbrev pub HaveSameParts : Metamodel → ValuesState → ValuesState → Links → Links → Type 0
 HaveSameParts m v w a b = (n : Node) (f : FeatureNo) → is_containment m f ≡ true → values_at (model_of m w b) (at_end n f) ≡ values_at (model_of m v a) (at_end n f)
 
--- the nodes above each node are the same in both models, and so is the fragment of each object; if the URIs are the same, so is its address
+-- in both models, each node has the same nodes above it, and each object has the same fragment; if both models have the same URIs, each
+-- object has the same address too
 pub record LeavesAddresses (m : Metamodel) (v w : ValuesState) (a b : Links) : Type 0 where
   pub above : (n : Node) → above b n ≡ above a n
   pub fragment : (o : ObjectNo) → fragments.fragment (reading (model_of m w b)) o ≡ fragments.fragment (reading (model_of m v a)) o

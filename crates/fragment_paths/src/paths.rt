@@ -47,7 +47,7 @@ fn step_into<L: LinkStore>(
     Ok(Step { name, index })
 }
 
-/// The path to a root and from there by steps, which are given from the last to the first.
+/// The path that leads to a root, and from the root on by `steps`. The steps are given in reverse order.
 fn path_by<L: LinkStore>(
     positions: &Positions<L>,
     end: End,

@@ -23,7 +23,7 @@ pub(crate) struct EndPosition {
 }
 
 impl EndPosition {
-    /// Whether it is a position at an end.
+    /// Whether the position is at a given end.
     fn is_at(&self, end: End) -> bool
         ensures { result ≡ same_end self.now.end end }
     {
@@ -31,7 +31,7 @@ impl EndPosition {
     }
 }
 
-/// A model, and the positions of some of its objects in the ends that hold them. It is seen as the model.
+/// A model, and the positions of some of its objects in the ends that hold them. Contracts see it as the model.
 ///
 /// If the position of an object is not known, its end is searched, one value after another. So a caller that writes many fragments first
 /// notes the ways to their objects. Then each end on these ways is gone through once, however many fragments lead through it.
@@ -139,8 +139,9 @@ impl<'m, 'a, L: LinkStore> Positions<'m, 'a, L> {
         Ok(())
     }
 
-    /// Notes the positions of an object, of the objects above it, and of all other objects in their ends. If the object is known, the
-    /// others are known too, and this takes no time. Fails only if memory is refused; the model is the same in any case.
+    /// Notes the positions of an object, of the objects above it, and of all other objects in the ends that hold these objects. If the
+    /// position of the object is known, the other positions are known too, and the call takes no time. Fails only if memory is refused; the
+    /// model is the same in any case.
     pub fn note_way(&mut self, object: ObjectNo) -> Result<(), AllocError>
         ensures { self.new ≡ self.old }
     {

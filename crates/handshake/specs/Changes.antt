@@ -34,7 +34,7 @@ pub record IsRemovalOf (r : Reading) (c : Change) (q : Option Removal) : Type 0 
   pub whose : option_map (λ (x : Removal). x.object) q ≡ destroyed_by c
   pub found : IfSome q (IsRemoval r)
 
--- whether a change edits only values, or only links: it makes an object, or does an act at an end and resolves no proxy
+-- whether a change edits only values or edits only links: such a change makes an object, or is an act at an end that resolves no proxy
 abbrev pub edits_one_kind : Change → Bool
 edits_one_kind (Create c) = true
 edits_one_kind (At e a) = not (resolves_one (At e a))

@@ -22,7 +22,7 @@ use Rattle.proxies.specs.Resolving.{opposite_end, target_at}
 use Rattle.handshake.specs.declared.change.Change.TheVariants.{At, Delete}
 use Rattle.handshake.specs.declared.act.Act.TheVariants.{Set, Unset, Add, Remove, RemoveValue, Resolve}
 
--- the same link, named by its other end, if it has one
+-- the link of a value in an end of the node n, named by the other end of the link; none if the link has no other end
 abbrev pub other_side : Node → Value → Option FeatureNo → Option LinkEnd
 other_side n (value.Object o) (Some g) = Some (link_end (far_end o g) (node_value n))
 other_side n _ _ = None
@@ -60,7 +60,7 @@ holding_link_end r n = option_map (λ d. link_end d (node_value n)) (r.holder n)
 abbrev pub with_link_end : Reading → List LinkEnd → LinkEnd → List LinkEnd
 with_link_end r ts t = if list_any (same_link r t) ts then ts else ts ++ t ∷ []
 
--- each link once, by the first name that the list has for it
+-- the list ts with each link once: if it has several names of one link, only the first name stays
 abbrev pub each_link_once : Reading → List LinkEnd → List LinkEnd
 each_link_once r ts = fold (with_link_end r) [] ts
 
@@ -126,7 +126,7 @@ taken_index r e (Remove i) = Some i
 taken_index r e (RemoveValue v) = first_at r e v
 taken_index r e _ = None
 
--- the links that a change cuts, in order. When all proxies are resolved, the edits of each proxy cut its link
+-- the links that a change cuts, in order; none for a resolve of all proxies, in which the edits of each proxy cut its link
 abbrev pub cut_link_ends : Reading → Change → List LinkEnd
 cut_link_ends r (At e (Set v)) = if is_plain_set r e v then [] else cut_by_set r e v
 cut_link_ends r (At e Unset) = if (shape_at r e).is_reference then link_ends_backwards e (r.values e) else []

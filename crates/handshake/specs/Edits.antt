@@ -35,7 +35,7 @@ made_edit r (At e (Add v i)) = if is_plain_add r e v then None else new_put r e 
 made_edit r (At e (Move to from)) = if (shape_at r e).is_reference then Some (Shift e to from) else None
 made_edit r _ = None
 
--- the edit that moves a new link, at the opposite end, from the last index to the index of the proxy that it replaces
+-- an edit at the opposite end: it moves the new link from the last index there to the index of the proxy that the link replaces
 abbrev pub back_edit : Reading → Counterpart → Edit
 back_edit r c = Shift c.end c.index (length (r.values c.end) - 1)
 

@@ -86,7 +86,7 @@ abbrev pub with_value : Links → Reading → End → Option ℕ → Value → L
 with_value s r e i (value.Object o) = put s e (unwrap_or i (length (end s e))) o (shape_at r e).opposite (shape_at r e).containing
 with_value s r e i v = s
 
--- a new link, which is the last value of the counterpart's end and has the index n there, moves to the index of the counterpart
+-- moves a new link within the counterpart's end: from the index n, which is the last one, to the index of the counterpart
 abbrev pub put_back : Links → ℕ → Counterpart → Links
 put_back s n c = shift s c.end c.index n
 
@@ -96,13 +96,13 @@ links_after_join s r e i x =
     let t = with_value s r e (Some i) (value.Object x.object) in
     option_map_or (λ c. put_back t (length (end s c.end)) c) x.counterpart t
 
--- the links after one proxy is resolved, while all are resolved
+-- the links after one proxy is resolved, as one step of a resolve of all proxies
 abbrev pub with_resolution : Links → Resolution → Links
 with_resolution s x =
     let e = end_of x.site in
     links_after_join (without_link_ends s (link_ends_joined x.reads e x.site.index x.target)) x.reads e x.site.index x.target
 
--- the links after a change made its link, or moved a value
+-- the links after a change made its links or moved a value in a list; s has the links after its cuts
 abbrev pub put_by : Links → Reading → Change → Links
 put_by s r (At e (Set v)) = if is_plain_set r e v then s else with_value s r e None v
 put_by s r (At e (Add v i)) = if is_plain_add r e v then s else with_value s r e i v

@@ -1,5 +1,5 @@
--- What happens to ends, without positions; and the notifications that report it. Each notification is read in the ends as the notifications
--- before it left them.
+-- Changes of ends, described without positions, and the notifications that report these changes. Each notification is read in the ends as
+-- the earlier notifications left them.
 use Rattle.std.specs.Prelude.{ℤ, pos, Bool, false, List, [], ◌∷◌, ◌++◌, length, Some, if◌then◌else◌}
 use Rattle.mm_types.specs.Resolved.{Metamodel}
 use Rattle.mm_types.specs.Same.{same_value}

@@ -65,8 +65,9 @@ all_lost e (suc n) = feature_change e (LosesAt n) ∷ all_lost e n
 
 ---------------------------------------------------------------- changes
 
--- the feature changes before the end itself gains a value; ts are the links that are cut. If an object is gained, they are the losses of
--- the displaced links and the gain of the far end; if the end becomes null, the losses at the far ends
+-- the feature changes that come before the end itself gains a value; ts are the links that are cut. If the end gains an object, these
+-- changes are the losses of the displaced links and then the gain of the far end; if the end becomes null, they are the losses at the far
+-- ends
 abbrev pub before_gain : Reading → End → Value → List LinkEnd → List FeatureChange
 before_gain r e (value.Object o) ts = flat_map (other_losses r e o) ts ++ far_gain r e o
 before_gain r e v ts = far_losses r ts

@@ -64,8 +64,8 @@ is_object_from n (node.Resource k) = false
 abbrev pub comes_with : Reading → Change → Node → Bool
 comes_with r c n = is_some (loaded_by c) && is_object_from r.next n
 
--- the chain of a change, replayed at an end, gives the values of the end after the change. Excepted are the ends of nodes that it destroys,
--- or that a load makes
+-- if the chain of a change is replayed, each end gets the values that it has after the change, except the ends of nodes that the change
+-- destroys or that a load makes
 abbrev pub ChainReplays : Model → Change → Type 0
 ChainReplays = OfAllowed (λ s c. HasReadDocument s.metamodel c → (d : End) → goes_with (reading s) c d.node ≡ false → comes_with (reading s) c d.node ≡ false → ends_after_notices (has_flag s.metamodel) (held_at (reading s)) (chain (reading s) c) d ≡ held_at (reading (model_after s c)) d)
 
@@ -79,7 +79,7 @@ abbrev pub AreApart : List FeatureChange → Type 0
 AreApart [] = Unit {0}
 AreApart (t ∷ ts) = AllByRecursion (λ (u : FeatureChange). t.at ≡ u.at → ⊥) ts × AreApart ts
 
--- a change gives no end two notifications. Excepted are an unset of a list, a deletion, a resolve of all proxies, and a load
+-- a change gives no end two notifications, unless the change is an unset of a list, a deletion, a resolve of all proxies, or a load
 abbrev pub TellsNoEndTwice : Model → Change → Type 0
 TellsNoEndTwice = OfAllowed (λ s c. IsFalse (takes_many (reading s) c) → AreApart (feature_changes (reading s) c))
 
@@ -91,13 +91,13 @@ is_of_single m t = (shape m t.at.feature).is_single
 abbrev pub TellsNoSingleEndTwice : Model → Change → Type 0
 TellsNoSingleEndTwice = OfAllowed (λ s c. AreApart (filter (is_of_single s.metamodel) (feature_changes (reading s) c)))
 
--- if a list is unset, no far end has two notifications, and none of them is the list
+-- if a list is unset, no far end of its links has two notifications, and no far end is the list itself
 abbrev pub FarEndsAreApart : Model → End → Type 0
 FarEndsAreApart s e =
     let far = far_losses (reading s) (cut_link_ends (reading s) (At e Unset)) in
     OfAllowed (λ s c. AreApart (far ++ feature_change e Unsets ∷ [])) s (At e Unset)
 
--- no two of the names are of one link
+-- no two names of the list name the same link
 abbrev pub AreDifferent : Reading → List LinkEnd → Type 0
 AreDifferent r [] = Unit {0}
 AreDifferent r (t ∷ ts) = AllByRecursion (λ (u : LinkEnd). same_link r u t ≡ false) ts × AreDifferent r ts

@@ -1,5 +1,5 @@
--- Why a change is refused: something that it names is not there, or a value's type or length, an index, a repeated value, a full end, a
--- cycle of containment or a limit forbids it. The repository looks for the refusals that come after these.
+-- Why a change is refused: something that the change names is not there; or the change is forbidden by the type or the length of a value,
+-- an index, a repeated value, a full end, a cycle of containment, or a limit. All later refusals are found by the repository.
 use Rattle.std.specs.Prelude.{ℕ, ◌+◌, ◌&&◌, ◌||◌, Bool, false, not, List, length, nat_le, nat_lt, Option, None, Some, is_some, if◌then◌else◌}
 use Rattle.std.specs.Option.{option_map_or}
 use Rattle.mm_types.specs.Conditions.{◌unless◌, ◌where_so◌, ◌else_by◌}
@@ -55,7 +55,7 @@ is_full_at r e = is_full_list (shape_at r e) (count_at r e)
 abbrev pub is_at_limit : Reading → End → Bool
 is_at_limit r e = nat_le LIST_VALUES (count_at r e)
 
--- whether `holds` is true of an end, or of the opposite end of a new link
+-- whether `holds` is true of the end e, or of the opposite end that a new link from e to the object o has
 abbrev pub of_either : (End → Bool) → Reading → End → ObjectNo → Bool
 of_either holds r e o = holds e || option_map_or holds (opposite_end r e o) false
 
@@ -95,7 +95,7 @@ load_refusal r k doc =
     Limit unless nat_le (r.next + length doc.objects) OBJECTS else_by
     NotEmpty unless is_empty_resource r k
 
--- a set needs a single feature; and `many_refusal`: an edit of a list needs a many-valued feature
+-- why a feature refuses a set: the feature is not single; and `many_refusal`, why it refuses an edit of a list: the feature is single
 abbrev pub single_refusal : Metamodel → FeatureNo → Option Refused
 single_refusal m f = NotSingle unless (shape m f).is_single
 
@@ -120,7 +120,7 @@ value_of _ = None
 abbrev pub named_refusal : Reading → End → Act → Option Refused
 named_refusal r e a = option_map_or (value_refusal r e) (value_of a) (end_refusal r e)
 
--- why a value can't be added to a list, or removed from it, as far as that is known early
+-- why a value that is to be added to a list, or removed from it, is refused before the change is planned
 abbrev pub list_refusal : Reading → End → Value → Option Refused
 list_refusal r e v = value_refusal r e v else_by many_refusal r.metamodel e.feature
 

@@ -46,7 +46,7 @@ fn push_notice<L: LinkStore>(
     Ok(())
 }
 
-/// The notifications of the losses with an object and all objects below it.
+/// The notifications of what ends of other nodes lose when an object and all objects below it are destroyed.
 pub fn lost_notices<L: LinkStore>(
     alloc: Global,
     model: &ModelRef<L>,
@@ -186,7 +186,7 @@ fn resolved<L: LinkStore>(
     })
 }
 
-/// A gain: SET at a single end, with the old value; else ADD after the last value.
+/// The report of a gain: SET at a single end, with the old value; else ADD after the last value.
 fn gain<L: LinkStore>(
     alloc: Global,
     model: &ModelRef<L>,
@@ -211,7 +211,7 @@ fn gain<L: LinkStore>(
     })
 }
 
-/// A loss: SET to null at a single end, else REMOVE at the position of the value.
+/// The report of a loss: SET to null at a single end, else REMOVE at the position of the value.
 fn loss<L: LinkStore>(model: &ModelRef<L>, at: End, value: Value) -> Report
     ensures { report_notice (reading model.now) at result ≡ notice_at (reading model.now) (feature_change at (Loses value)) }
 {
@@ -242,7 +242,7 @@ fn index_of<L: LinkStore>(model: &ModelRef<L>, at: End, value: &Value) -> u32
     }
 }
 
-/// UNSET, from the value of a single end to its default.
+/// The report of an UNSET: the old value is the value of a single end, and the new value is the default.
 fn unset<L: LinkStore>(alloc: Global, model: &ModelRef<L>, at: End) -> Result<Report, AllocError>
     ensures { IfOk result (λ p. report_notice (reading model.now) at p ≡ notice_at (reading model.now) (feature_change at Unsets)) }
 {

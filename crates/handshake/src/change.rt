@@ -27,7 +27,8 @@ pub enum Change {
 impl Change {
     ghost use Rattle.handshake.specs.Changes.{edits_links_alone, edits_one_kind, edits_values_alone, is_at_reference};
 
-    /// Whether it edits only values, or only links: it makes an object, or does an act at an end and resolves no proxy.
+    /// Whether the change edits only values, or only links. It does so if it makes an object, or if it does an act at an end, other than an
+    /// act that resolves a proxy.
     fn edits_one_kind(&self) -> bool
         ensures { result ≡ edits_one_kind self.now }
     {
@@ -39,7 +40,7 @@ impl Change {
         }
     }
 
-    /// Whether it is at an end of a reference.
+    /// Whether the change does something at an end of a reference.
     fn is_at_reference(&self, meta: &Meta) -> bool
         ensures { result ≡ is_at_reference meta.now self.now }
     {
@@ -49,14 +50,14 @@ impl Change {
         }
     }
 
-    /// Whether it edits only values, and no link: it makes an object, or changes an attribute. Takes no memory.
+    /// Whether the change edits only values, and no link: it makes an object, or changes an attribute. Takes no memory.
     pub fn edits_values_alone(&self, meta: &Meta) -> bool
         ensures { result ≡ edits_values_alone meta.now self.now }
     {
         self.edits_one_kind() && !self.is_at_reference(meta)
     }
 
-    /// Whether it edits only links, and no value: it changes a reference, and resolves no proxy. Takes no memory.
+    /// Whether the change edits only links, and no value: it changes a reference, and resolves no proxy. Takes no memory.
     pub fn edits_links_alone(&self, meta: &Meta) -> bool
         ensures { result ≡ edits_links_alone meta.now self.now }
     {

@@ -119,7 +119,7 @@ fn add_holding<L: LinkStore>(
     }
 }
 
-/// Adds a link, unless it is there.
+/// Adds a link to a list, unless the list has that link already.
 fn add<L: LinkStore>(
     model: &ModelRef<L>,
     link_end: LinkEnd,

@@ -20,8 +20,8 @@ use proxies::{ResolvedProxy, opposite_end};
 use removal::LinkEnd;
 use std::alloc::{AllocError, Global};
 
-/// The feature changes of a change, in the order of the notifications, given the links that it cuts. For changes that neither destroy nor
-/// load anything, and don't resolve all proxies.
+/// The feature changes of a change, in the order of the notifications, given the links that the change cuts. This function is for changes
+/// that neither destroy nor load anything, and don't resolve all proxies.
 pub fn feature_changes<L: LinkStore>(
     alloc: Global,
     model: &ModelRef<L>,
@@ -136,7 +136,7 @@ fn push_added<L: LinkStore>(
     push(out, end, gain_at(index, value.clone()?))
 }
 
-/// A gain at the end of a list, or at an index.
+/// A gain of a value at `index` if it is given, or else at the end of a list.
 fn gain_at(index: Option<u32>, value: Value) -> ChangeKind
     ensures { result ≡ t.gain_at index value }
 {
@@ -146,7 +146,7 @@ fn gain_at(index: Option<u32>, value: Value) -> ChangeKind
     }
 }
 
-/// Adds the feature changes if a value is taken out of a list, and its link is cut.
+/// Adds the feature changes of an act that takes a value out of a list and cuts its link.
 fn push_taken_out<L: LinkStore>(
     model: &ModelRef<L>,
     end: End,
@@ -160,7 +160,7 @@ fn push_taken_out<L: LinkStore>(
     push(out, end, ChangeKind::LosesAt(index))
 }
 
-/// Adds the feature changes if the first occurrence of a value is taken out of a list; none if the list lacks the value.
+/// Adds the feature changes of an act that takes the first occurrence of a value out of a list; none if the list lacks the value.
 fn push_value_taken_out<L: LinkStore>(
     model: &ModelRef<L>,
     end: End,
@@ -199,7 +199,7 @@ fn push_all_lost(end: End, len: u32, out: &mut Vec<FeatureChange>) -> Result<(),
     Ok(())
 }
 
-/// Adds the feature changes that come before the end itself gains a value, for a change that cuts these links.
+/// Adds the feature changes that come before the gain of a value at the end itself. `link_ends` are the links that the change cuts.
 fn push_cuts<L: LinkStore>(
     model: &ModelRef<L>,
     end: End,
@@ -274,7 +274,7 @@ fn push_other_losses<L: LinkStore>(
     Ok(())
 }
 
-/// Adds the losses at both ends of a link; an end that contains comes first.
+/// Adds the losses at both ends of a link. If one of the ends is a containment, its loss comes first.
 fn push_losses<L: LinkStore>(
     model: &ModelRef<L>,
     link: AddedLink,

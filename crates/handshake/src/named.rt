@@ -28,7 +28,7 @@ pub fn early_refusal<L: LinkStore>(model: &ModelRef<L>, change: &Change) -> Opti
     }
 }
 
-/// `early_refusal` of an act at an end.
+/// What `early_refusal` returns for a change that does an act at an end.
 fn act_early_refusal<L: LinkStore>(model: &ModelRef<L>, end: End, act: &Act) -> Option<Refused>
     ensures { result ≡ refusals.early_refusal (reading model.now) (At end act.now) }
 {
@@ -62,7 +62,7 @@ fn kind_refusal(meta: &Meta, feature: FeatureNo, act: &Act) -> Option<Refused>
     }
 }
 
-/// `early_refusal` of a set, whose parts are the arguments.
+/// What `early_refusal` returns for a set. The end and the value of the set are passed as arguments.
 #[inline(always)]
 pub fn set_early_refusal<L: LinkStore>(
     model: &ModelRef<L>,
@@ -74,7 +74,7 @@ pub fn set_early_refusal<L: LinkStore>(
     value_refusal(model, end, value).or(single_refusal(model.meta(), end.feature))
 }
 
-/// `early_refusal` of an addition or a removal of a value, whose parts are the arguments.
+/// What `early_refusal` returns for an addition or a removal of a value. The end and the value are passed as arguments.
 #[inline(always)]
 pub fn list_early_refusal<L: LinkStore>(
     model: &ModelRef<L>,

@@ -19,7 +19,8 @@ pub fn is_plain_add<L: LinkStore>(model: &ModelRef<L>, end: End, value: &Value) 
     !model.meta().is_reference(end.feature) || is_repeat(model, end, value)
 }
 
-/// Whether an end is a unique list that has a value already. A containment has an object if it contains the object, so it is not searched.
+/// Whether an end is a unique list that already has a value. At a containment the list is not searched: the container of the object tells
+/// whether the list has the object.
 pub fn is_repeat<L: LinkStore>(model: &ModelRef<L>, end: End, value: &Value) -> bool
     ensures { result ≡ is_repeat_of (reading model.now) end value.now }
 {

@@ -3,13 +3,13 @@
 //! A label is a hint: an index that was found by labels counts only if the value is there.
 ghost use Rattle.std.specs.Prelude.{◌-◌, ◌<◌, ◌≤◌};
 
-/// How far the labels of two values are apart that are put in at the end one after the other.
+/// The distance between the labels of two values that are put in at the end one after the other.
 const GAP: u64 = 1 << 40;
 
 /// The label of the first value of a list whose labels are new.
 const MIDDLE: u64 = 1 << 63;
 
-/// So many steps of a search take the labels to be evenly spread; the further ones halve what is left.
+/// How many steps of a search assume that the labels are evenly spread. Each further step halves the indexes that are left.
 const EVEN_STEPS: usize = 8;
 
 /// The labels of the first value and of the last value of a list. They are estimates after a value was taken out at an end.
@@ -95,7 +95,7 @@ impl Labels {
         len.saturating_sub(after).saturating_sub(1)
     }
 
-    /// The index of a label among `len`, if the labels go up along the list. Otherwise any index.
+    /// The index of a label among `len` labels, if the labels go up along the list. Otherwise the result may be any index.
     pub fn search<F: Fn(usize) -> u64>(self, len: usize, label: u64, label_at: F) -> usize
         requires { F.IsAlwaysCallable label_at }
     {

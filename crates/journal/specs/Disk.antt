@@ -20,7 +20,7 @@ pub record PartlyCut (len : ℕ) (old new : List ℕ) : Type 0 where
   pub at_least : len ≤ length new
   pub front : take (length new) old ≡ new
 
--- each file that a crash may leave after a step comes by that step from a file that a crash could leave before it
+-- each file that a crash may leave after a step is a result of that step on some file that a crash could leave before the step
 abbrev pub Follows : (List ℕ → List ℕ → Type 0) → (List ℕ → Type 0) → (List ℕ → Type 0) → Type 0
 Follows step old new = (c : List ℕ) → new c → (d : List ℕ) × old d × step d c
 
@@ -32,15 +32,15 @@ IsDurable bytes may_leave = (c : List ℕ) → may_leave c → c ≡ bytes
 abbrev pub LeavesNoOther : (List ℕ → Type 0) → (List ℕ → Type 0) → Type 0
 LeavesNoOther old new = (c : List ℕ) → new c → old c
 
--- The clock of a disk moved on. A file that a crash at any moment since then may leave is a file that a crash before may have left, or a
--- file that a crash now may leave.
+-- The clock of a disk moved on from `before` to `now`. If a crash since an earlier moment t may have left a file, then a crash since t may
+-- have left that file before the clock moved on, or a crash may leave it now.
 pub record Elapses (before now : ℕ) (past since : ℕ → List ℕ → Type 0) (may_leave : List ℕ → Type 0) : Type 0 where
   pub later : before ≤ now
   pub no_other : (t : ℕ) (c : List ℕ) → t ≤ before → since t c → past t c ⊎ may_leave c
   pub kept : (t : ℕ) (c : List ℕ) → t ≤ before → past t c → since t c
 
--- P is true of each file that a crash can leave at a moment from `old` to `new`. For an earlier moment: each file that a crash since then
--- can have left could be left before `old`, or P is true of it.
+-- P is true of each file that a crash can leave at a moment from `old` to `new`. For each moment t before `old`: if a crash since t can
+-- have left a file, then a crash from t to `old` can have left that file, or P is true of the file.
 pub record LeavesOnly {D : Type 0} (moment : D → ℕ) (left_since : D → ℕ → List ℕ → Type 0) (old new : D) (P : List ℕ → Type 0) : Type 0 where
   pub later : moment old ≤ moment new
   pub each : (c : List ℕ) → left_since new (moment old) c → P c

@@ -25,10 +25,10 @@ module _ {D : Type 0} (seen : D → List ℕ) where
     pub durable : IsDurable (seen journal.disk) (may_leave journal.disk)
     pub pending : AreEntries journal.pending.items
 
--- a file stands for these lines
+-- the lines that are recovered from a file are exactly ls
 abbrev pub StandsFor : List (List ℕ) → List ℕ → Type 0
 StandsFor ls file = recovered_lines file ≡ ls
 
--- a file stands for only these lines, or for these lines and all further lines
+-- the lines that are recovered from a file are exactly ls, or exactly ls followed by all lines of `more`
 abbrev pub IsBeforeOrAfter : List (List ℕ) → List (List ℕ) → List ℕ → Type 0
 IsBeforeOrAfter ls more file = StandsFor ls file ⊎ StandsFor (ls ++ more) file

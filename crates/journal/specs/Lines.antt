@@ -1,4 +1,4 @@
--- The lines that a file stands for, also after a crash.
+-- The lines that are recovered from a file, also after a crash.
 use Rattle.std.specs.Prelude.{◌≡◌, ◌≢◌, ◌<◌, ℕ, List, [], ◌∷◌, ◌++◌, length, Option, Some, None, if◌then◌else◌, ◌==◌}
 use Rattle.std.specs.Borrow.{Bor}
 use Rattle.std.specs.List.{All}
@@ -14,13 +14,13 @@ abbrev pub ended_lines : List ℕ → List (List ℕ)
 ended_lines [] = []
 ended_lines (c ∷ cs) = if c == NEWLINE then [] ∷ ended_lines cs else with_byte c (ended_lines cs)
 
--- the lines before the first line without a mark at its front, each without its mark
+-- the lines that begin with a mark, up to the first line that does not; each line is given without its mark
 abbrev pub marked_lines : List (List ℕ) → List (List ℕ)
 marked_lines [] = []
 marked_lines ([] ∷ ls) = []
 marked_lines ((c ∷ l) ∷ ls) = if c == MARK then l ∷ marked_lines ls else []
 
--- the lines that a file stands for
+-- the lines that are recovered from a file
 abbrev pub recovered_lines : List ℕ → List (List ℕ)
 recovered_lines file = marked_lines (ended_lines file)
 
@@ -35,7 +35,7 @@ abbrev pub entries : List (List ℕ) → List ℕ
 entries [] = []
 entries (l ∷ ls) = MARK ∷ l ++ NEWLINE ∷ entries ls
 
--- the entries of some lines, and the newline of an empty line, which has no mark
+-- the entries of some lines, followed by a newline: the newline makes an empty line, and an empty line has no mark
 abbrev pub at_rest : List (List ℕ) → List ℕ
 at_rest ls = entries ls ++ NEWLINE ∷ []
 

@@ -61,7 +61,7 @@ fn lines_kept(count: u8) -> &'static [u8] {
     }
 }
 
-/// How many of the lines whose answers were written whole are kept.
+/// How many lines are kept, among the lines whose answers are whole in the first `written` bytes.
 fn answered(written: usize) -> u8 {
     match written {
         0..=3 => 0,

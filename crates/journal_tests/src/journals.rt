@@ -59,7 +59,7 @@ fn commits(journal: &mut Journal<TornDisk>) -> Result<usize, AllocError>
     Ok(3)
 }
 
-/// The file after the three commits: a script.
+/// The bytes of the file after the three commits; they are also a script.
 const WHOLE: &[u8] = b" new Book\n set #0 name \"Emma\"\n set #0 pages 100\n  unset #0 pages\n\n";
 
 /// The lines after `commits` commits.

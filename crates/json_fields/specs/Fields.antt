@@ -12,7 +12,7 @@ infixl 10 ◌>>=◌
 abbrev pub ◌>>=◌ : {A B : Type 0} → Option A → (A → Option B) → Option B
 o >>= f = option_and_then f o
 
--- A reader returns the value that a reading gives, or `Layout` if it gives none; or `Memory`.
+-- A reader returns the value that a reading gives, `Layout` if the reading gives no value, or `Memory` in either case.
 abbrev pub Gives : {X : Type 0} → Result X ReadFault → Option X → Type 0
 Gives (Ok x) reading = reading ≡ Some x
 Gives (Err Layout) reading = reading ≡ None
@@ -92,11 +92,11 @@ pub record Fields (X : Type 0) : Type 0 where
 abbrev pub required_field : {X : Type 0} → List ℕ → (Data → Option X) → Fields X
 required_field key reading = record { keys = key ∷ []; reading = required_at key reading }
 
--- a key that may be absent, and its value then
+-- a key that may be absent; `absent` is the value of the field if the key is absent
 abbrev pub optional_field : {X : Type 0} → List ℕ → (Data → Option X) → X → Fields X
 optional_field key reading absent = record { keys = key ∷ []; reading = optional_at key reading absent }
 
--- no fields yet; x is the value itself, or a function of the values that further fields read
+-- a layout without fields, which gives x; if fields are added with `also`, x is a function of the values that they read
 abbrev pub makes : {X : Type 0} → X → Fields X
 makes x = record { keys = []; reading = λ d. Some x }
 

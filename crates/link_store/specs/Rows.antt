@@ -30,23 +30,23 @@ CanChange (Raise i) k = k + 1 < 2 ^ 32
 CanChange (Lower i) k = ⊤
 CanChange (Shift to from) k = k + 1 < 2 ^ 32
 
--- the position that the link has in e, if any, can change
+-- if the link has a position in e, the renumbering r can change that position
 abbrev pub CanMove : Renumbering → End → Link → Type 0
 CanMove r e l = MatchOption (indexed_value l e) ⊤ (λ p. CanChange r p.0)
 
 abbrev pub index_of : Option (ℕ × Value) → Option ℕ
 index_of p = option_map (λ q. q.0) p
 
--- the position in e of the first link that has v there
+-- the position in e of the first link that has the value v in e
 abbrev pub position_in : List Link → End → Value → Option ℕ
 position_in [] e v = None
 position_in (l ∷ ls) e v = if has_value e v l then index_of (indexed_value l e) else position_in ls e v
 
--- whether a position with its value is position k
+-- whether the pair of a position and a value is present and has the position k
 abbrev pub is_index : ℕ → Option (ℕ × Value) → Bool
 is_index k p = option_map_or (λ q. q.0 == k) p false
 
--- the object of a position with its value
+-- the object that is the value of a pair of a position and a value; none without a pair, or if the value is no object
 abbrev pub object_on : Option (ℕ × Value) → Option ObjectNo
 object_on p = option_and_then (λ (q : ℕ × Value). object_of q.1) p
 
@@ -55,11 +55,11 @@ abbrev pub first_object : List Link → End → ℕ → Option ObjectNo
 first_object [] e k = None
 first_object (l ∷ ls) e k = if is_index k (indexed_value l e) then object_on (indexed_value l e) else first_object ls e k
 
--- the text of the proxy at a position with its value
+-- the text of the proxy that is the value of a pair of a position and a value; none without a pair, or if the value is no proxy
 abbrev pub text_on : Option (ℕ × Value) → Option (List ℕ)
 text_on p = option_and_then (λ (q : ℕ × Value). text_of q.1) p
 
--- the proxy's text of the first link that has position k in e
+-- the text of the proxy that the first link with position k in e has there; none if that link has no proxy there
 abbrev pub first_text : List Link → End → ℕ → Option (List ℕ)
 first_text [] e k = None
 first_text (l ∷ ls) e k = if is_index k (indexed_value l e) then text_on (indexed_value l e) else first_text ls e k

@@ -16,7 +16,7 @@ pub(crate) enum Renumbering {
 impl Renumbering {
     ghost use Rattle.link_store.specs.Rows.{changed_index, CanChange};
 
-    /// The position that `k` becomes.
+    /// The position that the value at position `k` has after the renumbering.
     pub fn changed(self, k: u32) -> u32
         requires { CanChange self k }
         ensures { result ≡ changed_index self k }

@@ -72,7 +72,7 @@ fn cut_row(rows: &mut Vec<Link>, end: End, value: &Value)
     }
 }
 
-/// A link between positions of two ends, written from the lower feature.
+/// A link between a position of one end and a position of another. The end with the lower feature number is the link's own end.
 fn join(x: End, i: u32, y: End, j: u32, container: Option<FeatureNo>) -> Link
     ensures { result ≡ joined_link x i y j container }
 {

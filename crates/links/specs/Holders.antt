@@ -13,13 +13,13 @@ use Rattle.links.specs.declared.link.Far.TheVariants.{At, Alone, Proxy}
 use Rattle.links.specs.declared.link.Link.{Link}
 use Rattle.links.specs.Links.{Links, far_end}
 
--- the far side is that node
+-- whether the far side of a link is the node n
 abbrev pub is_far_node : Far → Node → Bool
 is_far_node (At d j) n = same_node d.node n
 is_far_node (Alone o) n = same_node (node.Object o) n
 is_far_node (Proxy t) n = false
 
--- the far side's end, if it is of the containing feature h and n is on the near side
+-- the end at the far side of a link, if its feature is the containing feature h and the near node is n; else none
 abbrev pub far_holding : Far → FeatureNo → Node → Node → Option End
 far_holding (At d j) h near n = if same_feature d.feature h && same_node near n then Some d else None
 far_holding (Alone o) h near n = None
@@ -32,11 +32,11 @@ held_through (Some h) l n =
     then (if is_far_node l.far n then Some l.end else None)
     else far_holding l.far h l.end.node n
 
--- the end through which a link contains n, if it does
+-- the end through which a link contains n; none if the link does not contain n
 abbrev pub holding_end : Link → Node → Option End
 holding_end l n = held_through l.container l n
 
--- the first of the links that contains n gives its end
+-- the end by which the first link that contains n holds it; none if no link contains n
 abbrev pub first_holding : List Link → Node → Option End
 first_holding [] n = None
 first_holding (l ∷ ls) n = option_or (holding_end l n) (first_holding ls n)

@@ -15,7 +15,7 @@ far_value (At d j) = node_value d.node
 far_value (Alone o) = value.Object o
 far_value (Proxy t) = value.Proxy t
 
--- the value v with the position that the far side of a put has in e; none if the far side is not in e
+-- the position that the far side of a link has in e, together with the value v; none if the far side is not in e
 abbrev pub far_indexed : Far → Value → End → Option (ℕ × Value)
 far_indexed (At d j) v e = if same_end d e then Some (j, v) else None
 far_indexed (Alone o) v e = None
@@ -33,13 +33,13 @@ is_value_at v p = option_map_or (λ q. same_value q.1 v) p false
 abbrev pub has_value : End → Value → Link → Bool
 has_value e v l = is_value_at v (indexed_value l e)
 
--- the far side, its position in e changed by r
+-- the far side after r changed its position in e, if it has one there
 abbrev pub far_moved : Far → End → (ℕ → ℕ) → Far
 far_moved (At d j) e r = if same_end d e then At d (r j) else At d j
 far_moved (Alone o) e r = Alone o
 far_moved (Proxy t) e r = Proxy t
 
--- the link, its position in e changed by r
+-- the link after r changed its position in e, if it has one there
 abbrev pub renumbered_link : Link → End → (ℕ → ℕ) → Link
 renumbered_link l e r = if same_end l.end e then record l { index = r l.index } else record l { far = far_moved l.far e r }
 
@@ -48,6 +48,6 @@ bare_far (At d j) = At d 0
 bare_far (Alone o) = Alone o
 bare_far (Proxy t) = Proxy t
 
--- the link without its positions, which is the part that no edit of another link changes
+-- the link with both of its positions set to 0; no edit of another link changes what remains
 abbrev pub link_without_positions : Link → Link
 link_without_positions l = record { end = l.end; index = 0; far = bare_far l.far; container = l.container }

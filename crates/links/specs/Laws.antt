@@ -25,8 +25,8 @@ abbrev pub IsFar : ObjectNo → Option FeatureNo → End → Type 0
 IsFar o None d = ⊥
 IsFar o (Some g) d = far_end o g ≡ d
 
--- the object is at its position, the far end gains its value last, and each other end is as it was; the node that the link contains has its
--- holder
+-- after a put, the object is at its position, the far end has gained its value as the last one, and each other end is as it was; the node
+-- that the new link contains has the containing end as its holder
 pub record PutMakes (s : Links) (e : End) (i : ℕ) (o : ObjectNo) (g c : Option FeatureNo) : Type 0 where
   pub near : end (put s e i o g c) e ≡ insert (end s e) i (value.Object o)
   pub far : (d : End) → IsFar o g d → end (put s e i o g c) d ≡ end s d ++ node_value e.node ∷ []
@@ -57,7 +57,7 @@ abbrev pub put_holder : Links → End → ObjectNo → Option FeatureNo → Opti
 put_holder s e o g c n =
     if is_of_pair e.feature g c && is_contained e o c n then end_containing e o c else holder s n
 
--- each end and each holder after a put, computed
+-- after a put, each end has the values that `put_end` computes, and each node has the holder that `put_holder` computes
 pub record PutGives (s : Links) (e : End) (i : ℕ) (o : ObjectNo) (g c : Option FeatureNo) : Type 0 where
   pub ends : (d : End) → end (put s e i o g c) d ≡ put_end s e i o g d
   pub holders : (n : Node) → holder (put s e i o g c) n ≡ put_holder s e o g c n
@@ -74,7 +74,8 @@ pub record PutProxyMakes (s : Links) (e : End) (i : ℕ) (t : List ℕ) : Type 0
   pub others : (d : End) → (e ≡ d → ⊥) → end (put_proxy s e i t) d ≡ end s d
   pub holders : (n : Node) → holder (put_proxy s e i t) n ≡ holder s n
 
--- each end loses the link's value there, and the node that the link contained has no holder; the link can be cut by its value at either end
+-- a cut takes the link's value out of each end that has it, and leaves the node that the link contained without a holder; the link can be
+-- named by its value at either end
 pub record CutMakes (s : Links) (l : Link) : Type 0 where
   pub named : (e : End) (k : ℕ) (v : Value) → indexed_value l e ≡ Some (k, v) → cut_value s e v ≡ cut s l
   pub ends : (d : End) → end (cut s l) d ≡ list_without (end s d) (indexed_value l d)
@@ -95,7 +96,8 @@ HaveSameEnds s t = (e : End) → end s e ≡ end t e
 
 ---------------------------------------------------------------- cuts by name
 
--- whether the link of v in e has the far end d, with the value w there; g is the opposite of e's feature
+-- whether d is the far end of the link that has the value v in the end e, and w is the value of that link in d; g is the opposite of e's
+-- feature
 abbrev pub names_far : End → Value → Option FeatureNo → End → Value → Bool
 names_far e (value.Object o) (Some g) d w = same_end (far_end o g) d && same_value (node_value e.node) w
 names_far e _ _ d w = false
@@ -104,15 +106,15 @@ names_far e _ _ d w = false
 abbrev pub names : Kinds → End → Value → End → Value → Bool
 names m e v d w = (same_end e d && same_value v w) || names_far e v (m.opposite e.feature) d w
 
--- whether a list of ends with values names the link of w in d
+-- whether some pair of the list names the link that has the value w in the end d; each pair has an end and a value of that end
 abbrev pub is_named : Kinds → List (End × Value) → End → Value → Bool
 is_named m ts d w = list_any (λ t. names m t.0 t.1 d w) ts
 
--- cuts links one after another, each by an end and the value there
+-- cuts links one after another; each link is named by an end and the value that the link has in that end
 abbrev pub without_all : Links → List (End × Value) → Links
 without_all s ts = fold (λ t x. cut_value t x.0 x.1) s ts
 
--- the holder of n after the cuts: the holder o, if its link is not named
+-- the holder of n after the cuts: the earlier holder o, unless the list ts names the link through which o holds n
 abbrev pub kept_holder : Kinds → List (End × Value) → Node → Option End → Option End
 kept_holder m ts n o = option_and_then (λ (d : End). if is_named m ts d (node_value n) then None else Some d) o
 
@@ -129,7 +131,7 @@ pub record CutsByNameMake (m : Kinds) (s : Links) (ts : List (End × Value)) : T
   pub lacks : (d : End) (w : Value) → Lacks s d w → Lacks (without_all s ts) d w
   pub shorter : (d : End) → length (end (without_all s ts) d) ≤ length (end s d)
 
--- the edits that cut the links of values, each named by its end
+-- the edits that cut the links of a list; each link is named by an end and the value that the link has in that end
 abbrev pub cut_edits : List (End × Value) → List Edit
 cut_edits ts = map (λ t. edit.Cut t.0 t.1) ts
 
@@ -173,6 +175,6 @@ edit_end (edit.PutProxy e i t) = e
 abbrev pub contains_by : Kinds → FeatureNo → Bool
 contains_by m f = is_some (m.container f)
 
--- whether some edit is of a link that contains
+-- whether some edit is at an end whose feature, or the opposite of that feature, is a containment
 abbrev pub touches_containment : Kinds → List Edit → Bool
 touches_containment m plan = list_any (λ x. contains_by m (edit_end x).feature) plan

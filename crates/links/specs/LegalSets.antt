@@ -1,5 +1,5 @@
--- When a set of links is legal: each end is a list, and no node is contained twice. And when its links agree with the features of a
--- metamodel.
+-- The conditions for a legal set of links: each end is a list, and no node is contained twice. Further conditions say when the links agree
+-- with the features of a metamodel.
 use Rattle.std.specs.Prelude.{◌≡◌, ℕ, ◌<◌, ◌≤◌, List, length, slice_get, Option, Some, None}
 use Rattle.mm_types.specs.declared.numbers.FeatureNo.{FeatureNo}
 use Rattle.mm_types.specs.declared.numbers.Node.{Node}
@@ -58,12 +58,13 @@ pub record IsLegalSet (s : Links) : Type 0 where
 
 ---------------------------------------------------------------- kinds
 
--- for each feature its opposite, and the containment among the two, if there is one
+-- for each feature: its opposite, if it has one; and the containment among the feature and its opposite, if one of the two is a containment
 pub record Kinds : Type 0 where
   pub opposite : FeatureNo → Option FeatureNo
   pub container : FeatureNo → Option FeatureNo
 
--- two features are opposites of each other, and agree on which of them contains
+-- if a feature names another as its opposite, the two are different, name each other, and agree on which of them, if any, is the
+-- containment
 pub record AreKinds (m : Kinds) : Type 0 where
   pub inverse : (f g : FeatureNo) → m.opposite f ≡ Some g → m.opposite g ≡ Some f
   pub two : (f g : FeatureNo) → m.opposite f ≡ Some g → (g.0 ≡ f.0) → ⊥

@@ -32,7 +32,7 @@ In l s = set.contains s l ≡ true
 
 ---------------------------------------------------------------- ends
 
--- the value of p if its position is k, else the other value
+-- the value of the pair p, if p is present and its position is k; else the value `other`
 abbrev pub at_indexed : Option (ℕ × Value) → ℕ → Option Value → Option Value
 at_indexed None k other = other
 at_indexed (Some p) k other = if p.0 == k then Some p.1 else other
@@ -80,7 +80,7 @@ proxy_at s e k = option_and_then text_of (slice_get (end s e) k)
 
 ---------------------------------------------------------------- edits
 
--- the set, each position in e changed by r
+-- the set of links after r changed each position in e
 unfoldable pub renumbered_links : Links → End → (ℕ → ℕ) → Links
 renumbered_links s e r = set.from_list (map (λ l. renumbered_link l e r) (set.items s))
 
@@ -110,7 +110,7 @@ cut_some s o = option_map_or (cut s) o s
 unfoldable pub cut_value : Links → End → Value → Links
 cut_value s e v = cut_some s (find (has_value e v) (set.items s))
 
--- one link between positions of two ends, written from the lower feature
+-- the link between position i of the end x and position j of the end y; its near side is the end whose feature has the lower number
 abbrev pub joined_link : End → ℕ → End → ℕ → Option FeatureNo → Link
 joined_link x i y j c =
     if nat_lt x.feature.0 y.feature.0
@@ -120,7 +120,7 @@ joined_link x i y j c =
 abbrev pub far_end : ObjectNo → FeatureNo → End
 far_end o g = record { node = node.Object o; feature = g }
 
--- the link that puts an object at i in e; g is the opposite of e's feature; at the far end the link is last
+-- the new link that puts the object o at position i in e; g is the opposite of e's feature; the link gets the last position at the far end
 abbrev pub new_link : Links → End → ℕ → ObjectNo → Option FeatureNo → Option FeatureNo → Link
 new_link s e i o None c = record { end = e; index = i; far = Alone o; container = c }
 new_link s e i o (Some g) c = joined_link e i (far_end o g) (length (end s (far_end o g))) c

@@ -68,7 +68,7 @@ EditFits s (edit.Put l) = PutFits s l.end l.index (value.Object l.object) × Far
 EditFits s (edit.Shift e to from) = (from < length (end s e)) × (to < length (end s e))
 EditFits s (edit.PutProxy e i t) = PutFits s e i (value.Proxy t)
 
--- each edit fits in its turn
+-- each edit fits the set of links that the earlier edits leave
 abbrev pub PlanFits : Links → List Edit → Type 0
 PlanFits s [] = Unit {0}
 PlanFits s (x ∷ xs) = EditFits s x × PlanFits (links_after_edit s x) xs
@@ -86,7 +86,7 @@ abbrev pub IsPlanOfKind : Kinds → List Edit → Type 0
 IsPlanOfKind m [] = Unit {0}
 IsPlanOfKind m (x ∷ xs) = IsEditOfKind m x × IsPlanOfKind m xs
 
--- the plan agrees with kinds of features that the store has
+-- there are kinds of features that the store has and that the plan agrees with
 abbrev pub HasPlanOfKind : (Kinds → Type 0) → List Edit → Type 0
 HasPlanOfKind kinds plan = (m : Kinds) × kinds m × IsPlanOfKind m plan
 
@@ -138,7 +138,7 @@ abbrev pub IsNext : End → List End → Type 0
 IsNext e [] = Unit {0}
 IsNext e (d ∷ ds) = is_before e d ≡ true
 
--- each end comes before the next: so none comes twice
+-- each end of the list comes before the next end of the list, so no end comes twice
 abbrev pub AreInOrder : List End → Type 0
 AreInOrder [] = Unit {0}
 AreInOrder (e ∷ es) = IsNext e es × AreInOrder es

@@ -77,7 +77,8 @@ pub fn a_put_gives_each_end_and_holder()
     ensures { (s : Links) (e : End) (i : ℕ) (o : ObjectNo) (g c : Option FeatureNo) → IsLegalSet s → EditFits s (put_of e i o g c) → PutGives s e i o g c }
 {}
 
-/// A put that fits keeps a legal set legal, and its kinds. The put makes no cycle if the containing node is neither the other node nor below it.
+/// A put that fits keeps a legal set legal, and the set still agrees with the same kinds. The put makes no cycle if the containing node is
+/// neither the other node nor below it.
 pub fn a_put_keeps_a_set_legal()
     ensures legal { (s : Links) (e : End) (i : ℕ) (o : ObjectNo) (g c : Option FeatureNo) → IsLegalSet s → EditFits s (put_of e i o g c) → IsLegalSet (put s e i o g c) }
     ensures kinds { (m : Kinds) → AreKinds m → (s : Links) (e : End) (i : ℕ) (o : ObjectNo) → AreOfKind m s → AreOfKind m (put s e i o (m.opposite e.feature) (m.container e.feature)) }
@@ -105,7 +106,7 @@ pub fn cuts_by_name_lose_what_they_name()
     ensures { (m : Kinds) → AreKinds m → (s : Links) (ts : List (End × Value)) → IsLegalSet s → AreOfKind m s → CutsByNameMake m s ts }
 {}
 
-/// Cuts keep a legal set legal, of its kinds, and without cycles.
+/// After cuts, a legal set is still legal, agrees with the same kinds, and has no cycles if it had none.
 pub fn cuts_by_name_keep_a_set_legal()
     ensures legal { (s : Links) (ts : List (End × Value)) → IsLegalSet s → IsLegalSet (without_all s ts) }
     ensures kinds { (m : Kinds) (s : Links) (ts : List (End × Value)) → AreOfKind m s → AreOfKind m (without_all s ts) }
@@ -127,7 +128,8 @@ pub fn a_plan_of_cuts_fits()
     ensures no_cycle { (s : Links) (ts : List (End × Value)) → PlanMakesNoCycle s (cut_edits ts) }
 {}
 
-/// The effect of two plans one after the other, and that they fit.
+/// A plan with the edits of two plans has the effect of the two plans, one after the other. It fits if each of the two plans fits when its
+/// turn comes.
 pub fn plans_follow_one_another()
     ensures makes { (s : Links) (xs ys : List Edit) → links_after_edits s (xs ++ ys) ≡ links_after_edits (links_after_edits s xs) ys }
     ensures fits { (s : Links) (xs ys : List Edit) → PlanFits s xs → PlanFits (links_after_edits s xs) ys → PlanFits s (xs ++ ys) }
@@ -135,7 +137,8 @@ pub fn plans_follow_one_another()
     ensures no_cycle { (s : Links) (xs ys : List Edit) → PlanMakesNoCycle s xs → PlanMakesNoCycle (links_after_edits s xs) ys → PlanMakesNoCycle s (xs ++ ys) }
 {}
 
-/// The ends and the holders after nodes are removed, with each link that names one of them. No link that is left names one.
+/// The ends and the holders after nodes are removed, together with each link that names a removed node. No link that is left names a
+/// removed node.
 pub fn a_set_without_nodes_names_none_of_them()
     ensures makes { (s : Links) (gone : Node → Bool) → IsLegalSet s → WithoutNodesMakes s gone }
     ensures legal { (s : Links) (gone : Node → Bool) → IsLegalSet s → IsLegalSet (without_nodes s gone) }

@@ -10,7 +10,7 @@ use mm_types::{End, Seq, Text, Value};
 pub enum Edit {
     /// Takes the link of a value, an object or a proxy, out of an end, and lowers the later positions in each end that had the link.
     Cut { end: End, value: Value },
-    /// Puts an object at a position of an end. The opposite end, if there is one, gains last.
+    /// Puts an object at a position of an end. At the opposite end, if there is one, the new value is put last.
     Put(NewLink),
     /// Moves the value at `from`, so that it is then at `to`.
     Shift { end: End, to: u32, from: u32 },
@@ -19,7 +19,7 @@ pub enum Edit {
 }
 
 impl Edit {
-    /// The end that it names. Takes no memory.
+    /// The end that the edit names. Takes no memory.
     pub fn end(&self) -> End
         ensures { result ≡ edit_end self.now }
     {

@@ -18,9 +18,9 @@ use std::alloc::{AllocError, Global};
 
 /// A set of links, however it is kept.
 ///
-/// A store may keep for each feature its opposite and its containing feature, as puts name them. So a store agrees with
-/// the kinds of features of some metamodels: an empty store with all, and `apply` keeps the kinds with which its plan
-/// agrees.
+/// A store may keep, for each feature, its opposite and its containing feature, as the puts give them. So a store agrees with the kinds of
+/// features of some metamodels only. An empty store agrees with the kinds of every metamodel, and `apply` keeps the kinds with which its
+/// plan agrees.
 pub trait LinkStore: Drop {
     /// The links.
     ghost links: { Self → Links };

@@ -20,7 +20,7 @@ NoneBefore raw k = NoneBelow raw (condition_number k)
 abbrev pub IsLeast : (ℕ → Type 0) → Option ℕ → Type 0
 IsLeast P found = MatchOption found ((i : ℕ) → P i → ⊥) (λ i. P i × HoldsOfNone P i)
 
--- a condition applies at a place, and at none before it
+-- a condition applies at the place p, and the condition applies at no place before p
 pub record IsFirstAt (raw : RawMetamodel) (k : Condition) (p : Place) : Type 0 where
   pub applies : Applies raw k p
   pub none_before : (q : Place) → Applies raw k q → IsBefore q p → ⊥

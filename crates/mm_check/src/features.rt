@@ -32,7 +32,7 @@ fn has_odd_bounds(f: &RawFeature) -> bool
 }
 
 impl<'a> Checker<'a> {
-    /// Whether a name at a place is no name.
+    /// Whether a name at a place is not formed as names must be.
     pub fn has_bad_name(&self, place: Place) -> bool
         ensures { result ≡ has_bad_name_at self.now place }
     {

@@ -69,7 +69,7 @@ impl<'a> Checker<'a> {
         }
     }
 
-    /// Whether there is a feature at an index whose upper bound is not 1.
+    /// Whether there is a feature at an index, and the upper bound of this feature is not 1.
     fn is_not_bounded_by_one(&self, c: usize, i: usize) -> bool
         ensures { result ≡ test_feature_at (λ f. not (int_eq f.upper (pos 1))) self.now c i }
     {
@@ -140,7 +140,7 @@ impl<'a> Checker<'a> {
         }
     }
 
-    /// Whether a place is a reference that names an opposite, and no other reference has that name and names the reference back.
+    /// Whether a place is a reference that names an opposite, but no other reference both has that name and names the first one back.
     pub fn lacks_opposite(&self, place: Place) -> bool
         requires { NamesAreUnique self.now }
         ensures { IsTrue result ↔ LacksOpposite self.now place }

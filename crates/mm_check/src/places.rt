@@ -44,7 +44,7 @@ impl<'a> Checker<'a> {
         Ok(None)
     }
 
-    /// The first feature that a class declares to which a condition applies.
+    /// Of the features that a class declares, the first one to which a condition applies.
     fn first_feature(
         &self,
         alloc: Global,

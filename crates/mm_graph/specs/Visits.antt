@@ -31,7 +31,7 @@ pub record IsBegun (g : List (List ℕ)) (ms : List Mark) (order : List ℕ) : T
 abbrev pub OpenReach : List (List ℕ) → List Mark → ℕ → Type 0
 OpenReach g ms c = (k : ℕ) → mark ms k ≡ Open → Reaches g k c
 
--- the same classes are open, and each class that was done still is
+-- the same classes are open as before, and each class that was done is still done
 pub record Goes (old new : List Mark) : Type 0 where
   pub same_length : length new ≡ length old
   pub opened : (k : ℕ) → mark new k ≡ Open → mark old k ≡ Open

@@ -47,7 +47,7 @@ fn gather<'a>(
 /// Whether two different features of a class, own or inherited, share a name. `names` has the names
 /// of the features that each class declares. Fails only if memory is refused.
 ///
-/// The supertypes may have cycles. It takes one look-up for each feature.
+/// The graph of supertypes may have cycles. The check takes one look-up for each feature.
 pub fn clashes(
     alloc: Global,
     graph: &[Seq<usize>],

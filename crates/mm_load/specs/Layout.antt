@@ -65,7 +65,7 @@ abbrev pub is_unsettable : RawKind → Bool
 is_unsettable (Attribute unique unsettable default) = unsettable
 is_unsettable (Reference containment opposite) = false
 
--- whether a feature is single or not unsettable
+-- whether a feature is single if it is unsettable
 abbrev pub unsets_one : RawFeature → Bool
 unsets_one f = not (is_unsettable f.kind) || int_eq f.upper (pos 1)
 
@@ -99,7 +99,7 @@ class_fields = makes new_class
     -- the features that it declares, in order, or none
     also optional_field (codes "features") (array_of feature) []
 
--- an object of those fields
+-- a JSON object that has only the fields of a class
 unfoldable pub class : Data → Option RawClass
 class = object_of class_fields
 
@@ -116,7 +116,7 @@ enumeration_fields = makes new_enumeration
     -- its literals, in order, and one at least
     also required_field (codes "literals") (array_of_some text)
 
--- an object of those fields
+-- a JSON object that has only the fields of an enumeration
 unfoldable pub enumeration : Data → Option Enumeration
 enumeration = object_of enumeration_fields
 
@@ -133,6 +133,6 @@ document_fields = makes new_document
     -- the classes, in order
     also required_field (codes "classes") (array_of class)
 
--- an object of those fields
+-- a JSON object that has only the fields of the document
 unfoldable pub document : Data → Option RawMetamodel
 document = object_of document_fields

@@ -1,4 +1,4 @@
-//! A document of the right layout, whatever its counts and lengths.
+//! A document of the right layout. Its counts and lengths may pass the limits.
 ghost use Rattle.std.specs.Prelude.{◌≡◌};
 ghost use Rattle.serde_json.specs.Data.{object};
 ghost use Rattle.serde_json.specs.View.{members_view};
@@ -14,7 +14,7 @@ use serde_json::{Map, Value};
 use std::alloc::Global;
 use std::marker::Model;
 
-/// The content of a document, which may pass the limits of a metamodel. Contracts see it as a metamodel all the same.
+/// The content of a document. It may pass the limits of a metamodel, but contracts see it as a metamodel in any case.
 #[derive(Debug, Drop)]
 pub struct Document {
     enums: Seq<Enumeration>,

@@ -20,17 +20,17 @@ pub record AreFeatureNames (n : FeatureNames) (names : List (List ℕ)) : Type 0
   pub long : length n.next.items ≡ length names
   pub next : (f : ℕ) → f < length names → IsNext names (slice_index_or names f []) (suc f) (slice_index_or n.next.items f 0)
 
--- a search for a class's feature by name has come to a position: the feature there has the name, and the class has none of the earlier
--- features of that name
+-- a search for the feature of a class by name has reached the position `at`: the feature at that position has the name; the class has no
+-- feature with that name at an earlier position
 pub record ComesTo (m : Metamodel) (c : ClassNo) (name : List ℕ) (at : ℕ) : Type 0 where
   pub passed : (h : ℕ) → h < at → feature_name m (feature_no h) ≡ name → has_feature m c (feature_no h) ≡ false
   pub here : at < length m.features → feature_name m (feature_no at) ≡ name
 
--- for each of the first classes, its feature of a name
+-- a list by class number: for each of the first classes it has the feature of that class with a given name, or none
 abbrev pub IsRow : Metamodel → List ℕ → List (Option FeatureNo) → Type 0
 IsRow m name by_class = (c : ℕ) (found : Option FeatureNo) → slice_get by_class c ≡ Some found → found ≡ feature_by_name m (class_no c) name
 
--- the row at the number of a feature has, for each of the first classes, the feature of the same name that the class has; a row may be
--- empty
+-- a row for each feature, by its number: for each of the first classes, the row has the feature of that class with the same name; a row may
+-- be empty
 abbrev pub AreRows : Metamodel → List (List (Option FeatureNo)) → Type 0
 AreRows m rows = (f : ℕ) → f < length rows → IsRow m (feature_name m (feature_no f)) (slice_index_or rows f [])

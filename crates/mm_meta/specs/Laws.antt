@@ -9,7 +9,7 @@ use Rattle.mm_types.specs.declared.numbers.FeatureNo.{FeatureNo}
 use Rattle.mm_types.specs.declared.numbers.ObjectNo.{ObjectNo}
 use Rattle.mm_types.specs.declared.value.Value.TheVariants.{Object}
 
--- two references are each other's opposite, and have one containing feature or none
+-- f and g are different references and opposites of each other; either both have the same containing feature, or neither has one
 pub record IsPair (m : Metamodel) (f g : FeatureNo) : Type 0 where
   pub back : (shape m g).opposite ≡ Some f
   pub apart : (g.0 ≡ f.0) → ⊥
@@ -50,6 +50,6 @@ FarTypesFit m =
     → class_has m class_of p f ≡ true → takes m class_of f (Object o) ≡ true
     → (class_has m class_of o g ≡ true) × (takes m class_of g (Object p) ≡ true)
 
--- computed conformance is conformance
+-- `conforms`, which is computed, is true exactly if `ConformsTo` holds
 abbrev pub ConformanceIsComputed : Metamodel → Type 0
 ConformanceIsComputed m = (sub sup : ClassNo) → (conforms m sub sup ≡ true) ↔ ConformsTo m sub sup

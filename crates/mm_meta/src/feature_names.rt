@@ -14,7 +14,7 @@ use std::alloc::{AllocError, Global};
 #[derive(Drop)]
 pub struct FeatureNames {
     first: NameTable,
-    /// At each feature's number the number of the next feature of the same name; for the last one, the number of features.
+    /// At the number of each feature, the number of the next feature with the same name; if there is none, the count of all features.
     next: Vec<usize>,
 }
 
@@ -35,7 +35,7 @@ impl FeatureNames {
         self.first.position(name)
     }
 
-    /// At each feature's number the number of the next feature of the same name; for the last one, the number of features.
+    /// At the number of each feature, the number of the next feature with the same name; if there is none, the count of all features.
     pub fn next(&self) -> &[usize]
         ensures { result.now ≡ self.now.next.items }
     {

@@ -26,8 +26,8 @@ pub fn containers()
     ensures { (m : Metamodel) → IsOfDocument m → ContainingIsKnown m }
 {}
 
-/// The type of a reference is the class that declares its opposite. So a reference takes exactly the objects whose
-/// classes have its opposite, and an object may be at one end of a link if the other may be at the opposite end.
+/// The type of a reference is the class that declares the opposite of the reference. So a reference takes exactly the objects whose classes
+/// have the opposite. If one object may refer to another by a reference, the other object may refer back by the opposite.
 pub fn far_types()
     ensures takes { (m : Metamodel) → IsOfDocument m → TakesWhatHasTheOpposite m }
     ensures fit { (m : Metamodel) → IsOfDocument m → FarTypesFit m }

@@ -133,7 +133,8 @@ impl Meta {
         }
     }
 
-    /// The feature of a class that has the name of `first`, if a list of such features is kept. `first` is the first feature of its name.
+    /// The feature of `class` that has the same name as the feature `first`; `None` if no list of the features of that name is kept.
+    /// `first` is the first feature of its name.
     fn kept(&self, class: ClassNo, first: usize) -> Option<Option<FeatureNo>>
         ensures { IfSome result (λ found. found ≡ m.feature_by_name self.now class (m.feature_name self.now (feature_no first))) }
     {
@@ -141,7 +142,7 @@ impl Meta {
         by_class.as_slice().get(class.0 as usize).copied()
     }
 
-    /// The feature of a class that has a name, found by a look at each feature of the name, from the feature `from` on.
+    /// The feature of a class under a name. It is found by a look at each feature of this name, from the feature `from` on.
     fn search(&self, class: ClassNo, _name: &str, from: usize) -> Option<FeatureNo>
         requires { ComesTo self.now class _name.now from }
         ensures { result ≡ m.feature_by_name self.now class _name.now }
@@ -158,7 +159,7 @@ impl Meta {
         None
     }
 
-    /// Whether a feature is the first of its name, and more than a few have the name.
+    /// Whether a feature is the first of its name, and more than a few features have that name.
     fn begins_common(&self, feature: usize) -> bool
         requires { feature < length self.now.features }
     {
@@ -180,7 +181,7 @@ impl Meta {
         at < next.len()
     }
 
-    /// For each class the feature that has the name of a given feature, if this is the first of many features of its name; otherwise an
+    /// If a given feature is the first of many features of its name, a list with the feature of that name for each class. Otherwise an
     /// empty list.
     fn by_class(&self, alloc: Global, feature: usize) -> Result<Seq<Option<FeatureNo>>, AllocError>
         requires { feature < length self.now.features }
@@ -270,7 +271,7 @@ impl Meta {
         Some(class.all.as_slice())
     }
 
-    /// Whether a class is a given one or inherits from it (EClass.isSuperTypeOf, with the two exchanged).
+    /// Whether a class is a given one or inherits from it (EClass.isSuperTypeOf, with the receiver and the argument exchanged).
     pub fn conforms(&self, sub: ClassNo, sup: ClassNo) -> bool
         ensures { result ≡ m.conforms self.now sub sup }
     {
@@ -327,8 +328,8 @@ impl Meta {
     }
 
     /// The containing feature of a feature's links: the feature itself, if it is a containment reference; its opposite, if it is a
-    /// container reference (EReference.isContainment, isContainer). `contents()` is a containment too. It is returned for each number that
-    /// no feature has. Takes no memory.
+    /// container reference (EReference.isContainment, isContainer). `contents()` is a containment too. If no feature has the number,
+    /// `contents()` is returned. Takes no memory.
     pub fn containing(&self, feature: FeatureNo) -> Option<FeatureNo>
         ensures { result ≡ (shapes.shape self.now feature).containing }
     {

@@ -84,7 +84,7 @@ impl NameTable {
         }
     }
 
-    /// Adds the name that is at a position, after those that come before it.
+    /// Adds the name at position `at`, unless the name was added for an earlier position.
     fn insert(&mut self, alloc: Global, name: &str, at: usize) -> Result<(), AllocError>
         ensures { OnOk result ((names : List (List ℕ)) → length names ≡ at → IsTableOf self.old names → IsTableOf self.new (names ++ name.now ∷ [])) }
     {

@@ -68,7 +68,7 @@ abbrev pub conforms_within : List (List ℕ) → ℕ → ℕ → ℕ → Bool
 conforms_within g zero c d = nat_eq c d
 conforms_within g (suc n) c d = nat_eq c d || list_any (λ e. conforms_within g n e d) (by_class g c)
 
--- `ConformsTo`, computed: no path of supertypes is longer than the number of classes
+-- computes `ConformsTo`: a search of as many steps as there are classes is enough, since no path of supertypes is longer
 abbrev pub conforms : Metamodel → ClassNo → ClassNo → Bool
 conforms m sub sup = nat_lt sub.0 (length m.classes) && conforms_within (supertypes m) (length m.classes) sub.0 sup.0
 

@@ -1,5 +1,5 @@
 //! Texts without a block of memory.
-ghost use Rattle.std.specs.Prelude.{◌≡◌, IfSome};
+ghost use Rattle.std.specs.Prelude.{◌≡◌, IfSome, is_some, length, nat_le};
 
 use std::marker::Model;
 use std::str;
@@ -29,7 +29,8 @@ impl ShortText {
     /// A copy of a text, or `None` if it is longer than 22 bytes.
     #[inline]
     pub fn from_str(text: &str) -> Option<Self>
-        ensures { IfSome result (λ s. s ≡ text.now) }
+        ensures fits { is_some result ≡ nat_le (length text.now) 22 }
+        ensures text { IfSome result (λ s. s ≡ text.now) }
     {
         let len = text.len();
         if len > SHORT {

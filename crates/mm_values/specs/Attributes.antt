@@ -17,7 +17,7 @@ stored_in (e ∷ l) = with_stored (stored_in l) e.feature.0 (stored_of e)
 abbrev pub stored_under : List Entry → FeatureNo → Stored
 stored_under l f = unwrap_or (map.get (stored_in l) f.0) nothing_stored
 
--- the list under an attribute changed by g; the flag stays
+-- what is stored after g changed the list under the attribute f; the set flag stays as it was
 abbrev pub change_stored : StoredMap → ℕ → (List Value → List Value) → StoredMap
 change_stored m f g = with_stored m f (list_changed g (unwrap_or (map.get m f) nothing_stored))
 

@@ -21,7 +21,7 @@ pub record Slots : Type 0 where
 abbrev pub state_of : Option ClassNo → List Entry → Option ObjectState
 state_of class lists = option_map (λ c. record { class = c; stored = stored_in lists }) class
 
--- at each number the object that the two columns give
+-- the objects by number: the object at each number is made from the entries of the two columns at that number
 abbrev pub states_of : List (Option ClassNo) → List (List Entry) → Objects
 states_of [] ls = []
 states_of (c ∷ cs) [] = []
@@ -47,7 +47,8 @@ HasPlaceAt r o f n = (d : List Entry) → o < length r.lists → IsDead r o ⊎ 
 abbrev pub IsReadyAt : Slots → ℕ → ℕ → ListEdit → Type 0
 IsReadyAt r o f e = (d : List Entry) → o < length r.lists → IsDead r o ⊎ IsReadyFor (slice_index_or r.lists o d) f e
 
--- how much capacity is taken, by object and attribute: none; and with `taken_at`, k for one object and attribute
+-- how much capacity is taken for each object and attribute: none; and `taken_at`, which takes k for the attribute g of the object x and
+-- none for any other attribute
 abbrev pub none_taken : ℕ → ℕ → ℕ
 none_taken o f = 0
 

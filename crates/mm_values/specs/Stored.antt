@@ -25,7 +25,7 @@ StoredMap = map.FinMap nat_cmp Stored
 abbrev pub with_stored : StoredMap → ℕ → Stored → StoredMap
 with_stored m f h = if is_nothing h then map.remove m f else map.insert m f h
 
--- the stored values changed by g; the flag stays
+-- what is stored after g changed the list of values; the set flag stays as it was
 abbrev pub list_changed : (List Value → List Value) → Stored → Stored
 list_changed g h = record { list = g h.list; flag = h.flag }
 

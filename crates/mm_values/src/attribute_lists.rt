@@ -12,7 +12,8 @@ use std::alloc::{AllocError, Global};
 use std::marker::Model;
 use value_lists::ValueList;
 
-/// What is stored under one attribute. An entry with an empty list and the flag off was made ahead, for a list that is put later.
+/// What is stored under one attribute. If the list of an entry is empty and its flag is off, the entry was made in advance, for a list that
+/// is put later.
 #[derive(Drop)]
 pub(crate) struct Entry {
     feature: FeatureNo,
@@ -137,8 +138,8 @@ impl AttributeLists {
         self.entries[at].list.reserve(alloc, additional, is_asked)
     }
 
-    /// Reserves capacity for one more entry, if there is none: for two entries at first, and then for a quarter more each time, since most
-    /// objects have few.
+    /// Makes sure that there is capacity for one more entry. If there is none, reserves capacity for two entries at first, and then for a
+    /// quarter more each time, since most objects have few entries.
     fn grow(&mut self) -> Result<(), AllocError>
         ensures { self.new ≡ self.old }
     {

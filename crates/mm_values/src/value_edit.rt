@@ -4,10 +4,10 @@ ghost use Rattle.std.specs.Prelude.{◌≡◌};
 use crate::new_values::NewValues;
 use mm_types::{ClassNo, FeatureNo, ObjectNo, Text, Value};
 
-/// One edit. At a number that names no live object it changes nothing.
+/// One edit. If it has the number of an object that is not live, it changes nothing.
 #[derive(Debug, Drop)]
 pub enum ValueEdit {
-    /// Makes an object of a class (EMF: EFactory.create). Its number is how many objects were made before.
+    /// Makes an object of a class (EMF: EFactory.create). The number of the object is the count of all objects that were made before it.
     NewObject(ClassNo),
     /// Ends an object. Its number is never given again.
     DropObject(ObjectNo),
@@ -19,7 +19,7 @@ pub enum ValueEdit {
         flag: bool,
     },
     /// Puts one value into an attribute's list, at an index; past the end it is put last. `is_unique` says that the list is looked up by
-    /// value again and again. If it is long, `Values::has` then finds at once that a value is missing.
+    /// value again and again. If the list is long, `Values::has` then finds at once that a value is missing.
     InsertValue {
         object: ObjectNo,
         feature: FeatureNo,
@@ -40,7 +40,7 @@ pub enum ValueEdit {
         to: u32,
         from: u32,
     },
-    /// Makes a resource of a URI (EMF: ResourceSet.createResource), unless a resource has it already.
+    /// Makes a resource of a URI (EMF: ResourceSet.createResource), unless a resource has this URI already.
     NewUri(Text),
 }
 

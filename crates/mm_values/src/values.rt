@@ -39,7 +39,7 @@ impl Values {
         }
     }
 
-    /// The number that the next object gets: how many were made, dropped ones among them.
+    /// The number that the next object gets. It is the count of all objects that were made, dropped objects included.
     pub fn next(&self) -> usize
         ensures { result ≡ length (values_of self.now).objects }
     {
@@ -198,7 +198,8 @@ impl Values {
     }
 
     /// Replaces the list of an object under an attribute, as `ValueEdit::PutList` does. Fails only if memory is refused, and then nothing
-    /// that contracts see has changed. Most changes of values are this edit, and a plan of it would take longer to make than the edit.
+    /// that contracts see has changed. Most changes of values are such edits. To make a plan for one of them would take longer than the
+    /// edit itself.
     pub fn try_put(
         &mut self,
         object: ObjectNo,
@@ -212,7 +213,7 @@ impl Values {
         self.objects.set(object, feature, values, flag)
     }
 
-    /// Makes an edit like a plan with only this edit: first it reserves, and then it applies.
+    /// Reserves capacity for an edit, as for a plan with only this edit, and then makes the edit.
     fn try_any(&mut self, edit: ValueEdit) -> Result<(), AllocError>
         ensures ok { OnOk result (values_of self.new ≡ values_after_edit (values_of self.old) edit) }
         ensures err { OnErr result (values_of self.new ≡ values_of self.old) }

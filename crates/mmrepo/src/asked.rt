@@ -35,7 +35,7 @@ pub(crate) struct Asked {
     pub(crate) journal: Option<String>,
     /// Whether the program says what to fix, after its messages.
     pub(crate) explain: bool,
-    /// Whether the program says which file can't be read or written, and why. It also says this to a person at a terminal.
+    /// Whether the program says which file can't be read or written, and why. It does so with `--explain`, and for a person at a terminal.
     pub(crate) names_files: bool,
 }
 

@@ -1,4 +1,4 @@
-//! What the program adds to the report of why it stops, with `--explain`.
+//! What the program says in addition, with `--explain`, when it reports why it stops.
 use crate::asked::Asked;
 use crate::stop::{JournalRefusal, Stop};
 use durable::JournalFault;

@@ -56,7 +56,7 @@ fn ended<W: Write>(
     Ok(summary)
 }
 
-/// Runs the script that a reader gives over a repository.
+/// Runs a script over a repository; the script is read from the reader.
 fn run_reader<R: Read + Drop, A: Adapter>(
     rt: &HostRuntime,
     mut reader: R,

@@ -57,7 +57,7 @@ abbrev pub ReadsList : Option Held → List ℕ → (Session → Printed) → �
 ReadsList None name asked status new = (status ≡ CLOSED) × (new ≡ None)
 ReadsList (Some h) name asked status new = (¬ IsUtf8 name × (status ≡ BAD) × (new ≡ Some h)) ⊎ (IsUtf8 name × ReadsSession h asked status new)
 
--- the resource of a number; and `node_of`, the node
+-- the resource with a number; and `node_of`, the resource or the object with a number
 abbrev pub resource_of : ℕ → ResourceNo
 resource_of number = record { 0 = number }
 

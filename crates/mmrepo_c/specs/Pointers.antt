@@ -1,4 +1,4 @@
--- What a pointer owns: nothing if it is empty, else the same as a `Box` of its session.
+-- What a pointer owns: an empty pointer owns nothing; any other pointer owns the same as a `Box` of its session.
 use Rattle.std.specs.Prelude.{Option, Some, None}
 use base.Fml.{Fml, ftrue}
 use base.Stored.{Coded}

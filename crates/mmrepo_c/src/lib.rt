@@ -103,7 +103,7 @@ pub extern "C" fn mmrepo_list_length(
 
 /// Reads the value at an index of a list, which is counted from 0. The value is the text of the session from then on.
 ///
-/// Returns what `mmrepo_list_length` does; the refusal is `INDEX` past the last value.
+/// Returns what `mmrepo_list_length` returns. If the index is past the last value, the refusal is `INDEX`.
 #[unsafe(no_mangle)]
 pub extern "C" fn mmrepo_list_value(
     alloc: Global,

@@ -16,7 +16,7 @@ abbrev pub told_to : AdapterNo → List (AdapterNo × Notice) → List Notice
 told_to number [] = []
 told_to number (t ∷ ts) = if same_no number t.0 then t.1 ∷ told_to number ts else told_to number ts
 
--- which adapter was notified of what by an outcome; and `told_by_all`, by several outcomes in turn
+-- which adapter was notified of what, as one outcome says; and `told_by_all`, as several outcomes say in turn
 abbrev pub told_by : Outcome → List (AdapterNo × Notice)
 told_by (Ok r) = r.told
 told_by (Err f) = []

@@ -42,7 +42,7 @@ pub record AreTexts (r : Reading) (texts : ResourceNo → List ℕ) : Type 0 whe
   pub reads : (k : ResourceNo) → has_resource r k ≡ true → IsReadAs r k (texts k)
   pub utf8 : (k : ResourceNo) → has_resource r k ≡ true → is_utf8 (texts k) ≡ true
 
--- each command resolves a proxy that is there in its turn, and no proxy is left after the last command
+-- each command resolves a proxy of the state that the commands before it leave, and no proxy is left after the last command
 abbrev pub AreResolves : State → List (Command View) → Type 0
 AreResolves t [] = HasNoProxy (reads t)
 AreResolves t (command.At e (Resolve i) ∷ cs) = (is_some (proxy_at (reads t) e i) ≡ true) × AreResolves (step t (command.At e (Resolve i))).after cs
@@ -74,7 +74,7 @@ abbrev pub OfSaved : ((s : State) → (ResourceNo → List ℕ) → List Task �
 OfSaved P s =
     IsLegal s → HasSteadyTexts s.model → IsSaved (reads s) → (texts : ResourceNo → List ℕ) → AreTexts (reads s) texts → (ts : List Task) → IsOrder (reads s) [] [] ts → P s texts ts
 
--- the same in any order of the tasks
+-- `AreLoads` holds for the tasks in any order
 abbrev pub LoadsGiveBetween : State → Type 0
 LoadsGiveBetween = OfSaved AreLoads
 
@@ -122,8 +122,8 @@ pub record IsHadAgain (s : State) (texts : ResourceNo → List ℕ) (ts : List T
   pub resolves : AllDone (run (reloaded_state s texts ts) rs).outcomes
   pub alike : Alike (reads s) (reads (run (reloaded_state s texts ts) rs).after)
 
--- after loads in an order: the loads are not refused; resolving all proxies at once brings the saved state back; there are single resolves
--- that leave no proxy; and any resolves that leave no proxy bring the saved state back
+-- the loads in some order are not refused. After them: a resolve of all proxies at once brings the saved state back; some list of single
+-- resolves leaves no proxy; each list of single resolves that leaves no proxy brings the saved state back
 pub record IsReloaded (s : State) (texts : ResourceNo → List ℕ) (ts : List Task) : Type 0 where
   pub loads : AllDone (run (empty_state s.model.metamodel) (commands (reads s) texts [] ts)).outcomes
   pub all : IsAllResolved (reads s) (reloaded_state s texts ts)

@@ -34,8 +34,8 @@ pub fn a_refusal_changes_nothing()
     ensures given_back { (s t : State) (c : Command View) (f : Failure View) → Executed s c (Err f) t → f.given_back ≡ brought_adapter c }
 {}
 
-/// The notifications of a command, replayed in turn on the values of an end before it, give the values of the end after it. That is so for
-/// each end of a node that is there before and after the command.
+/// Take the values that an end has before a command, and replay the notifications of the command on them, one after another. The result is
+/// the values that the end has after the command. That is so for each end of a node that is there before and after the command.
 pub fn the_notices_of_a_command_replay_it()
     ensures { (s : State) (c : Command View) → ChainReplays s c }
 {}
@@ -45,8 +45,8 @@ pub fn a_snapshot_has_each_node()
     ensures { (s : Model) (target n : Node) → HasEachNode s target n }
 {}
 
-/// An adapter that is attached before a command was notified by it of exactly the notifications that the reply has for it, in order. That
-/// is so if it is still attached, and if the reply gives it back.
+/// Take an adapter that is attached before a command. The command notified it of exactly the notifications that the reply lists for it, in
+/// order. That is so if the adapter is still attached after the command, and also if the reply gives it back.
 pub fn an_adapter_hears_what_the_reply_tells_it()
     ensures { (s : State) (c : Command View) (number : AdapterNo) (a : Listed) → HearsItsReply s c number a }
 {}
@@ -77,8 +77,8 @@ pub fn resolving_stays_between()
     ensures { (s : State) (w : ValuesState) (b : Links) → ResolvesBetween s w b }
 {}
 
-/// Only memory can refuse to resolve all proxies of a partly resolved copy. The answer says that no proxy is left, no proxy is left, and
-/// the state is isomorphic to the saved one (EMF: EcoreUtil.resolveAll).
+/// Only memory can refuse to resolve all proxies of a partly resolved copy. Afterwards the state has no proxy, the answer says so, and the
+/// state is isomorphic to the saved one (EMF: EcoreUtil.resolveAll).
 pub fn resolving_all_leaves_no_proxy()
     ensures { (s : State) (w : ValuesState) (b : Links) → ResolvesAll s w b }
 {}

@@ -30,7 +30,8 @@ end_refusal r e =
     node_refusal r e.node else_by
     NoFeature unless has_feature r e.node e.feature
 
--- the refusal of an end and a value for it: first for a dead object, as node or value, then for an unknown resource
+-- the refusal of an end and a value for it: first `NoObject` if the node of the end or the value is a dead object, and then the refusal of
+-- the end by itself
 abbrev pub value_refusal : Reading → End → Value → Option Refused
 value_refusal r e v =
     NoObject unless (is_node_live r e.node && is_value_live r v) else_by

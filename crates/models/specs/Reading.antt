@@ -70,7 +70,7 @@ is_set r e = ends.is_set (shape_at r e) (held_at r e)
 abbrev pub is_live : Reading → ObjectNo → Bool
 is_live r o = is_some (r.class o)
 
--- whether a node is a live object or any resource; and `is_value_live`, whether a value is no dead object
+-- whether a node is a resource or a live object; and `is_value_live`, whether a value is anything but a dead object
 abbrev pub is_node_live : Reading → Node → Bool
 is_node_live r (node.Object o) = is_live r o
 is_node_live r (node.Resource k) = true

@@ -1,4 +1,4 @@
--- Models whose URIs are normalised. Each result of joining is normalised, as far as `url` reads a URL back that it wrote.
+-- Models whose URIs are normalised. A result of joining is normalised if `url` reads the URL that it wrote back as the same URL.
 use Rattle.std.specs.List.{All}
 use Rattle.web_uris.specs.Addresses.{IsSteadyProxy}
 use Rattle.web_uris.specs.Joined.{IsWebUri}

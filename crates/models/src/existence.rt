@@ -58,8 +58,8 @@ pub fn end_refusal<L: LinkStore>(model: &ModelRef<L>, end: End) -> Option<Refuse
     None
 }
 
-/// Why a feature of a node and a value for it can't be named: `NoObject` if the node or the value is an object that does not live, then
-/// `NoResource` and `NoFeature`.
+/// Why a feature of a node and a value for it can't be named: `NoObject` if the node or the value is an object that does not live;
+/// otherwise `NoResource`, or else `NoFeature`.
 pub fn value_refusal<L: LinkStore>(model: &ModelRef<L>, end: End, value: &Value) -> Option<Refused>
     ensures { result ≡ existence.value_refusal (reading model.now) end value.now }
 {
@@ -69,7 +69,7 @@ pub fn value_refusal<L: LinkStore>(model: &ModelRef<L>, end: End, value: &Value)
     end_refusal(model, end)
 }
 
-/// Whether a value is no object, or a live one.
+/// Whether a value is a live object, or is no object at all.
 fn is_value_live<L: LinkStore>(model: &ModelRef<L>, value: &Value) -> bool
     ensures { result ≡ r.is_value_live (reading model.now) value.now }
 {

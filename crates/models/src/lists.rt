@@ -88,7 +88,7 @@ impl<'a, L: LinkStore> ModelRef<'a, L> {
         }
     }
 
-    /// The position of a value in a reference, which is searched from the first position on; `None` if it is not there.
+    /// The position of a value in a reference; `None` if the value is not there. The search begins at the first position.
     fn target_position(&self, end: End, value: &Value) -> Option<u32>
         requires reference { (shape self.now.metamodel end.feature).is_reference ≡ true }
         ensures { result ≡ first_in ((reading self.now).values end) value.now }
@@ -135,7 +135,7 @@ impl<'a, L: LinkStore> ModelRef<'a, L> {
         self.meta().is_unique(end.feature) && self.has(end, value)
     }
 
-    /// The position that is named, or else the position after the last value of the end.
+    /// The position `index` if it is given, or else the position after the last value of the end.
     pub fn position_for(&self, end: End, index: Option<u32>) -> u32
         ensures { result ≡ r.position_for (reading self.now) end index }
     {

@@ -212,7 +212,8 @@ fn attribute_at<'a>(meta: &'a Meta, values: &'a Values, end: End) -> Option<&'a 
     }
 }
 
-/// Whether an attribute is set: a list if it has values, an unsettable attribute by its flag, and another one if its value is not the default.
+/// Whether an attribute is set. A list is set if it has values. A single unsettable attribute is set if its flag is on. Any other single
+/// attribute is set if its value is not the default.
 #[inline(always)]
 #[tactic(auto, using(crate::proofs::ReadLemmas::is_nil_shown, crate::proofs::ReadLemmas::set_by))]
 fn is_attribute_set(

@@ -16,8 +16,8 @@ use Rattle.node_slots.specs.Slots.{CanEdit, no_pairing, slot_edit_capacity}
 use Rattle.node_slots.specs.Rows.{entered_after, entries_taken, hold_after, is_row, places_taken, row_entered, row_entries, row_hold, row_mixed, row_pairing, row_indexes, row_slots, row_vals, told_after, vals_after}
 use Rattle.node_slots.specs.Tables.{Table, place_at, row_index_at, row_from, row_in}
 
--- for each end its values, and the opposite and the containing feature that puts gave for its feature; for each node the end that contains
--- it, and the ends without opposite that hold it
+-- for each end: its values, and the opposite and the containing feature that puts named for the feature of the end; for each node: the end
+-- that contains the node, and the ends without opposite that hold the node
 pub record Cells : Type 0 where
   pub vals : End → List Value
   pub pairing : End → Pairing
@@ -28,8 +28,8 @@ pub record Cells : Type 0 where
 abbrev pub no_cells : Cells
 no_cells = record { vals = λ e. []; pairing = λ e. no_pairing; hold = λ n. None; entered = λ n. [] }
 
--- the capacity that is reserved: for each end, how many more values it can take, and whether these may be values that are no objects; for
--- each node, how many more ends that hold it can be kept; and which nodes have a row
+-- the reserved capacity: for each end, how many more values it can take, and whether these may be values other than objects; for each node,
+-- how many more ends that hold the node can be kept, and whether the node has a row
 pub record Room : Type 0 where
   pub places : End → ℕ
   pub mixed : End → Bool
@@ -68,7 +68,8 @@ room t =
 abbrev pub slot_ends : Node → List Slot → List End
 slot_ends n ss = map (λ s. record { node = n; feature = s.feature }) ss
 
--- the ends that have a slot, for the nodes from number k on; the list gives the index of each node's row
+-- the ends that have a slot, for all nodes whose number is at least k; the list gives for each of these nodes, in order, the index of its
+-- row
 abbrev pub row_ends : (ℕ → Node) → ℕ → List Row → List ℕ → List End
 row_ends at k rs [] = []
 row_ends at k rs (p ∷ ps) = slot_ends (at k) (row_slots (row_from rs (place_at (Some p)))) ++ row_ends at (suc k) rs ps

@@ -60,7 +60,8 @@ pub record HasRoom (r : Room) (plan : List Edit) : Type 0 where
   pub takes : TakesAll r plan
   pub entries : (n : Node) → entries plan n ≤ r.entries n
 
--- the capacity has grown: for each end by `values` more values, and for each node by `ends` more ends that hold it
+-- the capacity has grown: for each end e there is capacity for at least `values e` more values, and for each node n there is capacity for
+-- at least `ends n` more ends that hold n
 pub record HasGained (values : End → ℕ) (ends : Node → ℕ) (old new : Room) : Type 0 where
   pub places : (e : End) → old.places e + values e ≤ new.places e
   pub mixed : (e : End) → old.mixed e ≡ true → new.mixed e ≡ true

@@ -10,7 +10,7 @@ use Rattle.node_slots.specs.declared.slot.Slot.{Slot}
 use Rattle.node_slots.specs.declared.slot.SlotEdit.{SlotEdit}
 use Rattle.node_slots.specs.declared.slot.SlotEdit.TheVariants.{Insert, Push, Remove, Move, Forget}
 
--- neither an opposite nor a container
+-- the pairing of a feature that has neither an opposite nor a containing feature
 abbrev pub no_pairing : Pairing
 no_pairing = record { opposite = None; container = None }
 

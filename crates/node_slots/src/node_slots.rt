@@ -17,7 +17,7 @@ pub use growth::PutPlaces;
 use mm_types::{End, Node, ObjectNo, Value};
 use std::alloc::Global;
 
-/// A row for each node that had capacity reserved for a value, or for an end that holds it.
+/// A row for each node for which capacity was reserved: for a value of the node, or for an end that holds the node.
 #[derive(Drop)]
 pub struct NodeSlots {
     objects: RowTable,
@@ -121,8 +121,8 @@ impl NodeSlots {
         self.slot(end)?.values.position(value)
     }
 
-    /// A guess at the index of a value in an end. It is right if the numbers of the objects rise or fall along the list, or if the list has
-    /// labels that do. Otherwise any index.
+    /// A guess at the index of a value in an end. The guess is right if the numbers of the objects rise or fall along the list, or if the
+    /// list has labels that rise or fall along it. Otherwise the guess may be any index.
     pub fn guess(&self, end: End, value: &Value) -> usize {
         match self.slot(end) {
             Some(slot) => slot.values.guess(value),
@@ -130,7 +130,7 @@ impl NodeSlots {
         }
     }
 
-    /// The pairing of an end's feature, as the last put of an object into the end said it.
+    /// The opposite and the containing feature of an end's feature, as the last put of an object into the end gave them.
     #[tactic(auto, unfolding(crate::specs::Cells::cells))]
     pub fn pairing(&self, end: End) -> Pairing
         ensures { result ≡ (cells self.now).pairing end }

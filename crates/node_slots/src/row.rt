@@ -35,7 +35,7 @@ pub struct Row {
     pub holder: Option<End>,
     /// The ends with no opposite that hold the node, in the order in which they came, until they are put in order.
     pub entered: ShortList<End>,
-    /// For how many more ends capacity is reserved there.
+    /// The number of further ends for which capacity is reserved in `entered`.
     pub promised: usize,
 }
 

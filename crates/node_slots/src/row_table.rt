@@ -8,13 +8,13 @@ use mm_types::FeatureNo;
 use std::alloc::{AllocError, Global};
 use std::marker::Model;
 
-/// Rows by number. A number with no row takes four bytes if a higher number has a row, else none, since most objects of a model may have no
-/// links. Contracts see both lists, and read them by `row_in`.
+/// Rows by number. Most objects of a model may have no links. So a number with no row takes only four bytes if a higher number has a row,
+/// and no bytes otherwise. Contracts see both lists, and read them by `row_in`.
 #[derive(Drop)]
 pub(crate) struct RowTable {
-    /// By number: zero if it has no row, and else one more than the index of the row.
+    /// At each number: zero if the number has no row, and else one more than the index of its row.
     places: Vec<u32>,
-    /// In the order in which they were made.
+    /// The rows, in the order in which they were made.
     rows: Vec<Row>,
 }
 

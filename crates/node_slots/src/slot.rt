@@ -52,7 +52,7 @@ pub enum SlotEdit {
 #[derive(Drop)]
 pub struct Slot {
     pub feature: FeatureNo,
-    /// As the last put of an object said; neither opposite nor container if none was put.
+    /// The opposite and the containing feature, as the last put of an object gave them; neither of them if no object was put.
     pub pairing: Pairing,
     pub values: EndValueList,
     /// For how many more values capacity is reserved.

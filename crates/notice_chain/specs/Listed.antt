@@ -109,7 +109,8 @@ told_list up (n ∷ ns) rs = told_of up n rs ++ told_list up ns rs
 
 ----------------------------------------------------------------- counting on
 
--- whether an adapter of t targets is full: k notifications, k above 0, and then one for each target would count past the greatest u64
+-- whether an adapter with t targets is too full for k notifications: k is above 0, and a u64 can't count k more notifications and then one
+-- for each target
 abbrev pub is_full : ℕ → ℕ → View → Bool
 is_full k t v = nat_lt 0 k && nat_le (2 ^ 64) (v.told + (k + t))
 

@@ -5,7 +5,7 @@ use indexmap::IndexSet;
 use models::ReferenceKey;
 use std::alloc::{AllocError, Global};
 
-/// A set of indexes, or of objects, at the references of objects.
+/// A set of keys. Each key is an index or an object, under a reference of an object.
 #[derive(Drop)]
 pub struct Keys {
     set: IndexSet<ReferenceKey>,

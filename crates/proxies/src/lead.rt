@@ -88,7 +88,7 @@ fn push_lead<L: LinkStore>(
     Ok(())
 }
 
-/// For a reference of an object and another object, the index of the first proxy there that leads to the other.
+/// For each reference of an object, and each object that a proxy there leads to: the index of the first such proxy.
 #[derive(Drop)]
 pub struct FirstLeads {
     indices: IndexMap<ReferenceKey, u32>,
@@ -131,7 +131,7 @@ impl FirstLeads {
         }
     }
 
-    /// Adds an index, unless the key has one.
+    /// Adds the index of a key, unless the key has an index already.
     fn add_first(&mut self, key: ReferenceKey, index: u32) -> Result<(), AllocError>
         ensures { OnOk result ((k : ReferenceKey) → spec.index_at self.new k ≡ option_or (spec.index_at self.old k) (if spec.same_reference_key key k then Some index else None)) }
     {
@@ -142,7 +142,7 @@ impl FirstLeads {
         Ok(())
     }
 
-    /// Takes no memory.
+    /// The index of a key; `None` if the key has none. Takes no memory.
     pub fn index(&self, key: ReferenceKey) -> Option<u32>
         ensures { result ≡ spec.index_at self.now key }
     {

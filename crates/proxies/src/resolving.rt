@@ -171,7 +171,7 @@ fn uri_of(text: &str) -> &str
     }
 }
 
-/// Why no object is at the address of a proxy, or no proxy there leads back: `Unloaded`, `Unresolved` or `Unmatched`.
+/// Why a proxy leads to no object, or to an object with no proxy that leads back: `Unloaded`, `Unresolved` or `Unmatched`.
 fn lost_refusal<L: LinkStore>(
     model: &ModelRef<L>,
     end: End,
@@ -190,7 +190,7 @@ fn lost_refusal<L: LinkStore>(
     }
 }
 
-/// Whether a reference has an opposite, and no proxy there leads back.
+/// Whether a reference has an opposite, and no proxy at the opposite end of the target leads back.
 pub fn is_unmatched<L: LinkStore>(model: &ModelRef<L>, end: End, target: ResolvedProxy) -> bool
     ensures { result ≡ resolving.is_unmatched (reading model.now) end target }
 {

@@ -63,7 +63,7 @@ pub record IsResolvedBetween (r : Reading) (t : Model) (o : ObjectNo) (f : Featu
   pub between : Between r (reading (model_after t (At (at_end (node.Object o) f) (Resolve i))))
   pub fewer : proxies_len (reading t) ≡ (if is_some (shape t.metamodel f).opposite then 2 else 1) + proxies_len (reading (model_after t (At (at_end (node.Object o) f) (Resolve i))))
 
--- the same for each proxy of a partly resolved copy of a model that has no proxies
+-- `IsResolvedBetween` holds for each proxy of a partly resolved copy of a model that has no proxies
 abbrev pub ResolvesBetween : Model → ValuesState → Links → Type 0
 ResolvesBetween s w b =
     let t = model_of s.metamodel w b in

@@ -63,7 +63,7 @@ abbrev pub after_all : Model → List Change → Model
 after_all t [] = t
 after_all t (c ∷ cs) = after_all (model_after t c) cs
 
--- a change is not refused; and `AreAllowed`, no change of a list is refused in its turn
+-- a change is not refused; and `AreAllowed`, no change of a list is refused in the model that the changes before it leave
 pub record IsAllowed (t : Model) (c : Change) : Type 0 where
   pub early : early_refusal (reading t) c ≡ None
   pub late : late_refusal (reading t) c ≡ None
@@ -85,6 +85,6 @@ pub record AreLoads (s : Model) (ts : List Task) : Type 0 where
   pub legal : IsLegal (after_all (empty_model s.metamodel) (changes (reading s) [] ts))
   pub between : Between (reading s) (reading (after_all (empty_model s.metamodel) (changes (reading s) [] ts)))
 
--- the same in any order of the tasks
+-- `AreLoads` holds for the tasks in any order
 abbrev pub LoadsGiveBetween : Model → Type 0
 LoadsGiveBetween s = IsLegal s → HasSteadyTexts s → IsSaved (reading s) → (ts : List Task) → IsOrder (reading s) [] [] ts → AreLoads s ts

@@ -15,7 +15,7 @@ use Rattle.reloading.specs.Laws.{IsAllResolved}
 use Rattle.reloading.specs.Orders.{AreAllowed, IsOrder, IsSaved, Task, after_all, changes}
 use Rattle.reloading.specs.Proxies.{HasNoProxy}
 
--- each change resolves a proxy that is there in its turn, and no proxy is left after the last change
+-- each change resolves a proxy of the model that the changes before it leave, and no proxy is left after the last change
 abbrev pub AreResolves : Model → List Change → Type 0
 AreResolves t [] = HasNoProxy (reading t)
 AreResolves t (At e (Resolve i) ∷ cs) = (is_some (proxy_at (reading t) e i) ≡ true) × AreResolves (model_after t (At e (Resolve i))) cs
@@ -31,8 +31,8 @@ pub record IsHadAgain (s : Model) (ts : List Task) (cs : List Change) : Type 0 w
   pub resolves : AreAllowed (reloaded_model s ts) cs
   pub alike : Alike (reading s) (reading (after_all (reloaded_model s ts) cs))
 
--- after loads in an order: there are resolves that leave no proxy; all resolves that leave no proxy bring the saved model back; and so does
--- a resolve of all proxies at once
+-- after the loads in some order: some list of resolves leaves no proxy; each list of resolves that leaves no proxy brings the saved model
+-- back; a resolve of all proxies at once brings the saved model back too
 pub record IsReloaded (s : Model) (ts : List Task) : Type 0 where
   pub some : (cs : List Change) × AreResolves (reloaded_model s ts) cs
   pub had : (cs : List Change) → AreResolves (reloaded_model s ts) cs → IsHadAgain s ts cs

@@ -24,8 +24,8 @@ is_lost r o e v = goes (is_in_subtree r o) v && not (is_held_by r o e && same_va
 abbrev pub loss : End → Value → ℕ → Loss
 loss e v k = record { end = e; value = v; position = k }
 
--- the losses of an end, for its values from some position on. Each lost value is taken out before the next loss, so its position is the
--- number of earlier values that stay; k is this number for the first of the values
+-- the losses of an end, for its values from some position on; k is the number of values before that position that stay. A loss takes its
+-- value out before the next loss, so the position of a loss is the number of earlier values that stay
 abbrev pub losses_from : (Value → Bool) → End → List Value → ℕ → List Loss
 losses_from lost e [] k = []
 losses_from lost e (v ∷ vs) k = if lost v then loss e v k ∷ losses_from lost e vs k else losses_from lost e vs (suc k)

@@ -17,8 +17,8 @@ use Rattle.removal.specs.declared.link_end.LinkEnd.{LinkEnd}
 abbrev pub link_end : End → Value → LinkEnd
 link_end e v = record { end = e; value = v }
 
--- whether a link is named by an end of a node that is destroyed: it is, unless the value is destroyed too and the opposite has the lower
--- number
+-- whether a link is named at this end, whose node is destroyed. If the link's value is destroyed too, and its feature has an opposite, the
+-- link is named only at the end of the feature with the lower number
 abbrev pub is_named_here : Reading → (Node → Bool) → FeatureNo → Value → Bool
 is_named_here r is_gone f v = not (goes is_gone v) || option_map_or (λ g. nat_lt f.0 g.0) (shape r.metamodel f).opposite true
 

@@ -79,7 +79,7 @@ fn push_end<L: LinkStore>(
     Ok(())
 }
 
-/// Adds the link of one value, or the proxy, if its end names it.
+/// Adds the link of one value of an end, or the proxy, if this end is the one that names the link.
 fn push_named<L: LinkStore>(
     model: &ModelRef<L>,
     end: End,

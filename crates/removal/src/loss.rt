@@ -26,8 +26,8 @@ pub struct Loss {
     pub position: u32,
 }
 
-/// What ends of other nodes lose when an object and all objects below it are destroyed, by feature number, then by node, then by position;
-/// the loss of the object itself, at the end that contains it, comes last. Fails only if memory is refused.
+/// What ends of other nodes lose when an object and all objects below it are destroyed. The losses are in order by feature number, then by
+/// node, then by position. The loss of the object itself, at the end that contains it, comes last of all. Fails only if memory is refused.
 pub fn losses<L: LinkStore>(
     alloc: Global,
     model: &ModelRef<L>,
@@ -44,7 +44,7 @@ pub fn losses<L: LinkStore>(
     Ok(out)
 }
 
-/// Adds the losses of one end; the object itself is then still in the end that contains it.
+/// Adds the losses of one end. If this end contains the deleted object itself, that object is not among these losses yet.
 fn push_lost<L: LinkStore>(
     model: &ModelRef<L>,
     removal: &Removal,
@@ -124,8 +124,8 @@ fn last_position<L: LinkStore>(model: &ModelRef<L>, removal: &Removal, end: End)
     kept
 }
 
-/// Whether an object in an end is lost before the deleted object leaves the end that contains it. A proxy, for which no object is
-/// found, stays.
+/// Whether an object that was found in an end is lost before the deleted object leaves the end that contains it. `is_holder` says whether
+/// the end in question is the one that contains the deleted object. A proxy, for which no object is found, stays.
 fn is_lost(removal: &Removal, is_holder: bool, found: Option<ObjectNo>) -> bool
     ensures { result ≡ option_map_or (λ x. ranks.is_in removal.now.numbers (node.Object x) && not (is_holder && same_value (value.Object x) (value.Object removal.now.object))) found false }
 {

@@ -24,7 +24,7 @@ impl Numbers {
         Ok(Numbers(numbers))
     }
 
-    /// Whether a node is an object whose number is among them. It walks up no chain of containers, so a deep tree costs no more time. Takes
+    /// Whether a node is an object with one of these numbers. No chain of containers is walked up, so a deep tree takes no more time. Takes
     /// no memory.
     pub(crate) fn has(&self, node: Node) -> bool
         ensures { result ≡ ranks.is_in self.now node }

@@ -1,4 +1,4 @@
-//! The links from remaining nodes to destroyed nodes that can be named only by the ends of the remaining nodes.
+//! The links from remaining nodes to destroyed nodes, if the links can be named only by the ends of the remaining nodes.
 ghost use Rattle.std.specs.Prelude.{◌≡◌, ◌++◌, true, All, filter, flat_map, map, OnOk, option_map, option_to_list};
 ghost use Rattle.mm_types.specs.Shapes.{shape};
 ghost use Rattle.mm_types.specs.declared.value.Value.TheVariants as value;

@@ -17,17 +17,17 @@ is_change (command.Detach number) = false
 is_change (command.Read q) = false
 is_change _ = true
 
--- a change that is not refused is not refused without adapters either, and leaves the same model
+-- a change that is not refused is also not refused if there are no adapters, and leaves the same model in both cases
 abbrev pub IsAloneToo : State → Command View → Type 0
 IsAloneToo s c =
     is_change c ≡ true → refusal_of s c ≡ None
     → (refusal_of (state_of_model s.model) c ≡ None) × ((step (state_of_model s.model) c).after ≡ state_of_model (step s c).after.model)
 
--- any other command leaves the model
+-- a command that asks for no change leaves the model as it is
 abbrev pub KeepsModel : State → Command View → Type 0
 KeepsModel s c = is_change c ≡ false → (step s c).after.model ≡ s.model
 
--- a change that was done is done without adapters too, and leaves the same model
+-- a change that was done is also done if there are no adapters, and leaves the same model in both cases
 abbrev pub ComesBack : State → Command View → Reply View → State → Type 0
 ComesBack s c r t =
     is_change c ≡ true → Executed s c (Ok r) t

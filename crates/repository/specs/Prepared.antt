@@ -25,8 +25,8 @@ pub record TellsAll (up : Above) (made chain : List Notice) (rs : List Listed) :
   pub adapters : tell_chain up made rs ≡ tell_chain up chain rs
   pub full : is_chain_full up made rs ≡ is_chain_full up chain rs
 
--- a change is ready: only a full adapter can refuse it, and these are its answer, the targets that are taken away, its edits of links and
--- of values, and its notifications
+-- a change is ready: only a full adapter can refuse it; a is its answer, `going` has the targets that are taken away, es and vs are its
+-- edits of links and of values, and ns are its notifications
 pub record IsReady (s : State) (text : List ℕ) (c : Change) (a : Answer) (going : List Spot) (es : List Edit) (vs : List ValueEdit) (ns : List Notice) : Type 0 where
   pub asked : early_refusal (reads s) c ≡ None
   pub allowed : late_refusal (reads s) c ≡ None

@@ -24,7 +24,7 @@ abbrev pub is_memory : Outcome → Bool
 is_memory (Ok r) = false
 is_memory (Err f) = is_memory_refusal f.refused
 
--- whether a refusal is found without memory; MEMORY never comes in its place
+-- whether a refusal is found without memory; a command to which such a refusal applies does not fail with MEMORY
 abbrev pub is_plain : Refused → Bool
 is_plain NoObject = true
 is_plain NoResource = true
@@ -61,7 +61,7 @@ pub record IsWanting (s : State) (c : Command View) (o : Outcome) (t : State) : 
   pub outcome : o ≡ Err (failure c Memory)
   pub state : t ≡ s
 
--- the outcome of a command that takes no adapter; and `read_outcome`, of a read
+-- the outcome of a command that takes no adapter; and `read_outcome`, the outcome of a read
 abbrev pub change_outcome : Result (Reply View) Refused → Outcome
 change_outcome (Ok r) = Ok r
 change_outcome (Err r) = Err (record { refused = r; given_back = None })
@@ -70,7 +70,7 @@ abbrev pub read_outcome : {X : Type 0} → (X → Answer) → Result X Refused �
 read_outcome f (Ok x) = Ok (record { answer = f x; told = []; released = [] })
 read_outcome f (Err r) = Err (record { refused = r; given_back = None })
 
--- the outcome of a change at an end, whose answer is known if it has no reply
+-- the outcome of a change at an end; if the change gives no reply, the answer is a
 abbrev pub brief_outcome : {A : Type 0} → (A → View) → Answer → Brief A → Outcome
 brief_outcome heard a (Unheard r) = read_outcome (λ u. a) r
 brief_outcome heard a (Replied r) = change_outcome (changed_view heard r)
@@ -113,6 +113,6 @@ commands_kept cs [] = []
 commands_kept [] (o ∷ os) = []
 commands_kept (c ∷ cs) (o ∷ os) = if is_memory o then commands_kept cs os else c ∷ commands_kept cs os
 
--- without the commands that failed with MEMORY, the outcomes and the state after them are the outcomes and the state of a run
+-- a run of the commands that did not fail with MEMORY gives exactly their outcomes, and leaves the state t
 abbrev pub IsRun : State → List (Command View) → List Outcome → State → Type 0
 IsRun s cs os t = run s (commands_kept cs os) ≡ record { outcomes = outcomes_kept os; after = t }

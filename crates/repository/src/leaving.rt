@@ -81,7 +81,7 @@ fn spots_with<A: Adapter>(
     Ok(spots)
 }
 
-/// Adds the targets of an adapter that are taken away.
+/// Adds those targets of an adapter that are taken away.
 fn add_gone(
     spots: &mut Vec<(AdapterNo, Node)>,
     removal: &Removal,
@@ -99,7 +99,7 @@ fn add_gone(
     Ok(())
 }
 
-/// The targets that are taken away, and capacity for all notifications: reserved before anything changes.
+/// The targets that are taken away, and the capacity for all notifications. The memory for both is reserved before anything changes.
 #[derive(Drop)]
 pub(crate) struct Leaving<A> {
     /// The targets that are taken away: the adapters in attach order, the targets of each in the order in which it got them.

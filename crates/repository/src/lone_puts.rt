@@ -14,7 +14,7 @@ use mm_types::{End, Node, Value};
 use mm_values::{NewValues, Values};
 use std::alloc::AllocError;
 
-/// Forgets the fragments, and the adapters that are notified at a node, if a put makes a link that contains. Takes no memory.
+/// Forgets the remembered fragments, and which adapters are notified at a node, if a put makes a containing link. Takes no memory.
 #[inline(always)]
 pub(crate) fn forget_put(paths: &mut PathCache, hearers: &mut Hearers, put: NewLink)
     ensures paths { paths.new ≡ (if is_some put.container then map.empty else paths.old) }

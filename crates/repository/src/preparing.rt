@@ -73,7 +73,7 @@ pub(crate) fn prepare<L: LinkStore, A: Adapter>(
     })
 }
 
-/// The answer of a change that is not refused, if the change has it before it is planned. Fails only if memory is refused.
+/// The answer of a change that is not refused, and whose answer does not depend on its plan. Fails only if memory is refused.
 fn known_answer<L: LinkStore>(
     alloc: Global,
     model: &ModelRef<L>,
@@ -272,7 +272,7 @@ fn early_answer<L: LinkStore>(
     }
 }
 
-/// `early_answer` of an act at an end.
+/// What `early_answer` returns for a change that does an act at an end.
 fn early_act_answer<L: LinkStore>(
     alloc: Global,
     model: &ModelRef<L>,

@@ -61,7 +61,7 @@ pub enum FeatureValue {
 impl FeatureValue {
     ghost use Rattle.repository.specs.Answers.{got_answer};
 
-    /// As the answer of a command.
+    /// Converts what a feature holds into the answer of a command.
     pub(crate) fn into_answer(self) -> Answer
         ensures { result ≡ got_answer self }
     {
@@ -78,14 +78,14 @@ pub struct Reply<A = Box<dyn Adapter>> {
     pub answer: Answer,
     /// Which adapter was notified of what, in order.
     pub told: Seq<(AdapterNo, Notice)>,
-    /// The adapters that were released by it, each with its number.
+    /// The adapters that the command released, each with its number.
     pub released: Seq<(AdapterNo, A)>,
 }
 
 /// The outcome of a change at an end, without a reply if the change notified no adapter: to make a reply takes longer than such a change.
 #[derive(Drop)]
 pub enum Brief<A = Box<dyn Adapter>> {
-    /// No adapter was notified; or the refusal.
+    /// The change notified no adapter. If it was refused, this has the refusal.
     Unheard(Result<(), Refused>),
     /// The reply, or the refusal.
     Replied(Result<Reply<A>, Refused>),

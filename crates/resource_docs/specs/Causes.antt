@@ -52,7 +52,7 @@ repeats_value (v ∷ vs) = list_any (same_value v) vs || repeats_value vs
 abbrev pub has_repeat : Metamodel → Content → Bool
 has_repeat m c = (shape m c.feature).is_unique && repeats_value c.values
 
--- whether the object that a value names does not name the object o back under the opposite
+-- whether the feature has an opposite, and the object that a value names does not name the object o under that opposite
 abbrev pub is_unanswered : Metamodel → Doc → ObjectNo → FeatureNo → Value → Bool
 is_unanswered m d o f (value.Object b) =
     option_map_or (λ g. not (list_any (same_value (value.Object o)) (values_in d b g))) (shape m f).opposite false
@@ -125,7 +125,7 @@ pub record IsRead (m : Metamodel) (uri : List ℕ) (doc : Doc) : Type 0 where
   pub source : Data
   pub gives : reads m (base_of uri) source ≡ Ok doc
 
--- the result is the document or the fault that is defined; or `Memory`
+-- the result is the wanted document, the wanted fault, or `Memory` in either case
 abbrev pub Answers : Result Doc Refused → Result Doc DocFault → Type 0
 Answers (Ok doc) wanted = (wanted ≡ Ok doc) × HasSteadyProxies doc
 Answers (Err (Document f)) wanted = wanted ≡ Err f

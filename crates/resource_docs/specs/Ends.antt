@@ -55,6 +55,6 @@ any_one_sided_by m e os = list_any (λ x. list_any (one_sided_by m e x.0) x.1.co
 
 ---------------------------------------------------------------- what has to be answered
 
--- whether objects that are named under a feature have to name back: it has an opposite and is no containment
+-- whether an object that is named under a feature must name the first object in turn: the feature has an opposite and is no containment
 abbrev pub asks_back : Metamodel → Content → Bool
 asks_back m c = not (is_containment m c.feature) && is_some (shape m c.feature).opposite

@@ -29,7 +29,8 @@ use Rattle.resource_docs.specs.declared.objects.ReadContents.{ReadContents}
 use Rattle.resource_docs.specs.declared.objects.ReadObjects.{ReadObjects}
 use Rattle.resource_docs.specs.declared.values.ReadValues.{ReadValues}
 
--- `says` is true of each path whose first part has the number n, for all lists of parts that the found parts can be
+-- for each list of parts that the found parts f may represent, `says` is true of that list and of each path whose first part has the number
+-- n
 abbrev pub Numbered : Metamodel → FoundParts → ℕ → (List Part → Path → Type 0) → Type 0
 Numbered m f n says = (ps : List Part) (path : Path) → Knows m f ps → number_of ps path ≡ Some n → says ps path
 
@@ -68,12 +69,12 @@ with_values r f v =
       has_long = r.has_long;
     }
 
--- the contents; whether one more content is of its type; and whether it is too long
+-- the contents with the flags of one more content: whether that content is of its type, and whether it is too long
 abbrev pub with_content_flags : ReadContents → Bool → Bool → ReadContents
 with_content_flags r is_of_type long =
     record { contents = r.contents; is_lost = r.is_lost; has_other = r.has_other || not is_of_type; has_long = r.has_long || long }
 
--- the contents with the faults of what is written under one more feature
+-- the contents with the flags of one more entry: whether what is written under a feature is of its type, and whether it is too long
 abbrev pub with_flaws : Metamodel → ReadContents → Entry → ReadContents
 with_flaws m r e = with_content_flags r (is_content m e) (is_long m e)
 
@@ -99,7 +100,7 @@ early_cause m t ps =
 abbrev pub late_cause : Metamodel → Base → Data → List Part → Doc → Option DocFault
 late_cause m b d ps doc = cause.Value where_so of_entry m (λ e. not (is_content m e)) ps else_by sense_cause m b d ps doc
 
--- the same, after the names of features
+-- the cause `Feature` if it applies to the name of some feature; else the cause that is known after the values are read
 abbrev pub named_cause : Metamodel → Base → Data → List Part → Doc → Option DocFault
 named_cause m b d ps doc = cause.Feature where_so of_written (has_other_key m) ps else_by late_cause m b d ps doc
 

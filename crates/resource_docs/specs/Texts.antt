@@ -22,11 +22,12 @@ abbrev pub uri_meant : Base → List ℕ → Option (List ℕ)
 uri_meant b [] = Some b.uri
 uri_meant b (c ∷ cs) = b.join (c ∷ cs)
 
--- the target at a URI: an object of the document if the URI is the resource's own, as a text; else an object elsewhere
+-- the target at a URI: an object of the document, if the URI and the resource's own URI are the same text; else an object of another
+-- resource
 abbrev pub target_in : Base → List ℕ → List ℕ → Path → Referent
 target_in b rest uri p = if bytes_eq uri b.uri then Here p else Elsewhere (address_text uri rest)
 
--- the target of a URI, or an empty text, and the fragment after it
+-- the target of an address that is cut in two: `part` is a URI or empty, and `rest` is the fragment
 abbrev pub target_at : Base → List ℕ → List ℕ → Option Referent
 target_at b part rest = parse rest >>= (λ p. option_map (λ u. target_in b rest u p) (uri_meant b part))
 

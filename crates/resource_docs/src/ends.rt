@@ -29,7 +29,7 @@ impl Ends {
     ghost use Rattle.resource_docs.specs.Ends.{IsEndsOf, any_one_sided_by, by_contents, by_values, has, one_sided_by, same_naming, unanswered_by};
     ghost use Rattle.resource_docs.specs.declared.ends.Naming.{Naming};
 
-    /// No object names any. Takes no memory.
+    /// Namings of no objects: no object names another one. Takes no memory.
     fn new(alloc: Global) -> Self
         ensures { (k : Naming) → has result k ≡ false }
     {
@@ -107,7 +107,8 @@ impl Ends {
         Ok(ends)
     }
 
-    /// Whether a value names an object that does not name back. Takes no memory.
+    /// Whether a value of an object names another object that should name the first one back and does not. The other object should do so if
+    /// the feature has an opposite. Takes no memory.
     fn is_unanswered(&self, meta: &Meta, object: usize, feature: FeatureNo, value: &Value) -> bool
         ensures { result ≡ unanswered_by meta.now self.now object feature value.now }
     {
@@ -168,7 +169,8 @@ impl Ends {
     }
 }
 
-/// Whether the objects of a content have to name back: its feature has an opposite, and is no containment.
+/// Whether the objects that a content names have to name back the object that has the content: the feature of the content has an opposite,
+/// and is no containment.
 fn asks_back(meta: &Meta, content: &Content) -> bool
     ensures { result ≡ asks_meant meta.now content.now }
 {
@@ -189,8 +191,8 @@ fn is_any_asked(meta: &Meta, objects: &[DocObject]) -> bool
         .any(|object| any_asks_back(meta, object.contents.as_slice()))
 }
 
-/// Whether some object of a document names another under a feature with an opposite, and that one does not name back.
-/// Fails only if memory is refused; takes none if no object has to name back.
+/// Whether some object of a document names another object under a feature with an opposite, and the other object does not name it back.
+/// Fails only if memory is refused; takes no memory if no object has to name another one back.
 pub(crate) fn has_one_sided(alloc: Global, meta: &Meta, doc: &Doc) -> Result<bool, AllocError>
     ensures { IfOk result (λ b. b ≡ of_content (is_one_sided meta.now doc.now) doc.now) }
 {

@@ -34,7 +34,8 @@ pub(crate) struct ReadContents {
     pub has_long: bool,
 }
 
-/// What is read of a document: its objects, and whether any of them has such a fault.
+/// What is read of a document: its objects; whether a reference leads nowhere; and whether some content is not of its feature's type, or
+/// has too many values.
 #[derive(Drop)]
 pub(crate) struct ReadObjects {
     pub objects: Seq<DocObject>,
@@ -74,8 +75,8 @@ fn add_values(
     Ok(())
 }
 
-/// Whether a content, from which these values were read, is of its feature's type. The value of a single attribute is read only if it is of
-/// the attribute's type.
+/// Whether a content is of its feature's type. `values` are the values that were read from the content. The value of a single attribute is
+/// read only if it is of the attribute's type.
 fn is_of_type<'t>(
     meta: &Meta,
     feature: FeatureNo,

@@ -67,8 +67,8 @@ fn read_rest(
     }
 }
 
-/// Whether some object has a member that is no feature of its class. If each member is known to be a feature of its class, no name is
-/// looked up.
+/// Whether some object has a member that is no feature of its class. If `is_all` says that each member is known to be a feature of its
+/// class, no name is looked up.
 fn has_other_member(source: &ReadContext, is_all: bool) -> bool
     ensures { (ps : List Part) → Knows source.now.meta.now source.now.found.now ps → (is_all ≡ true → of_written (has_other_key source.now.meta.now) ps ≡ false) → result ≡ of_written (has_other_key source.now.meta.now) ps }
 {

@@ -27,7 +27,7 @@ fn conforms_to(meta: &Meta, class: ClassNo, part: FoundPart) -> bool
     }
 }
 
-/// The object of a number, if it conforms to a class.
+/// The object with the number `number`, if it conforms to a class.
 fn object_of_number(meta: &Meta, found: &FoundParts, class: ClassNo, number: u32) -> Option<Value>
     ensures value { (r : FoundPart) → slice_get found.now.parts.items number ≡ Some r → result ≡ (if conforms_seen meta.now class (part_seen r) then Some (object_of number) else None) }
     ensures proxy { IfSome result IsProxyValue }

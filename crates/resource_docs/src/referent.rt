@@ -50,7 +50,7 @@ fn target_in(
     Ok(Referent::Elsewhere(text))
 }
 
-/// What a part before `#` and a fragment after it lead to.
+/// What a reference with a `#` leads to, from the part before the `#` and the fragment after it.
 fn address_target(
     alloc: Global,
     uri: &str,

@@ -24,7 +24,7 @@ pub(crate) struct ReadValues {
     pub is_lost: bool,
 }
 
-/// The object to which a step leads from the part of a number. It is looked for first at the number that it is likely to have.
+/// The object to which a step leads from the part with the number `number`. The number `likely` is tried first.
 fn part_at(
     source: &ReadContext,
     number: u32,
@@ -46,7 +46,7 @@ fn part_at(
     }
 }
 
-/// The object at a position under a feature of the part of a number.
+/// The object at a position under a feature of the part with the number `number`.
 fn part_of(
     source: &ReadContext,
     number: u32,
@@ -75,7 +75,7 @@ fn part_of(
     )
 }
 
-/// The value that is read at a position under a feature of the part of a number. Fails only if memory is refused.
+/// The value that is read at a position under a feature of the part with the number `number`. Fails only if memory is refused.
 fn value_of(
     source: &ReadContext,
     number: u32,
@@ -123,7 +123,7 @@ fn note_lost(read: &mut ReadValues, is_lost: bool)
     read.is_lost = read.is_lost || is_lost;
 }
 
-/// The number that the next object under a feature of the part of a number is likely to have: one more than the number of the object before
+/// The likely number of the next object under a feature of the part with the number `number`: one more than the number of the object before
 /// it.
 fn likely_number(read: &ReadValues, number: u32) -> u32 {
     match read.values.as_slice().last() {
@@ -185,8 +185,8 @@ fn read_values(
     Ok(read)
 }
 
-/// The value that was read under a single feature. If there is none, a reference leads nowhere; `is_link` says whether the feature is a
-/// reference and no containment.
+/// What was read under a single feature. If there is no value and the feature is a reference and no containment (`is_link`), the reference
+/// leads nowhere.
 fn one_read(value: Option<Value>, is_link: bool) -> ReadValues
     ensures value { result ≡ new_values (option_to_list value) (is_link && not (is_some value)) }
     ensures proxy { IfSome value IsProxyValue → All IsProxyValue result.values }
@@ -219,7 +219,8 @@ fn read_one(
     Ok(one_read(value, is_link(kind)))
 }
 
-/// Reads the content of a feature of the part of a number. Fails only if memory is refused, or if there are more than 2^32 values.
+/// Reads the content of a feature of the part with the number `number`. Fails only if memory is refused, or if there are more than 2^32
+/// values.
 pub(crate) fn read_content<'t>(
     source: &ReadContext,
     number: u32,

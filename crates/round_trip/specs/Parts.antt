@@ -24,7 +24,7 @@ data_of r k o = object_data r k r.next o
 abbrev pub features_data : Reading → ResourceNo → ObjectNo → Members
 features_data r k o = members (map (feature_member r k (data_of r k) o) (written_features r o))
 
--- an object as a part of the document; and `entry_of`, a written feature as an entry
+-- the part of the document that an object becomes; and `entry_of`, the entry that a written feature of the object becomes
 abbrev pub part_of : Reading → ResourceNo → ObjectNo → Part
 part_of r k o = record { path = path_in r o; json = data_of r k o }
 

@@ -36,7 +36,7 @@ impl Dress {
         !(self.echo || self.number || self.stop)
     }
 
-    /// Whether the run ends after a line with this count.
+    /// Whether the run ends after a line that is counted in this way.
     pub fn ends_at(self, turn: Turn) -> bool
         ensures { result ≡ (self.stop && is_fault turn) }
     {

@@ -91,7 +91,7 @@ removevalue_form n f v = option_map (λ p. asks.At p.0.0 p.0.1 (feature.RemoveVa
 abbrev pub move_form : List ℕ → List ℕ → List ℕ → List ℕ → Option Form
 move_form n f to from = option_map (λ p. asks.At p.0.0.0 p.0.0.1 (feature.Move p.0.1 p.1)) (option_zip (option_zip (feature_in n f) (natural_number to)) (natural_number from))
 
--- whether an adapter is deep: `flat` or `deep`
+-- whether a word makes an adapter deep: false for `flat`, true for `deep`, none for any other word
 abbrev pub depth_in : List ℕ → Option Bool
 depth_in w = if bytes_eq w (codes "flat") then Some false else if bytes_eq w (codes "deep") then Some true else None
 

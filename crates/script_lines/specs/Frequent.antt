@@ -32,14 +32,14 @@ frequent_line (frequent.Add o f w) = line_with (option_map (λ v. asks.At (node.
 frequent_line (frequent.Container o) = line.Form (asks.Read (read.Of o Container))
 frequent_line (frequent.Fragment o) = line.Form (asks.Read (read.Of o Fragment))
 
--- a text has as words an object, a name, and the words of the rest
+-- the words of a text are an object, a name, and then the words of `rest`
 pub record ReadsFeature (o : ObjectNo) (f rest text : List ℕ) : Type 0 where
   pub object : List ℕ
   pub words_are : words text ≡ object ∷ f ∷ words rest
   pub object_is : object_in object ≡ Some o
   pub name_is : name_in f ≡ Some f
 
--- a text has as words an object, a name and one more word
+-- the words of a text are an object, a name, and the word w
 pub record ReadsValue (o : ObjectNo) (f w text : List ℕ) : Type 0 where
   pub object : List ℕ
   pub words_are : words text ≡ object ∷ f ∷ w ∷ []

@@ -6,21 +6,21 @@ use mm_types::{AdapterNo, EndRead, Node, ObjectNo, Read, ResourceNo, Text};
 /// What a line asks of a feature, or does to it.
 #[derive(Drop)]
 pub enum FeatureForm<'a> {
-    /// A question about it.
+    /// A question about the feature.
     Read(EndRead),
-    /// It gets a single value (EMF: EObject.eSet).
+    /// The feature gets a single value (EMF: EObject.eSet).
     Set(WrittenValue<'a>),
-    /// It is taken back to its default (EMF: EObject.eUnset).
+    /// The feature is taken back to its default (EMF: EObject.eUnset).
     Unset,
-    /// A value is put at the end of its list (EMF: EList.add).
+    /// A value is put at the end of the feature's list (EMF: EList.add).
     Add(WrittenValue<'a>),
-    /// A value is put into its list at an index, counted from 0 (EMF: EList.add at an index).
+    /// A value is put into the feature's list at an index, counted from 0 (EMF: EList.add at an index).
     AddAt(u32, WrittenValue<'a>),
-    /// The value at an index of its list, counted from 0, is taken out (EMF: EList.remove of an index).
+    /// The value at an index of the feature's list, counted from 0, is taken out (EMF: EList.remove of an index).
     Remove(u32),
-    /// A value is taken out of its list, at its first occurrence (EMF: EList.remove of an object).
+    /// The first occurrence of a value is taken out of the feature's list (EMF: EList.remove of an object).
     RemoveValue(WrittenValue<'a>),
-    /// A value of its list is moved to an index, from another; both are counted from 0 (EMF: EList.move).
+    /// A value of the feature's list is moved from one index to another; both are counted from 0 (EMF: EList.move).
     Move { to: u32, from: u32 },
     /// The proxy at an index of a reference, counted from 0, is replaced by the object at its address (EMF: EcoreUtil.resolve).
     Resolve(u32),

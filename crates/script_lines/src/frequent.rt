@@ -136,7 +136,7 @@ fn object_feature_of(text: &str) -> Option<(ObjectNo, Name<'_>, &str)>
     Some((object, feature, more))
 }
 
-/// The word that a text is, if it is one word.
+/// The text as a word, if the text is one word.
 fn word_of(text: &str) -> Option<Word<'_>>
     ensures { IfSome result (λ w. words text.now ≡ w ∷ []) }
 {

@@ -20,7 +20,7 @@ fn after_spaces_of(text: &str) -> &str
     text.trim_start_matches(' ')
 }
 
-/// Whether a line may be a `load` line, by only its first byte.
+/// Whether a line may be a `load` line. Only its first byte is looked at.
 fn may_load(line: &str) -> bool
     ensures { result ≡ the_may_load line.now }
 {

@@ -37,7 +37,7 @@ fn first_other(bytes: &[u8]) -> Option<usize>
     bytes.iter().position(|b| !is_name_byte(*b))
 }
 
-/// How many bytes at the front a name may have.
+/// How many of the first bytes are bytes that a name may have.
 fn name_len_of(bytes: &[u8]) -> usize
     ensures { result ≡ prefix_len is_a_name_byte bytes.now }
 {
@@ -64,7 +64,7 @@ impl<'a> Name<'a> {
         Some((Name { text: name }, rest))
     }
 
-    /// The name that a word is: a letter or `_`, and then letters, digits and `_`.
+    /// The word as a name, if the word is a letter or `_`, and then letters, digits and `_`.
     pub(crate) fn from_word(word: &'a str) -> Option<Self>
         ensures { result ≡ name_in word.now }
     {

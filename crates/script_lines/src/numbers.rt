@@ -12,7 +12,7 @@ use mm_types::integers::integer_of;
 /// The greatest number of digits that are read. Each number of nine digits is below 2^32.
 const MOST_DIGITS: usize = 9;
 
-/// The first bytes, as many as are read.
+/// The first bytes: at most `MOST_DIGITS` of them.
 #[inline]
 fn first_bytes(bytes: &[u8]) -> &[u8]
     ensures { result.now ≡ take MOST_DIGITS bytes.now }
@@ -24,7 +24,7 @@ fn first_bytes(bytes: &[u8]) -> &[u8]
     }
 }
 
-/// The number that the digits at the front write, and how many digits they are.
+/// The number that the leading digits write, and how many leading digits there are.
 #[inline]
 fn digits_of(bytes: &[u8]) -> (u32, usize)
     requires { length bytes.now ≤ MOST_DIGITS }

@@ -14,9 +14,9 @@ use std::str;
 /// Bytes of a script: all of them, those that are left, or a line. If a whole script is known to be UTF-8, so is each of its lines.
 #[derive(Clone, Copy)]
 pub enum Source<'a> {
-    /// They are known to be UTF-8.
+    /// Bytes that are known to be UTF-8.
     Text(&'a str),
-    /// Nothing is known of them.
+    /// Bytes of which nothing is known.
     Bytes(&'a [u8]),
 }
 

@@ -125,7 +125,7 @@ fn marked_value_of(word: &str) -> Option<WrittenValue<'_>>
     }
 }
 
-/// The value of a word that is no number. It is never inlined into the way of a number.
+/// The value of a word that is no number. The function is never inlined into the code that reads a number.
 #[inline(never)]
 fn other_value_of(alloc: Global, word: &str) -> Result<Option<WrittenValue<'_>>, AllocError>
     requires some { 0 < length word.now }

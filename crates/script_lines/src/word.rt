@@ -18,7 +18,7 @@ impl<'a> Model for Word<'a> {
 impl<'a> Word<'a> {
     ghost use Rattle.std.specs.Prelude.{◌≡◌};
 
-    /// The word that a text is.
+    /// The text as a word.
     pub(crate) fn new(text: &'a str) -> Self
         ensures { result ≡ text.now }
     {

@@ -32,8 +32,8 @@ fn first_mark(bytes: &[u8]) -> Option<usize>
     bytes.iter().position(|b| *b == QUOTE || *b == BACKSLASH)
 }
 
-/// How many bytes of a word follow its first quotation mark. Most words have no escape, so the next mark mostly ends the quotation. It is
-/// never inlined into the way of a word without quotation marks.
+/// How many bytes of a word follow its first quotation mark. Most words have no escape, so the next quotation mark usually ends the
+/// quotation. The function is never inlined into the code that reads a word without quotation marks.
 #[inline(never)]
 fn quoted_len_of(bytes: &[u8]) -> usize
     ensures value { result ≡ quoted_len false bytes.now }
@@ -116,7 +116,7 @@ pub fn cut_at_space(text: &str) -> (&str, &str)
     cut_at(text, plain_len_of(text.as_bytes()))
 }
 
-/// Whether a word is a verb. It is inlined, so that a word of another length takes no call.
+/// Whether a word is a given verb. The function is inlined, so a word of another length costs no call.
 #[inline(always)]
 pub(crate) fn is_verb(word: &str, verb: &str) -> bool
     ensures { result ≡ bytes_eq word.now verb.now }

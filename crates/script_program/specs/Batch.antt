@@ -42,7 +42,7 @@ pub record RunsBatch (d : Dress) (s : Session) (bytes : List ℕ) (first : List 
   pub runs : RunsFirst d s bytes first rest printed t
   pub ends : (rest ≡ []) ⊎ (is_stopped d printed ≡ true)
 
--- a session ends with a repository of this state; and `EndsAnywhere`: with a repository of any state
+-- a session ends with a repository of the state q; and `EndsAnywhere`, a session ends with a repository of any state
 abbrev pub EndsIn : State → Session → Type 0
 EndsIn q t = t.state ≡ q
 
@@ -71,7 +71,7 @@ pub record PrintsDressedFront (d : Dress) (s : Session) (Left : Session → Type
   pub ran : RunsFirst d s bytes first rest printed after
   pub written : AppendsFront old new (dressed_output d first printed)
 
--- If the input is known, it is within its limit, and was run to the end of its run.
+-- If the input is known, it is within its limit, and was run to its end or to the fault at which it is to stop.
 abbrev pub PrintsInputDressed : Dress → Option (List ℕ) → Session → (Session → Type 0) → Option (List ℕ) → Option (List ℕ) → Summary → Type 0
 PrintsInputDressed d input s Left old new summary = IfSome input (λ bytes. (length bytes ≤ INPUT_BYTES) × PrintsDressed d s Left old new bytes summary)
 

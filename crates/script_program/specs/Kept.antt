@@ -166,7 +166,8 @@ pub record StopsKept (m : Metamodel) (fault : RunFault) (head file : List ℕ) (
   pub had : model_of m (begun_lines head (recovered_lines file)) ≡ Some start.state.model
   pub stops : StopsJournaled m fault start ls old new may_leave
 
--- Some first lines were run after the lines of a file; another file is a journal of the model that they left.
+-- The lines of a file were run, and then the first lines of ls were run; the file `left` is a journal of the model that all these lines
+-- left.
 pub record LeavesKept (m : Metamodel) (head file : List ℕ) (ls : List (List ℕ)) (left : List ℕ) : Type 0 where
   pub start : Session
   pub had : model_of m (begun_lines head (recovered_lines file)) ≡ Some start.state.model

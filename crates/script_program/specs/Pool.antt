@@ -6,7 +6,7 @@ use Rattle.mm_types.specs.declared.refused.Refused.{Refused}
 use Rattle.mm_types.specs.declared.refused.Refused.TheVariants.{NoAdapter, AdapterTaken}
 use Rattle.notice_chain.specs.View.{View}
 
--- the n-th adapter, from 1 on, is An; `None` is in the place of an adapter that is attached
+-- the adapters in order: the n-th adapter, counted from 1, has the name An; an adapter that is attached has the entry `None`
 abbrev pub Pool : Type 0
 Pool = List (Option View)
 

@@ -86,7 +86,7 @@ RunsLines s [] (p ∷ ps) t = ⊥
 RunsLines s (l ∷ ls) [] t = ⊥
 RunsLines s (l ∷ ls) (p ∷ ps) t = (u : Session) × RunsLine s (form l) p u × RunsLines u ls ps t
 
--- All lines of a script were run, `shown` of their output was written, and the counts are the counts of these lines.
+-- All lines of a script were run, the text that `shown` gives for their output was written, and the counts are the counts of these lines.
 pub record PrintsAs (shown : List Printed → List ℕ) (s : Session) (old new : Option (List ℕ)) (bytes : List ℕ) (summary : Summary) : Type 0 where
   pub printed : List Printed
   pub after : Session
@@ -94,7 +94,7 @@ pub record PrintsAs (shown : List Printed → List ℕ) (s : Session) (old new :
   pub counted : summary_of printed ≡ summary
   pub written : Appends old new (shown printed)
 
--- The first lines of a script were run, and a prefix of `shown` of their output was written.
+-- The first lines of a script were run, and a prefix of the text that `shown` gives for their output was written.
 pub record PrintsFrontAs (shown : List Printed → List ℕ) (s : Session) (old new : Option (List ℕ)) (bytes : List ℕ) : Type 0 where
   pub first : List (List ℕ)
   pub rest : List (List ℕ)

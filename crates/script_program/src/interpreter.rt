@@ -28,8 +28,8 @@ pub struct Interpreter<L: LinkStore, A: Adapter> {
 }
 
 impl<L: LinkStore, A: Adapter> Interpreter<L, A> {
-    /// An interpreter over an empty repository of a metamodel, which has printed nothing. The n-th of the adapters, from 1 on, is An. Fails
-    /// only if memory is refused.
+    /// An interpreter over an empty repository of a metamodel, which has printed nothing. The names of the adapters are A1, A2 and so on,
+    /// in their order. Fails only if memory is refused.
     pub fn new(alloc: Global, meta: Meta, boxes: Vec<A>) -> Result<Self, AllocError>
         ensures begin { IfOk result (λ i. session i.repository i.pool ≡ first_session A.heard meta boxes.items) }
         ensures text { IfOk result (λ i. i.output ≡ []) }

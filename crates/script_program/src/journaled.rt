@@ -92,8 +92,8 @@ fn tell<L: LinkStore, A: Adapter, H: Listener>(
 }
 
 impl<L: LinkStore, A: Adapter, H: Listener> Journaled<L, A, H> {
-    /// An interpreter over an empty repository of a metamodel. The n-th of the adapters, from 1 on, is An. The listener is called with each
-    /// line. Fails only if memory is refused.
+    /// An interpreter over an empty repository of a metamodel. The names of the adapters are A1, A2 and so on, in their order. The listener
+    /// is called with each line. Fails only if memory is refused.
     pub fn new(alloc: Global, meta: Meta, boxes: Vec<A>, listener: H) -> Result<Self, AllocError>
         ensures begin { IfOk result (λ j. session_of j ≡ first_session A.heard meta boxes.items) }
         ensures lines { IfOk result (λ j. lines_run j ≡ 0) }

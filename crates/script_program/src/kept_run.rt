@@ -119,11 +119,11 @@ fn run_opened<R: Read, D: Disk, W: Write, L: LinkStore, A: Adapter, H: Listener>
     }
 }
 
-/// Runs the lines of a journal again, in a file that has these bytes, and then a script live whose changes the journal keeps. A file without
-/// lines gets the head first. The session is new: its repository is empty.
+/// Runs the lines of a journal again, and then runs a script live. The file of the journal has these bytes, and the journal keeps the
+/// changes of the script. A file without lines gets the head first. The session is new: its repository is empty.
 ///
-/// Answered lines are kept. A file that a crash leaves, in the recovery, between two calls or inside one, is a journal of the model of all
-/// lines that were answered, and perhaps of some further lines. A call that opens that file begins with that model.
+/// Answered lines are kept. A crash may happen in the recovery, between two calls, or inside a call. The file that it leaves is a journal
+/// of the model of all lines that were answered, and perhaps of some further lines. A call that opens this file begins with that model.
 ///
 /// Stops as `run_again` and `open_journal` do before the script is read, and then as `run_journal` does.
 pub fn run_kept<R: Read, D: Disk + Drop, W: Write, L: LinkStore, A: Adapter, H: Listener>(

@@ -13,8 +13,9 @@ ghost use Rattle.script_answers.specs.Turns.{Printed, texts};
 ghost use Rattle.script_program.specs.Summary.{summary_of};
 ghost use Rattle.script_answers.specs.declared.dress.Dress.{Dress};
 
-/// What the lines of a script print is the text that is defined for the numbers of its lost lines. These numbers are all different, each is
-/// of a line that has a form, and there are as many as `no_memory` counts. The text of the first lines is a prefix of this text.
+/// A line is lost if its command is refused for memory. For each choice of lost lines a text of the script is defined, and the lines print
+/// exactly the text for the lines that were lost. The numbers of the lost lines are all different, each is of a line that has a form, and
+/// there are as many as `no_memory` counts. The text of the first lines is a prefix of this text.
 pub fn what_lines_print_is_the_script()
     ensures whole { (s t : Session) (bytes : List ℕ) (printed : List Printed) → RunsLines s (lines bytes) printed t
         → script s bytes (lost_lines printed) ≡ printed }

@@ -131,7 +131,7 @@ pub(crate) fn run_command<L: LinkStore, A: Adapter>(
 }
 
 /// Prints the outcome of a change, and puts the adapters that the change released back into the pool. Fails only if memory is refused for
-/// the output. It is never inlined into the way of a change that notifies no adapter.
+/// the output. The function is never inlined into the code of a change that notifies no adapter.
 #[inline(never)]
 pub(crate) fn finish_change<L: LinkStore, A: Adapter>(
     repository: &Repository<L, A>,

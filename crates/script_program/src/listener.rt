@@ -5,7 +5,7 @@ use repository::Repository;
 
 /// A listener is called with each line of a script after it was run. It can read the repository, but not change it.
 pub trait Listener: Drop {
-    /// Whether it has to be called. If not, a run takes no time for it.
+    /// Whether the listener has to be called. If not, a run takes no time for the listener.
     fn is_listening(&self) -> bool;
 
     /// Takes note that the lines of a script begin. The lines before came from a journal.

@@ -36,7 +36,7 @@ fn load_into<L: LinkStore, A: Adapter>(
 /// Makes a resource of the URI that a text gives, and loads a document into it, as the lines `resource` and `load` do. The document may
 /// have any length, and newlines. Returns the reply of the load.
 ///
-/// Refused as the first of the two calls that is refused. If the load is refused, the resource was made, and is empty.
+/// Refused as `create_resource` is, or else as `load` is. If the load is refused, the resource was made, and is empty.
 pub fn load_resource<L: LinkStore, A: Adapter>(
     repository: &mut Repository<L, A>,
     uri: &str,

@@ -11,7 +11,7 @@ use std::alloc::{AllocError, Global};
 use std::marker::Model;
 use std::mem;
 
-/// The adapters that a script can attach: the n-th, from 1 on, is An. An adapter that is attached is out of the pool.
+/// The adapters that a script can attach. Their names are A1, A2 and so on, in their order. An adapter that is attached is out of the pool.
 #[derive(Drop)]
 pub(crate) struct Pool<A: Adapter> {
     boxes: Vec<Option<A>>,
@@ -26,7 +26,7 @@ impl<A: Adapter> Model for Pool<A> {
     ghost view = { λ p. map (λ o. option_map A.heard o) p.boxes.items };
 }
 
-/// The index of the adapter of a number. A0 has none.
+/// The index of the adapter that has this number; A0 has no index.
 fn index(no: AdapterNo) -> Option<usize>
     ensures { result ≡ p.index no }
 {
@@ -49,7 +49,7 @@ impl<A: Adapter> Pool<A> {
         Ok(Pool { boxes: slots })
     }
 
-    /// Puts an adapter, or none, under a number, and returns the adapter that was there; None if there is no such place.
+    /// Puts an adapter, or none, into the place of a number, and returns what was there. Returns `None` if there is no such place.
     fn replaced(&mut self, no: AdapterNo, entry: Option<A>) -> Option<Option<A>>
         ensures before { option_map (λ o. option_map A.heard o) result ≡ option_and_then (slice_get self.old) (p.index no) }
         ensures after { self.new ≡ p.with_entry (option_map A.heard entry) self.old no }
@@ -83,7 +83,8 @@ impl<A: Adapter> Pool<A> {
         let _ = self.replaced(no, Some(adapter));
     }
 
-    /// Puts back the adapters of an outcome: the released adapters, or the adapter of the number that was not attached.
+    /// Puts back the adapters of an outcome: the adapters that the reply released; or the adapter that a failed command did not attach,
+    /// which has the number `no`.
     pub(crate) fn give_back(&mut self, no: Option<AdapterNo>, outcome: Result<Reply<A>, Failure<A>>)
         ensures { self.new ≡ pool_after_return self.old no (outcome_view A.heard outcome) }
     {
@@ -97,7 +98,7 @@ impl<A: Adapter> Pool<A> {
         }
     }
 
-    /// Puts adapters that were released back under their numbers.
+    /// Puts released adapters back into the pool, each under its number.
     pub(crate) fn put_all(&mut self, released: Vec<(AdapterNo, A)>)
         ensures { self.new ≡ fold p.with_box self.old (map (λ b. (b.0, A.heard b.1)) released.items) }
     {

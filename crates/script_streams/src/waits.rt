@@ -13,10 +13,10 @@ use std::io::{BufRead, BufReader, Read};
 pub trait Waits {
     ghost use Rattle.script_streams.specs.declared.run_fault.RunFault.{RunFault};
 
-    /// It may be called now.
+    /// `before_wait` may be called now.
     ghost can_wait: { Self → Type 0 };
 
-    /// It has nothing left to do before a wait.
+    /// Nothing is left to do before a wait.
     ghost is_ready: { Self → Type 0 };
 
     /// The state after any number of calls that succeeded, or after none.
@@ -33,10 +33,10 @@ pub trait Waits {
         ensures ready { OnOk result (is_ready self.new) }
         ensures err { IfErr result (λ fault. fails self.old fault self.new) };
 
-    /// Without a call it stays as it is.
+    /// `becomes` is reflexive: without a call, the state stays as it is.
     ghost stays: { (x : Self) → becomes x x };
 
-    /// A line may need several reads, and so several calls.
+    /// `becomes` is transitive: a line may need several reads, and so several calls.
     ghost goes_on: { (x y z : Self) → becomes x y → becomes y z → becomes x z };
 }
 

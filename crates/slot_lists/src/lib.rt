@@ -1,6 +1,6 @@
 //! Lists that stay fast at their front when they are long, and small when they are short.
 //!
-//! `SlotList::reserve` reserves capacity for more values; so many inserts then take no memory.
+//! `SlotList::reserve` reserves capacity for a number of further values. That number of inserts then takes no memory.
 #![tactic(auto)]
 
 mod hole;

@@ -95,7 +95,7 @@ impl<T: Drop> Pieces<T> {
         }
     }
 
-    /// Inserts a value at an index, for which there is capacity; the index may be the length of the list. Takes no memory.
+    /// Inserts a value, for which there is capacity, at an index; the index may be the length of the list. Takes no memory.
     pub fn insert(&mut self, index: usize, value: T)
         requires room { 0 < self.old.spare }
         requires in_range { index ≤ length self.old.items }

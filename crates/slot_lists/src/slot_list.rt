@@ -16,8 +16,8 @@ enum Layout<T> {
     Long(Box<Pieces<T>>),
 }
 
-/// A list, and capacity for more values. An insert or a removal anywhere takes at most about as many steps as a piece
-/// can hold values, and one step for each piece of the list.
+/// A list, and capacity for more values. An insert or a removal at any index takes at most about as many steps as a piece can hold values,
+/// plus one step for each piece of the list.
 #[derive(Drop)]
 pub struct SlotList<T> {
     layout: Layout<T>,
@@ -211,7 +211,7 @@ impl<T: Drop> SlotList<T> {
     }
 }
 
-/// Reserves capacity in the block of a short list. If the block grows, it grows by at least a half, also while it has no values yet.
+/// Reserves capacity in the block of a short list. If the block grows, it grows by at least a half, even if it has no values yet.
 fn reserve_in_block<T: Drop>(values: &mut Vec<T>, additional: usize) -> Result<(), AllocError>
     requires { vec_len values.old + additional ≤ 1024 }
     ensures items { values.new.items ≡ values.old.items }

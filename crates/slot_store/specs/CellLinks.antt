@@ -1,4 +1,4 @@
--- The links that the lists at their ends stand for, and when lists, holders and entries agree.
+-- The links that the lists of values at ends represent, and the conditions under which lists, holders and entries agree.
 use Rattle.std.specs.Prelude.{◌≡◌, ◌↔◌, ℕ, zero, suc, ◌≤◌, true, List, [], ◌∷◌, ◌++◌, length, slice_get, Option, Some, None}
 use Rattle.std.specs.FinSet as set
 use Rattle.mm_types.specs.Ends.{index_in}
@@ -21,7 +21,8 @@ use Rattle.node_slots.specs.Cells.{Cells, HasKeys, cells, ends_of}
 
 ---------------------------------------------------------------- links
 
--- the link of an object at k in e; g is the opposite; at the far end its position is the index of e's node
+-- the link of the object o at position k in e; g is the opposite of e's feature; the position of the link at the far end is the index of
+-- e's node there
 abbrev pub link_to : Cells → End → ℕ → ObjectNo → Option FeatureNo → Link
 link_to c e k o None = record { end = e; index = k; far = Alone o; container = (c.pairing e).container }
 link_to c e k o (Some g) = joined_link e k (far_end o g) (index_in (c.vals (far_end o g)) (node_value e.node)) (c.pairing e).container
@@ -54,7 +55,8 @@ IsReference (value.Object o) = Unit {0}
 IsReference (value.Proxy t) = Unit {0}
 IsReference _ = ⊥
 
--- the far end of e's link to an object has e's node, and the two ends agree on their opposites and their containment
+-- the far end of the link from e to the object o has e's node as a value; the far end names e's feature as its opposite, and both ends have
+-- the same containing feature
 pub record IsMutual (c : Cells) (e : End) (o : ObjectNo) (g : FeatureNo) : Type 0 where
   pub apart : (g.0 ≡ e.feature.0) → ⊥
   pub object : IsObject e.node
@@ -78,7 +80,7 @@ StandsAlone c o e = ((c.pairing e).opposite ≡ None) × HasValue (c.vals e) (va
 abbrev pub IsOnce : List End → Type 0
 IsOnce ds = (j k : ℕ) (d : End) → slice_get ds j ≡ Some d → slice_get ds k ≡ Some d → j ≡ k
 
--- no end repeats a value, and no object is entered twice by one end
+-- no end has a value twice, and no object has the same end among its entries twice
 pub record RepeatNothing (c : Cells) : Type 0 where
   pub values : (e : End) → IsDistinct (c.vals e)
   pub entries : (o : ObjectNo) → IsOnce (c.entered (node.Object o))

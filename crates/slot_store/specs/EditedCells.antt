@@ -30,7 +30,8 @@ abbrev pub held_node : End → ObjectNo → Option FeatureNo → Option FeatureN
 held_node e o g None = None
 held_node e o g (Some h) = if same_feature e.feature h then Some (node.Object o, e) else held_far e o g h
 
--- of the two nodes of a link, the index of the row of the contained one: the far node's row or the near node's row
+-- the index of the row of the node that a link contains: the row of the far node if e's feature is the containing feature h, else the row
+-- of the near node
 abbrev pub held_row_index : PutPlaces → End → Option FeatureNo → ℕ
 held_row_index p e None = p.near
 held_row_index p e (Some h) = if same_feature e.feature h then p.far else p.near
@@ -45,7 +46,8 @@ cells_after_release (Some p) c = cell_edit p.0 (Hold None) c
 
 ---------------------------------------------------------------- puts
 
--- the far side of a put: the far end gains the value last; without an opposite, e is entered at the object
+-- the cells after a put at its far side: the far end gains e's node as its last value; if e's feature has no opposite, the object gains e
+-- as an entry instead
 abbrev pub put_far : End → ObjectNo → Option FeatureNo → Option FeatureNo → Cells → Cells
 put_far e o None h c = cell_edit (node.Object o) (Enter e) c
 put_far e o (Some g) h c = cell_edit (node.Object o) (Change g (Push (node_value e.node) (record { opposite = Some e.feature; container = h }))) c
@@ -62,7 +64,7 @@ put_cells e i o g h c = cells_after_hold (held_node e o g h) (put_far e o g h (p
 abbrev pub without_value : End → Value → Cells → Cells
 without_value e v c = option_map_or (λ (i : ℕ). cell_edit e.node (Change e.feature (Remove i)) c) (position (same_value v) (c.vals e)) c
 
--- the end is taken out of the entries of the object, if it is among them
+-- the cells after the end e is taken out of the entries of the object o; if e is not among them, nothing changes
 abbrev pub without_entry : End → ObjectNo → Cells → Cells
 without_entry e o c = option_map_or (λ (i : ℕ). cell_edit (node.Object o) (Leave i) c) (position (same_end e) (c.entered (node.Object o))) c
 
@@ -86,7 +88,8 @@ cells_after (edit.Put l) c = put_cells l.end l.index l.object l.opposite l.conta
 cells_after (edit.Shift e to from) c = cell_edit e.node (Change e.feature (Move to from)) c
 cells_after (edit.PutProxy e i t) c = put_near e i (value.Proxy t) None c
 
--- at most so much capacity is taken for the values of each end, and for the ends that hold each node
+-- a change takes at most `values e` of the capacity for the values of each end e, and at most `ends n` of the capacity for the ends that
+-- hold each node n
 pub record TakesAtMost (values : End → ℕ) (ends : Node → ℕ) (old new : Room) : Type 0 where
   pub places : (e : End) → old.places e ≤ new.places e + values e
   pub mixed : (e : End) → new.mixed e ≡ old.mixed e

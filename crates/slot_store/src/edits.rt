@@ -18,7 +18,7 @@ use mm_types::{End, FeatureNo, Node, ObjectNo, Value};
 use node_slots::{NodeSlots, Pairing, PutPlaces, RowEdit, SlotEdit};
 use std::alloc::AllocError;
 
-/// A node as a value; null for a resource, which no end has.
+/// The value that refers to a node: the object, or null for a resource, since no end has a resource as a value.
 pub(crate) fn value_of(node: Node) -> Value
     ensures { result ≡ node_value node }
 {
@@ -28,7 +28,8 @@ pub(crate) fn value_of(node: Node) -> Value
     }
 }
 
-/// The near node and the end that contains it, if the far feature of a link is the containing feature.
+/// The node of `end`, and the end of `object` that contains this node. `None` if there is no opposite, or if the opposite is not the
+/// containing feature of the link.
 fn held_by_far(
     end: End,
     object: ObjectNo,
@@ -113,7 +114,7 @@ fn release(rows: &mut NodeSlots, pair: Option<(Node, End)>)
     }
 }
 
-/// Cuts the link of an object in an end. Its far side is removed first, since it is found by the end.
+/// Cuts the link of an object in an end. The far side of the link is removed first, since the far side is found by means of the end.
 fn cut(rows: &mut NodeSlots, end: End, object: ObjectNo, guess: usize)
     requires { RepeatNothing (cells rows.old) }
     ensures cells { cells rows.new ≡ cells_after_cut end (value.Object object) (cells rows.old) }

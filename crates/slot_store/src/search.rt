@@ -1,9 +1,9 @@
 //! The position of a value in an end, and of an end among the ends that hold an object.
 //!
-//! Most lists are made in the order of their objects' numbers. So a position is guessed as if the list were in that order; the last and the
-//! first position are tried first. A long list in another order has labels for this. The list is searched only if the guess is wrong. The
-//! ends that hold an object may be in any order. If an end that is cut is not at its guess, they are put in the order of their ranks, so that
-//! the next guesses are right.
+//! Most lists are made in the order of their objects' numbers. So the guess of a position assumes that order; the last and the first
+//! position are tried first. A long list in another order has labels, from which the position is guessed. The list is searched only if the
+//! guess is wrong. The ends that hold an object may be in any order. If an end that is cut is not at its guessed position, these ends are
+//! put in the order of their ranks, so that the next guesses are right.
 ghost use Rattle.std.specs.Prelude.{◌≡◌, position};
 ghost use Rattle.mm_types.specs.Same.{same_end};
 ghost use Rattle.mm_types.specs.declared.numbers.Node.TheVariants as node;
@@ -23,7 +23,7 @@ pub(crate) fn is_same(a: End, b: End) -> bool
     a == b
 }
 
-/// The index of a value in an end that repeats nothing; `None` if it is not there. It is searched at a guessed index first.
+/// The index of a value in an end that has no value twice; `None` if the value is not there. The guessed index is tried first.
 pub(crate) fn found(rows: &NodeSlots, end: End, value: &Value) -> Option<usize>
     requires { IsDistinct ((cells rows.now).vals end) }
     ensures { result ≡ found_in (cells rows.now) value.now end }
@@ -35,7 +35,8 @@ pub(crate) fn found(rows: &NodeSlots, end: End, value: &Value) -> Option<usize>
     rows.position(end, value)
 }
 
-/// The position of an end among the ends with no opposite that hold an object, if they are in order. Otherwise any position.
+/// A guess at the position of an end among the ends with no opposite that hold an object. If these ends are in order, the guess is the
+/// position of the end; otherwise it may be any position.
 fn entry_guess(rows: &NodeSlots, object: ObjectNo, end: End) -> usize {
     let node = Node::Object(object);
     by_rank(rows.entered_len(node), entry_rank(end), |index| {
@@ -43,8 +44,8 @@ fn entry_guess(rows: &NodeSlots, object: ObjectNo, end: End) -> usize {
     })
 }
 
-/// The index of an end among the ends with no opposite that hold an object, in which no end comes twice; `None` if it is not there. It is
-/// searched at a guessed index first.
+/// The index of an end among the ends with no opposite that hold an object; `None` if the end is not there. No end comes twice among them.
+/// The index `guess` is tried first.
 pub(crate) fn entry_from(
     rows: &NodeSlots,
     object: ObjectNo,
@@ -61,7 +62,8 @@ pub(crate) fn entry_from(
     }
 }
 
-/// As `entry_from`, but without a guess.
+/// The index of an end among the ends with no opposite that hold an object; `None` if the end is not there. This function computes the
+/// guess that `entry_from` needs.
 pub(crate) fn entry_found(rows: &NodeSlots, object: ObjectNo, end: End) -> Option<usize>
     requires { IsOnce ((cells rows.now).entered (node.Object object)) }
     ensures { result ≡ position (same_end end) ((cells rows.now).entered (node.Object object)) }
@@ -69,8 +71,9 @@ pub(crate) fn entry_found(rows: &NodeSlots, object: ObjectNo, end: End) -> Optio
     entry_from(rows, object, end, entry_guess(rows, object, end))
 }
 
-/// A guess at the position of an end among the ends with no opposite that hold an object. If that end is not there, the ends are put in
-/// order, and the position is guessed again. Each end is moved once, so many cuts together take no longer than a sort. Takes no memory.
+/// A guess at the position of an end among the ends with no opposite that hold an object. If the end is not at the first guess, these ends
+/// are put in order, and the position is guessed again. Putting them in order moves each end once, so many cuts together take no longer
+/// than a sort. Takes no memory.
 pub(crate) fn ordered_guess(rows: &mut NodeSlots, object: ObjectNo, end: End) -> usize
     ensures cells { AreReordered (cells rows.old) (cells rows.new) }
     ensures room { room rows.new ≡ room rows.old }

@@ -89,7 +89,8 @@ impl LinkStore for SlotStore {
     }
 }
 
-/// Whether the far side, if it is the shorter list, shows that an object is not in an end.
+/// Whether the list at the far side shows that an object is not in an end. This list is searched only if it is shorter than the list of the
+/// end; otherwise the result is false.
 fn far_lacks(rows: &NodeSlots, end: End, object: ObjectNo) -> bool
     requires { ∥ IsStore rows.now ∥₁ }
     ensures { result ≡ true → HasValue ((cells rows.now).vals end) (value.Object object) → ⊥ }
@@ -109,8 +110,8 @@ fn far_lacks(rows: &NodeSlots, end: End, object: ObjectNo) -> bool
     }
 }
 
-/// A guess at the position of the end that an edit takes out of the ends that hold an object, if it takes one out. These ends may be put in
-/// order for it.
+/// If an edit takes an end out of the ends that hold an object, a guess at the position of that end among them; otherwise 0. The ends that
+/// hold the object may be put in order to make the guess.
 fn make_guess(rows: &mut NodeSlots, edit: &Edit) -> usize
     requires kept { ∥ IsStore rows.old ∥₁ }
     ensures kept { ∥ IsStore rows.new ∥₁ }

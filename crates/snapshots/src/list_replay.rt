@@ -24,7 +24,7 @@ pub(crate) fn edit(values: &mut Vec<Value>, notice: &Notice) -> Result<(), Alloc
     }
 }
 
-/// A position as an index below a count.
+/// A position as an index; `None` if the position is negative or is not below a count.
 fn index_at(position: i64, count: usize) -> Option<usize>
     ensures { result ≡ index_within position count }
 {

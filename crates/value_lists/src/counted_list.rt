@@ -86,8 +86,8 @@ impl CountedList {
         self.list.get(index)
     }
 
-    /// The index of the first value that is the same. The list is not gone through if no value has its hash. It is not gone through either
-    /// if one value has its hash and is found by its label: then there is no other.
+    /// The index of the first value that is the same. The list is not gone through if no value of it has the hash of the given value. The
+    /// list is not gone through either if only one value has this hash and is found by its label, since then no other value is the same.
     pub fn position(&self, value: &Value) -> Option<usize>
         ensures { result ≡ position (same_value value.now) self.now.items }
     {
@@ -102,7 +102,8 @@ impl CountedList {
         self.list.position(value)
     }
 
-    /// Whether a value is there. The list is not gone through if no value has its hash, or if the value is found by the label of its hash.
+    /// Whether a value is there. The list is not gone through if no value of it has the hash of the given value, or if the given value is
+    /// found by the label of its hash.
     pub fn has(&self, value: &Value) -> bool
         ensures { result ≡ list_any (same_value value.now) self.now.items }
     {
@@ -115,7 +116,7 @@ impl CountedList {
         self.list.position(value).is_some()
     }
 
-    /// An index of a value, which is searched by its label; `None` if it is not found so.
+    /// An index of a value, which is searched by its label; `None` if the label does not lead to the value.
     fn find(&self, label: u64, value: &Value) -> Option<usize>
         ensures { IfSome result (λ i. is_at value.now i self.now.items ≡ true) }
     {
@@ -126,8 +127,8 @@ impl CountedList {
         self.find_farther(label, value)
     }
 
-    /// The part of `find` after the first guess, which takes the labels before the label to be evenly spread. An index of the value; `None` if
-    /// it is not found so.
+    /// An index of a value, which is searched by its label; `None` if the label does not lead to the value. `find` calls this function if
+    /// its first guess is wrong. That guess assumes that the labels before this label are evenly spread.
     #[cold]
     fn find_farther(&self, label: u64, value: &Value) -> Option<usize>
         ensures { IfSome result (λ i. is_at value.now i self.now.items ≡ true) }
@@ -177,7 +178,7 @@ impl CountedList {
         self.hashes.reserve(additional)
     }
 
-    /// Inserts a value before the value at an index, or at the end, for which there is capacity. Takes no memory.
+    /// Inserts a value, for which there is capacity, before the value at an index or at the end. Takes no memory.
     pub fn insert(&mut self, index: usize, value: Value)
         requires room { 0 < self.old.spare }
         requires in_range { index ≤ length self.old.items }
@@ -210,8 +211,8 @@ impl CountedList {
         self.labels.near(index)
     }
 
-    /// A label between that of the value before an index and that of the value at `next`. If there is no such value, the label is before or
-    /// after all others.
+    /// A label between the label of the value before `index` and the label of the value at `next`. If one of the two values is missing, the
+    /// label is before or after all other labels.
     #[cold]
     fn label_amid(&self, index: usize, next: usize) -> u64 {
         if next >= self.list.len() {
@@ -235,8 +236,8 @@ impl CountedList {
         self.labels.take(index, self.list.len());
     }
 
-    /// Looks at some removals whether the value at the index is found by its label. If it is not, all values get new labels, and labels are
-    /// kept from then on.
+    /// At some removals, checks whether the value at the index is found by its label. If the value is not found, all values get new labels,
+    /// and labels are kept from then on.
     fn try_label(&mut self, index: usize)
         ensures items { self.new.items ≡ self.old.items }
         ensures spare { self.new.spare ≡ self.old.spare }
@@ -309,7 +310,7 @@ impl CountedList {
     }
 }
 
-/// Counts the hashes of a list, with capacity for as many more as the list. Fails only if memory is refused.
+/// Counts the hashes of a list, in a table that has capacity for as many more values as the list has. Fails only if memory is refused.
 fn counted(alloc: Global, list: &SlotList<Value>) -> Result<HashCounts, AllocError>
     ensures counts { IfOk result (λ t. Counts t list.now.items) }
     ensures room { IfOk result (λ t. list.now.spare ≤ room_of t.counts) }

@@ -9,7 +9,7 @@ use mm_types::Value;
 use std::alloc::{AllocError, Global};
 use std::hash::{DefaultHasher, Hash, Hasher};
 
-/// How many values have a hash, and the label of the last of them that got one.
+/// How many values have a hash, and the label of the value among them that got its label last.
 #[derive(Clone, Copy)]
 pub(crate) struct Counted {
     pub count: usize,

@@ -65,7 +65,7 @@ impl ValueList {
         }
     }
 
-    /// The values of a `Vec`, in its block if they are more than one. Takes no memory.
+    /// The values of a `Vec`. Two or more values stay in the block of the `Vec`. Takes no memory.
     pub fn from_vec(values: Vec<Value>) -> Self
         ensures { result.items ≡ values.items }
     {
@@ -167,7 +167,7 @@ impl ValueList {
         Ok(())
     }
 
-    /// Inserts a value before the value at an index, or at the end, for which there is capacity. Takes no memory.
+    /// Inserts a value, for which there is capacity, before the value at an index or at the end. Takes no memory.
     pub fn insert(&mut self, index: usize, value: Value)
         requires room { 0 < self.old.spare }
         requires in_range { index ≤ length self.old.items }
@@ -250,7 +250,7 @@ impl ValueList {
     }
 }
 
-/// The values of a `Vec`: more than one stay in its block.
+/// The values of a `Vec`. Two or more values stay in the block of the `Vec`.
 fn layout_of(mut values: Vec<Value>) -> Layout
     ensures items { (places_of result).items ≡ values.items }
     ensures spare { 1 ≤ (places_of result).spare + vec_len values }

@@ -12,11 +12,12 @@ abbrev pub if_parsed : Parsed Parts → Option Parts
 if_parsed (Ok u) = Some u
 if_parsed (Err e) = None
 
--- the reference read against the base; none if one of them can't be read
+-- the parts of the URL that a reference gives relative to the base; none if the base or the reference can't be read
 abbrev pub reference_parts : List ℕ → List ℕ → Option Parts
 reference_parts base reference = option_and_then (λ b. if_parsed (parse_url (Some b) reference)) (if_parsed (parse_url None base))
 
--- the reference read by itself; if it can't be read by itself, read against the base
+-- the parts of the URL that a reference gives by itself; if the reference can't be read by itself, the parts that it gives relative to the
+-- base
 abbrev pub parts_of : List ℕ → List ℕ → Option Parts
 parts_of base reference = option_or (if_parsed (parse_url None reference)) (reference_parts base reference)
 
@@ -49,12 +50,12 @@ pub record IsJoined (u : List ℕ) : Type 0 where
   pub reference : List ℕ
   pub gives : joined_uri base reference ≡ Some u
 
--- the result is the text, or `Bad` if there is none; or `Memory`
+-- the result is the text, `Bad` if there is no text, or `Memory` in either case
 abbrev pub GivesText : Result (String Global) UriFault → Option (List ℕ) → Type 0
 GivesText (Ok t) text = text ≡ Some (string_bytes t)
 GivesText (Err Bad) text = text ≡ None
 GivesText (Err Memory) text = Unit {0}
 
--- the result of joining is the URI, or `Bad` if there is none; or `Memory`
+-- the result of joining is the URI, `Bad` if there is no URI, or `Memory` in either case
 abbrev pub Joins : Result (String Global) UriFault → List ℕ → List ℕ → Type 0
 Joins result base reference = GivesText result (joined_uri base reference)

@@ -45,7 +45,7 @@ is_dot c = c == 46
 abbrev pub index_of : List ℕ → Option ℕ
 index_of w = if is_decimal w && nat_le (length w) 7 then Some (digits_value 10 w) else None
 
--- an empty segment names root 0
+-- the index of the root that a segment names: 0 for an empty segment, none for a segment that is no index
 abbrev pub root_of : List ℕ → Option ℕ
 root_of [] = Some 0
 root_of (c ∷ cs) = index_of (c ∷ cs)

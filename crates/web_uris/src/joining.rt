@@ -76,8 +76,8 @@ fn text_of(alloc: Global, url: &Url) -> Result<String, UriFault>
 
 /// The URI of a reference, as `url` writes it: the reference itself if it is a URI, otherwise the reference joined with a base.
 ///
-/// `Bad` if it is no URI either way, if the URI's scheme is neither http nor https, or if it has a `#`. `Memory`
-/// if memory is refused, or the URI would be longer than URIs can be.
+/// `Bad` if neither the reference nor the joined reference is a URI, if the URI's scheme is neither http nor https, or if the URI has a
+/// `#`. `Memory` if memory is refused, or the URI would be longer than URIs can be.
 pub fn joined(alloc: Global, base: &str, reference: &str) -> Result<String, UriFault>
     ensures joins { Joins result base.now reference.now }
     ensures web { IfOk result (λ t. IsWebUri (string_bytes t)) }

@@ -93,7 +93,7 @@ impl<A: Adapter> AdapterList<A> {
     }
 }
 
-/// Notifies an adapter of its release from each of its targets, which no other adapter has any more.
+/// Notifies an adapter of its release from each of its targets. No other adapter has these targets any more.
 fn tell_all_last<A: Adapter>(adapter: &mut A, no: AdapterNo, targets: &VecDeque<Target>)
     requires reserve { length targets.now.items ≤ A.places adapter.old }
     ensures { A.heard adapter.new ≡ hear_all (A.heard adapter.old) (map (λ t. removing_notice no t.node 0) targets.now.items) }

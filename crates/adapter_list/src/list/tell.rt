@@ -40,8 +40,9 @@ impl<A: Adapter> AdapterList<A> {
     }
 
     /// Reserves all that a chain needs: the copies of its notifications, and for each adapter capacity for its copies and for a last
-    /// notification from each of its targets. The containers that `store` has now decide which adapters get them, so it is called before
-    /// the change. Whatever it returns, no adapter was notified or has less capacity, so a round that fitted the adapters still fits them.
+    /// notification from each of its targets. The containers that `store` has now decide which adapters get the notifications, so this
+    /// function is called before the change. Whether it succeeds or fails, no adapter is notified and no adapter loses capacity. So a round
+    /// that fitted the adapters still fits them.
     ///
     /// Refused with AdapterFull if an adapter can't count the notifications that it gets, or with Memory if memory is refused. The first
     /// adapter that refuses, in attach order, decides; with AdapterFull, each adapter before it has the capacity that it needs.
@@ -60,8 +61,9 @@ impl<A: Adapter> AdapterList<A> {
         }
     }
 
-    /// Reserves for each adapter capacity for the copies of a round that it gets, and for one more for each of its targets. The round is
-    /// that of a chain (`round`). Only the adapters allocate, in attach order. Refused as `reserve_all`.
+    /// Reserves, for each adapter, capacity for the copies of a round that the adapter gets, and for a last notification from each of its
+    /// targets. The round is that of a chain (`round`). Only the adapters allocate, in attach order. The refusals are those of
+    /// `reserve_all`.
     pub fn reserve_round(&mut self, round: &Round) -> Result<(), Refused>
         requires round { (up : Above) × (chain : List Notice) × (round.now ≡ round_of up chain self.old.0) }
         ensures { (up : Above) (chain : List Notice) → round.now ≡ round_of up chain self.old.0 → IsReserved up chain self.old self.new (reserved_round round.now result) }

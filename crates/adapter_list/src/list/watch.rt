@@ -17,7 +17,7 @@ use std::alloc::AllocError;
 
 impl<A: Adapter> AdapterList<A> {
     /// Gives an adapter one more target, the last in order, and reserves capacity for its last notification from that target. If the node
-    /// is a target of it already, returns false, and nothing changes, not even whether that target is deep.
+    /// is a target of the adapter already, returns false, and nothing changes: the target stays deep, or not deep, as it was.
     ///
     /// Refused, in this order, with Limit if there are 100,000 targets, NoAdapter if the number is not attached and AdapterFull if the
     /// adapter can't count a last notification from each target; or with Memory if memory is refused. After a refusal the adapters were

@@ -70,7 +70,7 @@ fn name_all<L: LinkStore, A: Adapter>(
     Ok(())
 }
 
-/// What notifications make of a snapshot.
+/// The snapshot after a replay of notifications.
 pub(super) fn view_of(
     alloc: Global,
     snapshot: Snapshot,

@@ -119,7 +119,7 @@ fn attach_command<A>(no: u32, target: Node, adapter: A) -> Command<A> {
     }
 }
 
-/// The same calls as commands.
+/// The commands that do the same as the calls of `calls`.
 fn commands<A: Adapter>(alloc: Global, adapter: A) -> Result<Vec<Command<A>>, AllocError> {
     let mut commands = Vec::new(alloc);
     commands.push(attach_command(5, object(0), adapter))?;

@@ -13,7 +13,7 @@ fn closed_with_two<A: Adapter>(alloc: Global, first: A, second: A) -> Result<Str
     Ok(closed(alloc, repository)?)
 }
 
-/// In attach order; each has index 0 among the adapters that are left.
+/// The adapters come back in attach order. Each one has the index 0 among the adapters that are left then.
 const CLOSED: &str = "; A6 back, 1 told, REMOVING_ADAPTER 0; A5 back, 1 told, REMOVING_ADAPTER 0";
 
 #[test]

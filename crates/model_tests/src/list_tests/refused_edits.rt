@@ -1,4 +1,4 @@
-//! An edit of a list is refused since one of its adapters can't be notified: no link is cut, and no adapter is notified.
+//! An edit of a list is refused since an adapter can't be notified of the edit: no link is cut, and no adapter is notified.
 use crate::fixtures::books::{RowRepository, object};
 use crate::fixtures::boxes::{PARTS, boxes};
 use crate::fixtures::replies::{given, made, made_attached};

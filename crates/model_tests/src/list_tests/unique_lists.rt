@@ -61,7 +61,7 @@ fn filled(alloc: Global, count: u32) -> Result<Box<Values>, Fail> {
     Ok(values)
 }
 
-/// Fails unless the list has the number `at` exactly if it is at least `first` and below `before`.
+/// Fails unless the list has the number `at` if `at` is at least `first` and below `before`, and lacks the number otherwise.
 fn check_number(values: &Values, at: u32, first: u32, before: u32) -> Result<(), Fail> {
     let has = values.has(OBJECT, FEATURE, &number(at));
     if has == Some(first <= at && at < before) {

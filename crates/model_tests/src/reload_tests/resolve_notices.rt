@@ -41,7 +41,7 @@ const HEARD: [(Node, u64, u64); 11] = [
     (Node::Resource(ResourceNo(2)), 0, 5),
 ];
 
-/// Each node has a flat adapter and a deep adapter: the number of the deep one, from the number of the flat one.
+/// The number of a node's deep adapter, given the number of the same node's flat adapter. Each node has one flat and one deep adapter.
 fn deep_beside(no: u32) -> u32 {
     no.wrapping_add(100)
 }

@@ -96,7 +96,7 @@ fn count_in(sites: &[Site], number: u32) -> u64 {
     count.count() as u64
 }
 
-/// Attaches an adapter deep to each resource, whose number it has.
+/// Attaches a deep adapter to each resource. The adapter has the number of its resource.
 fn attach_to_resources<L: LinkStore>(repository: &mut Network<L>) -> Result<(), Refused> {
     for number in 0..RESOURCES {
         let no = AdapterNo(number);

@@ -6,11 +6,11 @@ use mm_types::Text;
 use std::alloc::Global;
 use std::test::Fail;
 
-/// The numbers of the resources, the last one that is made first.
+/// The numbers of the resources, in the opposite order of that in which they are made.
 const LAST_FIRST: [u32; 3] = [2, 1, 0];
 
-/// The order in which the resources are made, and how many proxies are resolved and left after each load. The documents are loaded in the
-/// opposite order of the resources: in the first case first, second, third.
+/// For each case: the order in which the resources are made; then, after each load, how many proxies are resolved and how many are left.
+/// The resource that is made last is loaded first. In the first case the first document is loaded first, then the second, then the third.
 const LOADS: [([u32; 3], [(u64, u64); 3]); 6] = [
     ([2, 1, 0], [(0, 6), (3, 6), (7, 0)]),
     ([1, 2, 0], [(0, 6), (4, 5), (6, 0)]),

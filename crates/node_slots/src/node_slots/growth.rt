@@ -82,7 +82,8 @@ impl NodeSlots {
         }
     }
 
-    /// Gives the values of an end labels, if they are to get them and there is memory. Reserving capacity does so; it is taken back.
+    /// Gives labels to the values of an end, if they are to get labels and there is memory. The labels are made when capacity is reserved,
+    /// and that capacity is then taken back.
     fn label(&mut self, end: End)
         ensures { cells self.new ≡ cells self.old }
     {
@@ -91,8 +92,8 @@ impl NodeSlots {
         }
     }
 
-    /// Takes back the capacity that is reserved at each end to which an edit adds something; at its own end only if that is not done yet. An
-    /// end from which a cut takes a value may get labels, so that the cut finds the value.
+    /// Takes back the capacity that is reserved at each end to which an edit adds something. If `is_done`, the capacity at the edit's own
+    /// end was taken back before. An end from which a cut takes a value may get labels, so that the cut finds the value.
     fn forget_edit(&mut self, edit: &Edit, is_done: bool)
         ensures { cells self.new ≡ cells self.old }
     {

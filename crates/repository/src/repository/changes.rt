@@ -140,7 +140,7 @@ impl<L: LinkStore, A: Adapter> Repository<L, A> {
         self.tell_values(prepared.answer, prepared.values, prepared.chain)
     }
 
-    /// A set of an attribute that may notify an adapter. It is never inlined into the way of a set that notifies none.
+    /// A set of an attribute that may notify an adapter. It is never inlined into the code of a set that notifies no adapter.
     #[inline(never)]
     pub(super) fn set_heard(&mut self, end: End, value: Value) -> Brief<A>
         requires attribute { (shape self.old.model.metamodel end.feature).is_reference ≡ false }
@@ -156,7 +156,7 @@ impl<L: LinkStore, A: Adapter> Repository<L, A> {
         }
     }
 
-    /// Whether an adapter is notified of a change that edits only values: a new object notifies none.
+    /// Whether an adapter is notified of a change that edits only values. A change that makes an object notifies no adapter.
     fn hears_values(&self, change: &Change) -> bool
         requires values { edits_values_alone self.now.model.metamodel change.now ≡ true }
         ensures { result ≡ false → IsUnheard (reads self.now).above (chain (reads self.now) change.now) self.now.adapters }
@@ -167,8 +167,8 @@ impl<L: LinkStore, A: Adapter> Repository<L, A> {
         }
     }
 
-    /// A change that edits only links: a reference of one node. It destroys nothing, so no target is taken away. Without adapters no
-    /// notification is made.
+    /// A change that edits only links: it changes a reference of one node. It destroys nothing, so no target is taken away. If no adapter
+    /// is attached, no notification is made.
     #[inline(never)]
     pub(super) fn change_links(&mut self, change: Change) -> Result<Reply<A>, Refused>
         requires proper { IsProper (reads self.old) [] change }
@@ -204,8 +204,8 @@ impl<L: LinkStore, A: Adapter> Repository<L, A> {
         self.tell_links(prepared.answer, prepared.edits, prepared.chain)
     }
 
-    /// Plans a change, and makes it. For a change that loads a document, it does what `load` does for each text that is read as this
-    /// document. It is never inlined into `change`, which would then zero its large stack frame for each change of attributes.
+    /// Plans a change, and makes it. A change that loads a document has the effect that `load` has for each text that is read as this
+    /// document. This function is never inlined into `change`: else `change` would zero a large stack frame for each change of attributes.
     #[inline(never)]
     pub(super) fn carry_out(&mut self, change: Change) -> Result<Reply<A>, Refused>
         requires proper { (text : List ℕ) × IsProper (reads self.old) text change }

@@ -54,7 +54,8 @@ impl<L: LinkStore, A: Adapter> Repository<L, A> {
         }
     }
 
-    /// The same as `fragment`, but the answer is remembered until a containing link changes, for up to 1,024 objects. Refused as `fragment`.
+    /// The fragment of an object, as `fragment` returns it. The answer is remembered for up to 1,024 objects, until a containing link
+    /// changes. Refused as `fragment` is.
     pub fn remembered_fragment(&mut self, object: ObjectNo) -> Result<Text, Refused>
         ensures { Executed self.old (commands.fragment object) (read_outcome answer.Fragment result) self.new }
     {
@@ -91,8 +92,8 @@ impl<L: LinkStore, A: Adapter> Repository<L, A> {
         Ok(object)
     }
 
-    /// The document of a resource (EMF: Resource.save), as JSON without spaces: its roots with all that they contain, each with the
-    /// features that are set, container references left out.
+    /// The document of a resource (EMF: Resource.save), as JSON without spaces: the roots of the resource with all objects that they
+    /// contain. Each object has the features that are set, but no container reference.
     ///
     /// Refused, the first that applies: `NoResource`, `Dangling` if an object that is referred to is in no resource, `TooDeep` if objects
     /// are nested more than 40 deep, `Memory`.

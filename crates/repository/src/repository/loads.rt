@@ -68,7 +68,7 @@ impl<L: LinkStore, A: Adapter> Repository<L, A> {
     }
 }
 
-/// The refusal if a document has a fault; the fault comes last.
+/// The refusal of a load whose document has a fault: `NotEmpty` if the resource has roots, or else the fault.
 fn fault_refusal<L: LinkStore>(
     model: &ModelRef<L>,
     resource: ResourceNo,

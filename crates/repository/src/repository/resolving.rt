@@ -12,9 +12,10 @@ use links::LinkStore;
 use mm_types::{End, FeatureNo, Node, ObjectNo, Refused};
 
 impl<L: LinkStore, A: Adapter> Repository<L, A> {
-    /// Replaces the proxy at an index of a reference, 0 for a single one, by the object at its address (EMF: EcoreUtil.resolve). If the
-    /// reference has an opposite, the referring object replaces the first proxy at the opposite end that has its address. Returns the
-    /// object. Notifies the adapters with RESOLVE, at the opposite end first.
+    /// Replaces the proxy at an index of a reference by the object at the proxy's address (EMF: EcoreUtil.resolve). The index of a single
+    /// reference is 0. If the reference has an opposite, the referring object replaces the first proxy at the opposite end that has the
+    /// address of the referring object. Returns the object at the proxy's address. Notifies the adapters with RESOLVE, at the opposite end
+    /// first.
     ///
     /// Refused, the first that applies: `NoObject`, `NoFeature`, `WrongType` if the feature is an attribute or doesn't take the object at
     /// the proxy's address, `Index` if there is no such value, `Duplicate` if the list has the object already, `NotProxy` if an object is

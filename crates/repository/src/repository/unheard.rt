@@ -1,5 +1,5 @@
 //! Changes that notify no adapter. Most commands of a script are such changes, and a reply with lists of notified adapters takes longer to
-//! make than the change itself. Each call here does what a call with a reply does, which its docstring names.
+//! make than the change itself. Each call here does the same as a call that returns a reply; its docstring names that call.
 ghost use Rattle.std.specs.Prelude.{◌≡◌, ◌&&◌, ◌||◌, [], None, false, true, MatchOption, is_some};
 ghost use Rattle.mm_types.specs.Shapes.{shape};
 ghost use Rattle.handshake.specs.Changes.{edits_one_kind};
@@ -61,7 +61,7 @@ impl<L: LinkStore, A: Adapter> Repository<L, A> {
         Brief::Unheard(self.set_value(end, value))
     }
 
-    /// `set_brief` of a reference.
+    /// Sets a reference as `set_brief` does.
     #[inline(always)]
     fn set_reference(&mut self, end: End, value: Value) -> Brief<A>
         requires reference { (shape self.old.model.metamodel end.feature).is_reference ≡ true }
@@ -95,8 +95,8 @@ impl<L: LinkStore, A: Adapter> Repository<L, A> {
         Brief::Replied(self.change(Change::At(end, Act::Add(value, index))))
     }
 
-    /// A change of a reference that is not refused early. It is never inlined into the way of a change that notifies no adapter, which would
-    /// then zero the stack slots of a `Change`.
+    /// A change of a reference that is not refused early. It is never inlined into the code of a change that notifies no adapter: that code
+    /// would then zero the stack slots of a `Change`.
     #[inline(never)]
     fn displace(&mut self, end: End, act: Act) -> Brief<A>
         requires reference { (shape self.old.model.metamodel end.feature).is_reference ≡ true }
@@ -118,7 +118,8 @@ impl<L: LinkStore, A: Adapter> Repository<L, A> {
         self.adapters.is_heard(&self.store, node, &self.hearers)
     }
 
-    /// Whether an adapter is notified of a link that is put: at its end, or at the object if the feature has an opposite. Takes no memory.
+    /// Whether an adapter is notified when a link is put. Adapters are notified at the link's end and, if the feature has an opposite, at
+    /// the object. Takes no memory.
     #[inline(always)]
     fn is_put_heard(&self, put: NewLink) -> bool
         ensures { result ≡ is_put_heard self.now put }
@@ -127,7 +128,7 @@ impl<L: LinkStore, A: Adapter> Repository<L, A> {
             || (put.opposite.is_some() && self.is_heard(Node::Object(put.object)))
     }
 
-    /// `e_set` of an attribute that notifies no adapter.
+    /// Sets an attribute as `e_set` does. The caller knows that no adapter is notified.
     #[inline(always)]
     pub(super) fn set_value(&mut self, end: End, value: Value) -> Result<(), Refused>
         requires attribute { (shape self.old.model.metamodel end.feature).is_reference ≡ false }
@@ -146,8 +147,8 @@ impl<L: LinkStore, A: Adapter> Repository<L, A> {
         Ok(())
     }
 
-    /// `e_set` of a reference, if it only puts one link and notifies no adapter. `None` if it does more; then nothing was done, and no
-    /// refusal that is found without memory applies.
+    /// Sets a reference as `e_set` does, if the set only puts one link and notifies no adapter. Returns `None` if the set does more. Then
+    /// nothing was done, and the set has no refusal that is found without memory.
     #[inline(always)]
     pub(super) fn set_lone_link(&mut self, end: End, value: &Value) -> Option<Result<(), Refused>>
         ensures { MatchOption result
@@ -165,8 +166,8 @@ impl<L: LinkStore, A: Adapter> Repository<L, A> {
         Some(self.put_alone(put))
     }
 
-    /// `add` to a reference, if it only puts one link and notifies no adapter. `None` if it does more; then nothing was done, and no
-    /// refusal that is found without memory applies.
+    /// Adds to a reference as `add` does, if the addition only puts one link and notifies no adapter. Returns `None` if the addition does
+    /// more. Then nothing was done, and the addition has no refusal that is found without memory.
     #[inline(always)]
     pub(super) fn add_lone_link(
         &mut self,
