@@ -45,7 +45,7 @@ pub record IsFirstFull (rs : List Listed) (ps : List ℕ) (cs : List (ℕ × Not
 abbrev pub ordinals : List (ℕ × Notice) → List ℕ
 ordinals cs = map (λ c. c.0) cs
 
--- whether an index comes after the index before it, if there is one
+-- whether the index k is greater than the index before it; true if there is none before it
 abbrev pub is_after : Option ℕ → ℕ → Bool
 is_after None k = true
 is_after (Some j) k = nat_lt j k

@@ -7,10 +7,10 @@ use std::collections::VecDeque;
 /// An adapter with its number and its targets.
 #[derive(Drop)]
 pub struct Attached<A = Box<dyn Adapter>> {
-    /// The number under which it is attached.
+    /// The number under which the adapter is attached.
     pub no: AdapterNo,
-    /// The nodes whose changes notify it, each once, in the order in which it got them. They are in a ring, since a deletion takes many of
-    /// them out in that order.
+    /// The targets of the adapter: the nodes whose changes it is notified of. Each target comes once, in the order in which the adapter got
+    /// its targets. The targets are in a ring buffer, since a deletion takes many of them out in that order.
     pub targets: VecDeque<Target>,
     /// The adapter itself.
     pub adapter: A,

@@ -5,8 +5,8 @@ use notice_chain::Notice;
 /// A target that was taken from an adapter (EMF: `eAdapters().remove`).
 #[derive(Drop)]
 pub struct Detached<A> {
-    /// The adapter's last notification from there: REMOVING_ADAPTER.
+    /// The last notification that the adapter got from the target: REMOVING_ADAPTER.
     pub notice: Notice,
-    /// The adapter, if that was its last target.
+    /// The adapter, if it has no target left.
     pub adapter: Option<A>,
 }

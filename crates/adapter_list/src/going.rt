@@ -65,7 +65,7 @@ impl<A: Adapter> Going<A> {
         (going, list.released)
     }
 
-    /// The list of the parts, once each adapter has a target again.
+    /// Makes a list of the parts again. By then each adapter must have a target.
     pub(crate) fn into_list(self, released: Vec<(AdapterNo, A)>) -> AdapterList<A>
         requires some { HaveTargets self }
         requires room { IsRoomFor (length self) (vec_len released) (vec_capacity released) }
@@ -82,8 +82,8 @@ impl<A: Adapter> Going<A> {
         }
     }
 
-    /// Releases one target: its adapter is notified, and then no longer has the target. Gives the notification, and whether that was the
-    /// adapter's last target. If the node is no target of the adapter, `None`, and nothing changes.
+    /// Releases one target: takes the target from its adapter, and notifies the adapter. Returns the notification, and whether the adapter
+    /// has no target left. If the node is no target of the adapter, the result is `None`, and nothing changes.
     fn let_go(&mut self, no: AdapterNo, node: Node) -> Option<(Notice, bool)>
         ensures others { self.new ≡ adapters_without_target (no, node) self.old }
         ensures told { last_told no result ≡ told_of_leaving (no, node) self.old }
@@ -110,7 +110,7 @@ impl<A: Adapter> Going<A> {
         self.numbers.get_index_of(&no)
     }
 
-    /// Gives back the adapters that have no targets.
+    /// Moves the adapters that have no targets to `released`.
     fn hand_out(&mut self, released: &mut Vec<(AdapterNo, A)>)
         requires released_room { vec_len released.old + length (leaving_adapters self.old) ≤ vec_capacity released.old }
         ensures others { self.new ≡ staying_adapters self.old }
@@ -122,7 +122,8 @@ impl<A: Adapter> Going<A> {
         renumber(&mut self.numbers, &self.attached);
     }
 
-    /// Gives back the adapter that has no target, if there is one, through an empty list. Takes no memory.
+    /// Gives back the adapter that has no target, if there is one. The adapter goes through `room`, an empty list that has capacity for it,
+    /// so this takes no memory.
     fn hand_out_one(&mut self, room: &mut Vec<(AdapterNo, A)>) -> Option<A>
         requires one { length (leaving_adapters self.old) ≤ 1 }
         requires room { IsRoomFor 1 (vec_len room.old) (vec_capacity room.old) }
@@ -233,7 +234,7 @@ fn split<A: Adapter>(
     waiting.into_vec()
 }
 
-/// The last notification of an adapter from a target, with its index among the adapters that have that target.
+/// The last notification that an adapter gets from a target. `index` is the index of the adapter among the adapters that have the target.
 pub(crate) fn last_notice(no: AdapterNo, target: Node, index: usize) -> Notice
     requires { index ≤ TARGETS }
     ensures { result ≡ removing_notice no target index }
@@ -249,7 +250,8 @@ pub(crate) fn last_notice(no: AdapterNo, target: Node, index: usize) -> Notice
     }
 }
 
-/// Sets the numbers to those of the adapters, in the same order. It takes no memory, since there were at least as many numbers before.
+/// Replaces `numbers` by the numbers of the adapters, in the order of the adapters. Takes no memory, since `numbers` had at least as many
+/// numbers before.
 fn renumber<A>(numbers: &mut IndexSet<AdapterNo>, attached: &[Attached<A>])
     requires room { length attached.now ≤ index_set_len numbers.old }
     requires distinct { IsDistinct same_no (numbers_of attached.now) }

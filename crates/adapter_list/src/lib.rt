@@ -1,8 +1,8 @@
-//! The list of attached adapters: which of them get a notification, what is reserved for a chain of notifications, and its delivery. For
-//! deep adapters, a store of links says which nodes are above a node.
+//! The list of attached adapters: which adapters get a notification, what is reserved for a chain of notifications, and how the chain is
+//! delivered. For deep adapters, a store of links says which nodes are above a node.
 //!
-//! A list owns its adapters, in attach order, with their targets. Contracts see the adapters with what each was notified of, and the
-//! capacity that each has reserved. Each always has capacity for its last notification from each target.
+//! A list owns its adapters, in attach order, with their targets. Contracts see, for each adapter, what it was notified of and the capacity
+//! that it has reserved. An adapter always has capacity for a last notification from each of its targets.
 #![tactic(auto)]
 
 mod attach_refused;

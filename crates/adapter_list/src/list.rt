@@ -25,7 +25,7 @@ use std::collections::VecDeque;
 use std::marker::Model;
 
 /// The attached adapters, in attach order (EMF: the adapters of all notifiers). Contracts see two lists: the adapters with their targets
-/// and with what each was notified of; and the capacity of each, of which only the contract of a delivery speaks.
+/// and with what each was notified of; and the capacity of each adapter.
 ///
 /// Their numbers are distinct. They have at most 100,000 targets in all; each adapter has at least one target, and no target twice. Each
 /// has capacity reserved for its last notification from each of its targets, and can count those notifications.
@@ -90,7 +90,8 @@ impl<A: Adapter> AdapterList<A> {
         }
     }
 
-    /// The targets of the adapter of a number, in the order in which it got them; None if it is not attached. Takes no memory.
+    /// The targets of the adapter with the number `no`, in the order in which the adapter got them; None if no adapter has this number.
+    /// Takes no memory.
     pub fn targets(&self, no: AdapterNo) -> Option<&VecDeque<Target>>
         ensures { option_map (λ ts. ts.now.items) result ≡ option_map (λ r. r.targets) (adapter no self.now.0) }
     {

@@ -7,8 +7,9 @@ use notice_chain::Notice;
 use std::alloc::{AllocError, Global};
 use std::marker::Model;
 
-/// Some targets, each by its adapter's number and its node, in the order in which they are to be taken away. It is made before anything
-/// changes, with capacity for their last notifications and for the adapters that are given back. So releasing them takes no memory.
+/// Some targets, each by its adapter's number and its node, in the order in which they are to be taken away. A `Release` is made before
+/// anything changes, with capacity for the last notifications from these targets and for the adapters that are given back. So the release
+/// of the targets takes no memory.
 #[derive(Drop)]
 pub struct Release<A> {
     spots: Vec<(AdapterNo, Node)>,

@@ -20,7 +20,7 @@ pub(crate) struct NodeKey {
 #[derive(Clone, Copy, Debug, PartialEq, Eq)]
 pub(crate) struct Entry {
     pub no: AdapterNo,
-    /// Whether it is deep.
+    /// Whether the adapter is deep.
     pub deep: bool,
 }
 
@@ -77,7 +77,7 @@ impl TargetLists {
         !self.at(node).is_empty()
     }
 
-    /// The index of the adapter of a number among the adapters of a node. Takes no memory.
+    /// The index of the adapter with the number `no` among the adapters of a node. Takes no memory.
     pub fn index_of(&self, node: Node, no: AdapterNo) -> Option<usize>
         ensures { result ≡ position (λ e. same_no no e.no) (entries_in self.now node) }
     {
@@ -101,7 +101,8 @@ impl TargetLists {
         Ok(())
     }
 
-    /// Takes out the adapter at an index among the adapters of a node, and drops the list if it was the only one. Takes no memory.
+    /// Takes out the adapter at an index among the adapters of a node, and drops the list of the node if no adapter is left. Takes no
+    /// memory.
     pub fn remove(&mut self, node: Node, index: usize)
         requires { index < length (entries_in self.old node) }
         ensures removed { (x : Node) → entries_in self.new x ≡ (if same_node node x then remove (entries_in self.old x) index else entries_in self.old x) }
@@ -115,7 +116,7 @@ impl TargetLists {
         }
     }
 
-    /// Takes out the adapter at an index among the adapters of a node; it is not the only one.
+    /// Takes out the adapter at an index among the adapters of a node, which has other adapters too.
     fn remove_one(&mut self, node: Node, index: usize)
         requires within { index < length (entries_in self.old node) }
         requires more { 1 < length (entries_in self.old node) }

@@ -7,7 +7,7 @@ use Rattle.adapters.specs.declared.adapter.NoRoom.TheVariants.{Full, Memory}
 abbrev pub places_left : ℕ → ℕ
 places_left told = 2 ^ 64 - (told + 1)
 
--- the adapter stays as it is; the result is `Full` exactly if it can't count `n` more, and never `Memory`
+-- the adapter stays as it is; the result is `Full` exactly if the adapter can't count `n` more notifications, and is never `Memory`
 abbrev pub IsCounted : {X : Type 0} → (X → ℕ) → ℕ → X → X → Result ⊤ NoRoom → Type 0
 IsCounted told n old new result =
     OnOk result (told old + n < 2 ^ 64) × (IsErrOf result Full ↔ (2 ^ 64 ≤ told old + n)) × (IsErrOf result Memory → ⊥) × (new ≡ old) × (told new < 2 ^ 64)

@@ -4,7 +4,7 @@ ghost use Rattle.adapters.specs.Counting.{IsCounted};
 
 use crate::adapter::NoRoom;
 
-/// How many notifications an adapter got. It is for adapters that need no memory to get one.
+/// How many notifications an adapter got. This count is for adapters that need no memory to be notified.
 #[derive(Drop)]
 pub(crate) struct Count {
     told: u64,
@@ -18,7 +18,7 @@ impl Count {
         Count { told }
     }
 
-    /// How many were counted.
+    /// How many notifications were counted.
     pub(crate) fn told(&self) -> u64
         ensures { result ≡ self.now.told }
     {
@@ -35,7 +35,7 @@ impl Count {
         Ok(())
     }
 
-    /// Counts one more.
+    /// Counts one more notification.
     pub(crate) fn add(&mut self)
         requires { self.old.told + 1 < 2 ^ 64 }
         ensures { self.new.told ≡ self.old.told + 1 }

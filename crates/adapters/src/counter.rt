@@ -38,7 +38,7 @@ impl Adapter for Counter {
 
     ghost places = { λ c. places_left c.count.told };
 
-    /// It needs no memory to be notified, so the only refusal is Full.
+    /// A counter needs no memory to be notified, so the only refusal is Full.
     fn reserve(&mut self, n: u64) -> Result<(), NoRoom>
         ensures { IsCounted (λ c. c.count.told) n self.old self.new result }
     {

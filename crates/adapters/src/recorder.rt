@@ -1,4 +1,4 @@
-//! An adapter that keeps all.
+//! An adapter that keeps all notifications.
 ghost use Rattle.std.specs.Prelude.{◌≡◌, ◌-◌, [], None, vec_len, vec_capacity};
 ghost use Rattle.notice_chain.specs.View.{View};
 

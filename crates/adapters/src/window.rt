@@ -38,7 +38,7 @@ impl Adapter for Window {
 
     ghost places = { λ w. places_left w.count.told };
 
-    /// It needs no memory to be notified, so the only refusal is Full.
+    /// A window needs no memory to be notified, so the only refusal is Full.
     fn reserve(&mut self, n: u64) -> Result<(), NoRoom>
         ensures { IsCounted (λ w. w.count.told) n self.old self.new result }
     {

@@ -27,8 +27,8 @@ fn last_of(members: Members, key: &str) -> Option<usize>
     None
 }
 
-/// Puts a value at a key of the object whose members are those from `base` on. If the key is among the last members, the value replaces the
-/// value there.
+/// Puts a value at a key of an object. The members of the object are the members from the index `base` on. If the key is among the last
+/// members, the value replaces the value there.
 #[inline(always)]
 pub(crate) fn put<'t>(
     members: &mut Vec<(&'t str, Json<'t>)>,

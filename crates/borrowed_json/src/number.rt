@@ -16,7 +16,7 @@ pub enum Number {
 }
 
 impl Number {
-    /// The integer, if it fits 64 bits with a sign.
+    /// The number as an `i64`, if it is an integer that fits.
     pub(crate) fn as_i64(self) -> Option<i64>
         ensures { result ≡ as_i64 (number_view self) }
     {
@@ -75,10 +75,10 @@ impl Number {
     }
 }
 
-/// The greatest number of digits that are read one by one: their number fits 64 bits.
+/// The greatest count of digits that are read one by one: each number of so many digits fits 64 bits.
 const FEW: usize = 18;
 
-/// The number that a few digits write; `None` if a byte is no digit, or if there are more.
+/// The number that at most `FEW` digits write; `None` if a byte is no digit, or if there are no bytes or more than `FEW`.
 #[inline(always)]
 fn few_digits(bytes: &[u8]) -> Option<u64>
     ensures { IfSome result (λ n. AllDigits 10 bytes.now × (0 < length bytes.now) × (n < 2 ^ 64) × (n ≡ digits_value 10 bytes.now)) }

@@ -16,7 +16,7 @@ pub enum Json<'t> {
     Object(Members<'t>),
 }
 
-/// The members of an object as they are written; of a key that comes twice the last value counts.
+/// The members of an object as they are written. If a key comes twice, its last value counts.
 pub type Members<'t> = &'t [(&'t str, Json<'t>)];
 
 impl<'t> Json<'t> {
@@ -48,7 +48,7 @@ impl<'t> Json<'t> {
         matches!(self, Json::Object(_))
     }
 
-    /// The truth value, if it is one. Takes no memory.
+    /// The truth value, if the JSON value is true or false. Takes no memory.
     pub fn as_bool(&self) -> Option<bool>
         ensures { result ≡ as_bool (view self.now) }
     {
@@ -58,7 +58,7 @@ impl<'t> Json<'t> {
         }
     }
 
-    /// The integer of 64 bits, signed, if it is one. Takes no memory.
+    /// The integer as an `i64`, if the JSON value is an integer that fits. Takes no memory.
     pub fn as_i64(&self) -> Option<i64>
         ensures { result ≡ option_and_then as_i64 (as_number (view self.now)) }
     {
@@ -68,7 +68,7 @@ impl<'t> Json<'t> {
         }
     }
 
-    /// The text, if it is one. Takes no memory.
+    /// The text, if the JSON value is a text. Takes no memory.
     pub fn as_str(&self) -> Option<&'t str>
         ensures { option_map (λ s. s.now) result ≡ as_str (view self.now) }
     {
@@ -78,7 +78,7 @@ impl<'t> Json<'t> {
         }
     }
 
-    /// The items, if it is an array. Takes no memory.
+    /// The items, if the JSON value is an array. Takes no memory.
     pub fn as_array(&self) -> Option<&'t [Json<'t>]>
         ensures { option_map (λ v. items_view v.now) result ≡ as_array (view self.now) }
     {
@@ -88,7 +88,7 @@ impl<'t> Json<'t> {
         }
     }
 
-    /// The members, if it is an object. Takes no memory.
+    /// The members, if the JSON value is an object. Takes no memory.
     pub fn as_object(&self) -> Option<Members<'t>>
         ensures { option_map (λ m. members_view m.now) result ≡ as_object (view self.now) }
     {

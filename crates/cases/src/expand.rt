@@ -1,11 +1,11 @@
 //! Marks in a case's text, which write long or invisible text in a short way.
 //!
 //! `<<xFF>>` is a byte by its two hexadecimal digits. `<<3* ab%,>>` repeats a text three times, and replaces each `%` in it by the number
-//! of repetitions before: `ab0,ab1,ab2,`. A `^` is replaced by one more than that, and a `|` ends a line.
+//! of repetitions before: `ab0,ab1,ab2,`. A `^` is replaced by the number that is one greater, and a `|` by a newline.
 use crate::fault::Fault;
 use std::io::Write;
 
-/// Adds a text once: `number` instead of each `%`, the number after it instead of each `^`, a newline instead of each `|`.
+/// Adds a text once, with `number` instead of each `%`, `number + 1` instead of each `^`, and a newline instead of each `|`.
 fn push_numbered(out: &mut Vec<u8>, text: &str, number: u32) -> Result<(), Fault> {
     for byte in text.bytes() {
         match byte {
@@ -39,7 +39,7 @@ fn push_mark(out: &mut Vec<u8>, mark: &str) -> Result<(), Fault> {
     Ok(())
 }
 
-/// Adds a text that begins with a mark, which ends with `>>`.
+/// Adds the text after a `<<`: first the replacement of the mark, which ends with `>>`, and then the rest of the text.
 fn push_after_mark(out: &mut Vec<u8>, text: &str) -> Result<(), Fault> {
     let Some((mark, rest)) = text.split_once(">>") else {
         return Err(Fault::Mark);

@@ -44,8 +44,8 @@ fn do_list<L: LinkStore, A: Adapter, W: Write>(
     Ok(())
 }
 
-/// Makes a book at which an adapter is, and does the list of commands, which attaches another. At last it prints the book's snapshot from
-/// before the list, after a replay of a notification.
+/// Makes a book, attaches the adapter `first` to it, and does the list of commands, which attaches the adapter `second`. Then prints the
+/// snapshot that was taken of the book before the list, after a replay of a notification.
 fn session<L: LinkStore, A: Adapter, W: Write>(
     alloc: Global,
     writer: &mut W,

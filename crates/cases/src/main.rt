@@ -56,7 +56,7 @@ fn read_file(rt: &HostRuntime, path: &str) -> Result<Vec<u8>, Fault> {
     }
 }
 
-/// Whether a case gives what it expects; writes a difference, with the name of the part that ran.
+/// Whether a case gives what it expects. If not, writes the difference, with the name of the part that ran.
 fn gives_expected<W: Write>(
     writer: &mut W,
     case: &Case<'_>,
@@ -85,8 +85,8 @@ fn metamodel_of(rt: &HostRuntime, case: &Case<'_>) -> Result<Vec<u8>, Fault> {
     }
 }
 
-/// Runs the script of a case over a store of links, with its last newline and without it; returns whether it gives what it
-/// expects.
+/// Runs the script of a case over a store of links, once with the last newline of the script and once without. Returns whether the script
+/// gives both times what the case expects.
 fn passes_over<L: LinkStore, W: Write>(
     alloc: Global,
     writer: &mut W,

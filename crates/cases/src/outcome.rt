@@ -61,7 +61,7 @@ fn window(alloc: Global, room: u64) -> Result<Box<Window>, AllocError>
     Ok(Box::new(alloc, Window::new(alloc, room)?)?)
 }
 
-/// An adapter that counts on from a number.
+/// An adapter that counts its notifications, and begins at `told`.
 fn counter(alloc: Global, told: u64) -> Result<Box<Counter>, AllocError> {
     Ok(Box::new(alloc, Counter::starting_at(told))?)
 }

@@ -15,7 +15,7 @@ use Rattle.change_plans.specs.declared.planned.Planned.{Planned}
 use Rattle.handshake.specs.Displaced.{displaces, is_plain_add, is_plain_set}
 use Rattle.handshake.specs.Refusals.{late_refusal}
 
--- the put of an object at a position of an end
+-- the new link that puts an object at a position of an end
 abbrev pub put_at : Reading → End → ℕ → ObjectNo → NewLink
 put_at r e i o = record { end = e; index = i; object = o; opposite = (shape_at r e).opposite; container = (shape_at r e).containing }
 
@@ -35,7 +35,7 @@ lone_add r c e (value.Object o) i =
     Some (put_at r e (position_for r e i) o)
 lone_add r c e v i = None
 
--- the put of a set or an addition of an object; none if the change is refused or displaces a link
+-- the new link that a set or an addition of an object puts; none if the change is refused or displaces a link
 abbrev pub lone_put : Reading → Change → Option NewLink
 lone_put r (At e (Set v)) = lone_set r (At e (Set v)) e v
 lone_put r (At e (Add v i)) = lone_add r (At e (Add v i)) e v i

@@ -22,7 +22,8 @@ use Rattle.change_plans.specs.declared.planned.Finding.TheVariants as finding
 use Rattle.change_plans.specs.declared.planned.Planned.{Planned}
 use Rattle.mm_types.specs.Conditions.{is_memory_refusal}
 
--- A change that nothing refuses, with the objects that it deletes, and with the target of the one proxy that it resolves.
+-- A change that is not refused, with the objects that the change deletes and the target of the proxy that the change resolves, if there is
+-- one.
 pub record IsAllowed (r : Reading) (c : Change) (x : Option Removal) (t : Option ResolvedProxy) : Type 0 where
   pub asked : early_refusal r c ≡ None
   pub allowed : late_refusal r c ≡ None

@@ -123,7 +123,7 @@ fn made_edit<L: LinkStore>(model: &ModelRef<L>, change: &Change) -> Option<Edit>
     }
 }
 
-/// The edit of a set of a reference, if the link is not there.
+/// The edit that sets a reference, if the link is not there already.
 fn set_put<L: LinkStore>(model: &ModelRef<L>, end: End, value: &Value) -> Option<Edit>
     ensures { result ≡ e.made_edit (reading model.now) (At end (Set value.now)) }
 {
@@ -134,7 +134,7 @@ fn set_put<L: LinkStore>(model: &ModelRef<L>, end: End, value: &Value) -> Option
     }
 }
 
-/// The edit of an addition to a reference, if the list lacks the object.
+/// The edit that adds an object to a reference, if the list lacks the object.
 fn add_put<L: LinkStore>(
     model: &ModelRef<L>,
     end: End,
@@ -150,7 +150,7 @@ fn add_put<L: LinkStore>(
     }
 }
 
-/// The edit that puts an object at a position of an end; no other value is put.
+/// The edit that puts an object at a position of an end; none if the value is no object.
 fn new_put<L: LinkStore>(model: &ModelRef<L>, end: End, index: u32, value: &Value) -> Option<Edit>
     ensures { result ≡ e.new_put (reading model.now) end index value.now }
 {
@@ -160,7 +160,7 @@ fn new_put<L: LinkStore>(model: &ModelRef<L>, end: End, index: u32, value: &Valu
     }
 }
 
-/// The edits of values of a change.
+/// The edits of values that a change makes.
 pub(crate) fn value_edits<L: LinkStore>(
     alloc: Global,
     model: &ModelRef<L>,
@@ -177,7 +177,7 @@ pub(crate) fn value_edits<L: LinkStore>(
     }
 }
 
-/// The edits of values of a change that destroys nothing.
+/// The edits of values that a change makes, if the change destroys nothing.
 fn other_edits<L: LinkStore>(
     alloc: Global,
     model: &ModelRef<L>,
@@ -192,12 +192,12 @@ fn other_edits<L: LinkStore>(
         Change::Create(class) => Ok(ValuePlan::one(ValueEdit::NewObject(class))),
         Change::NewResource(uri) => Ok(ValuePlan::one(ValueEdit::NewUri(uri))),
         Change::Load(_, doc) => load_edits(alloc, model, doc),
-        // `drop_edits` makes those of a delete
+        // `drop_edits` makes the edits of a delete
         Change::Delete(_) | Change::ResolveAll => Ok(ValuePlan::none(alloc)),
     }
 }
 
-/// The edits of values of an act; none at a reference.
+/// The edits of values that an act makes; an act at a reference makes none.
 fn edits_at<L: LinkStore>(alloc: Global, model: &ModelRef<L>, end: End, act: Act) -> ValuePlan
     ensures { result ≡ value_edits_of (reading model.now) (At end act) }
 {
@@ -207,7 +207,7 @@ fn edits_at<L: LinkStore>(alloc: Global, model: &ModelRef<L>, end: End, act: Act
     act_edits(alloc, model, end, act)
 }
 
-/// The edits of an attribute's values by an act.
+/// The edits that an act makes to the values of an attribute.
 fn act_edits<L: LinkStore>(alloc: Global, model: &ModelRef<L>, end: End, act: Act) -> ValuePlan
     ensures { result ≡ effects.act_edits (reading model.now) end act }
 {
@@ -278,7 +278,7 @@ fn add_value<L: LinkStore>(
     }
 }
 
-/// The edit that takes out the first occurrence of a value; none if there is none.
+/// The edit that takes out the first occurrence of a value; no edit if the list does not have the value.
 fn take_first<L: LinkStore>(
     alloc: Global,
     model: &ModelRef<L>,
@@ -320,7 +320,7 @@ fn move_value(alloc: Global, end: End, to: u32, from: u32) -> ValuePlan
     }
 }
 
-/// The edits of a set of an attribute.
+/// The edits that set an attribute.
 pub(crate) fn set_edits<L: LinkStore>(
     alloc: Global,
     model: &ModelRef<L>,

@@ -78,7 +78,7 @@ impl Progress {
         }
     }
 
-    /// The target to which a proxy is resolved; `None` if it is refused. Takes no memory.
+    /// The target to which a proxy is resolved; `None` if the proxy is refused. Takes no memory.
     fn target<L: LinkStore>(
         &self,
         model: &ModelRef<L>,

@@ -104,7 +104,7 @@ fn put_of_set<L: LinkStore>(model: &ModelRef<L>, end: End, value: &Value) -> Opt
     if !model.meta().is_reference(end.feature) {
         return None;
     }
-    // a set that displaces no link is of an empty end, so the end does not have this object already
+    // a set displaces no link only if the end is empty, so the end does not have this object already
     if new_set_refusal(model, end, value).is_some() {
         return None;
     }

@@ -42,9 +42,9 @@ use std::alloc::{AllocError, Global};
 /// `Bound` if an end that has to gain a value is full. `Recursive` if an object would become a part of itself. `Limit` if 1,000,000 objects
 /// or 100,000 resources were made, or an end has 1,000,000 values. `ResourceExists` if a resource has the URI. For a proxy to be resolved:
 /// `NotProxy` if another value is there, `Unloaded` if no resource has its URI, `Unresolved` if no object is at its address, `Unmatched` if
-/// the reference has an opposite and no proxy there has the address of the referring object. For a document: `Limit` if there would be more
-/// than 1,000,000 objects with those that were made, `NotEmpty` if the resource has roots. `Memory` only if none of these applies; but
-/// since the target of a proxy is looked for first, `Memory` may come before its refusals.
+/// the reference has an opposite and no proxy there has the address of the referring object. For a document: `Limit` if more than 1,000,000
+/// objects would then have been made in all, `NotEmpty` if the resource has roots. `Memory` only if none of these applies; but since the
+/// target of a proxy is looked for first, `Memory` may come before the refusals of a proxy.
 pub fn plan<L: LinkStore>(
     alloc: Global,
     model: &ModelRef<L>,
@@ -133,7 +133,7 @@ fn edits_and_notices<L: LinkStore>(
     Ok((edits, values, chain))
 }
 
-/// The edits of links that make a change, and its notifications; none if no adapter may have to get them.
+/// The edits of links that make a change, and the notifications of the change; no notifications if no adapter may have to get them.
 pub(crate) fn links_and_notices<L: LinkStore>(
     alloc: Global,
     model: &ModelRef<L>,
@@ -343,7 +343,7 @@ fn set_refusal<L: LinkStore>(model: &ModelRef<L>, end: End, value: &Value) -> Op
     }
 }
 
-/// The notifications of a change that cuts these links; none if no adapter may have to get them.
+/// The notifications of a change that cuts the links in `link_ends`; none if no adapter may have to get them.
 pub(crate) fn heard_chain<L: LinkStore>(
     alloc: Global,
     model: &ModelRef<L>,

@@ -34,7 +34,7 @@ pub(crate) fn all_resolved<L: LinkStore>(
     planned(alloc, model, leads.as_slice(), &progress, is_heard)
 }
 
-/// The plan of the proxies that are resolved.
+/// The plan that resolves the proxies of `progress`.
 fn planned<L: LinkStore>(
     alloc: Global,
     model: &ModelRef<L>,

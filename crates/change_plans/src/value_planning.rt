@@ -62,7 +62,7 @@ pub fn plan_values<L: LinkStore>(
     Ok((values, chain))
 }
 
-/// The edit of a set of an attribute that is not refused, and its notification. Errs only if memory is refused.
+/// The edit that sets an attribute, and its notification, if the set is not refused. Errs only if memory is refused.
 pub fn plan_set<L: LinkStore>(
     alloc: Global,
     model: &ModelRef<L>,

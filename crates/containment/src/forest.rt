@@ -55,7 +55,7 @@ pub fn contents<L: LinkStore>(
     Ok(out)
 }
 
-/// Adds what a node contains by one feature.
+/// Adds the objects that a node contains by one feature.
 fn push_parts<L: LinkStore>(
     model: &ModelRef<L>,
     node: Node,

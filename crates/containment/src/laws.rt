@@ -10,7 +10,7 @@ ghost use Rattle.models.specs.Model.{Model, reading};
 ghost use Rattle.models.specs.Reading.{is_within};
 ghost use Rattle.containment.specs.Forest.{contents, is_node_among, node_subtree, subtree};
 
-/// A node is in the subtree of an object exactly if it is that object, or that object is among the nodes above it.
+/// A node is in the subtree of an object exactly if the node is the object, or the object is among the nodes above the node.
 pub fn a_subtree_has_what_is_below()
     ensures { (s : Model) → IsLegal s → (o : ObjectNo) (n : Node) → is_node_among (subtree (reading s) o) n ≡ is_within (reading s) (node.Object o) n }
 {}
@@ -21,7 +21,7 @@ pub fn a_subtree_repeats_nothing()
     ensures subtree { (s : Model) → IsLegal s → (o : ObjectNo) → IsDistinct same_object (subtree (reading s) o) }
 {}
 
-/// An object is among all objects of a node exactly if it is that node or below it, and no object comes twice.
+/// An object is among all objects of a node exactly if the object is the node itself or is below the node. No object comes twice.
 pub fn all_objects_of_a_node_are_those_below_it()
     ensures below { (s : Model) → IsLegal s → (n : Node) (o : ObjectNo) → is_node_among (node_subtree (reading s) n) (node.Object o) ≡ is_within (reading s) n (node.Object o) }
     ensures once { (s : Model) → IsLegal s → (n : Node) → IsDistinct same_object (node_subtree (reading s) n) }

@@ -30,7 +30,7 @@ IsShort c = length c.values ≤ LIST_VALUES
 abbrev pub IsShortObject : DocObject → Type 0
 IsShortObject o = All IsShort o.contents
 
--- all objects of a document, and all objects that it names, get numbers within the limit; and no list is longer than lists may be
+-- all objects of a document, and all objects that it names, get numbers within the limit; and no list is longer than the limit
 pub record IsFitting (n : ℕ) (doc : Doc) : Type 0 where
   pub room : n + length doc.objects ≤ OBJECTS
   pub objects : All (IsFittingObject n) doc.objects

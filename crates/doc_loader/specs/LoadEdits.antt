@@ -29,7 +29,7 @@ use Rattle.models.specs.declared.reference_key.ReferenceKey.{ReferenceKey}
 use Rattle.models.specs.Reading.{contents_end}
 use Rattle.links.specs.Plans.{put_of}
 
--- puts an object of the document at a position
+-- the edit that puts an object of the document at a position
 abbrev pub put_at : Metamodel → ℕ → End → ℕ → ObjectNo → Edit
 put_at m n e i b = put_of e i (loaded_number n b) (shape m e.feature).opposite (shape m e.feature).containing
 
@@ -38,7 +38,7 @@ root_puts m n k doc = map (λ x. put_at m n (contents_end m k) x.0 x.1) (enumera
 
 ---------------------------------------------------------------- references that are put from their own ends
 
--- puts the value at a position
+-- the edit that puts a value at a position; none if the value is no object and no proxy
 abbrev pub value_puts : Metamodel → ℕ → End → ℕ × Value → List Edit
 value_puts m n e (i, value.Object b) = put_at m n e i b ∷ []
 value_puts m n e (i, value.Proxy t) = PutProxy e i t ∷ []
@@ -56,8 +56,8 @@ is_ascending_from k [] = true
 is_ascending_from k (value.Object a ∷ vs) = nat_le k a.0 && is_ascending_from (suc a.0) vs
 is_ascending_from k (v ∷ vs) = is_ascending_from k vs
 
--- cuts the link from the object a to the object b, and puts the link again: b gets its index in the list of a, and a becomes the last value
--- at the opposite end of b
+-- the edits that cut the link from the object a to the object b, and put the link again: b gets its index in the list of a, and a becomes
+-- the last value at the opposite end of b
 abbrev pub puts_again : Metamodel → ℕ → (ReferenceKey → ℕ) → ObjectNo → FeatureNo → Value → List Edit
 puts_again m n index_of b f (value.Object a) =
     let e = object_end n a f in
@@ -78,7 +78,7 @@ is_unordered m c = is_some (lower_of (shape m c.feature) c.feature) && not (is_a
 abbrev pub far_edits : Metamodel → ℕ → (ReferenceKey → ℕ) → ObjectNo → Content → List Edit
 far_edits m n index_of b c = option_map_or (in_order m n index_of b c.values) (lower_of (shape m c.feature) c.feature) []
 
--- puts a proxy at its position
+-- the edit that puts a proxy at its position; none if the value is no proxy
 abbrev pub proxy_puts : End → ℕ × Value → List Edit
 proxy_puts e (i, value.Proxy t) = PutProxy e i t ∷ []
 proxy_puts e (i, v) = []

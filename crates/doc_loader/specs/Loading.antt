@@ -1,5 +1,5 @@
--- The objects of a document that is loaded, with numbers from the next one on; their values; and their links and proxies, which have at both
--- ends the positions that the document says.
+-- The objects of a document that is loaded, with numbers from the next number on, and their values. Also their links and proxies: at each
+-- end a link has the position that the document says.
 use Rattle.std.specs.Prelude.{ℕ, ◌+◌, ◌&&◌, Bool, List, [], ◌∷◌, ◌++◌, filter_map, flat_map, fold, map, position, Option, Some, None, unwrap_or, if◌then◌else◌}
 use Rattle.std.specs.List.{enumerate_from}
 use Rattle.std.specs.FinSet as set
@@ -28,7 +28,7 @@ use Rattle.resource_docs.specs.Read.{values_in}
 abbrev pub loaded_number : ℕ → ObjectNo → ObjectNo
 loaded_number n o = record { 0 = n + o.0 }
 
--- a value of a document, with an object named by the number that it gets
+-- a value of a document after the load: an object is named by the number that it gets
 abbrev pub loaded_value : ℕ → Value → Value
 loaded_value n (value.Object b) = value.Object (loaded_number n b)
 loaded_value n v = v
@@ -40,13 +40,13 @@ roots_loaded n doc = map (λ o. value.Object (loaded_number n o)) doc.roots
 abbrev pub of_object : {X : Type 0} → (ObjectNo → Content → List X) → ℕ × DocObject → List X
 of_object make x = flat_map (make (record { 0 = x.0 })) x.1.contents
 
--- the results of `make` for each content of each object of a document, given the object's number in the document
+-- the results of `make` for all contents of all objects of a document; `make` gets the number of the object in the document
 abbrev pub of_contents : {X : Type 0} → (ObjectNo → Content → List X) → Doc → List X
 of_contents make doc = flat_map (of_object make) (enumerate_from 0 doc.objects)
 
 ---------------------------------------------------------------- values
 
--- a single unsettable attribute that is written is set
+-- the edit that puts the values of an attribute; a single unsettable attribute that the document writes becomes set
 abbrev pub attribute_edits : Metamodel → ℕ → ObjectNo → Content → List ValueEdit
 attribute_edits m n o c =
     let a = shape m c.feature in

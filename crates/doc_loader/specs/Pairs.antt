@@ -1,4 +1,4 @@
--- Pairs of opposites of which neither is a containment: their links are put from the end of the lower feature.
+-- Pairs of opposite features, neither of which is a containment: their links are put from the end of the feature with the lower number.
 use Rattle.std.specs.Prelude.{◌&&◌, Bool, false, not, nat_lt, Option, Some, None, is_some, option_and_then, if◌then◌else◌}
 use Rattle.std.specs.Option.{option_map_or}
 use Rattle.mm_types.specs.Shapes.{Shape}

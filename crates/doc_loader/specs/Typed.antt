@@ -19,7 +19,8 @@ use Rattle.resource_docs.specs.declared.doc.DocObject.{DocObject}
 abbrev pub class_in : Doc → ObjectNo → Option ClassNo
 class_in doc o = option_map (λ x. x.class) (slice_get doc.objects o.0)
 
--- a feature takes a value: an object whose class conforms to its target, a proxy if it may have proxies, or a legal value of an attribute
+-- a feature takes a value: an object whose class conforms to the feature's target, a proxy if the feature may have proxies, or a legal
+-- value of an attribute
 abbrev pub IsTypedValue : Metamodel → Doc → FeatureNo → Value → Type 0
 IsTypedValue m doc f (value.Object b) = lookups.takes m (class_in doc) f (value.Object b) ≡ true
 IsTypedValue m doc f (value.Proxy t) = takes_proxies (shape m f) ≡ true
@@ -39,7 +40,7 @@ pub record IsTypedObject (m : Metamodel) (doc : Doc) (o : DocObject) : Type 0 wh
   pub contents : All (IsTypedContent m doc o.class) o.contents
 
 -- Each object is of a concrete class, and its contents have the types of their features. The roots are objects of the document, and a
--- resource may have so many roots.
+-- resource may have that many roots.
 pub record IsTyped (m : Metamodel) (doc : Doc) : Type 0 where
   pub objects : All (IsTypedObject m doc) doc.objects
   pub roots : All (λ (o : ObjectNo). o.0 < length doc.objects) doc.roots

@@ -1,4 +1,4 @@
-//! The edits that put the ends of the higher features of pairs in the order of the document.
+//! The edits for the higher feature of each pair of opposites: they put the values of this feature in the order of the document.
 ghost use Rattle.std.specs.Prelude.{◌≡◌, ◌≤◌, ◌+◌, ◌++◌, ℕ, OnOk, flat_map, length, unwrap_or};
 ghost use Rattle.std.specs.List.{All, enumerate_from, list_any};
 ghost use Rattle.mm_types.specs.declared.limits.TheConstants.{OBJECTS};
@@ -144,7 +144,8 @@ fn push_object(
     Ok(())
 }
 
-/// Adds the edits that put an object's end of a feature in order, if the feature is the higher of a pair and the end is not in order.
+/// Adds the edits that put the object's end of `content.feature` in order, if this feature is the higher of a pair and the end is not in
+/// order.
 fn push_content(
     source: &LoadContext,
     object: ObjectNo,
@@ -165,8 +166,8 @@ fn push_content(
     push_values(source, object, lower, values, edits)
 }
 
-/// For each object among `values`, adds the edits that take `object` out of that other object's end under `lower` and put it in there
-/// again.
+/// For each object among `values`, adds the edits that take `object` out of the feature `lower` of the other object, and put `object` in
+/// there again.
 fn push_values(
     source: &LoadContext,
     object: ObjectNo,
@@ -184,7 +185,7 @@ fn push_values(
     Ok(())
 }
 
-/// If `value` is an object, adds the edits that take `object` out of the end of `value` under `lower` and put it in there again.
+/// If `value` is an object, adds the edits that take `object` out of the feature `lower` of `value`, and put `object` in there again.
 fn push_again(
     source: &LoadContext,
     object: ObjectNo,

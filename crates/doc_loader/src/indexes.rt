@@ -119,7 +119,7 @@ impl ListIndexes {
         Ok(())
     }
 
-    /// The index of an object; 0 if it has none. Takes no memory.
+    /// The index for a reference key; 0 if the key has no index. Takes no memory.
     pub fn index_of(&self, reference_key: ReferenceKey) -> u32
         ensures { result ≡ unwrap_or (p.index_at self.now reference_key) 0 }
     {

@@ -21,8 +21,8 @@ pub fn a_document_that_is_read_fits()
     ensures { (m : Metamodel) (uri : List ℕ) (doc : Doc) (n : ℕ) → IsRead m uri doc → n + length doc.objects ≤ OBJECTS → IsFitting n doc }
 {}
 
-/// A document that is read keeps to its metamodel: each object is of a concrete class, and its class has the features under which it has
-/// contents; each value is of its feature's type, and no feature has too many.
+/// A document that is read keeps to its metamodel: each object is of a concrete class, and the class has the features under which the
+/// object has contents; each value is of its feature's type, and no feature has too many values.
 pub fn a_document_that_is_read_is_typed()
     ensures { (m : Metamodel) (uri : List ℕ) (doc : Doc) → IsOfDocument m → IsRead m uri doc → IsTyped m doc }
 {}
@@ -32,8 +32,8 @@ pub fn the_edits_of_a_document_are_of_kind()
     ensures { (m : Metamodel) (uri : List ℕ) (doc : Doc) (n : ℕ) (k : ResourceNo) → IsRead m uri doc → IsPlanOfKind (kinds_of m) (load_edits m n k doc) }
 {}
 
-/// If a document was read, the numbers of its objects are free and the resource is empty, then its edits fit, put no node below itself, and
-/// make exactly its links.
+/// Suppose that a document was read, that the numbers of its objects are free, and that the resource is empty. Then the edits of the
+/// document fit, put no node below itself, and make exactly the links of the document.
 pub fn the_edits_of_a_document_make_its_links()
     ensures { (m : Metamodel) (uri : List ℕ) (doc : Doc) (n : ℕ) (k : ResourceNo) (s : Links) → IsOfDocument m → IsRead m uri doc → n + length doc.objects ≤ OBJECTS → IsLegalSet s → AreOfKind (kinds_of m) s → HasNoCycle s → IsRoomFor m n k s → MakesLinks m n k doc s }
 {}

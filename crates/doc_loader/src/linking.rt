@@ -15,8 +15,8 @@ use models::contents_end;
 use resource_docs::Doc;
 use std::alloc::{AllocError, Global};
 
-/// The edits that put the roots of a document into a resource, and its links and proxies. Its objects are made before; the first one got
-/// the number `next`. Fails only if memory is refused.
+/// The edits that put the roots of a document into a resource, and put the links and proxies of the document. The objects of the document
+/// are made before; the first object got the number `next`. Fails only if memory is refused.
 pub fn link_edits(
     alloc: Global,
     meta: &Meta,

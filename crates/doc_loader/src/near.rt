@@ -1,4 +1,4 @@
-//! The edits that put values from their own end.
+//! The edits that put values from the end that has them, not from the opposite end.
 ghost use Rattle.std.specs.Prelude.{◌≡◌, ◌≤◌, ◌++◌, OnOk, flat_map, length};
 ghost use Rattle.std.specs.List.{All, enumerate_from};
 ghost use Rattle.mm_types.specs.declared.limits.TheConstants.{LIST_VALUES};

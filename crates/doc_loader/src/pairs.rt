@@ -1,4 +1,4 @@
-//! Pairs of opposites of which neither is a containment: their links are put from the end of the lower feature.
+//! Pairs of opposite features, neither of which is a containment: their links are put from the end of the feature with the lower number.
 ghost use Rattle.std.specs.Prelude.{◌≡◌};
 ghost use Rattle.mm_types.specs.Shapes.{shape};
 ghost use Rattle.doc_loader.specs.Pairs as p;
@@ -16,7 +16,7 @@ pub(crate) fn lower_of(meta: &Meta, feature: FeatureNo) -> Option<FeatureNo>
     }
 }
 
-/// Whether a feature is the lower of a pair of which neither is a containment. Takes no memory.
+/// Whether a feature has an opposite with a higher number, and neither of the two is a containment. Takes no memory.
 pub(crate) fn is_lower(meta: &Meta, feature: FeatureNo) -> bool
     ensures { result ≡ p.is_lower (shape meta.now feature) feature }
 {

@@ -13,8 +13,8 @@ use mm_values::{NewValues, ValueEdit};
 use resource_docs::{Content, ContentParts, Contents, Doc, DocObject, DocValues};
 use std::alloc::{AllocError, Global};
 
-/// The edits that make the objects of a document, the first of which gets the number `next`, and give them the values of their
-/// attributes, which are moved. Fails only if memory is refused.
+/// The edits that make the objects of a document, and give each object the values of its attributes. The first object gets the number
+/// `next`. The values are moved out of the document. Fails only if memory is refused.
 pub fn value_edits(
     alloc: Global,
     meta: &Meta,
@@ -50,7 +50,7 @@ fn push_objects(objects: &[DocObject], edits: &mut Vec<ValueEdit>) -> Result<(),
     Ok(())
 }
 
-/// Adds the edits that set the attributes of the objects of a document. An object has its position in the document as its number.
+/// Adds the edits that set the attributes of the objects of a document. The number of an object in the document is its position there.
 fn push_lists(
     meta: &Meta,
     next: usize,

@@ -1,4 +1,4 @@
--- Whether the content of a feature is of its type, and the values of attributes.
+-- Whether the content of a feature is of the feature's type, and the values of attributes.
 use Rattle.std.specs.Prelude.{ℕ, ◌&&◌, ◌||◌, Bool, true, false, List, length, nat_le, Option, None, is_some, option_map, if◌then◌else◌}
 use Rattle.std.specs.List.{list_all}
 use Rattle.std.specs.Option.{option_map_or, option_or}
@@ -23,7 +23,7 @@ is_short t = nat_le (length t) TEXT_BYTES
 
 ---------------------------------------------------------------- attributes
 
--- a text, or null for a single attribute
+-- the value that data gives a text attribute: a text, or null if the attribute is single
 abbrev pub text_value : Bool → Data → Option Value
 text_value single d =
     option_or (if single then option_map (λ x. value.Null) (as_null d) else None) (option_map value.Text (as_str d such_that is_short))

@@ -35,7 +35,7 @@ is_misshapen p = is_misshapen_at (level_of p) p.json
 abbrev pub has_no_class : Metamodel → Written → Bool
 has_no_class m w = not (option_map_or (lookups.is_concrete m) (lookups.class_by_name m w.class) false)
 
--- whether a name is of a feature of a class, and the feature is no container reference
+-- whether a class has a feature of this name, and the feature is no container reference
 abbrev pub is_readable : Metamodel → ClassNo → List ℕ → Bool
 is_readable m c name = option_map_or (λ f. not (lookups.is_container m f)) (lookups.feature_by_name m c name) false
 

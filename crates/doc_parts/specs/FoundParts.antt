@@ -35,7 +35,7 @@ pub record Seen : Type 0 where
   pub known : Option (ClassNo × Members)
   pub number : Option ℕ
 
--- a part as it was found among parts; its number is the number of the first part of its path
+-- a part as it was found among parts; its number is the number of the first part that has the same path
 abbrev pub seen_part : Metamodel → List Part → Part → Seen
 seen_part m ps p = record { level = level_of p; json = p.json; known = class_and_members m p.json; number = number_of ps p.path }
 

@@ -1,4 +1,4 @@
--- Which parts of a document are looked at: the data at each place of an object, with its path. Nothing is looked at in an object of an
+-- Which parts of a document are looked at: the data wherever an object is expected, with its path. Nothing is looked at in an object of an
 -- unknown class, under an unknown feature or under a container reference.
 use Rattle.std.specs.Prelude.{ℕ, zero, suc, length, List, [], ◌∷◌, filter_map, flat_map, map, position, Option, Some, None, option_map, unwrap_or, if◌then◌else◌}
 use Rattle.std.specs.List.{enumerate_from}
@@ -52,14 +52,14 @@ class_and_members m d = written_object d >>= (λ w. option_map (λ c. (c, w.feat
 abbrev pub entries : Metamodel → Data → List Entry
 entries m d = option_map_or (λ k. entries_in m k.0 k.1) (class_and_members m d) []
 
--- the values of a content: for a many-valued feature the items of the array, and none if it is no array
+-- the values of a content: for a many-valued feature the items of the array, and none if the content is no array
 abbrev pub values_of : Metamodel → Entry → List Data
 values_of m e =
     if (shape m e.feature).is_single then e.content ∷ [] else option_map_or list_of (as_array e.content) []
 
 ---------------------------------------------------------------- objects in objects
 
--- the data at the place of an object, and its path
+-- data where an object is expected, and its path
 pub record Part : Type 0 where
   pub path : Path
   pub json : Data

@@ -33,8 +33,8 @@ fn int_value(json: &Json) -> Option<Value>
     }
 }
 
-/// The value of a data type that JSON writes, under a single or a many-valued attribute; `None` if JSON writes none of
-/// that type. Fails only if memory is refused.
+/// The value of a data type that `json` writes, for a single or a many-valued attribute; `None` if `json` writes no value of that type.
+/// Fails only if memory is refused.
 pub fn attribute_value(
     alloc: Global,
     meta: &Meta,

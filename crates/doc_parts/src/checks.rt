@@ -1,4 +1,4 @@
-//! The faults of each of the parts that were found, by itself.
+//! The faults that a found part has by itself.
 ghost use Rattle.std.specs.Prelude.{◌≡◌, List};
 ghost use Rattle.std.specs.List.{list_any};
 ghost use Rattle.mm_types.specs.Resolved.{Metamodel};

@@ -28,8 +28,8 @@ fn names_class(meta: &Meta, class: ClassNo, json: &Json) -> bool
     }
 }
 
-/// Whether a JSON value may be under a containment of a class: it is an object, and its class conforms if there is such
-/// a class. Most objects are of the very class of their containment.
+/// Whether a JSON value may be under a containment with the class `target`: it is an object whose class, if there is such a class, conforms
+/// to `target`. Most objects have exactly the class of their containment.
 fn may_stand(meta: &Meta, target: ClassNo, json: &Json) -> bool
     ensures { result ≡ may_be meta.now target (view json.now) }
 {

@@ -133,7 +133,7 @@ impl<'m> Numbers<'m> {
         }
     }
 
-    /// Gives a key a number, and returns the number that it had.
+    /// Gives a key a number, and returns the number that the key had before.
     fn put(&mut self, key: PartKey<'m>, number: u32) -> Result<Option<u32>, AllocError>
         ensures number { OnOk result ((k : Key) → number_at self.new k ≡ (if is_at k key.entry then Some number else number_at self.old k)) }
         ensures had { IfOk result (λ o. o ≡ number_at self.old (key_of key.entry)) }

@@ -21,7 +21,7 @@ pub(crate) struct ObjectMembers<'t> {
     pub features: Members<'t>,
 }
 
-/// The top of a document; `None` if the value is no such object. Takes no memory.
+/// The top of a document; `None` if the value is not the top of a document. Takes no memory.
 #[tactic(auto, unfolding(crate::specs::Layout::top))]
 pub fn top<'t>(json: &Json<'t>) -> Option<TopMembers<'t>>
     ensures { option_map (λ t. new_top t.format (items_view t.roots.now)) result ≡ top_meant (view json.now) }
@@ -52,7 +52,7 @@ fn is_features(key: &str) -> bool
     )
 }
 
-/// Whether an object has exactly its two members, in the order in which they are saved.
+/// Whether an object has exactly the members `class` and `features`, in this order, the order in which they are saved.
 #[inline(always)]
 fn is_in_order(members: Members) -> bool
     ensures { IsTrue result → IsInOrder members.now }

@@ -12,7 +12,7 @@ use mm_meta::Meta;
 use mm_types::FeatureNo;
 use std::alloc::{AllocError, Global};
 
-/// The place of the parts below a part: the number of that part, and the level below it.
+/// The location of the parts below a part: the number of the part above them, and their level.
 #[derive(Clone, Copy)]
 struct Below {
     part: u32,

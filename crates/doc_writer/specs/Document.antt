@@ -30,7 +30,7 @@ reference_text r k o = unwrap_or (reference r k o) []
 
 ---------------------------------------------------------------- values
 
--- members with some more put among them; serde_json keeps members in the order of their keys
+-- the members `old` with the members ms put among them; serde_json keeps members in the order of their keys
 abbrev pub members_with : Members → List (List ℕ × Data) → Members
 members_with old ms = fold (λ found m. put m.0 m.1 found) old ms
 
@@ -81,7 +81,7 @@ object_data r k (suc n) o =
     two_members (codes "class") (string (class_name r o))
     (codes "features") (object (members (map (feature_member r k (object_data r k n) o) (written_features r o))))
 
--- the document of a resource; no tree has more levels than objects were made
+-- the document of a resource; no tree has more levels than the number of objects that were made
 unfoldable pub document : Reading → ResourceNo → Data
 document r k =
     two_members (codes "format") (number (unsigned DOCUMENT_FORMAT))

@@ -10,8 +10,8 @@ use Rattle.models.specs.Reading.{Reading, all_features_of, at_end, is_set}
 use Rattle.containment.specs.Forest.{subtree}
 use Rattle.fragment_paths.specs.Finding.{roots}
 
--- the objects of a resource, root by root; each object comes before the objects that it contains, which come by feature in the order of all
--- features, then by position
+-- the objects of a resource, root by root; each object comes before the objects that it contains. The contained objects come by feature in
+-- the order of all features, then by position
 abbrev pub objects_in : Reading → ResourceNo → List ObjectNo
 objects_in r k = flat_map (subtree r) (roots r k)
 

@@ -27,7 +27,7 @@ fn push_referring(
     Ok(())
 }
 
-/// From a list of features, adds those by which objects may refer to others.
+/// Adds the features of a list by which objects may refer to others.
 fn push_all_referring(
     meta: &Meta,
     features: &[FeatureNo],
@@ -41,8 +41,8 @@ fn push_all_referring(
     Ok(())
 }
 
-/// The features by which the objects of a class may refer to others. Objects that are asked for one after another mostly have the same class,
-/// so the features of a class are not looked through for each of them.
+/// The features by which the objects of a class may refer to others. Objects that are asked for one after another mostly have the same
+/// class, so the features of a class are not looked through for each object.
 #[derive(Drop)]
 pub(crate) struct ClassReferences {
     class: Option<ClassNo>,

@@ -36,7 +36,7 @@ fn write_roots<L: LinkStore>(
     write_list(source, &order, roots, out)
 }
 
-/// Writes objects as an array. The features of some class are in order.
+/// Writes objects as an array. `order` has the features of some class in order.
 fn write_list<L: LinkStore>(
     source: &WriteContext<L>,
     order: &ClassOrder,

@@ -55,7 +55,8 @@ fn written_below<L: LinkStore>(
 
 /// The text of a resource (EMF: XMLResource.save): `serde_json`'s compact text of its document. The features that are set are written, but
 /// no container references. A reference inside the resource is written as a fragment, a reference into another resource as URI, `#` and
-/// fragment. The other end of a reference with an opposite is written in its own resource. A resource that does not exist has no roots.
+/// fragment. If a reference has an opposite, the opposite end is written in the resource of the object that has this end. A resource that
+/// does not exist has no roots.
 ///
 /// The whole resource is checked before anything is written. Fails with `Dangling` if an object of the resource refers to an object that is
 /// in no resource; else with `TooDeep` if an object is below level 40; and with `Memory` if memory is refused.

@@ -124,7 +124,7 @@ const ROOTS: [(&str, &str); 44] = [
         r#"{"class":"Book","features":{"genre":"PLAY"}}"#,
         "18 DOCUMENT 6 VALUE",
     ),
-    // A value of a containment that is no object, or of a class that does not conform.
+    // A value of a containment that is no object, or is an object of a class that does not conform.
     (
         r#"{"class":"Folder","features":{"subs":[7]}}"#,
         "18 DOCUMENT 6 VALUE",
@@ -170,7 +170,7 @@ const ROOTS: [(&str, &str); 44] = [
         r#"{"class":"Book","features":{"next":"/00"}}"#,
         "18 DOCUMENT 7 REFERENCE",
     ),
-    // An index into a single feature, and none into a list.
+    // A step with an index into a single feature, and a step without an index into a list.
     (
         r#"{"class":"Person","features":{"cover":{"class":"Folder","features":{"friends":["//@cover.0"]}}}}"#,
         "18 DOCUMENT 7 REFERENCE",

@@ -1,4 +1,4 @@
-//! Documents at their limits: long texts, deep objects and many of them.
+//! Documents at their limits: long texts, deep objects and many objects.
 use crate::resource::{library, of_roots, refusal};
 use mm_meta::Meta;
 use mm_types::{DocFault, Refused};

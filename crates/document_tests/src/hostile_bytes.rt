@@ -24,7 +24,7 @@ struct Input {
     text: &'static str,
     bytes: u32,
     quotes: u32,
-    /// How many bytes come after its last brace.
+    /// How many bytes come after the last brace of the text.
     behind: u32,
 }
 
@@ -36,7 +36,7 @@ const INPUTS: [Input; 3] = [
         quotes: 326,
         behind: 1,
     },
-    // A library is saved, with a book and a member.
+    // A saved library, with a book and a member.
     Input {
         read_as: ReadAs::Document,
         text: r#"{"format":1,"roots":[{"class":"Library","features":{"books":[{"class":"Book","features":{"name":"Emma"}}],"members":[{"class":"Person","features":{"likes":["//@books.0"]}}]}}]}"#,
@@ -128,7 +128,7 @@ fn with_byte(alloc: Global, text: &str, at: usize, byte: u8) -> Result<Vec<u8>, 
     Ok(bytes)
 }
 
-/// Counts the answers to a text with a different byte in the place of each of its bytes in turn.
+/// Replaces each byte of a text in turn by `byte`, and counts the answers.
 fn replaced(alloc: Global, meta: &Meta, input: &Input, byte: u8) -> Result<Counts, Fail> {
     let mut counts = [0; 13];
     for at in 0..input.text.len() {

@@ -88,13 +88,13 @@ Folder false []
   parent Folder 0..1 false subs
 "#;
 
-/// A document whose keys are in a different order, one of them twice, and most of them not at all.
+/// A document with the keys in a different order, one key twice, and most keys left out.
 const BOOK_AND_SHELF: &str = r#"{"classes":[{"features":[
         {"default":"-1","type":"EInt","kind":"attribute","name":"pages"},
         {"name":"t\u00e9","kind":"attribute","type":"EString"}
     ],"name":"None","name":"Book"},{"name":"Shelf"}]}"#;
 
-/// The content of that document.
+/// The content of the document `BOOK_AND_SHELF`.
 const BOOK_AND_SHELF_READ: &str = "Book false []
   pages EInt 0..1 true false -1
   té EString 0..1 true false none

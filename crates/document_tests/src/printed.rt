@@ -151,7 +151,7 @@ fn is_fault(alloc: Global, fault: MetaFault, text: &str) -> Result<bool, AllocEr
     Ok(printed.as_str() == text && parts.as_str() == text)
 }
 
-/// Whether a fault has the number and the name of its condition, if it has one.
+/// Whether a fault with a condition has the number and the name of the condition; true for a fault without a condition.
 fn is_of_its_condition(fault: MetaFault) -> bool {
     match fault {
         MetaFault::IllFormed(condition, _) => {

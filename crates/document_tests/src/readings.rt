@@ -69,7 +69,7 @@ const READINGS: [(&str, &str); 16] = [
         r#"{"class":"Book","features":{"next":"/","prev":"/"}}"#,
         "2[ 12: #0; 13: #0; ] roots #0",
     ),
-    // Of equal keys the last counts.
+    // If a key comes twice, its last value counts.
     (
         r#"{"class":"Book","features":{"pages":"no","pages":7}}"#,
         "2[ 4: 7; ] roots #0",

@@ -28,7 +28,7 @@ module _ {D W : Type 0} where
   abbrev pub disk_under : Outbox D W → D
   disk_under outbox = disk_of outbox.journal
 
-  -- of the lines whose answers are held back, the lines to be kept
+  -- the lines to be kept, among the lines whose answers are held back
   abbrev pub noted_by : Outbox D W → List (List ℕ)
   noted_by outbox = noted_lines outbox.journal
 

@@ -28,11 +28,11 @@ answer p = p.text ++ NEWLINE ∷ []
 abbrev pub answers : List Printed → List ℕ
 answers = flat_map answer
 
--- only the line if it is kept, and otherwise none
+-- a list with the line if the line is kept, and otherwise the empty list
 abbrev pub kept_line : List ℕ → Printed → List (List ℕ)
 kept_line l p = if is_kept p.turn then l ∷ [] else []
 
--- the lines that are kept, by the output of each
+-- the lines that are kept, given the output of each line
 abbrev pub kept_lines : List (List ℕ) → List Printed → List (List ℕ)
 kept_lines [] ps = []
 kept_lines (l ∷ ls) [] = []

@@ -40,7 +40,7 @@ module _ {D W : Type 0} (contents : W → Option (List ℕ)) (seen : D → List 
 
   -- ---- one call after another
 
-  -- each file that a crash leaves during some calls or during the calls after them
+  -- P is true of each file that a crash leaves during some calls or during the calls after them
   pub leaves_more : (x y z : D) (P Q : List ℕ → Type 0) → LeavesOnly moment left_since x y P → LeavesOnly moment left_since y z Q → ((c : List ℕ) → Q c → P c)
       → LeavesOnly moment left_since x z P
   leaves_more x y z P Q one two weaker = record {
@@ -53,7 +53,7 @@ module _ {D W : Type 0} (contents : W → Option (List ℕ)) (seen : D → List 
   rests x y (inl same) at_rest = subst AtRest (sym same) at_rest
   rests x y (inr one) at_rest = one.settled
 
-  -- the lines of the file, and the lines that were noted
+  -- the lines of the file followed by the noted lines are the same before and after the answers are given
   all_of : (x y : Box) → Gives contents seen may_leave x y → kept_by seen y ++ noted_by y ≡ kept_by seen x ++ noted_by x
   all_of x y one = ap (λ (ls : List (List ℕ)). kept_by seen y ++ ls) one.noted ∙ append-nil (kept_by seen y) ∙ one.kept
 

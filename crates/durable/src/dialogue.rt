@@ -51,7 +51,8 @@ pub fn run_dialogue<R: Read, S: Session, D: Disk, W: Write>(
     // stops.
     ensures stopped { IfErr result (λ fault. StopsIn S.runs fault (reader_remaining R.remaining reader.old) session.old (kept_by D.seen outbox.old)
         (W.contents (writer_of outbox.old)) (W.contents (writer_of outbox.new)) (D.may_leave (disk_under outbox.new))) }
-    // `TooLong` is returned only if a line is too long, or there are too many, and `Journal` only if the disk failed or the file is full.
+    // `TooLong` is returned only if a line is too long, or if there are too many lines, and `Journal` only if the disk failed or the file
+    // is full.
     ensures long { IsErrOf result RunFault.TooLong → IfSome (reader_remaining R.remaining reader.old) (λ input. IsTooLong (lines input)) }
     ensures disk { IsErrOf result RunFault.Journal → (D.faults (disk_under outbox.old) < D.faults (disk_under outbox.new)) ⊎ IsFull D.seen outbox.new }
     // A crash at any moment leaves the lines from before, and after them the lines to be kept among the first lines.

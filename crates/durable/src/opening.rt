@@ -17,7 +17,7 @@ pub enum JournalFault {
     Failed,
     /// The file is no journal.
     NoJournal,
-    /// It was begun with another metamodel.
+    /// The journal was begun with another metamodel.
     OtherMetamodel,
     /// The line of this number was not done when it was run again. The head is line 1.
     Line(u64),

@@ -25,7 +25,7 @@ impl From<AllocError> for ReplayFault {
     }
 }
 
-/// Runs the lines that the bytes of a file stand for. Each must be done, and must be a line that is to be kept.
+/// Runs the lines that the bytes of a file stand for. Each line must be done, and must be a line that is to be kept.
 pub fn replay<S: Session>(alloc: Global, session: &mut S, file: &[u8]) -> Result<(), ReplayFault>
     ensures ok { OnOk result (RunsKept S.runs session.old (recovered_lines file.now) session.new) }
     ensures refused { IsErrOf result ReplayFault.Refused → Refuses S.runs session.old (recovered_lines file.now) }

@@ -10,11 +10,11 @@ pub(crate) const NEWLINE: u8 = b'\n';
 /// How a line ended.
 #[derive(Clone, Copy, Debug, PartialEq, Eq)]
 pub enum JournalTurn {
-    /// It was done, and is to be kept.
+    /// The line was done, and is to be kept.
     Kept,
-    /// It is not to be kept: it was refused or is bad, it only reads, or it concerns only this session.
+    /// The line is not to be kept: it was refused or is bad, it only reads, or it concerns only this session.
     Other,
-    /// It was refused for memory.
+    /// The line was refused for memory.
     Lost,
 }
 
@@ -37,7 +37,7 @@ pub trait Session {
     /// How the session runs a line: what the line prints and how it ends, and the session after it.
     ghost runs: { Self → List ℕ → Printed → Self → Type 0 };
 
-    /// Runs a line, and appends what it prints to a text. Fails only if memory is refused for that.
+    /// Runs a line, and appends to `text` what the line prints. Fails only if memory is refused for the text.
     fn answer(&mut self, line: &[u8], text: &mut Vec<u8>) -> Result<JournalTurn, AllocError>
         ensures { IfOk result (λ turn. AddsRun runs self.old line.now text.old.items text.new.items turn self.new) };
 }

@@ -112,7 +112,7 @@ impl EndValueList {
         }
     }
 
-    /// The index of the first value that is the same.
+    /// The index of the first value that is the same as `value`.
     pub fn position(&self, value: &Value) -> Option<usize>
         ensures { result ≡ position (same_value value.now) self.now.items }
     {
@@ -210,8 +210,8 @@ impl EndValueList {
         }
     }
 
-    /// Inserts a value, for which there is capacity, before the value at an index or at the end. Takes no memory. A value that is no object
-    /// is inserted only after `mix`.
+    /// Inserts a value before the value at an index or at the end. The list has capacity for the value. Takes no memory. A value that is no
+    /// object is inserted only after `mix`.
     #[tactic(auto, using(crate::proofs::EndValueLemmas::length_objects))]
     #[inline(always)]
     pub fn insert(&mut self, index: usize, value: Value)
@@ -295,7 +295,7 @@ fn text_in(value: Option<&Value>) -> Option<&str>
     }
 }
 
-/// Whether there is a value, and it is the given one.
+/// Whether `there` is a value, and is the same as `value`.
 fn is_there(there: Option<&Value>, value: &Value) -> bool
     ensures { result ≡ is_value value.now (option_copied there.entry) }
 {
@@ -305,7 +305,7 @@ fn is_there(there: Option<&Value>, value: &Value) -> bool
     }
 }
 
-/// Whether there is an object, and the given value is that object.
+/// Whether `there` is an object, and `value` is this object.
 fn is_object(there: Option<&ObjectNo>, value: &Value) -> bool
     ensures { result ≡ is_value value.now (option_map object_value (option_copied there.entry)) }
 {
@@ -389,7 +389,7 @@ fn values_of(alloc: Global, list: &ShortList<ObjectNo>) -> Result<Box<MixedList>
     Ok(values)
 }
 
-/// Puts objects in last, for which there is capacity.
+/// Adds objects at the end of `values`, which has capacity for them.
 fn push_objects(values: &mut MixedList, list: &ShortList<ObjectNo>)
     requires room { length list.now.items ≤ values.old.spare }
     requires none { values.old.items ≡ [] }
@@ -401,7 +401,7 @@ fn push_objects(values: &mut MixedList, list: &ShortList<ObjectNo>)
     }
 }
 
-/// Puts an object in last, if there is one.
+/// Adds an object at the end of `values`, if there is an object.
 fn push_object(values: &mut MixedList, object: Option<&ObjectNo>)
     requires { 0 < values.old.spare }
     ensures items { values.new.items ≡ values.old.items ++ option_to_list (option_map object_value (option_copied object.entry)) }

@@ -11,8 +11,8 @@ use std::alloc::{AllocError, Global};
 use std::marker::Model;
 use std::mem;
 
-/// A list of objects, and a label for each of them. If no memory was left for a label, the object has none, and is not found by it.
-/// Contracts see it as the list.
+/// A list of objects, and a label for each object. If no memory was left for the label of an object, the object has no label, and is not
+/// found by a label. Contracts see only the list.
 #[derive(Drop)]
 pub(crate) struct LabelledObjects {
     list: ShortList<ObjectNo>,
@@ -50,7 +50,7 @@ impl LabelledObjects {
         Ok(boxed)
     }
 
-    /// Takes the objects of a list, in place of those that were there, and gives each a label.
+    /// Replaces the objects by the objects of `list`, and gives each object a label.
     fn take_list(&mut self, list: &mut ShortList<ObjectNo>)
         ensures { self.new ≡ list.old }
     {
@@ -80,7 +80,7 @@ impl LabelledObjects {
         &self.list
     }
 
-    /// The index of an object, if its label and those of the others go up along the list. Otherwise any index.
+    /// The index of an object, if the labels of this object and of the others rise along the list. Otherwise any index.
     #[cold]
     pub fn guess(&self, object: ObjectNo) -> usize {
         match self.labels.get(&object.0) {
@@ -125,7 +125,7 @@ impl LabelledObjects {
         }
     }
 
-    /// Reserves capacity for more objects, and for their labels. Fails only if memory is refused for the objects; they stay then.
+    /// Reserves capacity for more objects, and for their labels. Fails only if memory is refused for the objects; then the objects stay.
     #[cold]
     pub fn reserve(&mut self, alloc: Global, additional: usize) -> Result<(), AllocError>
         ensures items { self.new.items ≡ self.old.items }
@@ -140,7 +140,7 @@ impl LabelledObjects {
         Ok(())
     }
 
-    /// Inserts an object, for which there is capacity, before the object at an index or at the end. Takes no memory.
+    /// Inserts an object before the object at an index or at the end. The list has capacity for the object. Takes no memory.
     #[cold]
     pub fn insert(&mut self, index: usize, object: ObjectNo)
         requires room { 0 < self.old.spare }

@@ -65,7 +65,7 @@ impl MixedList {
         self.values.get(index)
     }
 
-    /// The index of the first value that is the same.
+    /// The index of the first value that is the same as `value`.
     pub fn position(&self, value: &Value) -> Option<usize>
         ensures { result ≡ position (same_value value.now) self.now.items }
     {
@@ -88,7 +88,7 @@ impl MixedList {
         self.values.reserve(additional)
     }
 
-    /// Inserts a value, for which there is capacity, before the value at an index or at the end. Takes no memory.
+    /// Inserts a value before the value at an index or at the end. The list has capacity for the value. Takes no memory.
     pub fn insert(&mut self, index: usize, value: Value)
         requires room { 0 < self.old.spare }
         requires in_range { index ≤ length self.old.items }
@@ -142,7 +142,7 @@ fn is_proxy_there(there: Option<&Value>) -> bool
     }
 }
 
-/// An index before which a list has no proxy after a value was put in at `index`, if before it had none before `start`.
+/// For a list that has no proxy before `start`: an index before which the list has no proxy after a value was put in at `index`.
 fn start_after_insert(start: usize, index: usize, is_proxy: bool) -> usize
     ensures { (vs : List AnyValue) (v : AnyValue) → index ≤ length vs → proxies.is_proxy v ≡ is_proxy → proxies.HasNoProxyBefore start vs → proxies.HasNoProxyBefore result (insert vs index v) }
 {
@@ -155,7 +155,7 @@ fn start_after_insert(start: usize, index: usize, is_proxy: bool) -> usize
     start
 }
 
-/// An index before which a list has no proxy after the value at `index` was taken out, if before it had none before `start`.
+/// For a list that has no proxy before `start`: an index before which the list has no proxy after the value at `index` was taken out.
 fn start_after_remove(start: usize, index: usize) -> usize
     ensures { (vs : List AnyValue) → proxies.HasNoProxyBefore start vs → proxies.HasNoProxyBefore result (remove vs index) }
 {

@@ -54,7 +54,7 @@ fn clash_in(
     Ok(None)
 }
 
-/// Explains two features of one name. If one class declares both, their positions distinguish them.
+/// Explains two features with the same name. If one class declares both, their positions distinguish them.
 fn explain_pair(
     out: &mut String,
     at: Named<'_>,

@@ -222,7 +222,7 @@ pub(crate) const MISPLACED: [Hint; 41] = [
     ("enums", "only the document has it"),
 ];
 
-/// By key, a text for a value, or an item of an array, that is not written as its field says. The text is added to the explanation.
+/// For some keys, a text that is added to the explanation of a value, or of an item of an array, that is not written as its field says.
 pub(crate) const ADVICE: [Hint; 3] = [
     ("upper", "; -1 stands for any number"),
     (

@@ -1,11 +1,11 @@
-//! Faults of inheritance: a cycle of supertypes, and two features of one name.
+//! Faults of inheritance: a cycle of supertypes, and two features with the same name.
 use crate::named::{Named, class_at, class_named, name_at};
 use mm_types::{Place, RawMeta};
 use std::alloc::{AllocError, Global};
 use std::fmt;
 
-/// A class that was reached through supertypes, and the class from which it was reached: `before` is the position of that class among the
-/// reached classes.
+/// A class that was reached through supertypes. `before` is the position, among the reached classes, of the class from which it was
+/// reached.
 #[derive(Drop)]
 struct Reached {
     class: usize,

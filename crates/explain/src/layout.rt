@@ -183,7 +183,7 @@ fn name_in(json: &Value) -> Option<&str> {
     }
 }
 
-/// The place of an object of the document, with its name if that can be read.
+/// The place of an object of the document, with the name of the object if the name can be read.
 fn place_of(
     alloc: Global,
     key: &str,

@@ -24,9 +24,9 @@ fn owner_of(at: Named<'_>) -> &str {
 enum Wrong<'m> {
     IsAttribute,
     NoOpposite,
-    /// It names a different opposite.
+    /// The feature names a different opposite.
     Names(&'m str),
-    /// Its type is not the class that declares the reference.
+    /// The type of the feature is not the class that declares the reference.
     HasType(&'m str),
     IsItself,
 }
@@ -79,7 +79,8 @@ fn explain_type(
     )
 }
 
-/// Explains a reference that can't have its opposite: its type declares a feature of the opposite's name, which does not fit.
+/// Explains a reference that can't have its opposite: the type of the reference declares a feature with the opposite's name, but this
+/// feature does not fit.
 fn explain_declared(
     alloc: Global,
     out: &mut String,

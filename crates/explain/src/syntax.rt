@@ -11,11 +11,11 @@ const BYTE_ORDER_MARK: &[u8] = b"\xef\xbb\xbf";
 /// Why bytes are no JSON from a place on.
 #[derive(Clone, Copy)]
 pub(crate) enum NoJson<'b> {
-    /// They end before the JSON does.
+    /// The bytes end before the JSON ends.
     EndsEarly,
-    /// They begin with a byte order mark.
+    /// The bytes begin with a byte order mark.
     ByteOrderMark,
-    /// The first byte from there on is not UTF-8.
+    /// The first byte from the place on is not UTF-8.
     NotUtf8,
     /// The bytes from the place on are no JSON; they begin with this text.
     Shown(&'b str),
@@ -66,7 +66,7 @@ fn text_at(bytes: &[u8]) -> &str {
     }
 }
 
-/// Why bytes are no JSON from a place on; its line and column are counted from 1.
+/// Why bytes are no JSON from a place on. The line and the column of the place are counted from 1.
 pub(crate) fn no_json_at(bytes: &[u8], line: usize, column: usize) -> NoJson<'_> {
     if bytes.starts_with(BYTE_ORDER_MARK) {
         return NoJson::ByteOrderMark;

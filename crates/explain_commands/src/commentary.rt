@@ -41,7 +41,7 @@ pub struct Commentary {
 }
 
 impl Commentary {
-    /// The comments on a script that can attach adapters up to a number. Takes no memory.
+    /// The comments on a script that can attach the adapters up to the number `adapters`. Takes no memory.
     pub fn new(alloc: Global, talk: Talk, adapters: u32) -> Self {
         Commentary {
             alloc,
@@ -82,7 +82,7 @@ impl Commentary {
         mem::replace(&mut self.said, String::new(self.alloc))
     }
 
-    /// Records a line that was run, with its output, and explains it if it is to be explained.
+    /// Records a line that was run, with its output. Explains the line if it is to be explained.
     pub fn line_was_run<L: LinkStore, A: Adapter>(
         &mut self,
         repository: &Repository<L, A>,
@@ -97,7 +97,7 @@ impl Commentary {
         self.is_lost = noted.is_err();
     }
 
-    /// Notes that a resource was made and loaded, as it notes the lines `resource` and `load`.
+    /// Notes that a resource was made and loaded, just as the lines `resource` and `load` are noted.
     pub fn resource_was_loaded(&mut self, uri: &str, objects: u64) {
         let noted = self.note_uri(uri);
         self.is_lost = self.is_lost || noted.is_err();
@@ -176,8 +176,8 @@ impl Commentary {
         self.said.push_str(text.as_str())
     }
 
-    /// Explains why the command of a form was refused, in lines that begin with the prefix. The repository has to be as it was then. Fails
-    /// only if memory is refused.
+    /// Explains why the command of a form was refused, in lines that begin with the prefix. The repository has to be as it was when the
+    /// command was refused. Fails only if memory is refused.
     pub fn explained<L: LinkStore, A: Adapter>(
         &self,
         repository: &Repository<L, A>,

@@ -144,7 +144,7 @@ impl<L: LinkStore, A: Adapter> Scene<'_, L, A> {
         )
     }
 
-    /// Explains a value, or the object that a proxy leads to, that a list has already.
+    /// Explains a value that a list has already: the value of the line, or the object to which the proxy of the line leads.
     pub(crate) fn explain_duplicate(&self, out: &mut String, form: &Form<'_>, end: End) -> Written {
         match (resolved_index(form), value_in(form)) {
             (_, Some(value)) => self.explain_repeated(out, end, value),
@@ -165,7 +165,7 @@ impl<L: LinkStore, A: Adapter> Scene<'_, L, A> {
         meta.is_full(end.feature, self.len(end))
     }
 
-    /// The end that is full, of the two ends to which a line adds something: the end that it names, and the opposite end.
+    /// The full end among the two ends to which a line adds something: the end that the line names, and the opposite end.
     fn full_end(&self, form: &Form<'_>, end: End) -> Option<End> {
         if self.is_full(end) {
             return Some(end);

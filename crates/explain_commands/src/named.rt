@@ -2,7 +2,7 @@
 use mm_types::{EndRead, Node, ObjectNo, Read};
 use script_lines::{FeatureForm, Form, WrittenValue};
 
-/// What a line names: a node, and a feature of it.
+/// What a line names: its verb, a node, and a feature of the node.
 #[derive(Clone, Copy)]
 pub(crate) struct Named<'a> {
     pub(crate) verb: &'static str,
@@ -36,7 +36,7 @@ fn feature_in<'a>(form: &Form<'a>) -> Option<&'a str> {
     }
 }
 
-/// The object that a line names first, if it can name nothing else there.
+/// The object that a line names first, if the line can name only an object there.
 fn object_in(form: &Form<'_>) -> Option<ObjectNo> {
     match form {
         Form::At {
@@ -86,7 +86,7 @@ pub(crate) fn resolved_index(form: &Form<'_>) -> Option<u32> {
     }
 }
 
-/// The value that a line gives a feature.
+/// The value that a line gives a feature, or takes out of a feature.
 pub(crate) fn value_in<'f, 'a>(form: &'f Form<'a>) -> Option<&'f WrittenValue<'a>> {
     match form {
         Form::At { form, .. } => given_value(form),

@@ -74,8 +74,8 @@ impl<L: LinkStore, A: Adapter> Scene<'_, L, A> {
         }
     }
 
-    /// Adds a line that says why a line of a script was refused; the repository has to be as it was then. Nothing is said of a refused
-    /// document or of memory. Fails only if memory is refused.
+    /// Adds a line that says why a line of a script was refused; the repository has to be as it was when the line was refused. Nothing is
+    /// said of a refused document or of memory. Fails only if memory is refused.
     pub(crate) fn explain_refusal(
         &self,
         out: &mut String,

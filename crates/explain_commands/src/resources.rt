@@ -10,7 +10,7 @@ use script_lines::Form;
 use std::alloc::AllocError;
 use web_uris::{UriFault, joined};
 
-/// Whether the scheme of a URI may have a byte.
+/// Whether a byte may be in the scheme of a URI.
 fn is_scheme_byte(byte: u8) -> bool {
     byte.is_ascii_alphanumeric() || matches!(byte, b'+' | b'-' | b'.')
 }
@@ -27,7 +27,7 @@ fn scheme_of(text: &str) -> Option<&str> {
     }
 }
 
-/// Whether the URI of a resource can have a scheme.
+/// Whether the URI of a resource can have the given scheme.
 fn is_of_the_web(scheme: &str) -> bool {
     scheme.eq_ignore_ascii_case("http") || scheme.eq_ignore_ascii_case("https")
 }

@@ -5,7 +5,7 @@ use mm_types::{End, FeatureNo, Node};
 use repository::Repository;
 use std::alloc::{AllocError, Global};
 
-/// Fails only if memory is refused.
+/// The result of a function that writes an explanation. Fails only if memory is refused.
 pub(crate) type Written = Result<(), AllocError>;
 
 /// The data from which a refusal is explained, and the text with which its line begins.
@@ -37,7 +37,7 @@ impl<L: LinkStore, A: Adapter> Scene<'_, L, A> {
         }
     }
 
-    /// How many values a list has; none if there is no such list.
+    /// How many values a list has; 0 if there is no such list.
     pub(crate) fn len(&self, end: End) -> u32 {
         self.repository.list_len(end.node, end.feature).unwrap_or(0)
     }

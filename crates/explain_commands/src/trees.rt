@@ -73,7 +73,7 @@ impl<L: LinkStore, A: Adapter> Scene<'_, L, A> {
         None
     }
 
-    /// The first reference of an object that refers to an object in no resource, and that object.
+    /// The first reference of an object that refers to an object in no resource, and the object in no resource.
     fn outside_of(&self, object: ObjectNo) -> Option<(End, ObjectNo)> {
         let meta = self.repository.meta();
         let node = Node::Object(object);
@@ -103,7 +103,7 @@ impl<L: LinkStore, A: Adapter> Scene<'_, L, A> {
         Ok(())
     }
 
-    /// Whether an object has the fault that is looked for. If it has, its line is added.
+    /// Whether an object has the fault that is looked for. If it has, adds the line that explains the fault.
     fn is_found(
         &self,
         out: &mut String,

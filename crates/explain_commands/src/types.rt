@@ -63,7 +63,7 @@ impl<L: LinkStore, A: Adapter> Scene<'_, L, A> {
 }
 
 impl<'s, L: LinkStore, A: Adapter> Scene<'s, L, A> {
-    /// The literal of a feature's enumeration that is nearest to a written one.
+    /// The literal of a feature's enumeration that is nearest to a written literal.
     fn meant_literal(
         &self,
         feature: FeatureNo,

@@ -28,7 +28,7 @@ impl<'s, L: LinkStore, A: Adapter> Scene<'s, L, A> {
         }
     }
 
-    /// The URI and the fragment of the address of the proxy at an index of a reference.
+    /// The two parts of a proxy's address, the URI and the fragment. The proxy is at an index of a reference.
     fn parts_at(&self, end: End, index: u32) -> Option<(&'s str, &'s str)> {
         split_address(self.address_at(end, index)?)
     }

@@ -65,7 +65,7 @@ fn explain_verb(
     }
 }
 
-/// Adds a line for each word that makes a line of a script a bad one. Fails only if memory is refused.
+/// Adds a line for each word that is wrong in a bad line of a script. Fails only if memory is refused.
 pub fn explain_bad_line(
     alloc: Global,
     out: &mut String,

@@ -18,7 +18,7 @@ const SHOWN_BYTES: usize = 20;
 pub struct RefusedDocument<'d> {
     /// The text with which each line of the explanation begins.
     pub prefix: &'d str,
-    /// The URI of its resource.
+    /// The URI of the document's resource.
     pub uri: &'d str,
     /// The text of the document.
     pub text: &'d str,

@@ -1,4 +1,4 @@
-//! What is wrong with references: their targets, and whether the other end names them back.
+//! What is wrong with references: their targets, and whether the target names the referring object under the opposite.
 use crate::led::{Fragments, Led, fragments_of, led_by};
 use crate::parts::{At, Entry, Part};
 use crate::written::{class_of, conforms_to, values_of};
@@ -217,7 +217,8 @@ fn explain_one_sided(
     )
 }
 
-/// Explains references with an opposite whose other end does not name them back.
+/// Explains references with an opposite that lead to an object of the document, if this object does not name the referring object under the
+/// opposite.
 pub(crate) fn explain_ends(
     alloc: Global,
     out: &mut String,

@@ -10,9 +10,9 @@ use std::fmt;
 /// What is written for an object.
 #[derive(Drop)]
 pub(crate) struct Part<'v> {
-    /// Its path in the JSON, as `line 7: roots[0].features.books[1]`.
+    /// The path of the object in the JSON, as `line 7: roots[0].features.books[1]`.
     pub(crate) path: String,
-    /// Its fragment with the position of its root, as `/0/@books.1`.
+    /// The fragment of the object, with the position of its root, as `/0/@books.1`.
     pub(crate) fragment: String,
     pub(crate) level: usize,
     pub(crate) json: &'v Value,
@@ -21,17 +21,17 @@ pub(crate) struct Part<'v> {
 /// The content of a feature of a part.
 #[derive(Drop)]
 pub(crate) struct Entry<'v> {
-    /// Its path in the JSON, as `line 7: roots[0].features.books`.
+    /// The path of the content in the JSON, as `line 7: roots[0].features.books`.
     pub(crate) path: String,
     /// The number of the part.
     pub(crate) part: usize,
     pub(crate) feature: FeatureNo,
     pub(crate) content: &'v Value,
-    /// Whether it is one value, and not an array of values.
+    /// Whether the content is one value, and not an array of values.
     pub(crate) is_single: bool,
 }
 
-/// A value of a feature's content: the only one, or the value at a position.
+/// A value of a feature's content: the only value, or the value at a position.
 #[derive(Clone, Copy)]
 pub(crate) struct At<'e> {
     pub(crate) path: &'e str,

@@ -24,7 +24,7 @@ pub(crate) fn known<'v>(meta: &Meta, json: &'v Value) -> Option<(ClassNo, &'v Ma
     Some((class, features))
 }
 
-/// Whether an object is of a class that conforms to another.
+/// Whether an object is of a class that conforms to the class `target`.
 pub(crate) fn conforms_to(meta: &Meta, target: ClassNo, json: &Value) -> bool {
     match class_of(meta, json) {
         Some(class) => meta.conforms(class, target),

@@ -12,7 +12,7 @@ use std::io::Read;
 use std::os::unix::fs::FileExt;
 use std::{fs, io};
 
-/// An open file with its lock: no other process can open it as a disk until it is dropped.
+/// An open file with its lock: no other process can open the file as a disk until the `FileDisk` is dropped.
 #[derive(Drop)]
 pub struct FileDisk {
     file: fs::File,
@@ -41,7 +41,7 @@ fn sync_folder(rt: &HostRuntime, path: &str) -> io::Result<()> {
     fs::File::open(rt, folder.as_str())?.sync_all()
 }
 
-/// Opens a file, or makes it if there is none, and returns its bytes with it.
+/// Opens a file, or makes the file if there is none. Returns the file as a disk, and its bytes.
 ///
 /// The bytes that an earlier process wrote are put on the disk before they are read. So from then on a crash leaves the bytes that were
 /// read.

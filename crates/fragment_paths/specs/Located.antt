@@ -1,4 +1,4 @@
--- An object's resource together with its path, as one walk up finds them.
+-- The resource and the path of an object, as one walk up from the object finds them.
 use Rattle.std.specs.Prelude.{ℕ, List, reverse, slice_get, Option, option_and_then, option_map}
 use Rattle.mm_types.specs.declared.numbers.ObjectNo.{ObjectNo}
 use Rattle.mm_types.specs.declared.end.End.{End}

@@ -32,7 +32,7 @@ fn feature_of<L: LinkStore>(model: &ModelRef<L>, object: ObjectNo, step: &Step) 
     }
 }
 
-/// The object to which a step leads from another.
+/// The object to which a step leads from another object.
 fn stepped<L: LinkStore>(model: &ModelRef<L>, object: ObjectNo, step: &Step) -> Option<ObjectNo>
     ensures { result ≡ finding.object_after_step (reading model.now) object step.now }
 {
@@ -41,7 +41,7 @@ fn stepped<L: LinkStore>(model: &ModelRef<L>, object: ObjectNo, step: &Step) -> 
     object_in(model, End { node, feature }, step.index.unwrap_or(0))
 }
 
-/// The object to which steps lead from another.
+/// The object to which steps lead from another object.
 fn walked<L: LinkStore>(model: &ModelRef<L>, steps: &[Step], object: ObjectNo) -> Option<ObjectNo>
     ensures { result ≡ finding.object_after_steps (reading model.now) steps.now object }
 {
@@ -52,8 +52,8 @@ fn walked<L: LinkStore>(model: &ModelRef<L>, steps: &[Step], object: ObjectNo) -
     Some(at)
 }
 
-/// The object that a path leads to in a resource (EMF: Resource.getEObject, of a parsed fragment); `None` if there is no such
-/// resource, or nothing is there. Takes no memory.
+/// The object that a path leads to in a resource (EMF: Resource.getEObject, of a parsed fragment); `None` if there is no such resource, or
+/// no object at the path. Takes no memory.
 pub fn find<L: LinkStore>(
     model: &ModelRef<L>,
     resource: ResourceNo,
@@ -81,8 +81,8 @@ fn found_by<L: LinkStore>(
 }
 
 /// The object at an address (EMF: ResourceSet.getEObject, without loading): the object to which the fragment after the first `#` leads in
-/// the resource whose URI comes before it. `None` if there is no `#`, no resource of exactly that URI, no fragment after it, or no object
-/// at its path. Fails only if memory is refused.
+/// the resource whose URI comes before the `#`. `None` if there is no `#`, no resource of exactly this URI, no fragment after the `#`, or
+/// no object at the path of the fragment. Fails only if memory is refused.
 pub fn object_at<L: LinkStore>(
     alloc: Global,
     model: &ModelRef<L>,

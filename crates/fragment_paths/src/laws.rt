@@ -18,7 +18,7 @@ pub fn an_object_is_found_where_it_stands()
 {}
 
 /// If the ends of containments hold the same values in two models of one metamodel, the nodes above each node are the same, and so is the
-/// fragment of each object. If the resources have the same URIs too, so is its address.
+/// fragment of each object. If the resources have the same URIs too, the address of each object is also the same.
 pub fn addresses_follow_from_what_contains_what()
     ensures { (m : Metamodel) (v w : ValuesState) (a b : Links) → IsLegal (model_of m v a) → IsLegal (model_of m w b) → HaveSameParts m v w a b → LeavesAddresses m v w a b }
 {}

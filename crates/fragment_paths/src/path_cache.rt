@@ -12,8 +12,8 @@ use std::marker::Model;
 /// The greatest number of fragments that are remembered.
 const MOST: usize = 1_024;
 
-/// Fragments of objects, remembered so that none is computed twice. Contracts see it as a finite map from the numbers of objects to texts.
-/// It holds at most 1,024 texts.
+/// Fragments of objects, remembered so that a fragment need not be computed for each read. Contracts see a `PathCache` as a finite map from
+/// the numbers of objects to texts. A `PathCache` holds at most 1,024 texts.
 #[derive(Drop)]
 pub struct PathCache {
     texts: IndexMap<u32, Text>,
@@ -88,7 +88,7 @@ impl PathCache {
         }
     }
 
-    /// Keeps a text, for which there is capacity.
+    /// Keeps a text. The map has capacity for it.
     fn put(&mut self, object: ObjectNo, text: Text)
         requires { kept.is_full_for self.old object ≡ false }
         ensures { (self.new ≡ map.insert self.old object.0 text) ⊎ (self.new ≡ self.old) }

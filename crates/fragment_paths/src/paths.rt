@@ -11,7 +11,7 @@ use models::ModelRef;
 use std::alloc::{AllocError, Global};
 use web_uris::{Path, Step};
 
-/// An object's resource, and the way to it from there.
+/// The resource of an object, and the path from the resource to the object.
 #[derive(Drop)]
 pub(crate) struct Located {
     pub resource: ResourceNo,

@@ -76,14 +76,14 @@ in_the_way r e o =
 abbrev pub is_taken : Reading → End → Bool
 is_taken r e = (shape_at r e).is_single && nat_lt 0 (length (r.values e))
 
--- whether a new link of an object at e displaces a link
+-- whether a new link from e to an object displaces a link
 abbrev pub displaces : Reading → End → ObjectNo → Bool
 displaces r e o =
     is_taken r e
     || (option_map_or (is_taken r) (opposite_end r e o) false
     || option_map_or (λ n. is_some (r.holder n)) (node_contained e o (shape_at r e).containing) false)
 
--- the links that a new link of an object at e displaces
+-- the links that a new link from e to an object displaces
 abbrev pub displaced_link_ends : Reading → End → ObjectNo → List LinkEnd
 displaced_link_ends r e o = each_link_once r (in_the_way r e o)
 
@@ -93,7 +93,7 @@ displaced_link_ends r e o = each_link_once r (in_the_way r e o)
 abbrev pub has_already : Reading → End → Value → Bool
 has_already r e v = same_value v (value_at r e)
 
--- whether a set makes and cuts no link: it is of an attribute, or the end has the value already
+-- whether a set makes and cuts no link: the feature is an attribute, or the end has the value already
 abbrev pub is_plain_set : Reading → End → Value → Bool
 is_plain_set r e v = not (shape_at r e).is_reference || has_already r e v
 
@@ -105,7 +105,7 @@ abbrev pub cut_by_new : Reading → End → Value → List LinkEnd
 cut_by_new r e (value.Object o) = displaced_link_ends r e o
 cut_by_new r e v = []
 
--- the link of the counterpart of a proxy that is resolved, if it has one
+-- the link of the counterpart of a proxy that is resolved, if the proxy has a counterpart
 abbrev pub counter_link_end : Reading → ResolvedProxy → List LinkEnd
 counter_link_end r x = option_map_or (λ c. link_end_in r c.end c.index) x.counterpart []
 
@@ -120,7 +120,7 @@ abbrev pub cut_by_set : Reading → End → Value → List LinkEnd
 cut_by_set r e (value.Object o) = displaced_link_ends r e o
 cut_by_set r e v = link_ends_at r e
 
--- the index of the value that an act takes out of a list, if it takes one out
+-- the index of the value that an act takes out of a list, if the act takes a value out
 abbrev pub taken_index : Reading → End → Act → Option ℕ
 taken_index r e (Remove i) = Some i
 taken_index r e (RemoveValue v) = first_at r e v

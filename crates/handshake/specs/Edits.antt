@@ -23,7 +23,7 @@ use Rattle.links.specs.Plans.{put_of}
 abbrev pub cut_of : LinkEnd → Edit
 cut_of t = Cut t.end t.value
 
--- the edit that puts an object at a position of an end; no other value is put
+-- the edit that puts an object at a position of an end; none for another value
 abbrev pub new_put : Reading → End → ℕ → Value → Option Edit
 new_put r e i (value.Object o) = Some (put_of e i o (shape_at r e).opposite (shape_at r e).containing)
 new_put r e i v = None
@@ -49,7 +49,7 @@ edits_of x =
     let e = end_of x.site in
     map cut_of (link_ends_joined x.reads e x.site.index x.target) ++ joining_edits x.reads e x.site.index x.target
 
--- a load makes all links of its document; all proxies are resolved one after another
+-- the edits after the cuts: a load makes all links of its document, and a resolve of all proxies resolves them one after another
 abbrev pub made_edits : Reading → Change → List Edit
 made_edits r (At e (Resolve i)) = option_map_or (joining_edits r e i) (target_at r e i) []
 made_edits r ResolveAll = flat_map edits_of (resolutions r (sites r))

@@ -40,11 +40,11 @@ put_under f vs flag (node.Resource k) = []
 abbrev pub put_values : End → List Value → Bool → List ValueEdit
 put_values e vs flag = put_under e.feature vs flag e.node
 
--- the edits, if the end is of an attribute
+-- the edits `edits` if the feature of the end is an attribute, and otherwise none
 abbrev pub if_attribute : Reading → End → List ValueEdit → List ValueEdit
 if_attribute r e edits = if (shape_at r e).is_reference then [] else edits
 
--- the edit of an object; a resource has no attributes
+-- the edit of an object's attribute; none for a resource, which has no attributes
 abbrev pub of_object : Node → (ObjectNo → ValueEdit) → List ValueEdit
 of_object (node.Object o) edit = edit o ∷ []
 of_object (node.Resource k) edit = []
@@ -59,7 +59,7 @@ take_value e i = of_object e.node (λ o. TakeValue o e.feature i)
 abbrev pub take_first : Reading → End → Value → List ValueEdit
 take_first r e v = option_map_or (take_value e) (first_at r e v) []
 
--- the edits of an attribute's values by an act
+-- the edits that an act makes to the values of an attribute
 abbrev pub act_edits : Reading → End → Act → List ValueEdit
 act_edits r e (Set v) = put_values e (v ∷ []) (shape_at r e).is_unsettable
 act_edits r e Unset = put_values e [] false
@@ -81,16 +81,17 @@ value_edits r _ = []
 abbrev pub without_link_ends : Links → List LinkEnd → Links
 without_link_ends s ts = fold (λ t x. cut_value t x.end x.value) s ts
 
--- an object is put at a position of an end, or last; no other value is put
+-- the links after an object is put at a position of an end, or last; a value that is no object is not put
 abbrev pub with_value : Links → Reading → End → Option ℕ → Value → Links
 with_value s r e i (value.Object o) = put s e (unwrap_or i (length (end s e))) o (shape_at r e).opposite (shape_at r e).containing
 with_value s r e i v = s
 
--- moves a new link within the counterpart's end: from the index n, which is the last one, to the index of the counterpart
+-- the links after a new link is moved within the counterpart's end: from the index n, which is the last one, to the index of the
+-- counterpart
 abbrev pub put_back : Links → ℕ → Counterpart → Links
 put_back s n c = shift s c.end c.index n
 
--- a link replaces its proxies, here and at the opposite end
+-- the links after a new link replaces its proxies, at the end e and at the opposite end
 abbrev pub links_after_join : Links → Reading → End → ℕ → ResolvedProxy → Links
 links_after_join s r e i x =
     let t = with_value s r e (Some i) (value.Object x.object) in

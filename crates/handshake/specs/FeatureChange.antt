@@ -50,7 +50,8 @@ notice_at r t = notice_of (shape_at r t.at) t.at t.does (held_at r t.at)
 abbrev pub has_flag : Metamodel → FeatureNo → Bool
 has_flag m f = (shape m f).is_unsettable
 
--- the notification of each feature change is read in the ends so far; replaying it gives the ends for the next one
+-- the notifications of feature changes: each notification is read in the ends so far, and replaying it gives the ends for the next
+-- notification
 abbrev pub change_notices : Metamodel → Ends → List FeatureChange → List Notice
 change_notices m e [] = []
 change_notices m e (t ∷ ts) =
@@ -59,7 +60,7 @@ change_notices m e (t ∷ ts) =
 
 ---------------------------------------------------------------- what it does, said plainly
 
--- the list without the first of a value
+-- the list without the first occurrence of a value
 abbrev pub list_without_value : List Value → Value → List Value
 list_without_value [] v = []
 list_without_value (w ∷ ws) v = if same_value v w then ws else w ∷ list_without_value ws v

@@ -35,7 +35,7 @@ use Rattle.handshake.specs.FeatureChange.{change_notices, feature_change}
 abbrev pub loss : LinkEnd → FeatureChange
 loss t = feature_change t.end (Loses t.value)
 
--- the losses at both ends of a link; an end that contains comes first
+-- the losses at both ends of a link; the loss at a containment comes first
 abbrev pub losses : Reading → LinkEnd → List FeatureChange
 losses r t =
     option_map_or (λ u. if is_containment r.metamodel u.end.feature then loss u ∷ loss t ∷ [] else loss t ∷ loss u ∷ []) (opposite_link_end r t) (loss t ∷ [])
@@ -58,7 +58,7 @@ other_losses r e o t = filter (λ x. not (is_replaced r e o x.at)) (losses r t)
 abbrev pub far_gain : Reading → End → ObjectNo → List FeatureChange
 far_gain r e o = option_map_or (λ d. feature_change d (Gains (node_value e.node)) ∷ []) (opposite_end r e o) []
 
--- the losses of a list of a given length: it loses each value, from the last to the first
+-- the losses of a list of a given length: the list loses each value, from the last to the first
 abbrev pub all_lost : End → ℕ → List FeatureChange
 all_lost e zero = []
 all_lost e (suc n) = feature_change e (LosesAt n) ∷ all_lost e n
@@ -138,7 +138,7 @@ changes_of_delete r o =
 abbrev pub changes_of_load : Reading → ResourceNo → Doc → List FeatureChange
 changes_of_load r k doc = map (λ v. feature_change (contents_end r.metamodel k) (Gains v)) (roots_loaded r.next doc)
 
--- the proxy at the opposite end, if there is one, is resolved, and then the proxy of the end itself
+-- the feature changes of a resolve: the proxy at the opposite end, if there is one, is resolved, and then the proxy of the end itself
 abbrev pub changes_of_resolve : End → ℕ → ResolvedProxy → List FeatureChange
 changes_of_resolve e i x =
     option_map_or (λ c. feature_change c.end (Resolves c.index (node_value e.node)) ∷ []) x.counterpart []

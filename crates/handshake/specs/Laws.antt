@@ -32,7 +32,7 @@ use Rattle.handshake.specs.FeatureChanges.{chain, destroyed_by, far_losses, feat
 abbrev pub OfAllowed : (Model → Change → Type 0) → Model → Change → Type 0
 OfAllowed Holds s c = IsLegal s → early_refusal (reading s) c ≡ None → late_refusal (reading s) c ≡ None → Holds s c
 
--- if a change brings a URI, it is a result of joining
+-- if a change brings a URI, the URI is a result of joining
 abbrev pub IsBrought : Change → Type 0
 IsBrought (NewResource u) = IsJoined u
 IsBrought _ = Unit {0}
@@ -74,12 +74,13 @@ abbrev pub takes_many : Reading → Change → Bool
 takes_many r (At e Unset) = not (shape_at r e).is_single
 takes_many r c = is_some (destroyed_by c) || resolves_all c || is_some (loaded_by c)
 
--- no end has two notifications
+-- no two feature changes of a list are at the same end
 abbrev pub AreApart : List FeatureChange → Type 0
 AreApart [] = Unit {0}
 AreApart (t ∷ ts) = AllByRecursion (λ (u : FeatureChange). t.at ≡ u.at → ⊥) ts × AreApart ts
 
--- a change gives no end two notifications, unless the change is an unset of a list, a deletion, a resolve of all proxies, or a load
+-- no two feature changes of a change are at the same end, unless the change is an unset of a list, a deletion, a resolve of all proxies, or
+-- a load
 abbrev pub TellsNoEndTwice : Model → Change → Type 0
 TellsNoEndTwice = OfAllowed (λ s c. IsFalse (takes_many (reading s) c) → AreApart (feature_changes (reading s) c))
 
@@ -87,11 +88,11 @@ TellsNoEndTwice = OfAllowed (λ s c. IsFalse (takes_many (reading s) c) → AreA
 abbrev pub is_of_single : Metamodel → FeatureChange → Bool
 is_of_single m t = (shape m t.at.feature).is_single
 
--- no change gives a single end two notifications
+-- no two feature changes of a change are at the same single end
 abbrev pub TellsNoSingleEndTwice : Model → Change → Type 0
 TellsNoSingleEndTwice = OfAllowed (λ s c. AreApart (filter (is_of_single s.metamodel) (feature_changes (reading s) c)))
 
--- if a list is unset, no far end of its links has two notifications, and no far end is the list itself
+-- if a list is unset, no two losses are at the same far end of its links, and no far end is the list itself
 abbrev pub FarEndsAreApart : Model → End → Type 0
 FarEndsAreApart s e =
     let far = far_losses (reading s) (cut_link_ends (reading s) (At e Unset)) in

@@ -23,7 +23,7 @@ use Rattle.handshake.specs.Effects.{model_after}
 use Rattle.handshake.specs.Laws.{OfAllowed, comes_with}
 use Rattle.handshake.specs.Changes.{HasReadDocument}
 
--- a feature of an object of a document is written with object b of the document
+-- in a document, the object b is among the values that are written for the feature f of the object o
 abbrev pub IsWrittenWith : Doc → ObjectNo → FeatureNo → ObjectNo → Type 0
 IsWrittenWith doc o f b = (i : ℕ) × (slice_get (values_in doc o f) i ≡ Some (value.Object b))
 
@@ -45,7 +45,8 @@ pub record HasObjectsOf (r : Reading) (doc : Doc) (t : Reading) : Type 0 where
   -- a reference that is no container reference has the values that are written, in that order: objects by their new numbers, and proxies
   pub references : (o : ObjectNo) (f : FeatureNo) → (shape r.metamodel f).is_reference ≡ true → lookups.is_container r.metamodel f ≡ false
       → t.values (object_end r.next o f) ≡ map (loaded_value r.next) (values_in doc o f)
-  -- the container reference of an object has the object in whose containment it is written, and is empty for an object that no object contains
+  -- the container reference of an object has the object in whose containment the object is written. It is empty for an object that no
+  -- object contains
   pub containers : (o b : ObjectNo) (f c : FeatureNo) → IsContainer r.metamodel f c → IsWrittenWith doc b c o
       → t.values (object_end r.next o f) ≡ value.Object (loaded_number r.next b) ∷ []
   pub no_containers : (o : ObjectNo) (f c : FeatureNo) → IsContainer r.metamodel f c → ((b : ObjectNo) → IsWrittenWith doc b c o → ⊥)

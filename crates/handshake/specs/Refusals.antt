@@ -48,7 +48,8 @@ is_recursive r e o = option_map_or (is_recursive_for r e o) (shape_at r e).conta
 abbrev pub count_at : Reading → End → ℕ
 count_at r e = length (r.values e)
 
--- whether an end has reached its upper bound, which is above 1; and `is_at_limit`, whether it has as many values as any list may have
+-- whether an end has an upper bound above 1 and has reached this bound; and `is_at_limit`, whether an end has as many values as any list
+-- may have
 abbrev pub is_full_at : Reading → End → Bool
 is_full_at r e = is_full_list (shape_at r e) (count_at r e)
 
@@ -78,7 +79,7 @@ abbrev pub set_refusal : Reading → End → Value → Option Refused
 set_refusal r e (value.Object o) = if has_already r e (value.Object o) then None else link_refusal r e o
 set_refusal r e v = None
 
--- why a value can't be added; if a unique list has it already, it is refused only at an index
+-- why a value can't be added; if a unique list has the value already, the addition is refused only at an index
 abbrev pub add_refusal : Reading → End → Value → Option ℕ → Option Refused
 add_refusal r e v i = if is_repeat r e v then (Duplicate where_so is_some i) else gain_refusal r e v
 
@@ -116,7 +117,7 @@ value_of (Add v i) = Some v
 value_of (RemoveValue v) = Some v
 value_of _ = None
 
--- why an act at an end is refused: something that it names is not there
+-- why an act at an end is refused: something that the act names is not there
 abbrev pub named_refusal : Reading → End → Act → Option Refused
 named_refusal r e a = option_map_or (value_refusal r e) (value_of a) (end_refusal r e)
 
@@ -124,7 +125,7 @@ named_refusal r e a = option_map_or (value_refusal r e) (value_of a) (end_refusa
 abbrev pub list_refusal : Reading → End → Value → Option Refused
 list_refusal r e v = value_refusal r e v else_by many_refusal r.metamodel e.feature
 
--- why a change is refused before it is planned: something that it names is not there, or the feature is of another kind
+-- why a change is refused before it is planned: something that the change names is not there, or the feature is of another kind
 abbrev pub early_refusal : Reading → Change → Option Refused
 early_refusal r (At e a) = named_refusal r e a else_by kind_refusal r.metamodel e.feature a
 early_refusal r (Create c) = class_refusal r.metamodel c

@@ -16,8 +16,8 @@ use Rattle.handshake.specs.FeatureChange.{notice}
 abbrev pub report_notice : Reading → End → Report → Notice
 report_notice r e p = notice (shape_at r e) e (held_at r e) p.kind p.old_value p.new_value p.position
 
--- the notification of a loss, read in a model in which the end still has the value: SET to null at a single end, else REMOVE at its
--- position
+-- the notification of a loss, read in a model in which the end still has the value: SET to null at a single end, else REMOVE at the
+-- position of the loss
 abbrev pub lost_notice : Reading → Loss → Notice
 lost_notice r l =
     if (shape_at r l.end).is_single

@@ -46,7 +46,7 @@ fn push_notice<L: LinkStore>(
     Ok(())
 }
 
-/// The notifications of what ends of other nodes lose when an object and all objects below it are destroyed.
+/// The notifications of the values that ends of other nodes lose when an object and all objects below it are destroyed.
 pub fn lost_notices<L: LinkStore>(
     alloc: Global,
     model: &ModelRef<L>,
@@ -128,7 +128,7 @@ pub fn notice<L: LinkStore>(
     })
 }
 
-/// What is reported of an end to which something happens.
+/// What is reported of the end at which a feature change happens.
 fn report_of<L: LinkStore>(
     alloc: Global,
     model: &ModelRef<L>,
@@ -232,7 +232,7 @@ fn loss<L: LinkStore>(model: &ModelRef<L>, at: End, value: Value) -> Report
     }
 }
 
-/// The position of a value in a list; past its end, if it is not there.
+/// The position of a value in a list. If the list lacks the value, the position after the last value.
 fn index_of<L: LinkStore>(model: &ModelRef<L>, at: End, value: &Value) -> u32
     ensures { result ≡ index_in ((reading model.now).values at) value.now }
 {

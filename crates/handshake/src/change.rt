@@ -27,8 +27,8 @@ pub enum Change {
 impl Change {
     ghost use Rattle.handshake.specs.Changes.{edits_links_alone, edits_one_kind, edits_values_alone, is_at_reference};
 
-    /// Whether the change edits only values, or only links. It does so if it makes an object, or if it does an act at an end, other than an
-    /// act that resolves a proxy.
+    /// Whether the change edits only values, or only links. This is true if the change makes an object, or if it does an act at an end,
+    /// other than an act that resolves a proxy.
     fn edits_one_kind(&self) -> bool
         ensures { result ≡ edits_one_kind self.now }
     {

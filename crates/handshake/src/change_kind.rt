@@ -1,10 +1,10 @@
 //! What happens to ends.
 use mm_types::{End, Value};
 
-/// What happens to one end (EMF: ChangeKind). Whether the end is single or a list is no part of it.
+/// What happens to one end (EMF: ChangeKind). A `ChangeKind` does not say whether the end is single or a list.
 #[derive(Drop)]
 pub enum ChangeKind {
-    /// A list gains the value at its end; in a single end the value replaces the old one.
+    /// A list gains the value after its last value; at a single end the value replaces the old value.
     Gains(Value),
     /// A list gains the value at an index.
     GainsAt(u32, Value),
@@ -14,7 +14,7 @@ pub enum ChangeKind {
     LosesAt(u32),
     /// A single end gets its default again.
     Unsets,
-    /// In a list, the value at the second index moves to the first.
+    /// In a list, the value at the second index moves to the first index.
     Moves(u32, u32),
     /// The value replaces the proxy at an index; at a single end the index is 0.
     Resolves(u32, Value),

@@ -28,7 +28,7 @@ use proxies::{ResolvedProxy, opposite_end};
 use removal::{LinkEnd, Removal, tree_link_ends};
 use std::alloc::{AllocError, Global};
 
-/// Whether a new link of an object at an end displaces a link. Takes no memory.
+/// Whether a new link from an end to an object displaces a link. Takes no memory.
 pub fn displaces<L: LinkStore>(model: &ModelRef<L>, end: End, object: ObjectNo) -> bool
     ensures { result ≡ d.displaces (reading model.now) end object }
 {
@@ -53,7 +53,7 @@ fn is_taken<L: LinkStore>(model: &ModelRef<L>, end: End) -> bool
     model.meta().is_single(end.feature) && model.len(end) > 0
 }
 
-/// The links that a new link of an object at an end displaces, each once.
+/// The links that a new link from an end to an object displaces, each once.
 pub(crate) fn yields<L: LinkStore>(
     alloc: Global,
     model: &ModelRef<L>,
@@ -189,7 +189,7 @@ fn cut_by_act<L: LinkStore>(
     }
 }
 
-/// The links of the proxies at both ends of a link that is resolved; none for an attribute.
+/// The links of the proxy at an index and of its counterpart at the opposite end; none for an attribute.
 fn link_ends_resolved<L: LinkStore>(
     alloc: Global,
     model: &ModelRef<L>,
@@ -232,7 +232,7 @@ pub fn add_counterpart<L: LinkStore>(
     }
 }
 
-/// The links that are cut with the object that a change destroys; none if it destroys none.
+/// The links that are cut with the object that a change destroys; none if the change destroys no object.
 fn gone_link_ends<L: LinkStore>(
     alloc: Global,
     model: &ModelRef<L>,

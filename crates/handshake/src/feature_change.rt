@@ -36,14 +36,15 @@ pub fn feature_changes<L: LinkStore>(
     ensures { IfOk result (λ ts. ts.items ≡ t.feature_changes_with (reading model.now) change.now link_ends.now) }
 {
     let mut out = Vec::new(alloc);
-    // `chain` makes the notifications of a delete, `loads` those of a load, and `resolving_all` those that resolve all proxies
+    // `chain` makes the notifications of a delete, `loads` the notifications of a load, and `resolving_all` the notifications of a resolve
+    // of all proxies
     if let Change::At(end, act) = change {
         push_act(model, *end, act, link_ends, target, &mut out)?;
     }
     Ok(out)
 }
 
-/// Adds the feature changes of an act, at its end and at others.
+/// Adds the feature changes of an act, at its end and at other ends.
 fn push_act<L: LinkStore>(
     model: &ModelRef<L>,
     end: End,
@@ -136,7 +137,7 @@ fn push_added<L: LinkStore>(
     push(out, end, gain_at(index, value.clone()?))
 }
 
-/// A gain of a value at `index` if it is given, or else at the end of a list.
+/// A gain of a value in a list: at `index` if an index is given, or else after the last value.
 fn gain_at(index: Option<u32>, value: Value) -> ChangeKind
     ensures { result ≡ t.gain_at index value }
 {

@@ -71,7 +71,7 @@ fn is_either_at_limit<L: LinkStore>(model: &ModelRef<L>, end: End, far: Option<E
     }
 }
 
-/// Whether an end has reached its upper bound, which is above 1.
+/// Whether an end has an upper bound above 1, and has reached this bound.
 fn is_full_at<L: LinkStore>(model: &ModelRef<L>, end: End) -> bool
     ensures { result ≡ refusals.is_full_at (reading model.now) end }
 {

@@ -39,9 +39,9 @@ pub fn the_chain_of_a_change_replays_it()
     ensures { (s : Model) (c : Change) → ChainReplays s c }
 {}
 
-/// A change of a legal model that is not refused gives no single end two notifications. It gives no end at all two notifications, unless it
-/// is an unset of a list, a deletion, a load, or resolves all proxies. An unset of a list gives no far end two notifications, and the list
-/// is not one of the far ends.
+/// If a change of a legal model is not refused, no two of its notifications name the same single end. No two of them name the same end at
+/// all, unless the change is an unset of a list, a deletion, a load, or a resolve of all proxies. If the change is an unset of a list, no
+/// two notifications name the same far end, and the list is not one of the far ends.
 pub fn a_chain_tells_no_end_twice()
     ensures single_ends { (s : Model) (c : Change) → TellsNoSingleEndTwice s c }
     ensures ends { (s : Model) (c : Change) → TellsNoEndTwice s c }
@@ -54,17 +54,17 @@ pub fn a_change_cuts_no_link_twice()
 {}
 
 /// After a load that is not refused, a legal model is as the document says, if the document was read. The objects of the document get the
-/// next numbers. Each can be read as the document has it: its class, its attributes and their flags, its references with both ends of each
-/// pair, its container reference, and the end that holds it. The resource holds the roots in their order. Nothing else has changed (EMF:
-/// XMLResource.load).
+/// next numbers. Each object is read as the document has it: its class, its attributes and their flags, its references with both ends of
+/// each pair, its container reference, and the end that holds it. The resource holds the roots in their order. Nothing else has changed
+/// (EMF: XMLResource.load).
 pub fn a_load_reads_as_its_document()
     ensures { (s : Model) (k : ResourceNo) (doc : Doc) → LoadsEnds s k doc }
 {}
 
-/// Resolving all proxies of a legal model does the same as resolving one after another, by object number, by feature in the order of all
-/// features, and by index. Each is resolved in the model that the earlier resolves left, and skipped if it is refused there. The resolve of
-/// all leaves the same model, has the same notifications in order, and counts the proxies that were resolved and the proxies that are left
-/// (EMF: EcoreUtil.resolveAll).
+/// Resolving all proxies of a legal model does the same as resolving the proxies one after another, by object number, by feature in the
+/// order of all features, and by index. Each proxy is resolved in the model that the earlier resolves left, and is skipped if it is refused
+/// there. The resolve of all proxies leaves the same model, has the same notifications in order, and counts the proxies that were resolved
+/// and the proxies that are left (EMF: EcoreUtil.resolveAll).
 pub fn all_proxies_are_resolved_one_after_another()
     ensures { (s : Model) → IsLegal s → ResolvesEach s }
 {}

@@ -21,7 +21,7 @@ pub(crate) fn node_value(node: Node) -> Value
     }
 }
 
-/// The same link, named by its other end, if it has one.
+/// The same link, named by its other end, if the link has another end.
 pub(crate) fn turned<L: LinkStore>(model: &ModelRef<L>, link_end: &LinkEnd) -> Option<LinkEnd>
     ensures { result ≡ d.opposite_link_end (reading model.now) link_end.now }
 {
@@ -43,7 +43,7 @@ fn is_same_link_end(a: &LinkEnd, b: &LinkEnd) -> bool
     a.end == b.end && is_same(&a.value, &b.value)
 }
 
-/// Whether two names are of one link.
+/// Whether two link ends name the same link.
 fn is_same_link<L: LinkStore>(model: &ModelRef<L>, a: &LinkEnd, b: &LinkEnd) -> bool
     ensures { result ≡ d.same_link (reading model.now) a.now b.now }
 {
@@ -56,7 +56,7 @@ fn is_same_link<L: LinkStore>(model: &ModelRef<L>, a: &LinkEnd, b: &LinkEnd) -> 
     }
 }
 
-/// Whether a link is among some.
+/// Whether a link is among the links of `link_ends`.
 pub(crate) fn is_among<L: LinkStore>(
     model: &ModelRef<L>,
     link_ends: &[LinkEnd],

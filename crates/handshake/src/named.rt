@@ -12,10 +12,11 @@ use mm_meta::Meta;
 use mm_types::{End, FeatureNo, Node, Refused, Value};
 use models::{ModelRef, class_refusal, end_refusal, node_refusal, value_refusal};
 
-/// The first refusal of a change that is found without memory: something that it names is not there, or a feature is of another kind.
+/// The first refusal of a change that is found without memory: something that the change names is not there, or a feature is of another
+/// kind.
 ///
 /// `NoObject` if the node, or the value, is an object that does not live; `NoResource`, `NoClass`, `Abstract`, `NoFeature`; `NotSingle` if
-/// a value is set under a many-valued feature, `NotMany` if a list is edited under a single one.
+/// a value is set under a many-valued feature, `NotMany` if a list is edited under a single feature.
 pub fn early_refusal<L: LinkStore>(model: &ModelRef<L>, change: &Change) -> Option<Refused>
     ensures { result ≡ refusals.early_refusal (reading model.now) change.now }
 {
@@ -35,7 +36,7 @@ fn act_early_refusal<L: LinkStore>(model: &ModelRef<L>, end: End, act: &Act) -> 
     named_refusal(model, end, act).or(kind_refusal(model.meta(), end.feature, act))
 }
 
-/// Why an act at an end is refused: something that it names is not there.
+/// Why an act at an end is refused: something that the act names is not there.
 fn named_refusal<L: LinkStore>(model: &ModelRef<L>, end: End, act: &Act) -> Option<Refused>
     ensures { result ≡ refusals.named_refusal (reading model.now) end act.now }
 {

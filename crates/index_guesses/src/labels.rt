@@ -40,7 +40,7 @@ pub fn label_between(below: u64, above: u64) -> u64 {
 }
 
 impl Labels {
-    /// The labels of a list of some values that have new labels.
+    /// The labels of a list of `len` values whose labels are new.
     pub fn of(len: usize) -> Self {
         Labels {
             first: MIDDLE,
@@ -89,7 +89,7 @@ impl Labels {
         (label.saturating_sub(self.first) / GAP) as usize
     }
 
-    /// The index of a label among `len`, counted from the end, if the labels after it are evenly spread.
+    /// The index of a label among `len` labels, counted from the end, if the labels after it are evenly spread.
     pub fn from_end(self, label: u64, len: usize) -> usize {
         let after = (self.last.saturating_sub(label) / GAP) as usize;
         len.saturating_sub(after).saturating_sub(1)

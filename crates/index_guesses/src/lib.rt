@@ -9,10 +9,10 @@ mod ranks;
 pub use labels::{Labels, label_between, new_label};
 pub use ranks::by_rank;
 
-/// The indexes are in groups of this many. Only a removal at the last index of a group checks whether the value there is guessed right.
+/// The indexes are in groups of this many. Only a removal at the last index of a group tests the guess for the value there.
 const TRIED: usize = 64;
 
-/// Whether a removal at an index checks whether the value there is guessed right. A value near the front is found soon without a guess.
+/// Whether a removal at an index tests the guess for the value there. A value near the front is found soon without a guess.
 pub fn is_tried(index: usize) -> bool {
     index % TRIED == TRIED - 1
 }

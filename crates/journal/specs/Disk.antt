@@ -3,7 +3,8 @@ use Rattle.std.specs.Prelude.{◌<◌, ◌≡◌, ◌⊎◌, ℕ, ◌+◌, ◌�
 use Rattle.journal.specs.declared.disk.DiskFault.{DiskFault}
 use Rattle.journal.specs.declared.disk.DiskFault.TheVariants.{Failed, Full}
 
--- These bytes replaced the bytes of the file from an offset on; if they reach beyond its end, the file grew.
+-- `new` is the file `old` after `bytes` were written from the offset `at` on; a write that reaches beyond the end of the file makes the
+-- file longer.
 abbrev pub Overwrites : ℕ → List ℕ → List ℕ → List ℕ → Type 0
 Overwrites at bytes old new = new ≡ take at old ++ bytes ++ drop (at + length bytes) old
 

@@ -1,4 +1,4 @@
-//! A file as a journal sees it: the bytes that it has, and what a crash may leave of it.
+//! A file as a journal sees it: its bytes, and the bytes that a crash may leave.
 ghost use Rattle.std.specs.Prelude.{◌≡◌, ◌≤◌, List, ℕ, length, take, OnOk};
 ghost use Rattle.journal.specs.declared.disk.DiskFault.TheVariants.{Memory};
 ghost use Rattle.journal.specs.Disk.{Elapses, Follows, HasCause, IsDurable, LeavesNoOther, Overwrites, PartlyCut, Torn};

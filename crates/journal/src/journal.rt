@@ -93,8 +93,8 @@ fn settle<D: Disk>(disk: &mut D, bytes: &[u8], end: usize) -> Result<(), DiskFau
     repair(disk, end)
 }
 
-/// Opens the journal in a file with these bytes; they may be any bytes, also the bytes that a crash left. The file keeps the lines that it
-/// stands for, and the bytes after them are cut off. An empty file stands for no line.
+/// Opens the journal in a file whose bytes are `bytes`. They may be any bytes, also bytes that a crash left. The lines that are recovered
+/// from the file stay in it, and the bytes after their entries are cut off. No line is recovered from an empty file.
 ///
 /// Fails with `Failed` if the disk fails. An error returns the disk too; a crash at any moment of the call leaves the same lines.
 pub fn open<D: Disk>(alloc: Global, mut disk: D, bytes: &[u8]) -> Result<Journal<D>, (DiskFault, D)>

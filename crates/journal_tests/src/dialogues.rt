@@ -12,7 +12,8 @@ use std::io::BufReader;
 use std::process::Abort;
 use std::test::Fail;
 
-/// Counts the lines that begin with `+`, which are kept. It prints a digit for `?`, and refuses any other line.
+/// A session that counts the lines that begin with `+`; the journal keeps these lines. The session answers a line that begins with `?` with
+/// the count, as a digit, and refuses any other line.
 #[derive(Drop)]
 struct Counter {
     count: u8,
@@ -61,7 +62,7 @@ fn lines_kept(count: u8) -> &'static [u8] {
     }
 }
 
-/// How many lines are kept, among the lines whose answers are whole in the first `written` bytes.
+/// How many kept lines were answered: the lines whose whole answer is in the first `written` bytes of `WRITTEN`.
 fn answered(written: usize) -> u8 {
     match written {
         0..=3 => 0,
@@ -101,7 +102,7 @@ fn run(alloc: Global, size: usize, calls: u64, seed: u64) -> Result<Left, Fail> 
     })
 }
 
-/// How many lines of a file a new session runs, if it refuses none.
+/// How many lines of a file a new session runs; `None` if the session refuses a line.
 fn replayed(alloc: Global, file: &[u8]) -> Option<u8> {
     let mut session = Counter { count: 0 };
     match replay(alloc, &mut session, file) {

@@ -54,7 +54,7 @@ impl TornDisk {
         })
     }
 
-    /// How many calls it still makes.
+    /// How many more calls the disk makes before it stops.
     pub(crate) fn calls_left(&self) -> u64 {
         self.calls_left
     }
@@ -110,7 +110,7 @@ impl TornDisk {
         Err(DiskFault::Failed)
     }
 
-    /// The bytes from one offset to another are written and not synced.
+    /// Records that the bytes from one offset to another were written and are not synced.
     fn touch(&mut self, from: usize, to: usize)
         ensures bytes { self.new.bytes ≡ self.old.bytes }
         ensures faults { self.new.has_failed ≡ self.old.has_failed }

@@ -51,7 +51,7 @@ word wanted d = do
   found ← as_str d
   if bytes_eq found wanted then Some tt else None
 
--- all items, each read in turn; none if one can't be read
+-- the values of all items, each read in turn; none if an item can't be read
 abbrev pub each : {X : Type 0} → (Data → Option X) → Items → Option (List X)
 each reading no_items = Some []
 each reading (item d ds) = do

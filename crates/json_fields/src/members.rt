@@ -66,7 +66,7 @@ pub fn only_members_of(value: Value, names: &[&str]) -> Option<Map<String, Value
     Some(members)
 }
 
-/// The value of a key, which is taken out; nothing if the key is absent. Takes no memory.
+/// Takes out the value of a key; `None` if the key is absent. Takes no memory.
 pub fn take(members: &mut Map<String, Value>, key: &str) -> Option<Value>
     ensures value { option_map view result ≡ get_member key.now (members_view members.old.entries) }
     ensures others { KeepsOthers (key.now ∷ []) (members_view members.old.entries) (members_view members.new.entries) }
@@ -74,7 +74,7 @@ pub fn take(members: &mut Map<String, Value>, key: &str) -> Option<Value>
     members.remove(key)
 }
 
-/// The value of a key, or nothing if the key is absent. Takes no memory.
+/// The value of a key; `None` if the key is absent. Takes no memory.
 pub fn find<'v>(members: &'v Map<String, Value>, key: &str) -> Option<&'v Value>
     ensures { option_map (λ v. view v.now) result ≡ get_member key.now (members_view members.now.entries) }
 {

@@ -21,7 +21,7 @@ fn push_place(position: Option<u32>, end: End, out: &mut Vec<Incoming>) -> Resul
     Ok(())
 }
 
-/// For each end that has a value, the first position of the value there.
+/// For each of the given ends that has the value, the first position of the value in the end.
 pub(crate) fn places_of(
     alloc: Global,
     rows: &[Link],

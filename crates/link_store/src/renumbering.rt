@@ -9,7 +9,7 @@ pub(crate) enum Renumbering {
     Raise(u32),
     /// The value at a position is taken out.
     Lower(u32),
-    /// The value at the second position moves, so that it is then at the first.
+    /// The value at the second position moves to the first position.
     Shift(u32, u32),
 }
 

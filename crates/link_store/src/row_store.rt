@@ -9,7 +9,7 @@ use links::{Incoming, Link, LinkStore, NewLink, Plan, put_in_order};
 use mm_types::{End, Node, ObjectNo, Value};
 use std::alloc::{AllocError, Global};
 
-/// Links in a list, each found by a scan of all.
+/// Links in a list. A link is found by a scan of the whole list.
 #[derive(Debug, Drop)]
 pub struct RowStore {
     rows: Vec<Link>,

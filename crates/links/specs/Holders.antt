@@ -66,7 +66,7 @@ nearest_nodes_above up (suc k) n = option_map_or (λ (e : End). e.node ∷ neare
 unfoldable pub above : Links → Node → List Node
 above s n = nearest_nodes_above (holder s) (set.len s) n
 
--- the node to which a number of steps of `holder` lead from x
+-- the node that is reached from x by a given number of steps of `holder`, if there is one
 abbrev pub climb : Links → ℕ → Node → Option Node
 climb s zero x = Some x
 climb s (suc n) x = option_and_then (λ (e : End). climb s n e.node) (holder s x)

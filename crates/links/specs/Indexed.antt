@@ -21,7 +21,7 @@ far_indexed (At d j) v e = if same_end d e then Some (j, v) else None
 far_indexed (Alone o) v e = None
 far_indexed (Proxy t) v e = None
 
--- the position and the value of a link in e, if it is there
+-- the position and the value that a link has in e; none if the link is not in e
 abbrev pub indexed_value : Link → End → Option (ℕ × Value)
 indexed_value l e = if same_end l.end e then Some (l.index, far_value l.far) else far_indexed l.far (node_value l.end.node) e
 
@@ -33,13 +33,13 @@ is_value_at v p = option_map_or (λ q. same_value q.1 v) p false
 abbrev pub has_value : End → Value → Link → Bool
 has_value e v l = is_value_at v (indexed_value l e)
 
--- the far side after r changed its position in e, if it has one there
+-- the far side of a link after r changed its position in e; a far side that is not in e is unchanged
 abbrev pub far_moved : Far → End → (ℕ → ℕ) → Far
 far_moved (At d j) e r = if same_end d e then At d (r j) else At d j
 far_moved (Alone o) e r = Alone o
 far_moved (Proxy t) e r = Proxy t
 
--- the link after r changed its position in e, if it has one there
+-- the link after r changed its position in e; a link that is not in e is unchanged
 abbrev pub renumbered_link : Link → End → (ℕ → ℕ) → Link
 renumbered_link l e r = if same_end l.end e then record l { index = r l.index } else record l { far = far_moved l.far e r }
 

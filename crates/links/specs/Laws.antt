@@ -25,7 +25,7 @@ abbrev pub IsFar : ObjectNo → Option FeatureNo → End → Type 0
 IsFar o None d = ⊥
 IsFar o (Some g) d = far_end o g ≡ d
 
--- after a put, the object is at its position, the far end has gained its value as the last one, and each other end is as it was; the node
+-- after a put, the object is at its position, the far end has the node of e as a new last value, and each other end is as it was; the node
 -- that the new link contains has the containing end as its holder
 pub record PutMakes (s : Links) (e : End) (i : ℕ) (o : ObjectNo) (g c : Option FeatureNo) : Type 0 where
   pub near : end (put s e i o g c) e ≡ insert (end s e) i (value.Object o)
@@ -158,7 +158,7 @@ pub record WithoutNodesMakes (s : Links) (gone : Node → Bool) : Type 0 where
   pub holders : (n : Node) → holder (without_nodes s gone) n ≡ option_and_then (λ (d : End). if gone d.node || gone n then None else Some d) (holder s n)
   pub untouched : (l : Link) → In l (without_nodes s gone) → touches gone l ≡ false
 
--- the names name exactly the links of the nodes that are removed
+-- the pairs of the list name exactly the links of the nodes that are removed; each pair has an end and a value of that end
 abbrev pub NameLinksOf : Kinds → Links → (Node → Bool) → List (End × Value) → Type 0
 NameLinksOf m s gone ts = (d : End) (w : Value) → Has s d w → is_named m ts d w ≡ (gone d.node || goes gone w)
 

@@ -17,7 +17,7 @@ use Rattle.links.specs.Indexed.{indexed_value}
 abbrev pub Stands : Links → End → ℕ → Value → Type 0
 Stands s e k v = (l : Link) × In l s × (indexed_value l e ≡ Some (k, v))
 
--- the list has each value that is in e at its position, and nothing else
+-- the list has each value of e at the position that the value has in e, and has no other value
 pub record IsEnd (s : Links) (e : End) (xs : List Value) : Type 0 where
   pub has : (k : ℕ) (v : Value) → Stands s e k v → slice_get xs k ≡ Some v
   pub only : (k : ℕ) (v : Value) → slice_get xs k ≡ Some v → Stands s e k v
@@ -63,8 +63,8 @@ pub record Kinds : Type 0 where
   pub opposite : FeatureNo → Option FeatureNo
   pub container : FeatureNo → Option FeatureNo
 
--- if a feature names another as its opposite, the two are different, name each other, and agree on which of them, if any, is the
--- containment
+-- if the feature g is the opposite of the feature f: f is the opposite of g, the two are different, and they have the same containing
+-- feature, or both have none
 pub record AreKinds (m : Kinds) : Type 0 where
   pub inverse : (f g : FeatureNo) → m.opposite f ≡ Some g → m.opposite g ≡ Some f
   pub two : (f g : FeatureNo) → m.opposite f ≡ Some g → (g.0 ≡ f.0) → ⊥
@@ -75,7 +75,8 @@ FarOfKind m f (At d j) = (m.opposite f ≡ Some d.feature) × (m.opposite d.feat
 FarOfKind m f (Alone o) = m.opposite f ≡ None
 FarOfKind m f (Proxy t) = Unit {0}
 
--- a link agrees with the opposite and the containment of its feature; between two ends it is written from the lower feature
+-- a link agrees with the opposite and the containment of its feature; if the link is between two ends, its own end is the end with the
+-- lower feature number
 pub record IsOfKind (m : Kinds) (l : Link) : Type 0 where
   pub far : FarOfKind m l.end.feature l.far
   pub container : l.container ≡ m.container l.end.feature

@@ -1,4 +1,4 @@
--- A code of links as lists of numbers, and the order of these lists. Only the type of a set of links needs them.
+-- Links coded as lists of numbers, and the order of these lists. Only the type of a set of links needs the codes and their order.
 use Rattle.std.specs.Prelude.{◌≡◌, ℕ, zero, suc, List, [], ◌∷◌, Option, Some, None, refl}
 use Rattle.std.specs.declared.cmp.Ordering.{Ordering}
 use Rattle.std.specs.Ordering.{nat_cmp}

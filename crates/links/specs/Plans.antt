@@ -41,7 +41,7 @@ Has s e v = (k : ℕ) × (slice_get (end s e) k ≡ Some v)
 abbrev pub Lacks : Links → End → Value → Type 0
 Lacks s e v = (k : ℕ) → slice_get (end s e) k ≡ Some v → ⊥
 
--- the far end can gain a value too
+-- the far end of a put can gain the new value
 pub record FarFits (s : Links) (e : End) (o : ObjectNo) (g : FeatureNo) : Type 0 where
   pub apart : (g.0 ≡ e.feature.0) → ⊥
   pub object : IsObject e.node
@@ -86,7 +86,7 @@ abbrev pub IsPlanOfKind : Kinds → List Edit → Type 0
 IsPlanOfKind m [] = Unit {0}
 IsPlanOfKind m (x ∷ xs) = IsEditOfKind m x × IsPlanOfKind m xs
 
--- there are kinds of features that the store has and that the plan agrees with
+-- the plan agrees with some kinds of features, and the store agrees with the same kinds
 abbrev pub HasPlanOfKind : (Kinds → Type 0) → List Edit → Type 0
 HasPlanOfKind kinds plan = (m : Kinds) × kinds m × IsPlanOfKind m plan
 

@@ -1,7 +1,7 @@
 //! The positions of an object.
 use mm_types::{FeatureNo, Node};
 
-/// A position of an object: it is in the end of a node's feature.
+/// A position of an object: the position that the object has in the end of `node` under `feature`.
 #[derive(Clone, Copy)]
 pub struct Incoming {
     pub feature: FeatureNo,

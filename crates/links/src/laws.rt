@@ -31,17 +31,17 @@ pub fn a_plan_that_fits_keeps_a_set_legal()
     ensures { (s : Links) (plan : List Edit) → IsLegalSet s → PlanFits s plan → IsLegalSet (links_after_edits s plan) }
 {}
 
-/// A plan that agrees with the kinds of features keeps links that agree with them.
+/// If the links and a plan agree with the kinds of features, the links after the plan agree with these kinds too.
 pub fn a_plan_keeps_the_kinds()
     ensures { (m : Kinds) → AreKinds m → (s : Links) (plan : List Edit) → AreOfKind m s → IsPlanOfKind m plan → AreOfKind m (links_after_edits s plan) }
 {}
 
-/// A plan that puts no node below itself makes no cycle.
+/// A plan that fits a legal set of links without a cycle, and puts no node below itself, makes no cycle.
 pub fn a_plan_makes_no_cycle()
     ensures { (s : Links) (plan : List Edit) → IsLegalSet s → PlanFits s plan → PlanMakesNoCycle s plan → HasNoCycle s → HasNoCycle (links_after_edits s plan) }
 {}
 
-/// If no node is under itself, no chain of holders is longer than the number of links.
+/// If the set of links is legal and no node is below itself, no chain of holders is longer than the number of links.
 pub fn chains_of_holders_end()
     ensures { (s : Links) → IsLegalSet s → HasNoCycle s → IsForest s }
 {}
@@ -51,7 +51,7 @@ pub fn what_is_above_follows_the_holders()
     ensures { (s : Links) → IsLegalSet s → HasNoCycle s → (n : Node) → above s n ≡ option_map_or (λ (e : End). e.node ∷ above s e.node) (holder s n) [] }
 {}
 
-/// Fewer nodes are above a holder's node than above the node that it holds, so a loop that walks up ends.
+/// If an end holds a node, fewer nodes are above the end's node than above the held node. So a loop that walks up terminates.
 pub fn fewer_are_above_a_holder()
     ensures { (s : Links) → IsLegalSet s → HasNoCycle s → (n : Node) (e : End) → holder s n ≡ Some e → length (above s e.node) < length (above s n) }
 {}

@@ -18,11 +18,11 @@ pub struct Link {
     pub end: End,
     pub index: u32,
     pub far: Far,
-    /// The containing feature of the pair, if one of the two is a containment.
+    /// The containing feature: the end's feature or its opposite, if one of the two is a containment.
     pub container: Option<FeatureNo>,
 }
 
-/// A link that is put in (`Edit::Put`). In the opposite end, if there is one, it is put last.
+/// A link that is put in (`Edit::Put`). In the opposite end, if there is one, the link gets the last position.
 #[derive(Clone, Copy, Debug)]
 pub struct NewLink {
     pub end: End,
@@ -31,6 +31,6 @@ pub struct NewLink {
     pub object: ObjectNo,
     /// The opposite of the end's feature, if it has one.
     pub opposite: Option<FeatureNo>,
-    /// The containing feature of the pair, if one of the two is a containment.
+    /// The containing feature: the end's feature or its opposite, if one of the two is a containment.
     pub container: Option<FeatureNo>,
 }

@@ -12,7 +12,7 @@ pub enum Edit {
     Cut { end: End, value: Value },
     /// Puts an object at a position of an end. At the opposite end, if there is one, the new value is put last.
     Put(NewLink),
-    /// Moves the value at `from`, so that it is then at `to`.
+    /// Moves the value at the position `from` to the position `to`.
     Shift { end: End, to: u32, from: u32 },
     /// Puts a proxy at a position of an end.
     PutProxy { end: End, index: u32, text: Text },

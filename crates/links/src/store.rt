@@ -66,8 +66,8 @@ pub trait LinkStore: Drop {
         requires legal { IsLegalSet (links self.now) }
         ensures { result ≡ holder_of (links self.now) (node.Object object) };
 
-    /// The positions of an object: each position of each end that has it, by the numbers of the features, then the nodes, objects
-    /// before resources, each by number. An end has an object once. Fails only if memory is refused.
+    /// The positions of an object, one for each end that has the object. They are in order by the numbers of the features, then by the
+    /// nodes: objects before resources, each by number. Fails only if memory is refused.
     fn incoming(&self, alloc: Global, object: ObjectNo) -> Result<Vec<Incoming>, AllocError>
         requires legal { IsLegalSet (links self.now) }
         ensures entries { IfOk result (λ r. AreEntriesOf (links self.now) object r.items) }

@@ -29,7 +29,7 @@ const CONDITIONS: [Condition; 9] = [
 enum Outcome {
     /// The first condition, in the order of their numbers, that applies somewhere, and the first place at which it does.
     Fault(Condition, Place),
-    /// The document is well-formed, and resolves to this.
+    /// The document is well-formed, and resolves to this resolution.
     Resolution(Resolution),
 }
 
@@ -67,8 +67,8 @@ fn found_in(alloc: Global, raw: &RawMeta) -> Result<Outcome, AllocError>
     found_by(alloc, &checker)
 }
 
-/// The metamodel that a document gives, if it is well-formed; else fails with its first fault, and with `Memory` if memory is
-/// refused.
+/// Returns the metamodel that a document gives, if the document is well-formed. Otherwise fails with the first fault of the document, and
+/// with `Memory` if memory is refused.
 pub fn check(alloc: Global, raw: RawMeta) -> Result<Meta, MetaFault>
     ensures { Checks raw result }
 {
@@ -84,8 +84,8 @@ pub fn check(alloc: Global, raw: RawMeta) -> Result<Meta, MetaFault>
     }
 }
 
-/// The metamodel of a document, if the document can be read and is well-formed; else errs with its first fault, and with `Memory` if memory
-/// is refused.
+/// Returns the metamodel of a document, if the document can be read and is well-formed. Otherwise fails with the first fault of the
+/// document, and with `Memory` if memory is refused.
 #[tactic(auto, using(crate::proofs::DocumentLemmas::gives_unread, crate::proofs::DocumentLemmas::gives_checked))]
 pub fn check_document(alloc: Global, document: &[u8]) -> Result<Meta, MetaFault>
     ensures { Gives document.now result }

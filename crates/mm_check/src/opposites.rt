@@ -140,7 +140,7 @@ impl<'a> Checker<'a> {
         }
     }
 
-    /// Whether a place is a reference that names an opposite, but no other reference both has that name and names the first one back.
+    /// Whether a place is a reference that names an opposite, and there is no other reference such that the two references name each other.
     pub fn lacks_opposite(&self, place: Place) -> bool
         requires { NamesAreUnique self.now }
         ensures { IsTrue result ↔ LacksOpposite self.now place }

@@ -35,7 +35,7 @@ new_attribute kind unique unsettable default = Attribute unique unsettable defau
 -- the other keys of an attribute
 abbrev pub attribute_fields : Fields RawKind
 attribute_fields = makes new_attribute
-    -- that it is one
+    -- its kind, which is `attribute`
     also required_field (codes "kind") (word (codes "attribute"))
     -- whether it repeats no value, or true
     also optional_field (codes "unique") flag true
@@ -50,7 +50,7 @@ new_reference kind containment opposite = Reference containment opposite
 -- the other keys of a reference
 abbrev pub reference_fields : Fields RawKind
 reference_fields = makes new_reference
-    -- that it is one
+    -- its kind, which is `reference`
     also required_field (codes "kind") (word (codes "reference"))
     -- whether it holds its objects as parts, or false
     also optional_field (codes "containment") flag false
@@ -65,7 +65,7 @@ abbrev pub is_unsettable : RawKind → Bool
 is_unsettable (Attribute unique unsettable default) = unsettable
 is_unsettable (Reference containment opposite) = false
 
--- whether a feature is single if it is unsettable
+-- whether a feature is single or not unsettable
 abbrev pub unsets_one : RawFeature → Bool
 unsets_one f = not (is_unsettable f.kind) || int_eq f.upper (pos 1)
 

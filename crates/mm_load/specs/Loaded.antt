@@ -1,4 +1,4 @@
--- What the bytes of a document give: the metamodel, or the lowest of the first three faults.
+-- What the bytes of a document give: the metamodel, or the first of the faults `Syntax`, `Layout` and `Limit` that applies.
 use Rattle.std.specs.Prelude.{ℕ, ◌≡◌, List, Option, Some, None, Result, Ok, Err, if◌then◌else◌}
 use Rattle.std.specs.Str.{is_utf8}
 use Rattle.serde_json.specs.Data.{Data}
@@ -26,7 +26,7 @@ metamodel_of_json (Some d) = metamodel_of_layout (document d)
 unfoldable pub metamodel_of_bytes : List ℕ → Result RawMetamodel MetaFault
 metamodel_of_bytes bytes = if is_utf8 bytes then metamodel_of_json (read bytes) else Err Syntax
 
--- The loader returns the result that is defined, or `Memory`.
+-- The loader returns the wanted result, or `Memory`.
 abbrev pub Loads : Result RawMetamodel MetaFault → Result RawMetamodel MetaFault → Type 0
 Loads (Err Memory) wanted = Unit {0}
 Loads result wanted = wanted ≡ result

@@ -13,8 +13,8 @@ use std::alloc::Global;
 pub trait FromJson: Sized {
     ghost reads: { Data → Option Self };
 
-    /// Reads a value; `Layout` if it has a different layout. The texts of the JSON value are moved and the rest of it is freed, so that
-    /// reading a document takes little memory beside the parsed JSON.
+    /// Reads a value. Fails with `Layout` if the value does not have the layout of the type. The texts of the JSON value are moved and the
+    /// rest of the value is freed, so that reading a document takes little memory beside the parsed JSON.
     fn from_json(alloc: Global, value: Value) -> Result<Self, ReadFault>
         ensures { Gives result (reads (view value)) };
 }
@@ -52,7 +52,7 @@ impl FromJson for Text {
 fn each_of<T: FromJson + Drop>(alloc: Global, values: Vec<Value>) -> Result<Seq<T>, ReadFault>
     ensures { Gives result (each T.reads (items_view values.items)) }
 {
-    // The capacity for the whole list at once: within the limits no list is longer than the longest possible list of classes.
+    // Capacity is reserved once for the whole list: within the limits, no list is longer than the longest list of classes.
     let mut items = Vec::with_capacity(alloc, values.len().min(limits::CLASSES))?;
     'values: for value in values {
         items.push(T::from_json(alloc, value)?)?;

@@ -14,7 +14,7 @@ pub struct Head {
 }
 
 impl Head {
-    /// The feature of a kind. Takes no memory.
+    /// The feature that has these fields and the given kind. Takes no memory.
     pub fn with(self, kind: RawKind) -> RawFeature
         ensures { result ≡ new_feature self kind }
     {

@@ -1,7 +1,7 @@
 //! A metamodel document is read: JSON to enumerations and classes whose names are unresolved.
 //!
-//! `specs/Layout.antt` is the layout of a document, key by key, and `specs/Loaded.antt` says which of
-//! the first three faults a document has.
+//! `specs/Layout.antt` is the layout of a document, key by key, and `specs/Loaded.antt` says which of the faults `Syntax`, `Layout` and
+//! `Limit` a document has.
 #![tactic(auto)]
 
 mod class;

@@ -6,7 +6,7 @@ ghost use Rattle.mm_types.specs.Resolved.{int_of_bits, truth_value, type_default
 use mm_types::integers::integer_of;
 use mm_types::{DataType, Value};
 
-/// The value of a literal, of 32 bits, signed.
+/// The value that a literal writes: a whole number of 32 bits, signed; `None` if the literal writes no such number.
 pub fn int_value(text: &str) -> Option<Value>
     ensures { result ≡ option_and_then (int_of_bits 32) (integer text.now) }
 {
@@ -16,7 +16,7 @@ pub fn int_value(text: &str) -> Option<Value>
     }
 }
 
-/// The truth value of a literal.
+/// The truth value that a literal writes; `None` if the literal writes none.
 pub fn boolean_value(text: &str) -> Option<Value>
     ensures { result ≡ truth_value text.now }
 {

@@ -181,8 +181,8 @@ impl Meta {
         at < next.len()
     }
 
-    /// If a given feature is the first of many features of its name, a list with the feature of that name for each class. Otherwise an
-    /// empty list.
+    /// A list with the feature of a name for each class, if `feature` is the first of many features of that name. For any other feature the
+    /// list is empty.
     fn by_class(&self, alloc: Global, feature: usize) -> Result<Seq<Option<FeatureNo>>, AllocError>
         requires { feature < length self.now.features }
         ensures { IfOk result (IsRow self.now (m.feature_name self.now (feature_no feature))) }
@@ -208,7 +208,8 @@ impl Meta {
         Ok(rows)
     }
 
-    /// Keeps, for each name that many features have, the feature of that name for each class, so that no look-up goes through all of them.
+    /// Keeps, for each name that many features have, the feature of that name for each class, so that no look-up goes through all features
+    /// of the name.
     fn keep_common(&mut self, alloc: Global) -> Result<(), AllocError>
         ensures { self.new ≡ self.old }
     {

@@ -130,8 +130,8 @@ impl NameTable {
         }
     }
 
-    /// The first position of a name, which is found by its hash. It is a function of its own, so that a search by a hint spills no
-    /// registers for it.
+    /// The first position of a name, which is found by its hash. This search is a function of its own, so that a search by a hint spills no
+    /// registers.
     #[cold]
     fn hashed(&self, name: &str) -> Option<usize>
         ensures { result ≡ get_by_text self.now.positions name.now }
@@ -169,7 +169,8 @@ fn slot_of(name: &str, hints: usize) -> usize {
     (len + 7 * ends + 11 * last_but_one) & hints.wrapping_sub(1)
 }
 
-/// The first position of a name in the list of the table at an index.
+/// The first position of a name, as the table at `index` finds it; `None` if there is no table at `index`, or if the table does not have
+/// the name.
 pub fn position_at(tables: &[NameTable], index: usize, name: &str) -> Option<usize>
     ensures { (lists : List (List (List ℕ))) → AreTablesOf tables.now lists → result ≡ position_in lists index name.now }
 {

@@ -115,14 +115,14 @@ impl<'a> Resolver<'a> {
         }
     }
 
-    /// The index of the feature of a name among the features that a class declares.
+    /// The index of the feature with a given name among the features that a class declares.
     pub fn own_position(&self, class: usize, name: &str) -> Option<usize>
         ensures { result ≡ own_position self.now.classes class name.now }
     {
         position_at(self.own_tables.as_slice(), class, name)
     }
 
-    /// The number of the feature of a name that a class declares.
+    /// The number of the feature that a class declares under a given name.
     pub fn own_named(&self, class: usize, name: &str) -> Option<u32>
         ensures { result ≡ own_named self.now.classes class name.now }
     {

@@ -76,7 +76,7 @@ impl Meta {
         }
     }
 
-    /// The name of a class; no name if there is no class of the number. Takes no memory.
+    /// The name of a class; empty if no class has the number. Takes no memory.
     pub fn class_name(&self, class: ClassNo) -> &str
         ensures { result.now ≡ m.class_name self.now class }
     {
@@ -86,7 +86,7 @@ impl Meta {
         }
     }
 
-    /// The name of a feature; no name if there is no feature of the number. Takes no memory.
+    /// The name of a feature; empty if no feature has the number. Takes no memory.
     pub fn feature_name(&self, feature: FeatureNo) -> &str
         ensures { result.now ≡ m.feature_name self.now feature }
     {
@@ -96,7 +96,7 @@ impl Meta {
         }
     }
 
-    /// The name of a literal of a feature's type; no name if the type has no literal of the index. Takes no memory.
+    /// The name of the literal at an index of a feature's type; empty if the type has no such literal. Takes no memory.
     pub fn literal_text(&self, feature: FeatureNo, index: u32) -> &str
         ensures { result.now ≡ m.literal_text self.now feature index }
     {

@@ -9,7 +9,7 @@ use crate::name_table::NameTable;
 use mm_types::{Enumeration, RawClass, Seq};
 use std::alloc::{AllocError, Global};
 
-/// A table for each class of the features that it declares.
+/// For each class, a table of the features that the class declares.
 pub fn own_tables(alloc: Global, classes: &[RawClass]) -> Result<Vec<NameTable>, AllocError>
     ensures { IfOk result (λ v. AreTablesOf v.items (map (λ c. map (λ f. f.name) c.features) classes.now)) }
 {
@@ -20,7 +20,7 @@ pub fn own_tables(alloc: Global, classes: &[RawClass]) -> Result<Vec<NameTable>,
     Ok(tables)
 }
 
-/// A table for each enumeration of its literals.
+/// For each enumeration, a table of its literals.
 pub fn literal_tables(alloc: Global, enums: &[Enumeration]) -> Result<Vec<NameTable>, AllocError>
     ensures { IfOk result (λ v. AreTablesOf v.items (map (λ e. e.literals) enums.now)) }
 {

@@ -22,7 +22,7 @@ use Rattle.mm_types.specs.declared.numbers.ObjectNo.{ObjectNo}
 abbrev pub class : Metamodel → ClassNo → Option Class
 class m c = slice_get m.classes c.0
 
--- whether a number has a class, and the class is concrete
+-- whether some class has the number, and is concrete
 abbrev pub is_concrete : Metamodel → ClassNo → Bool
 is_concrete m c = option_map_or (λ k. not k.is_abstract) (class m c) false
 
@@ -40,7 +40,7 @@ features m c = option_map (λ k. k.all) (class m c)
 abbrev pub has_feature : Metamodel → ClassNo → FeatureNo → Bool
 has_feature m c f = option_map_or (λ all. list_any (λ g. nat_eq g.0 f.0) all) (features m c) false
 
--- the name of the feature of a number in a list of features; empty if the list has no such feature
+-- the name of the feature with a given number, in a list of features; empty if the list has no such feature
 abbrev pub name_in : List Feature → FeatureNo → List ℕ
 name_in fs f = option_map_or (λ g. g.name) (slice_get fs f.0) []
 
@@ -59,7 +59,7 @@ feature_by_name m c name = option_and_then (find (λ f. bytes_eq (feature_name m
 abbrev pub supertypes : Metamodel → List (List ℕ)
 supertypes m = map (λ c. map (λ s. s.0) c.supers) m.classes
 
--- a class is another, or inherits from it
+-- the class sub is the class sup, or inherits from it
 abbrev pub ConformsTo : Metamodel → ClassNo → ClassNo → Type 0
 ConformsTo m sub sup = (sub.0 < length m.classes) × Conforms (supertypes m) sub.0 sup.0
 

@@ -1,4 +1,4 @@
-//! The reads of a repository, as values: a name, and the question about it.
+//! The reads of a repository, as values: each read has the thing that is asked about, such as an end or an object, and the question.
 use crate::end::End;
 use crate::numbers::{AdapterNo, Node, ObjectNo, ResourceNo};
 use crate::text::Text;

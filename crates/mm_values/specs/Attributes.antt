@@ -1,4 +1,4 @@
--- The values in a list of entries, and the attributes for which it has capacity.
+-- The values in a list of entries, and the attributes for which the list has capacity.
 use Rattle.std.specs.Prelude.{◌≡◌, ℕ, ◌<◌, ◌≤◌, false, List, [], ◌∷◌, length, nat_eq, slice_index_or, unwrap_or, if◌then◌else◌}
 use Rattle.std.specs.FinMap as map
 use Rattle.mm_types.specs.declared.numbers.FeatureNo.{FeatureNo}
@@ -28,11 +28,11 @@ place_for f = record { feature = record { 0 = f }; list = record { items = []; s
 abbrev pub feature_at : List Entry → ℕ → ℕ
 feature_at l i = let e = slice_index_or l i (place_for 0) in e.feature.0
 
--- the attributes' numbers rise, so none comes twice
+-- the attributes' numbers rise, so no attribute comes twice
 abbrev pub IsRising : List Entry → Type 0
 IsRising l = (i j : ℕ) → i < j → j < length l → feature_at l i < feature_at l j
 
--- the entry at index i is the attribute's
+-- the entry at index i is the entry of the attribute f
 pub record IsAt (l : List Entry) (f i : ℕ) : Type 0 where
   pub in_range : i < length l
   pub has_feature : feature_at l i ≡ f

@@ -17,7 +17,7 @@ nothing_stored = record { list = []; flag = false }
 abbrev pub is_nothing : Stored → Bool
 is_nothing h = is_nil h.list && not h.flag
 
--- the values of each attribute that has any, by the attribute's number
+-- what is stored under each attribute, by the attribute's number
 abbrev pub StoredMap : Type 0
 StoredMap = map.FinMap nat_cmp Stored
 

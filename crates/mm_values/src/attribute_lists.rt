@@ -163,8 +163,8 @@ impl AttributeLists {
         }
     }
 
-    /// Replaces the list under an attribute, and takes memory for it if there is none yet. Fails only if memory is refused, and then nothing
-    /// that contracts see has changed.
+    /// Replaces the list under an attribute; takes memory for an entry if the attribute has none. Fails only if memory is refused, and then
+    /// nothing that contracts see has changed.
     pub fn set(&mut self, feature: FeatureNo, list: NewValues, flag: bool) -> Result<(), AllocError>
         ensures ok { OnOk result (stored_in self.new ≡ with_stored (stored_in self.old) feature.0 (record { list = list; flag = flag })) }
         ensures err { OnErr result (stored_in self.new ≡ stored_in self.old) }

@@ -28,7 +28,8 @@ fn has_insert(plan: &[ValueEdit]) -> bool
     plan.iter().any(|e| e.is_insert())
 }
 
-/// The edits for which capacity has to be counted. If no edit puts a value into a list there are none, and counting takes no time.
+/// The edits for which capacity has to be counted: the whole plan; or no edit, if no edit of the plan puts a value into a list. Counting
+/// then takes no time.
 pub(crate) fn counted(plan: &[ValueEdit]) -> &[ValueEdit]
     ensures { (o f : ℕ) → capacity_needed result.now o f ≡ capacity_needed plan.now o f }
 {

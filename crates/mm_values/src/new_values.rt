@@ -14,7 +14,7 @@ enum Layout {
     Many(Seq<Value>),
 }
 
-/// Values with which an edit replaces others. Contracts see them as the list.
+/// The values with which an edit replaces other values. Contracts see them as a list of values.
 #[derive(Debug, Drop)]
 pub struct NewValues {
     layout: Layout,
@@ -69,7 +69,7 @@ impl NewValues {
         }
     }
 
-    /// Replaces the values of a list by these. Takes no memory.
+    /// Replaces the values of `list` by these values. Takes no memory.
     pub(crate) fn put_in(self, alloc: Global, list: &mut ValueList)
         ensures items { list.new.items ≡ self }
         ensures spare { list.old.spare ≤ list.new.spare + length self }
@@ -81,7 +81,7 @@ impl NewValues {
     }
 }
 
-/// How the values of a `Vec` are kept; its block is freed if it has one value.
+/// The layout of the values of a `Vec`. If the `Vec` has one value, its block of memory is freed.
 fn layout_of(mut values: Vec<Value>) -> Layout
     ensures { values_in result ≡ values.items }
 {

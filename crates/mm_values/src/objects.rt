@@ -75,7 +75,8 @@ impl Objects {
         Some(class)
     }
 
-    /// The list that a live object has under an attribute, if the attribute has an entry there.
+    /// The list that a live object has under an attribute: `Some(None)` if the attribute has no entry, `None` if no live object has the
+    /// number.
     pub fn list(&self, object: ObjectNo, feature: FeatureNo) -> Option<Option<&ValueList>>
         ensures { option_map (λ l. items_of (option_copied l)) result ≡ option_map (λ s. (stored_under s feature).list) (object_at (objects_of self.now) object) }
     {

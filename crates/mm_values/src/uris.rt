@@ -64,8 +64,7 @@ impl Uris {
         Some(ResourceNo(index as u32))
     }
 
-    /// Reserves capacity for more URIs. Fails only if memory is refused, or if there are no numbers for so
-    /// many.
+    /// Reserves capacity for more URIs. Fails only if memory is refused, or if there are not enough numbers for so many resources.
     pub fn reserve(&mut self, additional: usize) -> Result<(), AllocError>
         ensures uris { self.new.uris ≡ self.old.uris }
         ensures ok { OnOk result (additional ≤ self.new.room) }

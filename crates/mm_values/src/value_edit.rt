@@ -105,7 +105,7 @@ impl ValueEdit {
         }
     }
 
-    /// How much capacity the edit takes of the list under an attribute of an object.
+    /// How much capacity the edit takes in the list that the object `at` has under the attribute `under`.
     pub(crate) fn places_taken(&self, at: ObjectNo, under: FeatureNo) -> usize
         ensures { result ≡ places_taken self.now at.0 under.0 }
     {

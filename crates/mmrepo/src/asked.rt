@@ -19,7 +19,7 @@ pub(crate) struct ResourceFile {
 pub(crate) struct Asked {
     /// The file of the metamodel.
     pub(crate) meta: String,
-    /// The file of the script, if it has one.
+    /// The file of the script; `None` if the script is read from standard input.
     pub(crate) script: Option<String>,
     /// The resources that are loaded before the script.
     pub(crate) load: Vec<ResourceFile>,

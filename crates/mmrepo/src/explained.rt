@@ -61,7 +61,7 @@ pub(crate) fn explained_read(rt: &HostRuntime, explain: bool, path: &str, fault:
     }
 }
 
-/// Why the run of the script of a file stops.
+/// Why the run of a script stops, if the script is read from a file.
 pub(crate) fn explained_run(rt: &HostRuntime, explain: bool, path: &str, fault: RunFault) -> Stop {
     match fault {
         RunFault::Read | RunFault::TooLong => explained_read(rt, explain, path, fault),

@@ -33,7 +33,7 @@ impl Read for Prompted<'_> {
         let _ = eprint!(self.rt; "{PROMPT}");
         let read = self.stdin.read(buf);
         if matches!(read, Ok(0)) {
-            // A prompt after which nothing was typed is left as a line.
+            // At the end of the input nothing is typed after the prompt, so a newline ends the line of the prompt.
             let _ = eprintln!(self.rt);
         }
         read

@@ -106,7 +106,7 @@ fn documents_for<L: LinkStore, A: Adapter>(
     Ok(documents)
 }
 
-/// Saves the resources of the options. No file is written if one of them is refused.
+/// Saves the resources that the options name. If one of the resources is refused, no file is written.
 pub(crate) fn save_files<L: LinkStore, A: Adapter>(
     rt: &HostRuntime,
     asked: &Asked,

@@ -10,11 +10,11 @@ use std::fmt;
 /// Why a journal is refused, and left as it is.
 #[derive(Clone, Copy)]
 pub(crate) enum JournalRefusal {
-    /// Another process has it open.
+    /// Another process has the journal open.
     InUse,
     /// The file is no journal.
     NoJournal,
-    /// It was begun with another metamodel.
+    /// The journal was begun with another metamodel.
     OtherMetamodel,
     /// The line of this number was not done when it was run again.
     Line(u64),

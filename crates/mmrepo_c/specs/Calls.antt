@@ -36,7 +36,7 @@ abbrev pub Opens : List ℕ → ℕ → Option Held → Type 0
 Opens bytes status new =
     ((INPUT_BYTES < length bytes) × (status ≡ TOO_LONG) × (new ≡ None)) ⊎ ((length bytes ≤ INPUT_BYTES) × OpensDocument bytes status new)
 
--- a line was run: its text is the answer of the session after it; if memory was refused to the run, the handle is closed
+-- a line was run: the text that the line printed is now the answer of the session; if memory was refused to the run, the handle is closed
 abbrev pub AnswersLine : Held → List ℕ → ℕ → Option Held → Type 0
 AnswersLine h line status None = status ≡ MEMORY
 AnswersLine h line status (Some t) = (turn : Turn) × (status ≡ line_status turn) × RunsLine (running_session h) (form line) (printed_line (answer t) turn) (running_session t)
@@ -47,7 +47,7 @@ Answers None line status new = (status ≡ CLOSED) × (new ≡ None)
 Answers (Some h) line status new =
     ((INPUT_BYTES < length line) × (status ≡ TOO_LONG) × (new ≡ Some h)) ⊎ ((length line ≤ INPUT_BYTES) × AnswersLine h line status new)
 
--- a read was made: its text is the answer of the session after it; if memory was refused to the text, the handle is closed
+-- a read was made: the text that the read printed is now the answer of the session; if memory was refused to the text, the handle is closed
 abbrev pub ReadsSession : Held → (Session → Printed) → ℕ → Option Held → Type 0
 ReadsSession h asked status None = status ≡ MEMORY
 ReadsSession h asked status (Some t) = (turn : Turn) × (status ≡ line_status turn) × Reads (running_session h) asked (printed_line (answer t) turn) (running_session t)

@@ -12,7 +12,7 @@ use Rattle.mmrepo_c.specs.declared.session.TheConstants.{BOXES}
 abbrev pub running_session : Held → Session
 running_session h = session h.interpreter.repository h.interpreter.pool
 
--- the text that the last line of a session printed
+-- the text that the last line, read or load of a session printed
 abbrev pub answer : Held → List ℕ
 answer h = h.interpreter.output
 

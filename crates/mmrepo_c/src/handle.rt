@@ -36,14 +36,14 @@ impl Handle {
         }
     }
 
-    /// Whether it has a session.
+    /// Whether the handle has a session.
     pub(crate) fn is_open(&self) -> bool
         ensures { result ≡ is_some self.now.pointer.held }
     {
         self.is_open
     }
 
-    /// Takes the session, and closes the handle; None if it is closed.
+    /// Takes the session, and closes the handle; `None` if the handle is closed already.
     pub(crate) fn take(&mut self, alloc: Global) -> Option<Box<Session>>
         ensures taken { option_map (λ b. b.value) result ≡ self.old.pointer.held }
         ensures closed { self.new.pointer.held ≡ None }

@@ -29,11 +29,11 @@ pub use session::Session;
 use std::alloc::Global;
 use std::str;
 
-/// Opens a session: an empty repository over the metamodel of a document. A session that the handle had before is closed. Its adapters, A1
-/// to A1000, count their notifications and keep none of them.
+/// Opens a session: an empty repository over the metamodel of a document. A session that the handle had before is closed. The adapters of
+/// the new session, A1 to A1000, count their notifications and keep none of them.
 ///
-/// Returns `OK`; from 1 to 12 the first fault of the document; `TOO_LONG` if it has more than `INPUT_BYTES` bytes; `MEMORY` if memory
-/// is refused. The handle is closed if the status is not `OK`.
+/// Returns `OK`; a number from 1 to 12 for the first fault of the document; `TOO_LONG` if the document has more than `INPUT_BYTES` bytes;
+/// `MEMORY` if memory is refused. The handle is closed if the status is not `OK`.
 #[unsafe(no_mangle)]
 pub extern "C" fn mmrepo_open(alloc: Global, handle: &mut Handle, document: &[u8]) -> u32
     ensures { c.Opens document.now result handle.new.pointer.held }
@@ -51,7 +51,7 @@ pub extern "C" fn mmrepo_open(alloc: Global, handle: &mut Handle, document: &[u8
     }
 }
 
-/// Runs a line of a script, which has no newline at its end. From then on its output is the text of the session.
+/// Runs a line of a script; `line` has no newline at its end. From then on the output of the line is the text of the session.
 ///
 /// Returns how the line is counted: `OK` for a command that was done, `BLANK`, `BAD`, `REFUSED`, or `LOST` if the repository was
 /// refused memory, and nothing has changed. `CLOSED` if the handle is closed. `TOO_LONG` if the line has more than `INPUT_BYTES`
@@ -101,7 +101,7 @@ pub extern "C" fn mmrepo_list_length(
     put_back(handle, session, outcome)
 }
 
-/// Reads the value at an index of a list, which is counted from 0. The value is the text of the session from then on.
+/// Reads the value at an index of a list; the first index is 0. The value is the text of the session from then on.
 ///
 /// Returns what `mmrepo_list_length` returns. If the index is past the last value, the refusal is `INDEX`.
 #[unsafe(no_mangle)]
@@ -126,8 +126,8 @@ pub extern "C" fn mmrepo_list_value(
     put_back(handle, session, outcome)
 }
 
-/// Loads a document into a resource, as the line `load` does, but from bytes of any length, newlines among them. From then on its output is
-/// the text of the session.
+/// Loads a document into a resource, as the line `load` does, but from bytes of any length, newlines among them. From then on the output of
+/// the load is the text of the session.
 ///
 /// Returns `OK`, `REFUSED` or `LOST` as `mmrepo_line` does. `CLOSED` if the handle is closed. `MEMORY` if memory is refused to the call
 /// itself: the session is closed.
@@ -147,8 +147,8 @@ pub extern "C" fn mmrepo_load(
     put_back(handle, session, outcome)
 }
 
-/// Copies the text of the last answer, or as much of it as the buffer can hold. Returns how many bytes the text has: none if no line was
-/// run, and if the handle is closed.
+/// Copies the text of the last answer, or as much of the text as the buffer can hold. Returns how many bytes the text has: 0 if no line,
+/// read or load was run yet, and if the handle is closed.
 #[unsafe(no_mangle)]
 pub extern "C" fn mmrepo_text(alloc: Global, handle: &mut Handle, out: &mut [u8]) -> usize
     ensures { c.Copies handle.old.pointer.held out.old result out.new handle.new.pointer.held }

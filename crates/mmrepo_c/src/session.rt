@@ -73,14 +73,14 @@ impl Session {
         self.interpreter.list_value(node, feature, index)
     }
 
-    /// Loads a document, and returns how that is counted. Fails only if memory is refused to the call itself.
+    /// Loads a document, and returns how the load is counted. Fails only if memory is refused to the call itself.
     pub(crate) fn load(&mut self, resource: ResourceNo, document: &[u8]) -> Result<Turn, AllocError>
         ensures { IfOk result (λ t. RunsCommand (running_session self.old) (Load resource document.now) (printed_line (answer self.new) t) (running_session self.new)) }
     {
         self.interpreter.load(resource, document)
     }
 
-    /// What the last call printed.
+    /// The text that the last call printed.
     pub(crate) fn text(&self) -> &[u8]
         ensures { result.now ≡ answer self.now }
     {

@@ -5,7 +5,7 @@ ghost use Rattle.mmrepo_c.specs.Statuses as s;
 use mm_types::MetaFault;
 use script_answers::Turn;
 
-/// It was done. The numbers from 1 to 12 are the faults of a metamodel.
+/// The call was done. The numbers from 1 to 12 are the faults of a metamodel.
 pub const OK: u32 = 0;
 
 /// The line is empty, or has only spaces.

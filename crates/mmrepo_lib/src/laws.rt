@@ -45,8 +45,8 @@ pub fn a_snapshot_has_each_node()
     ensures { (s : Model) (target n : Node) → HasEachNode s target n }
 {}
 
-/// Take an adapter that is attached before a command. The command notified it of exactly the notifications that the reply lists for it, in
-/// order. That is so if the adapter is still attached after the command, and also if the reply gives it back.
+/// An adapter that is attached before a command is notified by the command of exactly the notifications that the reply lists for this
+/// adapter, in order. This holds if the adapter is still attached after the command, and also if the reply gives it back.
 pub fn an_adapter_hears_what_the_reply_tells_it()
     ensures { (s : State) (c : Command View) (number : AdapterNo) (a : Listed) → HearsItsReply s c number a }
 {}
@@ -63,10 +63,11 @@ pub fn notices_are_enough()
     ensures closed { (s : State) (cs : List (Command View)) (number : AdapterNo) (target : Node) (a : Listed) (w : View) (n : Node) → ClosedKeepsEnough s cs number target a w n }
 {}
 
-/// What was saved of a state without proxies can be loaded into a new repository over the same metamodel, if the text of no reference is
-/// longer than 65,535 bytes. Its resources are created and their texts loaded, in any order in which none is loaded before it is created.
-/// The texts are the results of `Repository::save`. Only memory can refuse these commands. The new state is legal, and a partly resolved
-/// copy of the saved one: it has the same objects at the same addresses, and some references are still proxies.
+/// The texts that were saved of a state without proxies can be loaded into a new repository over the same metamodel, if the text of no
+/// reference is longer than 65,535 bytes. The resources of the state are created and their texts loaded, in any order in which no resource
+/// is loaded before it is created. The texts are the results of `Repository::save`. Only memory can refuse these commands. The new state is
+/// legal, and a partly resolved copy of the saved one: it has the same objects at the same addresses, and some references are still
+/// proxies.
 pub fn loads_in_any_order_give_what_stands_between()
     ensures { (s : State) → LoadsGiveBetween s }
 {}
@@ -89,9 +90,10 @@ pub fn without_proxies_what_stands_between_is_alike()
 {}
 
 /// What was saved comes back. All resources of a state without proxies were saved, and the text of no reference is longer than 65,535
-/// bytes. In a new repository over the same metamodel they are created and loaded, both in any order, and then proxies are resolved, all at
-/// once or one after another in any order until none is left. Only memory can refuse these commands, and the two states are isomorphic:
-/// they have the same addresses, and at each address the same class, values, flags and ends, with objects compared by their addresses.
+/// bytes. In a new repository over the same metamodel the resources are created and loaded, both in any order, and then proxies are
+/// resolved, all at once or one after another in any order until no proxy is left. Only memory can refuse these commands, and the two
+/// states are isomorphic: they have the same addresses, and at each address the same class, values, flags and ends, with objects compared
+/// by their addresses.
 pub fn what_was_saved_is_had_again_in_any_order()
     ensures { (s : State) → ReloadsInAnyOrder s }
 {}

@@ -25,7 +25,7 @@ use Rattle.links.specs.declared.link.Link.{Link}
 use Rattle.models.specs.Reading.{Reading, has_feature, shape_at, takes}
 use Rattle.models.specs.Model.{Model, reading}
 
--- whether a text has at most TEXT_BYTES
+-- whether a text has at most TEXT_BYTES bytes
 abbrev pub is_short_text : List ℕ → Bool
 is_short_text text = nat_le (length text) TEXT_BYTES
 

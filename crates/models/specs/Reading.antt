@@ -109,11 +109,11 @@ all_features_of r (node.Resource k) = if has_resource r k then lookups.contents 
 abbrev pub first_at : Reading → End → Value → Option ℕ
 first_at r e v = first_in (r.values e) v
 
--- whether the list is unique and has the value already
+-- whether the values of an end are unique, and the value is among them already
 abbrev pub is_repeat : Reading → End → Value → Bool
 is_repeat r e v = (shape_at r e).is_unique && has_value (r.values e) v
 
--- the position that is named, or else the position after the last value of the end
+-- the given position, if there is one; else the position after the last value of the end
 abbrev pub position_for : Reading → End → Option ℕ → ℕ
 position_for r e i = unwrap_or i (length (r.values e))
 

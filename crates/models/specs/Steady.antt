@@ -1,4 +1,5 @@
--- Models whose URIs are normalised. A result of joining is normalised if `url` reads the URL that it wrote back as the same URL.
+-- Models whose URIs are normalised. A result of joining is normalised if `url` reads the result as a URL and writes this URL as the same
+-- text.
 use Rattle.std.specs.List.{All}
 use Rattle.web_uris.specs.Addresses.{IsSteadyProxy}
 use Rattle.web_uris.specs.Joined.{IsWebUri}

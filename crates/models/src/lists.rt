@@ -128,7 +128,7 @@ impl<'a, L: LinkStore> ModelRef<'a, L> {
         attribute_has(self.meta(), self.values(), end, value)
     }
 
-    /// Whether an end is a unique list that has a value already.
+    /// Whether the values of an end are unique, and a value is among them already.
     pub fn is_repeat(&self, end: End, value: &Value) -> bool
         ensures { result ≡ r.is_repeat (reading self.now) end value.now }
     {

@@ -96,7 +96,7 @@ impl<'a, L: LinkStore> ModelRef<'a, L> {
         self.values.class(object)
     }
 
-    /// Whether a node has a feature, own or inherited; false if it does not live.
+    /// Whether a node has a feature, own or inherited; false if the node does not live.
     pub fn has_feature(&self, node: Node, feature: FeatureNo) -> bool
         ensures { result ≡ r.has_feature (reading self.now) node feature }
     {
@@ -139,7 +139,7 @@ impl<'a, L: LinkStore> ModelRef<'a, L> {
         (resource.0 as usize) < self.resources()
     }
 
-    /// All features of a node, own and inherited (EMF: EClass.getEAllStructuralFeatures); none if it does not live.
+    /// All features of a node, own and inherited (EMF: EClass.getEAllStructuralFeatures); none if the node does not live.
     pub fn all_features(&self, node: Node) -> &'a [FeatureNo]
         ensures { result.now ≡ r.all_features_of (reading self.now) node }
     {

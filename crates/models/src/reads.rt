@@ -45,7 +45,7 @@ impl Found<'_> {
         }
     }
 
-    /// The object; `None` if it is any other value.
+    /// The object that was found; `None` if the value is not an object.
     pub fn object(&self) -> Option<ObjectNo>
         ensures { result ≡ r.object_of (found_value self.now) }
     {
@@ -69,7 +69,7 @@ impl Found<'_> {
 }
 
 impl<'a> Found<'a> {
-    /// The text of the proxy; `None` if it is any other value.
+    /// The text of the proxy that was found; `None` if the value is not a proxy.
     pub fn proxy(self) -> Option<&'a str>
         ensures { option_copied result ≡ text_of (found_value self.entry) }
     {
@@ -231,7 +231,7 @@ fn is_attribute_set(
     if is_unsettable {
         return flag_at(values, end);
     }
-    // Without a value of its own it has its default.
+    // An attribute with no stored value has its default.
     is_other(kept_at(values, end, 0), default)
 }
 

@@ -38,7 +38,7 @@ slot_edit_capacity (Remove i) = 0
 slot_edit_capacity (Move to from) = 0
 slot_edit_capacity (Forget n) = n
 
--- whether a change may be made of a list; `mixed` says whether the list may have other values than objects
+-- whether a change may be made to a list; `mixed` says whether the list may have values other than objects
 abbrev pub CanEdit : Bool → SlotEdit → Type 0
 CanEdit mixed (Insert i v p) = CanHave mixed v
 CanEdit mixed (Push v p) = CanHave mixed v
@@ -46,7 +46,7 @@ CanEdit mixed (Remove i) = Unit {0}
 CanEdit mixed (Move to from) = Unit {0}
 CanEdit mixed (Forget n) = Unit {0}
 
--- for how many more values capacity is reserved
+-- the number of further values for which capacity is reserved
 abbrev pub slot_places : Slot → ℕ
 slot_places s = min s.promised s.values.spare
 

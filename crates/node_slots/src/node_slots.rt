@@ -230,7 +230,7 @@ impl NodeSlots {
         }
     }
 
-    /// Puts the ends with no opposite that hold a node in the order of their ranks (`entry_rank`). Takes no memory.
+    /// Puts the ends with no opposite that hold a node in order, by the numbers that `entry_rank` gives. Takes no memory.
     pub fn order_entries(&mut self, node: Node)
         ensures cells { AreReordered (cells self.old) (cells self.new) }
         ensures room { room self.new ≡ room self.old }

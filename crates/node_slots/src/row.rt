@@ -127,7 +127,7 @@ impl Row {
     }
 }
 
-/// Puts an end in last, for which there is capacity.
+/// Puts an end in last. There is capacity for the end.
 fn push_on(ends: &mut ShortList<End>, end: End)
     requires { 1 ≤ ends.old.spare }
     ensures items { ends.new.items ≡ ends.old.items ++ end ∷ [] }

@@ -154,7 +154,8 @@ fn edit_slot(slots: &mut Vec<Slot>, feature: FeatureNo, edit: SlotEdit)
     }
 }
 
-/// The only slot of a node, and a new one of a different feature. Fails only if memory is refused, and then the slot stays where it is.
+/// A list of the only slot of a node and a new slot of a different feature. Fails only if memory is refused, and then the slot stays where
+/// it is.
 fn with_new(alloc: Global, slot: &mut Slot, feature: FeatureNo) -> Result<Vec<Slot>, AllocError>
     ensures grown { IfOk result (λ v. AreSlotsGrown (slot.old ∷ []) v.items) }
     ensures ok { IfOk result (λ v. (slot_in v.items feature ≡ None) → ⊥) }

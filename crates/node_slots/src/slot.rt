@@ -14,7 +14,7 @@ use std::alloc::{AllocError, Global};
 pub struct Pairing {
     /// Its opposite, if it has one.
     pub opposite: Option<FeatureNo>,
-    /// The containing feature of the pair, if one of the two is a containment.
+    /// The containing feature: the feature or its opposite, if one of the two is a containment.
     pub container: Option<FeatureNo>,
 }
 
@@ -55,7 +55,7 @@ pub struct Slot {
     /// The opposite and the containing feature, as the last put of an object gave them; neither of them if no object was put.
     pub pairing: Pairing,
     pub values: EndValueList,
-    /// For how many more values capacity is reserved.
+    /// The number of further values for which capacity is reserved in `values`.
     pub promised: usize,
 }
 
@@ -132,7 +132,8 @@ impl Slot {
     }
 }
 
-/// Reserves capacity for values, for objects or for any. Fails only if memory is refused; no value changes.
+/// Reserves capacity for `places` values, and for values other than objects if `is_mixed`. Fails only if memory is refused; no value
+/// changes.
 fn make_places(
     values: &mut EndValueList,
     alloc: Global,
@@ -151,7 +152,7 @@ fn make_places(
     values.reserve(alloc, places)
 }
 
-/// Puts a value in, for which there is capacity.
+/// Puts a value in at an index. There is capacity for the value.
 #[inline(always)]
 fn insert_in(values: &mut EndValueList, index: usize, value: Value)
     requires room { 1 ≤ values.old.spare }
@@ -163,7 +164,7 @@ fn insert_in(values: &mut EndValueList, index: usize, value: Value)
     values.insert(index.min(values.len()), value);
 }
 
-/// Puts a value in last, for which there is capacity.
+/// Puts a value in last. There is capacity for the value.
 fn push_in(values: &mut EndValueList, value: Value)
     requires room { 1 ≤ values.old.spare }
     requires can { CanHave values.old.mixed value }

@@ -70,11 +70,12 @@ adapters_after_watch number t rs = with_changed number (with_target t) rs
 abbrev pub Above : Type 0
 Above = Node → List Node
 
--- whether a target notifies its adapter of changes at a node: it is that node, or it is deep and the node is below it
+-- whether a target notifies its adapter of changes at a node: the target is the node, or the target is deep and the node is below it
 abbrev pub brings_in : Above → Node → Target → Bool
 brings_in up x t = same_node t.node x || (t.deep && list_any (same_node t.node) (up x))
 
--- whether an adapter gets a notification: it gets it once, if any of its targets notifies it
+-- whether an adapter gets a notification: at least one of its targets notifies it; the adapter gets the notification once, however many
+-- targets do
 abbrev pub hears : Above → Listed → Notice → Bool
 hears up r n = list_any (brings_in up n.notifier) r.targets
 

@@ -27,11 +27,11 @@ values_with r e i x =
 abbrev pub with_resolved : Reading → ProxySite → ResolvedProxy → Reading
 with_resolved r p x = record r { values = values_with r (end_of p) p.index x }
 
--- the target to which the proxy at a location is resolved; none if it is refused
+-- the target to which the proxy at a location is resolved; none if the resolve is refused
 abbrev pub resolved_to : Reading → ProxySite → Option ResolvedProxy
 resolved_to r p = if is_some (resolve_refusal r (end_of p) p.index) then None else target_at r (end_of p) p.index
 
--- a proxy that is resolved: its model, its location, and its target
+-- a proxy that is resolved: the model in which it is resolved, its location, and its target
 pub record Resolution : Type 0 where
   pub reads : Reading
   pub site : ProxySite

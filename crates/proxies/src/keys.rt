@@ -34,7 +34,7 @@ impl Keys {
         Ok(())
     }
 
-    /// Whether a key is among them. Takes no memory.
+    /// Whether a key is in the set. Takes no memory.
     pub fn contains(&self, key: ReferenceKey) -> bool
         ensures { result ≡ has self.now key }
     {

@@ -2,7 +2,7 @@
 //! resolved.
 //!
 //! `specs/Resolving.antt` says what a proxy finds, `specs/Refusals.antt` why it can't be resolved, and `specs/ResolvingAll.antt` which
-//! proxies are resolved if all are, one after another.
+//! proxies are resolved if all proxies are tried, one after another.
 #![tactic(auto)]
 
 mod ends;

@@ -47,7 +47,8 @@ LoadsKeepAddresses s k doc =
 
 ---------------------------------------------------------------- loads
 
--- if the document of a resource of s is loaded into a resource of another model, that resource has the images of its objects
+-- if the document of a saved resource of s is loaded into a resource of another model, that resource has the images of the objects of the
+-- saved resource
 abbrev pub LoadsSaved : Model → ValuesState → Links → Type 0
 LoadsSaved s w b =
     IsLegal s → HasSteadyTexts s → (k j : ResourceNo) (uri : List ℕ) → IsReadable (reading s) k uri

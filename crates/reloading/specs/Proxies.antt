@@ -5,7 +5,7 @@ use Rattle.mm_types.specs.declared.value.Value.TheVariants as value
 use Rattle.models.specs.Reading.{Reading}
 use Rattle.proxies.specs.Proxies.{sites}
 
--- how many proxies its objects have
+-- how many proxies the objects of a model have
 abbrev pub proxies_len : Reading → ℕ
 proxies_len r = length (sites r)
 

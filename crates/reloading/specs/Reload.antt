@@ -21,7 +21,7 @@ AreResolves t [] = HasNoProxy (reading t)
 AreResolves t (At e (Resolve i) ∷ cs) = (is_some (proxy_at (reading t) e i) ≡ true) × AreResolves (model_after t (At e (Resolve i))) cs
 AreResolves t (c ∷ cs) = ⊥
 
--- an empty model after the loads of what was saved
+-- the model that results if the loads of the saved resources are done in an empty model
 abbrev pub reloaded_model : Model → List Task → Model
 reloaded_model s ts = after_all (empty_model s.metamodel) (changes (reading s) [] ts)
 

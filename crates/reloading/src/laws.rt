@@ -36,8 +36,8 @@ pub fn what_was_saved_is_loaded_as_it_was()
 {}
 
 /// A model without proxies, in which no text of a reference is longer than 65,535 bytes, is saved and loaded into a new model: its
-/// resources are made there, and their documents loaded, in any order in which none is loaded before it is made. Only memory can refuse
-/// these changes, and they leave a partly resolved copy of the saved model.
+/// resources are made there, and their documents loaded, in any order in which no resource is loaded before it is made. Only memory can
+/// refuse these changes, and they leave a partly resolved copy of the saved model.
 pub fn loads_in_any_order_give_what_stands_between()
     ensures { (s : Model) → LoadsGiveBetween s }
 {}
@@ -48,13 +48,13 @@ pub fn resolving_stays_between()
     ensures { (s : Model) (w : ValuesState) (b : Links) → ResolvesBetween s w b }
 {}
 
-/// If all proxies of such a copy are resolved, one after another in their order, none is left, and the model is isomorphic to the saved
-/// one.
+/// If all proxies of a partly resolved copy of a saved model without proxies are resolved, one after another in their order, no proxy is
+/// left, and the model is isomorphic to the saved one.
 pub fn resolving_all_leaves_no_proxy()
     ensures { (s : Model) (w : ValuesState) (b : Links) → ResolvesAll s w b }
 {}
 
-/// If the count of proxies in a legal model is 0, no value of it is a proxy.
+/// If the count of proxies in a legal model is 0, no value in the model is a proxy.
 pub fn with_no_proxy_left_none_stands()
     ensures { (s : Model) → IsLegal s → proxies_len (reading s) ≡ 0 → HasNoProxy (reading s) }
 {}

@@ -10,7 +10,7 @@ use Rattle.removal.specs.Outer.{is_in_subtree}
 use Rattle.removal.specs.TreeLinkEnds.{tree_link_ends}
 use Rattle.removal.specs.declared.link_end.LinkEnd.{LinkEnd}
 
--- the names as pairs
+-- the names of links as pairs of an end and a value
 abbrev pub names_of : List LinkEnd → List (End × Value)
 names_of ts = map (λ t. (t.end, t.value)) ts
 

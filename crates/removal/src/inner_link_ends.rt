@@ -47,7 +47,7 @@ fn push_node<L: LinkStore>(
     Ok(())
 }
 
-/// Adds the links of one end of an object, if it is of a reference.
+/// Adds the links of the end that an object has under a feature, if the feature is a reference.
 fn push_reference<L: LinkStore>(
     model: &ModelRef<L>,
     object: ObjectNo,

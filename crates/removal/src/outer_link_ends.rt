@@ -30,7 +30,7 @@ pub(crate) fn push_outer<L: LinkStore>(
     Ok(())
 }
 
-/// Adds the links of an end to objects that are destroyed, if its feature has no opposite.
+/// Adds the links that lead from an end to destroyed objects, if the end's feature has no opposite.
 fn push_alone<L: LinkStore>(
     model: &ModelRef<L>,
     end: End,

@@ -36,7 +36,7 @@ use Rattle.change_plans.specs.declared.planned.Finding.TheVariants as finding
 use Rattle.handshake.specs.declared.change.Change.{Change}
 use Rattle.handshake.specs.FeatureChanges.{destroyed_by, resolves_all, resolves_one}
 
--- a count that is taken of the view of an adapter; 0 if none has the number
+-- a count that is read from the view of the adapter with a number; 0 if no adapter has the number
 abbrev pub count_of : List Listed → AdapterNo → (View → ℕ) → ℕ
 count_of rs number count = option_map_or (λ a. count a.view) (adapter number rs) 0
 
@@ -95,7 +95,7 @@ abbrev pub IsEarlyAnswer : Bool → Answer → Option Answer → Type 0
 IsEarlyAnswer false a q = q ≡ Some a
 IsEarlyAnswer true a q = q ≡ None
 
--- the answer that depends on what planning finds; none if the answer is known before
+-- the answer that depends on what planning finds; none if the answer is known before planning
 abbrev pub planned_answer : Finding → Option Answer
 planned_answer finding.Nothing = None
 planned_answer (finding.Removal x) = Some (answer.Destroyed (length x.objects.items))

@@ -20,7 +20,7 @@ list_of (feature_value.Many vs) = Ok vs
 abbrev pub list_at : Reading → End → Result (List Value) Refused
 list_at r e = option_map_or Err (end_refusal r e) (list_of (feature_value_at r e))
 
--- what f reads of a list, or the refusal of the list
+-- the result of f for a list, or the refusal if there is no list
 abbrev pub of_list : {X : Type 0} → (List Value → Result X Refused) → Result (List Value) Refused → Result X Refused
 of_list f (Ok vs) = f vs
 of_list f (Err r) = Err r

@@ -30,7 +30,7 @@ use Rattle.web_uris.specs.Addresses.{has_mark}
 use Rattle.fragment_paths.specs.Fragments.{fragment}
 use Rattle.doc_writer.specs.Saved.{save_refusal}
 
--- the change that a command makes of the model, if it makes one; a load has the document that its text gives
+-- the change of the model that a command asks for, if it asks for one; a load has the document that its text gives
 abbrev pub change_of : Reading → Command View → Option Change
 change_of r (command.At e a) = Some (change.At e a)
 change_of r (command.Create c) = Some (change.Create c)
@@ -94,7 +94,7 @@ late_refusal r rs (command.Watch number target deep) = watch_refusal rs number t
 late_refusal r rs (command.Read q) = late_read_refusal r q
 late_refusal r rs c = option_map_or (planned.late_refusal r) (change_of r c) None
 
--- an adapter that the command notifies can't count its notifications
+-- the refusal of a command that notifies an adapter which can't count its notifications
 abbrev pub full_refusal : Reading → List Listed → Command View → Option Refused
 full_refusal r rs c = AdapterFull where_so is_chain_full r.above (chain r c) rs
 

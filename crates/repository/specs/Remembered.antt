@@ -10,6 +10,6 @@ abbrev pub is_move : List Edit → Bool
 is_move (edit.Shift e to from ∷ []) = true
 is_move _ = false
 
--- whether a plan edits a link that contains, and does more than move it within its list
+-- whether a plan edits a containing link, and does more than move one value within its list
 abbrev pub may_change_containers : Kinds → List Edit → Bool
 may_change_containers m plan = touches_containment m plan && not (is_move plan)

@@ -79,7 +79,7 @@ brief_outcome heard a (Replied r) = change_outcome (changed_view heard r)
 abbrev pub answered_outcome : Result Answer Refused → Outcome
 answered_outcome = read_outcome (λ a. a)
 
--- a command was executed: its outcome and the state after it are the step's, or it failed with MEMORY
+-- a command was executed: it had the outcome and left the state that the step gives, or it failed with MEMORY
 abbrev pub Executed : State → Command View → Outcome → State → Type 0
 Executed s c o t = MatchBool (is_memory o) (IsWanting s c o t) (step s c ≡ record { outcome = o; after = t })
 

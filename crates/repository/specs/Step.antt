@@ -50,7 +50,7 @@ adapters_after_attach (command.Attach number target deep view) rs = rs ++ attach
 adapters_after_attach (command.Watch number target deep) rs = if is_target number target rs then rs else adapters_after_watch number (record { node = target; deep = deep }) rs
 adapters_after_attach _ rs = rs
 
--- the chain notifies adapters by the nodes that are above the notifiers before the command, and then the targets are taken away
+-- adapters are notified of the chain, by the nodes that are above each notifier before the command; and then the targets are taken away
 abbrev pub releases : Reading → List Listed → Command View → Released
 releases r rs c = released_adapters (going_spots r rs c) (tell_chain r.above (chain r c) rs)
 

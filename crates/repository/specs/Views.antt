@@ -51,7 +51,7 @@ module _ {A : Type 0} (heard : A → View) where
   outcome_view (Ok r) = Ok (reply_view r)
   outcome_view (Err f) = Err (failure_view f)
 
-  -- a reply or its refusal, of a command that takes no adapter
+  -- the reply or the refusal of a command that takes no adapter
   abbrev pub changed_view : Result (Reply A) Refused → Result (Reply View) Refused
   changed_view (Ok r) = Ok (reply_view r)
   changed_view (Err r) = Err r

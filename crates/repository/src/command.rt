@@ -17,8 +17,8 @@ pub enum Command<A = Box<dyn Adapter>> {
     CreateResource(Text),
     /// Loads the document of a text into an empty resource (EMF: Resource.load).
     Load(ResourceNo, Text),
-    /// Resolves all proxies, one after another, by object number, feature and position; skips each that `resolve` would refuse (EMF:
-    /// EcoreUtil.resolveAll).
+    /// Resolves all proxies, one after another, by object number, feature and position (EMF: EcoreUtil.resolveAll). A proxy that `resolve`
+    /// would refuse is skipped.
     ResolveAll,
     /// Attaches an adapter to a node, last in attach order (EMF: Notifier.eAdapters().add). A deep adapter is also notified of changes
     /// below the node (EMF: EContentAdapter).
@@ -41,6 +41,6 @@ pub enum Command<A = Box<dyn Adapter>> {
     },
     /// Detaches an adapter from all its targets. The adapter is notified, and given back (EMF: Notifier.eAdapters().remove).
     Detach(AdapterNo),
-    /// Asks for something, and changes nothing.
+    /// Reads the model or the counts of an adapter, and changes nothing.
     Read(Read),
 }

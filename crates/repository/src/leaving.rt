@@ -81,7 +81,7 @@ fn spots_with<A: Adapter>(
     Ok(spots)
 }
 
-/// Adds those targets of an adapter that are taken away.
+/// Adds to `spots` the targets of an adapter that are taken away.
 fn add_gone(
     spots: &mut Vec<(AdapterNo, Node)>,
     removal: &Removal,
@@ -125,7 +125,7 @@ impl<A: Adapter> Leaving<A> {
     }
 }
 
-/// Capacity for the targets that are taken away, if there are any.
+/// The targets that are taken away, with capacity for all notifications; `None` if no target is taken away.
 pub(crate) fn room_for<A: Adapter>(
     alloc: Global,
     spots: Vec<(AdapterNo, Node)>,
@@ -141,8 +141,8 @@ pub(crate) fn room_for<A: Adapter>(
     Ok(Some(Leaving::reserve(alloc, spots, chain_told)?))
 }
 
-/// Delivers the notifications of a round, and then releases the targets for which there is capacity. Returns which adapter was notified of
-/// what, and the adapters that are given back.
+/// Delivers the notifications of a round, and then releases the targets of `leaving`, if there are any. Returns which adapter was notified
+/// of what, and the adapters that are given back.
 pub(crate) fn notify<A: Adapter>(
     alloc: Global,
     adapters: &mut AdapterList<A>,

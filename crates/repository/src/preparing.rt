@@ -73,7 +73,8 @@ pub(crate) fn prepare<L: LinkStore, A: Adapter>(
     })
 }
 
-/// The answer of a change that is not refused, and whose answer does not depend on its plan. Fails only if memory is refused.
+/// The answer of a change that is not refused; the answer of this kind of change does not depend on its plan. Fails only if memory is
+/// refused.
 fn known_answer<L: LinkStore>(
     alloc: Global,
     model: &ModelRef<L>,

@@ -12,7 +12,7 @@ use fragment_paths::PathCache;
 use links::{Edit, Plan};
 use mm_meta::Meta;
 
-/// Whether a plan edits a link that contains: at an end of a containment or of a container reference.
+/// Whether a plan edits a containing link, which is a link at an end of a containment or of a container reference.
 fn touches_containment(meta: &Meta, edits: &Plan) -> bool
     ensures { result ≡ touches (kinds_of meta.now) edits.now }
 {
@@ -22,8 +22,8 @@ fn touches_containment(meta: &Meta, edits: &Plan) -> bool
         .any(|e| meta.containing(e.end().feature).is_some())
 }
 
-/// Forgets what may be wrong after a change: the fragments, if the plan edits a link that contains; and the adapters that are notified at a
-/// node, if the plan may give a node another container, or if targets are taken away. Takes no memory.
+/// Forgets what may be wrong after a change. The fragments are forgotten if the plan edits a containing link. The adapters that are
+/// notified at a node are forgotten if the plan may give a node another container, or if targets are taken away. Takes no memory.
 pub(crate) fn forget_touched(
     paths: &mut PathCache,
     hearers: &mut Hearers,

@@ -31,9 +31,9 @@ pub enum Answer {
     Loaded(u64),
     /// How many proxies were resolved (two at the ends of one link count once), and how many are left.
     Resolved { done: u64, left: u64 },
-    /// The object that contains another, if one does.
+    /// The object that contains a given object; `None` if no object contains it.
     Container(Option<ObjectNo>),
-    /// The resource that an object is in, if it is in one.
+    /// The resource that an object is in; `None` if the object is in no resource.
     Within(Option<ResourceNo>),
     /// Features of an object, in the order of all features of its class.
     Features(Seq<FeatureNo>),
@@ -45,7 +45,7 @@ pub enum Answer {
     Document(Text),
     /// The objects that a node contains.
     Objects(Seq<ObjectNo>),
-    /// What a node and each node below it have.
+    /// The state of a node and of each node below it.
     Snapshot(Snapshot),
 }
 

@@ -30,9 +30,9 @@ use std::marker::Model;
 /// Resource with EObjects; MOF 2.5.1: Extent).
 ///
 /// A command that is refused changes nothing and notifies no adapter. Contracts see a repository as its `State`, which is always legal.
-/// Code that holds a repository is generic over its store and the type of its adapters; only the outermost caller picks them. Most callers
-/// pick `Box<dyn Adapter>` for the adapters. A repository that is dropped drops its adapters without notifying them; `close` gives them
-/// back.
+/// Code that holds a repository is generic over its store and the type of its adapters; only the outermost caller picks these two types.
+/// Most callers pick `Box<dyn Adapter>` as the type of the adapters. A repository that is dropped drops its adapters without notifying
+/// them; `close` gives them back.
 #[derive(Drop)]
 pub struct Repository<L: LinkStore, A: Adapter = Box<dyn Adapter>> {
     alloc: Global,
@@ -42,7 +42,8 @@ pub struct Repository<L: LinkStore, A: Adapter = Box<dyn Adapter>> {
     adapters: AdapterList<A>,
     /// The fragments that were computed since a containing link last changed.
     paths: PathCache,
-    /// The adapters of the last notification; forgotten when a containing link changes, or an adapter gets or loses a target.
+    /// The adapters that get the notifications of one node, as they were found last. They are forgotten when a containing link changes, or
+    /// an adapter gets or loses a target.
     hearers: Hearers,
 }
 

@@ -13,7 +13,7 @@ contents_of (One c) = c ∷ []
 contents_of (Two cs) = cs
 contents_of (Many cs) = cs
 
--- the contents in their order, taken apart
+-- the contents in their order, as they are taken out
 abbrev pub parts_of : ContentParts → List Content
 parts_of (parts.Few first second) = option_to_list first ++ option_to_list second
 parts_of (parts.Many cs) = cs.items

@@ -74,7 +74,7 @@ abbrev pub with_content_flags : ReadContents → Bool → Bool → ReadContents
 with_content_flags r is_of_type long =
     record { contents = r.contents; is_lost = r.is_lost; has_other = r.has_other || not is_of_type; has_long = r.has_long || long }
 
--- the contents with the flags of one more entry: whether what is written under a feature is of its type, and whether it is too long
+-- the contents with the flags of one more entry: whether the entry is a content of its feature's type, and whether it is too long
 abbrev pub with_flaws : Metamodel → ReadContents → Entry → ReadContents
 with_flaws m r e = with_content_flags r (is_content m e) (is_long m e)
 

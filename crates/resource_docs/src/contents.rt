@@ -8,7 +8,7 @@ use std::alloc::{AllocError, Global};
 use std::marker::Model;
 use std::{mem, slice};
 
-/// How contents are kept. Most objects have few, which take no block of memory.
+/// How contents are kept. Most objects have at most two contents, which take no block of memory.
 #[derive(Debug, Drop)]
 enum Layout {
     Empty,
@@ -23,7 +23,7 @@ pub struct Contents {
     layout: Layout,
 }
 
-/// Contents that are taken out one by one: two at most, or a list.
+/// The contents that `Contents::into_parts` takes out of the `Contents` of an object: at most two of them, or a list.
 #[derive(Drop)]
 pub enum ContentParts {
     Few(Option<Content>, Option<Content>),
@@ -54,7 +54,7 @@ fn pushed(mut contents: Seq<Content>, content: Content) -> Result<Seq<Content>, 
     Ok(contents)
 }
 
-/// Two contents, one by one.
+/// The two contents of an array, as a pair.
 fn both(two: [Content; 2]) -> (Content, Content)
     ensures { two ≡ result.0 ∷ result.1 ∷ [] }
 {
@@ -112,14 +112,14 @@ impl Contents {
         }
     }
 
-    /// How many there are.
+    /// How many contents there are.
     pub fn len(&self) -> usize
         ensures { result ≡ length self.now }
     {
         self.as_slice().len()
     }
 
-    /// The contents, taken apart. Takes no memory.
+    /// The contents, for a caller that takes them out one by one. Takes no memory.
     pub fn into_parts(self) -> ContentParts
         ensures { parts_of result ≡ self }
     {

@@ -110,7 +110,7 @@ impl DocValues {
         }
     }
 
-    /// Whether there are none.
+    /// Whether there are no values.
     pub fn is_empty(&self) -> bool
         ensures { result ≡ (length self.now == 0) }
     {
@@ -121,7 +121,7 @@ impl DocValues {
         }
     }
 
-    /// The one value, or else the list. Takes no memory.
+    /// The value, if it is kept by itself, or else the list of the values. Takes no memory.
     pub fn into_one(self, alloc: Global) -> Result<Value, Seq<Value>>
         ensures { MatchResult result (λ v. self ≡ v ∷ []) (λ vs. self ≡ vs) }
     {

@@ -10,7 +10,7 @@ use mm_meta::Meta;
 use mm_types::{FeatureNo, Value};
 use std::alloc::{AllocError, Global};
 
-/// An object of a document, a feature, and an object that it names there; each object by its number in the document.
+/// An object of a document names an object under a feature. Each of the two objects is given by its number in the document.
 #[derive(Clone, Copy, PartialEq, Eq, Hash)]
 pub(crate) struct Naming {
     pub object: usize,
@@ -18,7 +18,7 @@ pub(crate) struct Naming {
     pub named: usize,
 }
 
-/// Which objects of a document refer to which objects of it.
+/// Which objects of a document refer to which objects of the same document.
 #[derive(Drop)]
 pub(crate) struct Ends {
     namings: IndexSet<Naming>,
@@ -29,7 +29,7 @@ impl Ends {
     ghost use Rattle.resource_docs.specs.Ends.{IsEndsOf, any_one_sided_by, by_contents, by_values, has, one_sided_by, same_naming, unanswered_by};
     ghost use Rattle.resource_docs.specs.declared.ends.Naming.{Naming};
 
-    /// Namings of no objects: no object names another one. Takes no memory.
+    /// An empty set: no object names another one. Takes no memory.
     fn new(alloc: Global) -> Self
         ensures { (k : Naming) → has result k ≡ false }
     {
@@ -96,7 +96,7 @@ impl Ends {
         Ok(())
     }
 
-    /// Which objects of a document refer to which objects of it. Fails only if memory is refused.
+    /// Which objects of a document refer to which objects of the same document. Fails only if memory is refused.
     pub fn of(alloc: Global, objects: &[DocObject]) -> Result<Self, AllocError>
         ensures { IfOk result (λ e. IsEndsOf e objects.now) }
     {
@@ -107,8 +107,8 @@ impl Ends {
         Ok(ends)
     }
 
-    /// Whether a value of an object names another object that should name the first one back and does not. The other object should do so if
-    /// the feature has an opposite. Takes no memory.
+    /// Whether the feature has an opposite, and `value` names an object that does not name `object` back under the opposite. Takes no
+    /// memory.
     fn is_unanswered(&self, meta: &Meta, object: usize, feature: FeatureNo, value: &Value) -> bool
         ensures { result ≡ unanswered_by meta.now self.now object feature value.now }
     {

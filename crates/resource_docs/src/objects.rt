@@ -131,7 +131,7 @@ fn add_feature(
     }
 }
 
-/// How many members are left after a feature was looked for.
+/// How many members are not yet found after one more feature was looked for.
 fn left_after(left: usize, is_found: bool) -> usize
     requires { 0 < left }
     ensures { left ≡ result + (if is_found then 1 else 0) }
@@ -139,7 +139,7 @@ fn left_after(left: usize, is_found: bool) -> usize
     if is_found { left - 1 } else { left }
 }
 
-/// Reads the contents of the features of a class, and says whether each member is the content of one of them.
+/// Reads the contents of the features of a class, and says whether each member is the content of one of these features.
 fn read_features(
     source: &ReadContext,
     number: u32,
@@ -155,7 +155,7 @@ fn read_features(
     source.meta.lemma_is_of_document();
     let room = members.len().min(features.len());
     let mut read = no_contents(source.alloc, room)?;
-    // No two features share a name. So once as many contents are found as there are members, no other feature has one.
+    // No two features share a name. So once as many contents are found as there are members, no other feature has a content.
     let mut left = members.len();
     'features: for feature in features {
         if left == 0 {
@@ -167,7 +167,7 @@ fn read_features(
     Ok((read, left == 0))
 }
 
-/// Reads the contents of the object of a part, and says whether it has no other members.
+/// Reads the contents of the object of a part, and says whether the object has no other members.
 fn read_contents(source: &ReadContext, part: &FoundPart) -> Result<(ReadContents, bool), AllocError>
     ensures all { IfOk result (λ r. r.1 ≡ true → has_other_member source.now.meta.now (part_seen part.now) ≡ false) }
     ensures value { IfOk result (λ r. (ps : List Part) (p : Part) → Knows source.now.meta.now source.now.found.now ps → part_seen part.now ≡ seen_part source.now.meta.now ps p

@@ -146,8 +146,8 @@ pub fn read_doc_text(alloc: Global, meta: &Meta, uri: &str, text: &str) -> Resul
     }
 }
 
-/// Reads the bytes of a document in the resource of a URI: its objects and roots; else `Document` with the lowest cause
-/// that applies:
+/// Reads the bytes of a document in the resource of a URI. Returns the objects and roots of the document, or else `Document` with the
+/// lowest cause that applies:
 ///
 /// - `Syntax` if the bytes are no JSON, of at most 127 levels, in UTF-8;
 /// - `Layout` if the value does not have the shape of a document, or has a key that is not listed;
@@ -163,9 +163,9 @@ pub fn read_doc_text(alloc: Global, meta: &Meta, uri: &str, text: &str) -> Resul
 /// - `Cross` if its format is 1, and a reference with an opposite leads to a different resource;
 /// - `Depth` if an object is below level 40.
 ///
-/// `Memory` if memory is refused, or if there are more than 2^32 objects or values of a list, whatever else applies; no other refusal.
-/// References into other resources become proxies, by their joined URIs. For each metamodel the time is linear in the document: the members
-/// of an object are searched at most twice for each feature of its class.
+/// The only other refusal is `Memory`: if memory is refused, or if there are more than 2^32 objects or values of a list, whatever else
+/// applies. References into other resources become proxies, by their joined URIs. For each metamodel the time is linear in the document:
+/// the members of an object are searched at most twice for each feature of its class.
 pub fn read_doc(alloc: Global, meta: &Meta, uri: &str, bytes: &[u8]) -> Result<Doc, Refused>
     ensures { Reads result meta.now uri.now bytes.now }
 {

@@ -16,7 +16,7 @@ pub enum Referent {
     Elsewhere(Text),
 }
 
-/// The URI that the part before a `#` stands for: the URI of the resource if the part is empty, else the result of joining.
+/// The URI that the part before a `#` stands for: the URI of the resource if the part is empty, else the part joined with that URI.
 fn uri_meant(alloc: Global, uri: &str, part: &str) -> Result<Option<String>, AllocError>
     ensures value { IfOk result (λ u. option_map string_bytes u ≡ uri_of (base_of uri.now) part.now) }
     ensures web { IfOk result (λ u. IfSome u (λ t. IsWebElsewhere uri.now (string_bytes t))) }
@@ -31,7 +31,8 @@ fn uri_meant(alloc: Global, uri: &str, part: &str) -> Result<Option<String>, All
     }
 }
 
-/// The target of a path in the resource of a URI: an object of the document itself, if the URI is the document's own.
+/// The target of the reference with the URI `meant` and the fragment `rest`, which is read as `path`: an object of the document itself, if
+/// `meant` is the document's own URI.
 fn target_in(
     alloc: Global,
     uri: &str,

@@ -11,7 +11,7 @@ use mm_meta::Meta;
 use mm_types::{Kind, Value};
 use std::alloc::{AllocError, Global};
 
-/// A value as a set keeps it.
+/// A value as a key of a set.
 #[derive(Clone, Copy, PartialEq, Eq, Hash)]
 pub(crate) enum Key<'v> {
     Null,
@@ -61,7 +61,7 @@ fn repeats_value(alloc: Global, values: &[Value]) -> Result<bool, AllocError>
     if values.len() < 2 {
         return Ok(false);
     }
-    // The objects that an object contains are rising, too.
+    // The objects that an object contains are in the order of their numbers, too.
     if are_rising(values) {
         return Ok(false);
     }

@@ -16,7 +16,7 @@ use Rattle.doc_writer.specs.Written.{written_features}
 abbrev pub path_in : Reading → ObjectNo → Path
 path_in r o = unwrap_or (path_of r o) (new_path 0 [])
 
--- the JSON value of an object with all that it contains; no tree has more levels than objects were made
+-- the JSON value of an object with all that it contains; `r.next` levels are enough, since no tree has more levels than objects were made
 abbrev pub data_of : Reading → ResourceNo → ObjectNo → Data
 data_of r k o = object_data r k r.next o
 

@@ -25,7 +25,7 @@ use Rattle.round_trip.specs.Copied.{renamed_value}
 abbrev pub parts_of : Reading → ResourceNo → List Part
 parts_of r k = map (part_of r k) (objects_in r k)
 
--- an object of a resource is in that resource, and its part has its number and its level
+-- an object of a resource is in that resource, and the part of the object has the object's number and level
 pub record IsPlaced (r : Reading) (k : ResourceNo) (o : ObjectNo) : Type 0 where
   pub inside : resource_of r.above o ≡ Some k
   pub path : path_of r o ≡ Some (path_in r o)

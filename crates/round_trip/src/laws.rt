@@ -16,14 +16,14 @@ pub fn the_parts_of_a_saved_document_are_its_objects()
     ensures { (s : Model) → IsLegal s → (k : ResourceNo) → AreParts (reading s) k }
 {}
 
-/// The text by which a resource refers to an object is read as the path of the object. If the object is in a different resource, it is
-/// read as a proxy with the address of the object. The text of a proxy is read as that proxy.
+/// The text by which a resource refers to an object is read as the path of the object. If the object is in a different resource, the text
+/// is read as a proxy with the address of the object. The text of a proxy is read as that proxy.
 pub fn a_reference_leads_to_its_object()
     ensures { (s : Model) → IsLegal s → HasSteadyTexts s → (k : ResourceNo) (uri : List ℕ) → slice_get (reading s).uris k.0 ≡ Some uri → LeadsBack (reading s) k uri }
 {}
 
-/// Each object that is written is read at its position, and each value as it was: an object of the resource by its number in loading order,
-/// an object of a different resource as a proxy with its address.
+/// Each object that is written is read at its position, and each value is read as it was. A value that is an object of the resource is read
+/// as its number in loading order; a value that is an object of a different resource is read as a proxy with its address.
 pub fn each_value_is_read_as_it_was()
     ensures { (s : Model) → IsLegal s → HasSteadyTexts s → (k : ResourceNo) (uri : List ℕ) → AreParts (reading s) k → LeadsBack (reading s) k uri → IsReadable (reading s) k uri → AreReadAs (reading s) k uri }
 {}

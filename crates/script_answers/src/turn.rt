@@ -5,15 +5,15 @@ ghost use Rattle.script_answers.specs.Turns.{is_fault as is_turn_of_fault};
 /// How a line is counted.
 #[derive(Clone, Copy, PartialEq, Eq)]
 pub enum Turn {
-    /// It is blank.
+    /// The line is blank.
     Blank,
-    /// It does not parse.
+    /// The line does not parse.
     Bad,
-    /// Its command was done.
+    /// The command of the line was done.
     Done,
-    /// Its command was refused.
+    /// The command of the line was refused.
     Refused,
-    /// Its command was refused for memory.
+    /// The command of the line was refused for memory.
     Lost,
 }
 

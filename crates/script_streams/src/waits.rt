@@ -78,7 +78,7 @@ pub fn read_line_waiting<R: Read, X: Waits>(
     ensures again { OnOk result (X.can_wait waits.new) }
     // The stream under the reader's buffer is read only when nothing is left to do before a wait.
     ensures ready { OnOk result ((reader_inner reader.new ≡ reader_inner reader.old) ⊎ X.is_ready waits.new) }
-    // It fails if `before_wait` fails, if a read fails when nothing is left to do, if the line is too long, or if memory is refused.
+    // The call fails if `before_wait` fails, if a read fails when nothing is left to do, if the line is too long, or if memory is refused.
     ensures stopped { IfErr result (λ fault. StopsLine X.can_wait X.is_ready X.becomes X.fails (reader_remaining R.remaining reader.old)
         waits.old fault waits.new) }
 {

@@ -104,7 +104,7 @@ impl<T: Drop> Piece<T> {
         self.ring.remove(index).unwrap()
     }
 
-    /// The index of the first value that equals this one.
+    /// The index of the first value that equals `value`.
     pub fn position(&self, value: &T) -> Option<usize>
     where
         T: PartialEq,

@@ -143,7 +143,7 @@ impl<T: Drop> Pieces<T> {
         self.pieces[index / PLACES].get(index % PLACES)
     }
 
-    /// The index of the first value that equals this one.
+    /// The index of the first value that equals `value`.
     pub fn position(&self, value: &T) -> Option<usize>
     where
         T: PartialEq,

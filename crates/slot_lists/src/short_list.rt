@@ -8,7 +8,7 @@ use std::alloc::{AllocError, Global};
 use std::marker::Model;
 use std::mem;
 
-/// How a list lies in memory. If it has more than one value, the values are in a `Box`, so that a list of none or one is small.
+/// How a list lies in memory. If it has more than one value, the values are in a `Box`, so that a list of at most one value is small.
 #[derive(Drop)]
 enum Layout<T> {
     Empty,
@@ -78,7 +78,7 @@ impl<T: Drop> ShortList<T> {
         }
     }
 
-    /// The index of the first value that equals this one.
+    /// The index of the first value that equals `value`.
     pub fn position(&self, value: &T) -> Option<usize>
     where
         T: PartialEq,

@@ -64,7 +64,7 @@ impl<T: Drop> SlotList<T> {
         }
     }
 
-    /// Whether there are none.
+    /// Whether there are no values.
     pub fn is_empty(&self) -> bool
         ensures { result ≡ (length self.now.items == 0) }
     {
@@ -92,7 +92,7 @@ impl<T: Drop> SlotList<T> {
         }
     }
 
-    /// The index of the first value that equals this one.
+    /// The index of the first value that equals `value`.
     pub fn position(&self, value: &T) -> Option<usize>
     where
         T: PartialEq,
@@ -172,8 +172,8 @@ impl<T: Drop> SlotList<T> {
         }
     }
 
-    /// Replaces the values by those of a `Vec`, of any length. The capacity stays if it is greater than the new values need.
-    /// Takes no memory.
+    /// Replaces the values by the values of a `Vec`, of any length. The capacity stays if it is greater than the new values need. Takes no
+    /// memory.
     pub fn replace(&mut self, values: Vec<T>)
         ensures items { self.new.items ≡ values.items }
         ensures spare { self.old.spare ≤ self.new.spare + vec_len values }
@@ -227,7 +227,7 @@ fn reserve_in_block<T: Drop>(values: &mut Vec<T>, additional: usize) -> Result<(
     values.reserve_exact(additional.max(grown).min(free))
 }
 
-/// Moves the values of a block into pieces, with capacity for more. If memory is refused, they stay.
+/// Moves the values of a block into pieces, with capacity for more. If memory is refused, the values stay in the block.
 fn in_pieces<T: Drop>(values: &mut Vec<T>, additional: usize) -> Result<Box<Pieces<T>>, AllocError>
     ensures items { IfOk result (λ p. p.value.items ≡ values.old.items) }
     ensures spare { IfOk result (λ p. additional ≤ p.value.spare) }

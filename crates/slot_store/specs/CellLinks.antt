@@ -72,7 +72,7 @@ pub record AreLists (c : Cells) (es : List End) : Type 0 where
   pub distinct : (e : End) → IsDistinct (c.vals e)
   pub few : (e : End) → length (c.vals e) ≤ most
 
--- the object is in e, which has no opposite
+-- the object o is in the end e, whose feature has no opposite
 abbrev pub StandsAlone : Cells → ObjectNo → End → Type 0
 StandsAlone c o e = ((c.pairing e).opposite ≡ None) × HasValue (c.vals e) (value.Object o)
 

@@ -19,7 +19,7 @@ use Rattle.node_slots.specs.declared.slot.SlotEdit.TheVariants.{Insert, Push, Re
 use Rattle.node_slots.specs.declared.row.RowEdit.TheVariants.{Change, Hold, Enter, Leave}
 use Rattle.node_slots.specs.Cells.{Cells, Room, cell_edit}
 
--- if the opposite g is the containing feature h, the link's far end contains e's node
+-- e's node and the link's far end, which contains this node, if the opposite g is the containing feature h
 abbrev pub held_far : End → ObjectNo → Option FeatureNo → FeatureNo → Option (Node × End)
 held_far e o None h = None
 held_far e o (Some g) h = if same_feature g h then Some (e.node, far_end o g) else None
@@ -60,7 +60,7 @@ put_cells e i o g h c = cells_after_hold (held_node e o g h) (put_far e o g h (p
 
 ---------------------------------------------------------------- cuts
 
--- the first occurrence of a value is taken out of an end, if there is one
+-- the cells after the first occurrence of a value is taken out of an end; if there is none, nothing changes
 abbrev pub without_value : End → Value → Cells → Cells
 without_value e v c = option_map_or (λ (i : ℕ). cell_edit e.node (Change e.feature (Remove i)) c) (position (same_value v) (c.vals e)) c
 
@@ -75,7 +75,7 @@ cut_far e o (Some g) c = without_value (far_end o g) (node_value e.node) c
 abbrev pub cut_cells : End → ObjectNo → Option FeatureNo → Option FeatureNo → Cells → Cells
 cut_cells e o g h c = cells_after_release (held_node e o g h) (without_value e (value.Object o) (cut_far e o g c))
 
--- the link of an object is cut at both ends; a proxy has one end
+-- the cells after the link of a value is cut: the link of an object at both ends, the link of a proxy at its one end
 abbrev pub cells_after_cut : End → Value → Cells → Cells
 cells_after_cut e (value.Object o) c = cut_cells e o (c.pairing e).opposite (c.pairing e).container c
 cells_after_cut e v c = without_value e v c
@@ -107,7 +107,7 @@ PutsObject (edit.Put l) = PairsObject l.end l.opposite
 PutsObject (edit.Shift e to from) = Unit {0}
 PutsObject (edit.PutProxy e i t) = Unit {0}
 
--- the far side has capacity
+-- the far side of a link has capacity for the link
 abbrev pub FarHasRoom : ObjectNo → Option FeatureNo → Room → Type 0
 FarHasRoom o None r = 1 ≤ r.entries (node.Object o)
 FarHasRoom o (Some g) r = 1 ≤ r.places (far_end o g)

@@ -60,7 +60,7 @@ fn held_by(end: End, object: ObjectNo, pairing: Pairing) -> Option<(Node, End)>
     held_by_far(end, object, pairing.opposite, container)
 }
 
-/// Takes a value out of an end, if it is there.
+/// Takes a value out of an end, if the value is there.
 fn take_out(rows: &mut NodeSlots, end: End, value: &Value)
     requires { IsDistinct ((cells rows.old).vals end) }
     ensures cells { cells rows.new ≡ without_value end value.now (cells rows.old) }
@@ -74,7 +74,7 @@ fn take_out(rows: &mut NodeSlots, end: End, value: &Value)
     }
 }
 
-/// Takes an end out of the ends with no opposite that hold an object, if it is among them.
+/// Takes an end out of the ends with no opposite that hold an object, if the end is among them.
 fn take_out_entry(rows: &mut NodeSlots, end: End, object: ObjectNo, guess: usize)
     requires { IsOnce ((cells rows.old).entered (node.Object object)) }
     ensures cells { cells rows.new ≡ without_entry end object (cells rows.old) }
@@ -138,7 +138,7 @@ fn cut_value(rows: &mut NodeSlots, end: End, value: &Value, guess: usize)
     }
 }
 
-/// The index of the row of the node that a link contains, chosen from the indexes of both nodes.
+/// The row index of the node that a link contains; `places` has the row indexes of both nodes.
 fn held_row_index(places: PutPlaces, end: End, container: Option<FeatureNo>) -> usize
     ensures { result ≡ held_row_index places end container }
 {
@@ -187,8 +187,8 @@ fn put_in_far(rows: &mut NodeSlots, row_index: usize, link: NewLink)
     }
 }
 
-/// Puts a value in at `index` of an end; `row_index` is the index of the row of the end's node. With an object, `pairing` has the opposite
-/// and the containing feature of the end's feature.
+/// Puts a value in at `index` of an end; `row_index` is the index of the row of the end's node. If the value is an object, `pairing` has
+/// the opposite and the containing feature of the end's feature.
 fn put_in(
     rows: &mut NodeSlots,
     row_index: usize,
@@ -212,7 +212,7 @@ fn put_in(
     rows.edit_at(end.node, row_index, RowEdit::Change(end.feature, edit));
 }
 
-/// Puts a link in; the rows of its nodes are at these indexes.
+/// Puts a link in; `places` has the row indexes of its two nodes.
 #[inline(always)]
 fn put(rows: &mut NodeSlots, places: PutPlaces, link: NewLink)
     requires object { PairsObject link.end link.opposite }
@@ -243,7 +243,7 @@ fn put(rows: &mut NodeSlots, places: PutPlaces, link: NewLink)
     );
 }
 
-/// The indexes of the rows of the nodes of a put for which there is capacity.
+/// The row indexes of the two nodes of a put; there is capacity for the put.
 fn places_of(rows: &NodeSlots, end: End, object: ObjectNo) -> PutPlaces
     requires near { (room rows.now).rows end.node ≡ true }
     requires far { (room rows.now).rows (node.Object object) ≡ true }

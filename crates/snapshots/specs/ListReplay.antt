@@ -21,7 +21,7 @@ values_after_notice kind.Move n vs = list_after_move_notice n.old_value n.positi
 values_after_notice (kind.RemovingAdapter a) n vs = vs
 values_after_notice kind.Resolve n vs = list_after_resolve vs n.position n.new_value
 
--- the set flag of an end after a notification of a kind, if it has one: SET turns it on, UNSET off
+-- the set flag of an end after a notification of a kind, if the end has a flag: SET turns the flag on, and UNSET turns it off
 abbrev pub flag_after_notice : NoticeKind → Option Bool → Option Bool
 flag_after_notice kind.Set flag = option_map (λ b. true) flag
 flag_after_notice kind.Unset flag = option_map (λ b. false) flag

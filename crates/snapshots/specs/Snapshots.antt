@@ -31,11 +31,11 @@ node_state r n = record { node = n; class = class_at r n; features = map (featur
 abbrev pub nodes : Reading → List Node
 nodes r = map resource_node (range_with_len 0 (length r.uris)) ++ map object_node (range_with_len 0 r.next)
 
--- whether a node is in the snapshot of a target: it lives, and is the target or below it
+-- whether a node is in the snapshot of a target: the node lives, and is the target or below the target
 abbrev pub is_taken : Reading → Node → Node → Bool
 is_taken r target n = is_node_live r n && is_within r target n
 
--- the target and each node below it, in that order
+-- the states of the target and of each node below it, in the order of `nodes`
 abbrev pub snapshot_of : Reading → Node → List NodeState
 snapshot_of r target = map (node_state r) (filter (is_taken r target) (nodes r))
 
@@ -59,7 +59,7 @@ AreAscending [] = Unit {0}
 AreAscending (o ∷ []) = Unit {0}
 AreAscending (o ∷ p ∷ ps) = (o.0 < p.0) × AreAscending (p ∷ ps)
 
--- the objects that are a node or below it, by number
+-- the objects below a node, by number; if the node is an object, it is among them
 pub record AreBelow (r : Reading) (target : Node) (os : List ObjectNo) : Type 0 where
   pub ascending : AreAscending os
   pub below : (o : ObjectNo) → list_any (same_object o) os ≡ is_within r target (node.Object o)

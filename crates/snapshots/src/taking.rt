@@ -14,8 +14,8 @@ use models::{ModelRef, copied_list};
 use std::alloc::{AllocError, Global};
 
 impl Snapshot {
-    /// The snapshot of a node: its state, and the state of each node below it. It is empty for a node that is not there. Takes time in
-    /// proportion to its size, and sorts the objects. Fails only if memory is refused.
+    /// The snapshot of a node: its state, and the state of each node below it. The snapshot of a node that is not there is empty. Takes
+    /// time in proportion to the size of the snapshot, and sorts the objects. Fails only if memory is refused.
     pub fn of<L: LinkStore>(
         alloc: Global,
         model: &ModelRef<L>,
@@ -30,7 +30,7 @@ impl Snapshot {
     }
 }
 
-/// The objects that are a node or below it, by number.
+/// The objects below a node, by number; if the node is an object, it is among them.
 fn objects_below<L: LinkStore>(
     alloc: Global,
     model: &ModelRef<L>,

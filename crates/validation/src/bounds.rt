@@ -14,8 +14,8 @@ use models::{Found, ModelRef, is_same};
 use std::alloc::{AllocError, Global};
 
 /// The features of an object that have fewer values than their lower bounds, in the order of all features of its class (EMF:
-/// Diagnostician.validate, of multiplicities; MOF 2.5.1: MultiplicityElement.lower). A single feature whose lower bound is 1 has too few if
-/// its value is null, or if it is unsettable and not set. Fails only if memory is refused.
+/// Diagnostician.validate, of multiplicities; MOF 2.5.1: MultiplicityElement.lower). A single feature whose lower bound is 1 has too few
+/// values if its value is null, or if the feature is unsettable and not set. Fails only if memory is refused.
 pub fn short_features<L: LinkStore>(
     alloc: Global,
     model: &ModelRef<L>,

@@ -14,7 +14,8 @@ use std::alloc::{AllocError, Global};
 use std::marker::Model;
 use std::mem;
 
-/// A list, and how many of its values have each hash. Contracts see it as the list, and the capacity that both have for more values.
+/// A list, and how many of its values have each hash. Contracts see it as the list, with the capacity for more values that the list and its
+/// table both have.
 #[derive(Drop)]
 pub(crate) struct CountedList {
     list: SlotList<Value>,
@@ -86,8 +87,9 @@ impl CountedList {
         self.list.get(index)
     }
 
-    /// The index of the first value that is the same. The list is not gone through if no value of it has the hash of the given value. The
-    /// list is not gone through either if only one value has this hash and is found by its label, since then no other value is the same.
+    /// The index of the first value that is the same as `value`. The list is not gone through if no value of it has the hash of the given
+    /// value. The list is not gone through either if only one value has this hash and is found by its label, since then no other value is
+    /// the same.
     pub fn position(&self, value: &Value) -> Option<usize>
         ensures { result ≡ position (same_value value.now) self.now.items }
     {

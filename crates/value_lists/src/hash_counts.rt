@@ -16,7 +16,7 @@ pub(crate) struct Counted {
     pub label: u64,
 }
 
-/// For each hash that any value has, how many have it.
+/// For each hash that any value has, how many values have that hash.
 #[derive(Drop)]
 pub(crate) struct HashCounts {
     counts: IndexMap<u64, Counted>,
@@ -42,7 +42,7 @@ impl HashCounts {
         })
     }
 
-    /// How many values have a hash; nothing if none has.
+    /// How many values have a hash, with a label; `None` if no value has the hash.
     pub fn get(&self, hash: u64) -> Option<Counted>
         ensures { count_of result ≡ count_in self.now hash }
     {

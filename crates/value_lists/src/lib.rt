@@ -1,7 +1,7 @@
 //! Lists of values. A long list that is looked up by value finds fast whether it has a value, and where.
 //!
-//! It counts how many of its values have each hash, so that a look-up finds that a value is new, without a search. Beside each count is a
-//! label, a number that goes up along the list, by which a value is found. The table has no copies of values.
+//! A long list counts how many of its values have each hash, so that a look-up finds without a search that a value is new. Beside each
+//! count is a label, by which a value is found: labels are numbers that go up along the list. The table has no copies of values.
 #![tactic(auto)]
 
 mod counted_list;

@@ -15,8 +15,9 @@ use std::{mem, slice};
 /// A list of more values than this has its hashes counted, if it is looked up by value.
 const SHORT: usize = 64;
 
-/// A list has a table of its hashes if it is long and is looked up by value. It is then in a `Box` with its table, so that a list without a
-/// table needs no bytes for it. Most lists are of single features: their one value is in the list itself, and takes no block of memory.
+/// A list has a table of its hashes if it is long and is looked up by value. The list is then in a `Box` together with its table, so that a
+/// list without a table needs no bytes for a table. Most lists are of single features: their one value is in the list itself, and takes no
+/// block of memory.
 #[derive(Drop)]
 enum Layout {
     Empty,
@@ -98,8 +99,8 @@ impl ValueList {
         }
     }
 
-    /// The index of the first value that is the same. If the hashes are counted, there are two cases in which the list is not gone through: no
-    /// value of the list has the hash of the value, or only one has, and it is found by its label.
+    /// The index of the first value that is the same as `value`. If the hashes are counted, there are two cases in which the list is not
+    /// gone through: no value of the list has the hash of `value`, or only one value has this hash, and is found by its label.
     pub fn position(&self, value: &Value) -> Option<usize>
         ensures { result ≡ position (same_value value.now) self.now.items }
     {
@@ -215,7 +216,8 @@ impl ValueList {
         }
     }
 
-    /// Replaces the values by those of a `Vec`. Their hashes are not counted before the list is looked up by value again. Takes no memory.
+    /// Replaces the values by the values of a `Vec`. Their hashes are not counted before the list is looked up by value again. Takes no
+    /// memory.
     pub fn replace(&mut self, values: Vec<Value>)
         ensures items { self.new.items ≡ values.items }
         ensures spare { self.old.spare ≤ self.new.spare + vec_len values }
@@ -264,7 +266,7 @@ fn layout_of(mut values: Vec<Value>) -> Layout
     }
 }
 
-/// Replaces the values of a list by one value; the list keeps its block if that has capacity for more.
+/// Replaces the values of a list by one value; the list keeps its block if the block has capacity for more values.
 fn layout_of_one(alloc: Global, mut list: SlotList<Value>, value: Value) -> Layout
     ensures items { (places_of result).items ≡ value ∷ [] }
     ensures spare { list.spare ≤ (places_of result).spare + 1 }

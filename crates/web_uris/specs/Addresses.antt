@@ -4,7 +4,7 @@ use Rattle.std.specs.List.{after_first, before_first, list_any}
 use Rattle.web_uris.specs.Joined.{IsJoined, IsWebUri, is_mark}
 use Rattle.web_uris.specs.Paths.{parse}
 
--- a text with `#` in it
+-- whether a text has `#` in it
 abbrev pub has_mark : List ℕ → Bool
 has_mark t = list_any is_mark t
 

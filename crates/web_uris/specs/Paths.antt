@@ -29,7 +29,7 @@ index_text (Some i) = 46 ∷ decimal i
 abbrev pub step_text : Step → List ℕ
 step_text s = 47 ∷ 64 ∷ (s.name ++ index_text s.index)
 
--- the root's segment is empty, or its index
+-- the text of a path, in which the root's segment is empty, or is the index of the root
 abbrev pub path_text : Bool → Path → List ℕ
 path_text empty p = 47 ∷ ((if empty then [] else decimal p.root) ++ flat_map step_text p.steps)
 

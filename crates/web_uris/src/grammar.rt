@@ -40,9 +40,9 @@ fn path_behind(alloc: Global, text: &str) -> Result<Option<Path>, AllocError>
     }
 }
 
-/// The path of a text, or none if it is no fragment: `/`, the root's segment, which is empty or an index, and any
-/// number of steps, `/@NAME` or `/@NAME.INDEX`. An index is `0`, or a digit 1 to 9 and at most six further digits. Fails
-/// only if memory is refused.
+/// The path of a text; `None` if the text is no fragment. A fragment is `/`, the root's segment, which is empty or an index, and any number
+/// of steps, `/@NAME` or `/@NAME.INDEX`. An index is `0`, or a digit 1 to 9 and at most six further digits. Fails only if memory is
+/// refused.
 pub fn parse(alloc: Global, text: &str) -> Result<Option<Path>, AllocError>
     ensures { IfOk result (λ path. path ≡ parsed text.now) }
 {

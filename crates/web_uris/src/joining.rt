@@ -17,7 +17,7 @@ pub enum UriFault {
     Memory,
 }
 
-/// The URL of a text that is read without a base, if it is one.
+/// The URL that a text gives without a base; `None` if the text is no URL.
 fn own_url(alloc: Global, text: &str) -> Result<Option<Url>, UriFault>
     ensures { MatchResult result (λ u. u ≡ if_parsed (parse_url None text.now)) (λ e. e ≡ Memory) }
 {

@@ -23,7 +23,7 @@ pub fn fragments_are_read_as_written()
     ensures only { (text : List ℕ) (path : Path) → parse text ≡ Some path → Writes text path }
 {}
 
-/// The URI and the fragment of an address can be read back from it, if the URI has no `#`.
+/// If the URI of an address has no `#`, the URI and the fragment can be read back from the address.
 pub fn addresses_are_their_parts()
     ensures uri { (uri fragment : List ℕ) → has_mark uri ≡ false → uri_part (address_text uri fragment) ≡ uri }
     ensures fragment { (uri fragment : List ℕ) → has_mark uri ≡ false → fragment_part (address_text uri fragment) ≡ fragment }

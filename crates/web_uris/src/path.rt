@@ -22,7 +22,7 @@ pub struct Path {
     pub steps: Seq<Step>,
 }
 
-/// How many bytes most texts of paths take at most.
+/// Most texts of paths have at most this many bytes.
 const SHORT: usize = 24;
 
 fn push_number(text: &mut String, number: u32) -> Result<(), AllocError>

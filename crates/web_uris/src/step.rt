@@ -23,7 +23,7 @@ fn index_of(digits: &str) -> Option<u32>
     natural_of(digits)
 }
 
-/// The root that the first segment names, 0 if it is empty. Takes no memory.
+/// The position of the root that the first segment names; 0 if the segment is empty. Takes no memory.
 pub(crate) fn root_of(segment: &str) -> Option<u32>
     ensures { result ≡ root_meant segment.now }
 {

@@ -70,7 +70,7 @@ impl<A: Adapter> AdapterList<A> {
         Ok(())
     }
 
-    /// Why the list takes no adapter of this number; None if it takes one.
+    /// Why the list refuses an adapter with the number `no`; None if the list takes the adapter.
     fn list_refusal(&self, no: AdapterNo) -> Option<Refused>
         ensures { result ≡ list_refusal self.now.0 no }
     {

@@ -18,9 +18,9 @@ use std::collections::VecDeque;
 use std::mem;
 
 impl<A: Adapter> AdapterList<A> {
-    /// Takes one target from an adapter. The adapter gets its last notification from that target, and then no longer has the target. Gives
-    /// the notification, and the adapter if that was its last target. If the node is no target of it, `None`, and nothing changes, its
-    /// capacity included. Takes no memory (EMF: `eAdapters().remove`).
+    /// Takes one target from an adapter. The adapter gets its last notification from that target, which it no longer has.
+    /// Returns the notification, and the adapter if it has no target left. If the node is no target of the adapter, the result is `None`,
+    /// and nothing changes, the capacity of the adapter included. Takes no memory (EMF: `eAdapters().remove`).
     pub fn detach(&mut self, no: AdapterNo, target: Node) -> Option<Detached<A>>
         ensures some { is_some result ≡ is_target no target self.old.0 }
         ensures none { result ≡ None → self.new ≡ self.old }
@@ -56,7 +56,8 @@ impl<A: Adapter> AdapterList<A> {
         (told, released)
     }
 
-    /// The parts of the list, which is empty until they are put back, and its capacity for giving back all of its adapters.
+    /// Takes the parts out of the list, with the capacity for giving back all of its adapters. The list is empty until the parts are put
+    /// back.
     fn take_apart(&mut self) -> (Going<A>, Vec<(AdapterNo, A)>)
         ensures now { result.0 ≡ self.old.0 }
         ensures some { HaveTargets self.old.0 }
@@ -66,8 +67,8 @@ impl<A: Adapter> AdapterList<A> {
         Going::of(mem::replace(self, empty))
     }
 
-    /// Gives every adapter back, in attach order. Each is notified of its release from each of its targets, in the order in which it got
-    /// them, and is gone before the next adapter is notified. Takes no memory.
+    /// Gives every adapter back, in attach order. Each adapter is notified of its release from each of its targets, in the order in which
+    /// it got these targets. The adapter is gone before the next adapter is notified. Takes no memory.
     pub fn close(self) -> Vec<(AdapterNo, A)>
         ensures { views_of A.heard result.items ≡ all_released self.0 }
     {

@@ -77,7 +77,7 @@ impl<A: Adapter> AdapterList<A> {
         self.attached[ordinal].targets.len()
     }
 
-    /// Makes sure that the adapter at `ordinal` has a capacity of `n`.
+    /// Makes sure that the adapter at `ordinal` has capacity for at least `n` notifications.
     pub(super) fn reserve_at(&mut self, ordinal: usize, n: u64) -> Result<(), NoRoom>
         requires within { ordinal < length self.old.1 }
         ensures kept { self.new.0 ≡ self.old.0 }

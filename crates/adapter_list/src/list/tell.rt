@@ -20,8 +20,8 @@ use notice_chain::{Chain, Notice};
 use std::alloc::AllocError;
 
 impl<A: Adapter> AdapterList<A> {
-    /// The numbers of the adapters that get a notification, in attach order. The containers that `store` has now decide which do. Errs only
-    /// if memory is refused.
+    /// The numbers of the adapters that get a notification, in attach order. The containers that `store` has now decide which adapters
+    /// these are. Errs only if memory is refused.
     pub fn audience<L: LinkStore>(
         &self,
         store: &L,
@@ -45,7 +45,8 @@ impl<A: Adapter> AdapterList<A> {
     /// that fitted the adapters still fits them.
     ///
     /// Refused with AdapterFull if an adapter can't count the notifications that it gets, or with Memory if memory is refused. The first
-    /// adapter that refuses, in attach order, decides; with AdapterFull, each adapter before it has the capacity that it needs.
+    /// adapter in attach order that refuses decides the refusal. If the refusal is AdapterFull, each adapter before this one has the
+    /// capacity that it needs.
     pub fn reserve_all<L: LinkStore>(&mut self, store: &L, chain: Chain) -> Result<Round, Refused>
         requires legal { IsLegalSet (L.links store.now) }
         requires no_cycle { HasNoCycle (L.links store.now) }
@@ -62,8 +63,8 @@ impl<A: Adapter> AdapterList<A> {
     }
 
     /// Reserves, for each adapter, capacity for the copies of a round that the adapter gets, and for a last notification from each of its
-    /// targets. The round is that of a chain (`round`). Only the adapters allocate, in attach order. The refusals are those of
-    /// `reserve_all`.
+    /// targets. The round must be the round of a chain, as `round` makes it. Only the adapters allocate, in attach order. The refusals are
+    /// those of `reserve_all`.
     pub fn reserve_round(&mut self, round: &Round) -> Result<(), Refused>
         requires round { (up : Above) × (chain : List Notice) × (round.now ≡ round_of up chain self.old.0) }
         ensures { (up : Above) (chain : List Notice) → round.now ≡ round_of up chain self.old.0 → IsReserved up chain self.old self.new (reserved_round round.now result) }
@@ -75,8 +76,8 @@ impl<A: Adapter> AdapterList<A> {
         }
     }
 
-    /// Notifies the adapters of a round that fits them, each of its own notifications in turn. Returns which adapter was notified of what:
-    /// the notifications in the order of the chain, each with its adapters in attach order. It takes no memory.
+    /// Delivers a round that fits the adapters: notifies each adapter of its own notifications in turn. Returns which adapter was notified
+    /// of what: the notifications in the order of the chain, each with its adapters in attach order. It takes no memory.
     ///
     /// A round fits the adapters for which it was reserved. A round names the adapters by number and by index in attach order, so it
     /// need not fit after an adapter was attached or detached.
@@ -116,9 +117,9 @@ impl<A: Adapter> AdapterList<A> {
         one.adapter.notify_changed(notice);
     }
 
-    /// The copies of the notifications of a chain for the adapters that get them. If successive notifications have one notifier, its
-    /// adapters are found once; the adapters of the node in `hearers` are not looked for again. Afterwards `hearers` has the adapters of
-    /// the node of the last notification. Fails only if memory is refused.
+    /// The round of a chain: a copy of each notification for each adapter that gets it. If successive notifications have the same notifier,
+    /// the adapters of this notifier are found once. The adapters of the node in `hearers` are not looked for again. Afterwards `hearers`
+    /// has the adapters of the node of the last notification. Fails only if memory is refused.
     #[inline(always)]
     pub fn round<L: LinkStore>(
         &self,
@@ -143,7 +144,7 @@ impl<A: Adapter> AdapterList<A> {
         Ok(round)
     }
 
-    /// Adds the copies of a notification for the adapters that get it to a round.
+    /// Adds to a round a copy of a notification for each adapter that gets it.
     fn add_notice<L: LinkStore>(
         &self,
         store: &L,
@@ -163,7 +164,8 @@ impl<A: Adapter> AdapterList<A> {
         Ok(())
     }
 
-    /// Adds the copies of a notification for the adapters at some indexes to a round. The last adapter gets the notification itself.
+    /// Adds to a round a copy of a notification for each adapter at an index in `ordinals`. For the last adapter the notification itself is
+    /// added.
     fn add_copies(
         &self,
         ordinals: &[usize],

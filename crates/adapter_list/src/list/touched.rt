@@ -1,4 +1,4 @@
-//! Which adapters have objects as targets.
+//! Which adapters have a target among some objects.
 ghost use Rattle.std.specs.Prelude.{◌≡◌, ◌||◌, ℕ, false, IfOk, OnOk};
 ghost use Rattle.std.specs.BTreeSet.{contains};
 ghost use Rattle.std.specs.List.{list_any};
@@ -26,7 +26,7 @@ impl<A: Adapter> AdapterList<A> {
         Ok(found)
     }
 
-    /// Adds the indexes of the adapters that have one of some objects as a target.
+    /// Adds the indexes of the adapters that have a target among `objects`.
     fn add_objects(
         &self,
         objects: &[ObjectNo],

@@ -82,7 +82,8 @@ impl<A: Adapter> AdapterList<A> {
         Ok(())
     }
 
-    /// Gives the adapter at `ordinal`, which has the number `no` and capacity reserved for it, a target that it lacks.
+    /// Gives the adapter at `ordinal`, which has the number `no`, a target that it lacks. The adapter already has capacity for a last
+    /// notification from the new target.
     fn put_target(
         &mut self,
         ordinal: usize,

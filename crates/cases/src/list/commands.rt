@@ -16,13 +16,13 @@ pub(super) const FIRST: Node = Node::Object(ObjectNo(0));
 
 pub(super) const NAME: FeatureNo = FeatureNo(0);
 
-/// The adapter that is there before the list.
+/// The adapter that is attached before the list of commands is done.
 pub(super) const THERE: AdapterNo = AdapterNo(1);
 
 /// The adapter that the list attaches.
 pub(super) const BROUGHT: AdapterNo = AdapterNo(2);
 
-/// Whether a command is done.
+/// The outcome of a command, without its reply.
 pub(super) fn done<A: Adapter>(given: Result<Reply<A>, Refused>) -> Result<(), Refused> {
     match given {
         Ok(_) => Ok(()),
@@ -55,7 +55,7 @@ fn named(alloc: Global) -> Result<Notice, AllocError> {
     })
 }
 
-/// The snapshot of the first book, after a replay of that notification.
+/// The snapshot of the first book, after a replay of the notification that the book is named.
 pub(super) fn renamed<L: LinkStore, A: Adapter>(
     alloc: Global,
     repository: &Repository<L, A>,
@@ -78,7 +78,7 @@ pub(super) fn watch<L: LinkStore, A: Adapter>(
     }
 }
 
-/// Makes another book, names the first, attaches an adapter to it, reads its name, and takes its snapshot.
+/// The commands that make another book, name the first book, attach an adapter to the first book, read its name, and take its snapshot.
 pub(super) fn commands<A: Adapter>(
     alloc: Global,
     adapter: A,

@@ -1,4 +1,4 @@
-//! What is printed. None of it takes memory.
+//! How outcomes, commands and the state of the repository are printed. No function here takes memory.
 use crate::list::commands::{BROUGHT, FIRST, NAME, THERE};
 use adapters::Adapter;
 use link_store::LinkStore;

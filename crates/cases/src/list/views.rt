@@ -13,7 +13,7 @@ const SHELF: Node = Node::Resource(ResourceNo(0));
 
 const CONTENTS: FeatureNo = FeatureNo(1);
 
-/// Puts a new book of a number into the resource.
+/// Makes a book, which gets the number `number`, and puts the book into the resource.
 fn put_book<L: LinkStore, A: Adapter>(
     repository: &mut Repository<L, A>,
     number: u32,
@@ -35,7 +35,7 @@ fn fill<L: LinkStore, A: Adapter>(
     Ok(())
 }
 
-/// Adds notifications.
+/// Moves the notifications in `told` to `notices`.
 fn keep(told: Vec<(AdapterNo, Notice)>, notices: &mut Vec<Notice>) -> Result<(), Fault> {
     for (_no, notice) in told {
         notices.push(notice)?;
@@ -91,8 +91,8 @@ fn nodes_of<L: LinkStore, A: Adapter>(
     }
 }
 
-/// Names all books, adds the notifications of these changes, and replays them over a snapshot from before. Returns how many nodes the view has, if
-/// it is the same as a new snapshot.
+/// Names all books, adds the notifications of these changes, and replays the notifications over a snapshot from before the changes. Returns
+/// how many nodes the view has, if the view is the same as a new snapshot.
 fn viewed<L: LinkStore, A: Adapter>(
     alloc: Global,
     repository: &mut Repository<L, A>,

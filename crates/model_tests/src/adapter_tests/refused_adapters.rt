@@ -30,7 +30,7 @@ fn state<A: Adapter>(alloc: Global, repository: &RowRepository<A>) -> Result<Str
 /// The state before: no adapter was notified, and the book's name is null.
 const BEFORE: &str = "(Ok((0, 0)), Ok((0, 0)), Ok((0, 0))) Ok(One(Null))";
 
-/// What the second call gives.
+/// What the second attempt to name the book gives.
 const TOLD: &str =
     "Done; A5 SET Null Text(\"Emma\") -1 false; A6 SET Null Text(\"Emma\") -1 false; A7 SET Null Text(\"Emma\") -1 false";
 

@@ -14,7 +14,8 @@ use notice_chain::Notice;
 use std::alloc::{AllocError, Global};
 use std::test::Fail;
 
-/// Each of these tests counts, after every step and over both stores of links, the nodes that its views had from their beginning on.
+/// Does steps over both stores of links. After every step, the nodes that a view has had from its beginning on are compared with a new
+/// snapshot. Returns whether at least `least` nodes are compared, and the same number over both stores.
 fn is_followed(alloc: Global, steps: &[Step<'_>], least: usize) -> Result<bool, Fail> {
     let rows = compared::<RowStore>(alloc, steps)?;
     let slots = compared::<SlotStore>(alloc, steps)?;
@@ -32,7 +33,7 @@ fn a_stolen_end_is_followed(rt: HostRuntime) -> Result<(), Fail> {
         Step::Set(2, NEXT, 3),
         Step::Set(0, NEXT, 3),
     ];
-    // Each book is followed by a view of its own from its making on; all four are over the last three steps.
+    // Each book has a view of its own, from the step that makes the book. Over the last three steps there are four views.
     assert!(rt; is_followed(rt.alloc(), &steps, 12)?);
     Ok(())
 }
@@ -121,7 +122,8 @@ fn many_books<'a>(alloc: Global) -> Result<Vec<Step<'a>>, AllocError> {
 #[test]
 fn a_thousand_adapters_keep_what_they_are_told(rt: HostRuntime) -> Result<(), Fail> {
     let steps = many_books(rt.alloc())?;
-    // Each object has a view of its own: 0 to 999 of them while they are made, all of them over 100 steps, and 949 after the last step.
+    // Each object has a view of its own. While the objects are made there are 0 to 999 views; then there are 1000 views over 100 steps, and
+    // 949 after the last step.
     assert!(rt; is_followed(rt.alloc(), steps.as_slice(), 499_500 + 100_000 + 949)?);
     Ok(())
 }

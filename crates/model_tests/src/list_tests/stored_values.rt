@@ -18,7 +18,7 @@ fn put(object: u32, feature: u32, number: i64) -> ValueEdit {
     }
 }
 
-/// Puts a number and null under feature 3 of object 0, with its flag.
+/// Puts a number and null under feature 3 of object 0, with the flag on.
 fn put_two(alloc: Global) -> Result<ValueEdit, AllocError> {
     let list = Seq::from_vec(vec![in alloc; Value::Int(4), Value::Null]?);
     Ok(ValueEdit::PutList {

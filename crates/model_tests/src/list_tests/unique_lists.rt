@@ -1,4 +1,4 @@
-//! Whether a list has a value: a short list, a list of the length from which hashes are counted, and a long list.
+//! Tests of whether a list has a value: with a short list, a list of the length from which hashes are counted, and a long list.
 use crate::fixtures::values::{empty, put_many, remove, shift};
 use mm_types::{ClassNo, FeatureNo, ObjectNo, Text, Value};
 use mm_values::{ValueEdit, ValuePlan, Values};
@@ -9,7 +9,8 @@ const OBJECT: ObjectNo = ObjectNo(0);
 
 const FEATURE: FeatureNo = FeatureNo(3);
 
-/// A short length, the last length at which values are looked for one by one, the first length at which they are not, and longer ones.
+/// A short length, the greatest length at which a list looks at its values one by one, the first length at which it does not, and longer
+/// lengths.
 const LENGTHS: [u32; 5] = [10, 64, 65, 200, 10_000];
 
 /// Puts a value into a list that is looked up by value.
@@ -157,7 +158,7 @@ fn kinds(alloc: Global) -> Result<Vec<Value>, AllocError> {
     ]?)
 }
 
-/// Other values of the same kinds, some of which hold the same as a value of another kind.
+/// Other values of the same kinds. Some of them have the content that a value of another kind has in `kinds`.
 fn others(alloc: Global) -> Result<Vec<Value>, AllocError> {
     Ok(vec![in alloc;
         Value::Bool(false),

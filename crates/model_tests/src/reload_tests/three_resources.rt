@@ -6,7 +6,7 @@ use mm_types::Text;
 use std::alloc::Global;
 use std::test::Fail;
 
-/// The numbers of the resources, in the opposite order of that in which they are made.
+/// The numbers of the resources: the resource that was made last comes first.
 const LAST_FIRST: [u32; 3] = [2, 1, 0];
 
 /// For each case: the order in which the resources are made; then, after each load, how many proxies are resolved and how many are left.

@@ -116,7 +116,7 @@ impl NodeSlots {
     {
         let mut forgotten = None;
         for edit in plan {
-            // Of consecutive edits of one end, the first takes back its capacity.
+            // Of consecutive edits of one end, the first edit takes back the capacity of that end.
             let end = edit.end();
             self.forget_edit(edit, forgotten == Some(end));
             forgotten = Some(end);

@@ -22,11 +22,11 @@ use models::node_refusal;
 use std::mem;
 
 impl<L: LinkStore, A: Adapter> Repository<L, A> {
-    /// Attaches an adapter to a node, which is its first target, last in attach order (EMF: Notifier.eAdapters().add). A deep adapter is
-    /// also notified of changes below the node.
+    /// Attaches an adapter to a node (EMF: Notifier.eAdapters().add). The node is the adapter's first target, and the adapter is last in
+    /// attach order. A deep adapter is also notified of changes below the node.
     ///
     /// Refused, the first that applies: `NoObject`, `NoResource`, `Limit` if there are 100,000 targets, `AdapterTaken` if the number is
-    /// attached, `AdapterFull` if it can't count its last notification, `Memory`. A refused adapter is given back as it was.
+    /// attached, `AdapterFull` if the adapter can't count its last notification, `Memory`. A refused adapter is given back as it was.
     pub fn attach(
         &mut self,
         no: AdapterNo,
@@ -49,13 +49,13 @@ impl<L: LinkStore, A: Adapter> Repository<L, A> {
         Ok(reply(self.alloc, Answer::Done))
     }
 
-    /// Gives an adapter one more target, flat or deep (EMF: Notifier.eAdapters().add of an adapter that is attached elsewhere). It gets a
-    /// notification once, even if the change is at several of its targets or below them. If the node is a target of it already, returns
-    /// false and nothing changes; a flat target stays flat, and a deep one deep.
+    /// Gives an adapter one more target, flat or deep (EMF: Notifier.eAdapters().add of an adapter that is attached elsewhere). The adapter
+    /// gets a notification once, even if the change is at several of its targets or below them. If the node is a target of the adapter
+    /// already, the call returns false and nothing changes: a flat target stays flat, and a deep one deep.
     ///
     /// Refused, the first that applies: `NoObject`, `NoResource`, `Limit` if there are 100,000 targets, `NoAdapter` if the number is not
-    /// attached, `AdapterFull` if it can't count a last notification from each target, `Memory`. If the node is a target of it already,
-    /// only the first two apply.
+    /// attached, `AdapterFull` if the adapter can't count a last notification from each target, `Memory`. If the node is a target of the
+    /// adapter already, only the first two refusals apply.
     pub fn watch(&mut self, no: AdapterNo, target: Node, deep: bool) -> Result<Reply<A>, Refused>
         ensures { Executed self.old (Watch no target deep) (change_outcome (changed_view A.heard result)) self.new }
     {
@@ -91,8 +91,8 @@ impl<L: LinkStore, A: Adapter> Repository<L, A> {
         self.release(spots, answer)
     }
 
-    /// Detaches an adapter from all its targets, in the order in which it got them: it is notified with REMOVING_ADAPTER from each, and is
-    /// given back (EMF: Notifier.eAdapters().remove).
+    /// Detaches an adapter from all its targets, in the order in which the adapter got the targets (EMF: Notifier.eAdapters().remove). The
+    /// adapter is notified of REMOVING_ADAPTER from each target, and is given back.
     ///
     /// Refused with `NoAdapter` if the number is not attached, or `Memory`.
     pub fn detach(&mut self, no: AdapterNo) -> Result<Reply<A>, Refused>
@@ -107,7 +107,7 @@ impl<L: LinkStore, A: Adapter> Repository<L, A> {
         self.release(spots, Answer::Done)
     }
 
-    /// Releases targets, and gives this answer. Only `Memory` refuses it.
+    /// Releases targets, and returns `answer` in the reply. The only refusal is `Memory`.
     fn release(
         &mut self,
         spots: Vec<(AdapterNo, Node)>,
@@ -151,8 +151,8 @@ impl<L: LinkStore, A: Adapter> Repository<L, A> {
         }
     }
 
-    /// Gives every adapter back, in attach order: each is notified with REMOVING_ADAPTER from each of its targets, and is gone before the
-    /// next adapter is notified. Takes no memory.
+    /// Gives every adapter back, in attach order. Each adapter is notified of REMOVING_ADAPTER from each of its targets, and is detached
+    /// before the next adapter is notified. Takes no memory.
     pub fn close(self) -> Vec<(AdapterNo, A)>
         ensures { map (λ b. (b.0, A.heard b.1)) result.items ≡ adapters_at_close self }
     {
@@ -177,7 +177,7 @@ impl<L: LinkStore, A: Adapter> Repository<L, A> {
     }
 }
 
-/// A refused adapter, as the failure of the command that was given it.
+/// The failure of the command whose adapter was refused. The failure gives the adapter back.
 fn failure<A>(refused: AttachRefused<A>) -> Failure<A>
     ensures { result ≡ record { refused = refused.reason; given_back = Some refused.adapter } }
 {

@@ -40,13 +40,14 @@ impl<L: LinkStore, A: Adapter> Repository<L, A> {
 
     /// Sets a single feature of an object (EMF: EObject.eSet). A reference's opposite follows. Links that the new link displaces are cut at
     /// both ends, and an object that is put into a container leaves its former container. Notifies the adapters at each end that changes,
-    /// and the deep adapters above it: of the losses of displaced links, of the gain at the opposite, and of the feature itself with SET,
-    /// even if it had the value already.
+    /// and the deep adapters above that end: of the losses of displaced links, of the gain at the opposite end, and of SET at the feature
+    /// itself. They are notified of SET even if the feature had the value already.
     ///
     /// Refused, the first that applies: `NoObject` if the node or the value is an object that does not live, `NoResource`, `NoFeature`,
     /// `NotSingle` if the feature is many-valued, `WrongType`, `TextLength` above 65,535 bytes, `Bound` if the opposite list has as many
     /// values as its upper bound, `Recursive` if an object would contain itself, directly or not, `Limit` if the opposite list has
-    /// 1,000,000 values, `AdapterFull` if an adapter can't count its notifications and its last one, `Memory`.
+    /// 1,000,000 values, `AdapterFull` if an adapter can't count its notifications of this change and a last notification from each of its
+    /// targets, `Memory`.
     pub fn e_set(
         &mut self,
         node: Node,
@@ -62,8 +63,9 @@ impl<L: LinkStore, A: Adapter> Repository<L, A> {
     }
 
     /// Unsets a feature of an object (EMF: EObject.eUnset): a single attribute gets its default, a single reference becomes null, a list
-    /// becomes empty, and the opposites follow. Notifies the adapters at each opposite. Then it notifies the adapters at the feature: for a
-    /// single feature of UNSET, whether it was set or not; for a list of one REMOVE for each value, from the last to the first.
+    /// becomes empty, and the opposites follow. Notifies the adapters at each opposite end, and then the adapters at the feature. If the
+    /// feature is single, they are notified of UNSET, whether it was set or not. If the feature is a list, they are notified of one REMOVE
+    /// for each value, from the last value to the first.
     ///
     /// Refused, the first that applies: `NoObject`, `NoResource`, `NoFeature`, `AdapterFull`, `Memory`.
     pub fn e_unset(&mut self, node: Node, feature: FeatureNo) -> Result<Reply<A>, Refused>
@@ -73,9 +75,10 @@ impl<L: LinkStore, A: Adapter> Repository<L, A> {
     }
 
     /// Destroys an object and all objects below it, and takes them out of every end that holds them (EMF: EcoreUtil.delete, recursively).
-    /// No other object ever gets their numbers. Notifies the adapters at each end of another node that loses a value, by feature number,
-    /// then by node, then by position, and last at the end that contained the object. Then the targets that are destroyed are taken away:
-    /// each of their adapters is notified of that, and given back if it has no other target. Returns how many objects were destroyed.
+    /// No other object ever gets their numbers. If an end of another node loses a value, the adapters at that end are notified: by feature
+    /// number, then by node, then by position, and last at the end that contained the object. Then the destroyed targets are taken away.
+    /// The adapter of each such target is notified of that, and is given back if it has no other target. Returns how many objects were
+    /// destroyed.
     ///
     /// Refused, the first that applies: `NoObject`, `AdapterFull`, `Memory`.
     pub fn delete(&mut self, object: ObjectNo) -> Result<Reply<A>, Refused>
@@ -140,7 +143,8 @@ impl<L: LinkStore, A: Adapter> Repository<L, A> {
         self.tell_values(prepared.answer, prepared.values, prepared.chain)
     }
 
-    /// A set of an attribute that may notify an adapter. It is never inlined into the code of a set that notifies no adapter.
+    /// Sets an attribute; an adapter may have to be notified of the change. The function is never inlined into the code of a set that
+    /// notifies no adapter.
     #[inline(never)]
     pub(super) fn set_heard(&mut self, end: End, value: Value) -> Brief<A>
         requires attribute { (shape self.old.model.metamodel end.feature).is_reference ≡ false }

@@ -22,14 +22,14 @@ use std::alloc::AllocError;
 use web_uris::split_address;
 
 impl<L: LinkStore, A: Adapter> Repository<L, A> {
-    /// The fragment of an object in its resource (EMF: Resource.getURIFragment), as `//@books.0`: the path to it from a root. The root's
-    /// position is left out if the resource has one root.
+    /// The fragment of an object in its resource (EMF: Resource.getURIFragment), as `//@books.0`: the path from a root to the object. The
+    /// root's position is left out if the resource has one root.
     ///
     /// Refused, the first that applies: `NoObject` if no live object has the number, `Dangling` if the object is in no resource, `Memory`.
     #[tactic(auto, using(crate::proofs::DocumentLemmas::fragment_read))]
     pub fn fragment(&self, object: ObjectNo) -> Result<Text, Refused>
         ensures executed { Executed self.now (commands.fragment object) (read_outcome answer.Fragment result) self.now }
-        // The text is the fragment; what is remembered has this as a premise.
+        // The text is the fragment of the object. The proof that a remembered fragment is right needs this.
         ensures found { IfOk result (λ t. fragment_in (reads self.now) object ≡ Some t) }
     {
         if let Some(refused) = object_refusal(&self.model(), object) {

@@ -20,7 +20,7 @@ impl<L: LinkStore, A: Adapter> Repository<L, A> {
     /// Refused, the first that applies: `NoObject` if the node or the value is an object that does not live, `NoResource`, `NoFeature`,
     /// `NotMany` if the feature is single, `WrongType`, `TextLength` above 65,535 bytes, `Index` above the length, `Duplicate` if a unique
     /// list already has the value that is added at an index, `Bound` if the list or the opposite list has as many values as its upper
-    /// bound, `Recursive` if an object would contain itself, `Limit` if one of the two has 1,000,000 values, `AdapterFull`, `Memory`.
+    /// bound, `Recursive` if an object would contain itself, `Limit` if one of the two lists has 1,000,000 values, `AdapterFull`, `Memory`.
     pub fn add(
         &mut self,
         node: Node,
@@ -68,8 +68,8 @@ impl<L: LinkStore, A: Adapter> Repository<L, A> {
         self.change(Change::At(End { node, feature }, Act::RemoveValue(value)))
     }
 
-    /// Moves the value at `from` of a list, so that it is then at `to`, and returns it (EMF: EList.move). Notifies the adapters at the list
-    /// with MOVE, even if both indexes are the same; the opposite ends stay as they are.
+    /// Moves the value at the index `from` of a list, so that the value is then at the index `to`, and returns the value (EMF: EList.move).
+    /// Notifies the adapters at the list with MOVE, even if both indexes are the same; the opposite ends stay as they are.
     ///
     /// Refused, the first that applies: `NoObject`, `NoResource`, `NoFeature`, `NotMany`, `Index` if one of the two indexes is past the
     /// last value, `AdapterFull`, `Memory`.

@@ -63,8 +63,8 @@ impl<L: LinkStore, A: Adapter> Repository<L, A> {
         Ok(model.value_at(end))
     }
 
-    /// Whether a feature of an object is set (EMF: EObject.eIsSet): a list if it has values, an unsettable feature if `e_set` was the last
-    /// call that changed it, any other feature if its value differs from its default. Takes no memory.
+    /// Whether a feature of an object is set (EMF: EObject.eIsSet). A list is set if it has values. An unsettable feature is set if `e_set`
+    /// was the last call that changed it. Any other feature is set if its value differs from its default. Takes no memory.
     ///
     /// Refused, the first that applies: `NoObject`, `NoResource`, `NoFeature`.
     #[tactic(auto, using(crate::proofs::QuietLemmas::is_set_done))]
@@ -80,8 +80,8 @@ impl<L: LinkStore, A: Adapter> Repository<L, A> {
         Ok(model.is_set(end))
     }
 
-    /// The object that contains an object (EMF: EObject.eContainer); `None` if none does. Takes no memory. Refused with `NoObject` if no
-    /// live object has the number.
+    /// The object that contains `object` (EMF: EObject.eContainer); `None` if no object contains it. Takes no memory. Refused with
+    /// `NoObject` if no live object has the number.
     #[tactic(auto, using(crate::proofs::QuietLemmas::container_done))]
     pub fn e_container(&self, object: ObjectNo) -> Result<Option<ObjectNo>, Refused>
         ensures read { Executed self.now (commands.container object) (read_outcome answer.Container result) self.now }
@@ -94,8 +94,8 @@ impl<L: LinkStore, A: Adapter> Repository<L, A> {
         Ok(container(&model, object))
     }
 
-    /// The resource that an object is in, directly or below other objects (EMF: EObject.eResource); `None` if it is in none. Takes no
-    /// memory. Refused with `NoObject` if no live object has the number.
+    /// The resource that an object is in, directly or below other objects (EMF: EObject.eResource); `None` if the object is in no resource.
+    /// Takes no memory. Refused with `NoObject` if no live object has the number.
     #[tactic(auto, using(crate::proofs::QuietLemmas::resource_done))]
     pub fn e_resource(&self, object: ObjectNo) -> Result<Option<ResourceNo>, Refused>
         ensures read { Executed self.now (commands.resource object) (read_outcome answer.Within result) self.now }
@@ -124,8 +124,8 @@ impl<L: LinkStore, A: Adapter> Repository<L, A> {
         Ok(Seq::from_vec(objects))
     }
 
-    /// What a node and each node below it have: the class, the values of each feature, and the set flag of each unsettable one. Takes time
-    /// in proportion to the size of its result.
+    /// The state of a node and of each node below it: the class, the values of each feature, and the set flag of each unsettable feature.
+    /// Takes time in proportion to the size of its result.
     ///
     /// Refused, the first that applies: `NoObject`, `NoResource`, `Memory`.
     #[tactic(auto, using(crate::proofs::QuietLemmas::snapshot_done))]
@@ -154,7 +154,7 @@ impl<L: LinkStore, A: Adapter> Repository<L, A> {
 
     /// The features of an object that have fewer values than their lower bounds, in the order of all features of its class (EMF:
     /// Diagnostician.validate, of multiplicities; MOF 2.5.1: MultiplicityElement.lower). A single feature whose lower bound is 1 has too
-    /// few if its value is null, or if it is unsettable and not set.
+    /// few values if its value is null, or if the feature is unsettable and not set.
     ///
     /// Refused, the first that applies: `NoObject` if no live object has the number, `Memory`.
     #[tactic(auto, using(crate::proofs::QuietLemmas::validate_done))]

@@ -34,9 +34,9 @@ impl<L: LinkStore, A: Adapter> Repository<L, A> {
     }
 
     /// Resolves all proxies, one after another, by object number, by feature in the order of all features, and by index (EMF:
-    /// EcoreUtil.resolveAll). Each is resolved as by `resolve`, in the state that the earlier resolves left, and skipped if `resolve` would
-    /// refuse it. Returns how many proxies were resolved, counting two at the ends of one link as one, and how many are left. Notifies the
-    /// adapters with RESOLVE for each proxy that is resolved, at the opposite end first.
+    /// EcoreUtil.resolveAll). Each proxy is resolved as `resolve` does it, in the state that the earlier resolves left, and is skipped if
+    /// `resolve` would refuse it. Returns how many proxies were resolved (two at the ends of one link count as one), and how many are left.
+    /// Notifies the adapters with RESOLVE for each proxy that is resolved, at the opposite end first.
     ///
     /// Refused, the first that applies: `AdapterFull`, `Memory`.
     pub fn resolve_all(&mut self) -> Result<Reply<A>, Refused>

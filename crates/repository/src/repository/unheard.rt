@@ -28,7 +28,7 @@ use links::{LinkStore, NewLink};
 use mm_types::{ClassNo, End, FeatureNo, Node, ObjectNo, Refused, Value};
 
 impl<L: LinkStore, A: Adapter> Repository<L, A> {
-    /// Makes an object as `create` does, and returns it, or the refusal.
+    /// Makes an object as `create` does. Returns the object, or the refusal.
     #[inline(always)]
     pub fn create_object(&mut self, class: ClassNo) -> Result<ObjectNo, Refused>
         ensures { Executed self.old (Create class) (read_outcome answer.Object result) self.new }
@@ -73,8 +73,8 @@ impl<L: LinkStore, A: Adapter> Repository<L, A> {
         }
     }
 
-    /// Adds a value to a list as `add` does. The outcome has no reply if one link is put that notifies no adapter and displaces no other
-    /// link; then the list has changed.
+    /// Adds a value to a list as `add` does. If the addition puts one link, notifies no adapter and displaces no other link, then the
+    /// outcome has no reply, and the list has changed.
     #[inline(always)]
     pub fn add_brief(
         &mut self,
@@ -95,8 +95,8 @@ impl<L: LinkStore, A: Adapter> Repository<L, A> {
         Brief::Replied(self.change(Change::At(end, Act::Add(value, index))))
     }
 
-    /// A change of a reference that is not refused early. It is never inlined into the code of a change that notifies no adapter: that code
-    /// would then zero the stack slots of a `Change`.
+    /// Does an act at a reference; the act is not refused early. The function is never inlined into the code of a change that notifies no
+    /// adapter: that code would then zero the stack slots of a `Change`.
     #[inline(never)]
     fn displace(&mut self, end: End, act: Act) -> Brief<A>
         requires reference { (shape self.old.model.metamodel end.feature).is_reference ≡ true }
@@ -190,8 +190,8 @@ impl<L: LinkStore, A: Adapter> Repository<L, A> {
         Some(self.put_alone(put))
     }
 
-    /// A change whose plan is one put, and that notifies no adapter. The store takes the memory and puts the link in one step, and no plan
-    /// is made. Most new links displace none, so most are made here.
+    /// Makes a change that notifies no adapter and whose plan is one put. The store takes the memory and puts the link in one step, and no
+    /// plan is made. Most new links displace no other link, so most are made here.
     #[inline(always)]
     fn put_alone(&mut self, put: NewLink) -> Result<(), Refused>
         requires alone { (c : Change) × (a : Answer) × IsPutAlone self.old c put a }
