@@ -1,9 +1,8 @@
 mod LineLemmas
-mod WordLemmas
+pub mod WordLemmas
 mod TextLemmas
 mod ValueLemmas
-mod FormLemmas
+pub mod FormLemmas
 mod LoadLemmas
-mod FrequentLemmas
-mod NumberLemmas
-mod NameLemmas
+pub mod NumberLemmas
+pub mod NameLemmas

@@ -1,7 +1,7 @@
 -- Numbers of up to nine digits, and what they write.
 use Rattle.std.proofs.Common.{◌∙◌, ◌≡◌, ◌≢◌, ◌&&◌, ◌==◌, ◌+◌, ◌*◌, ◌<◌, ◌≤◌, ◌^◌, ℕ, zero, suc, Bool, true, false, List, [], ◌∷◌, None, Some, ap, arith, cond, drop, get_or, is_some, length, nat_le, nat_lt, neg_ℤ, pos, refl, slice_index, sym, take, true≢false}
 use Rattle.std.specs.Char.{is_ascii_digit}
-use Rattle.std.specs.List.{list_all, prefix_len}
+use Rattle.std.specs.List.{after_first, before_first, list_all, position_or_len, prefix_len}
 use Rattle.std.specs.Str.Parse.{AllDigits, digits_value}
 use Rattle.std.proofs.lemmas.Bool.{and_parts}
 use Rattle.std.proofs.lemmas.Bool.Decides.{nat_tests}
@@ -12,6 +12,8 @@ use Rattle.std.proofs.lemmas.Str.{digit_value_digit}
 use Rattle.std.proofs.lemmas.Str.Parse.{IsNumeralModel, digits_value_short, numerals_by_value, tells_digits}
 use Rattle.mm_types.specs.Integers.{integer, is_decimal, natural_number}
 use Rattle.mm_types.proofs.IntegerLemmas.{digits_model}
+use Rattle.script_lines.specs.Words.{is_space}
+use Rattle.script_lines.proofs.WordLemmas.{first_space}
 
 -- ---- digits, one after another
 
@@ -75,7 +77,10 @@ number_in_front bytes n len is value some first =
     let low : digits_value 10 w < 10 ^ 9 = digits_value_short digits_model w 9 all (omega arith) in
     (natural_is w decimal (omega arith) ∙ ap Some (ap (digits_value 10) (sym same) ∙ sym value), within)
 
--- ---- integers
+-- ---- the number before the first space
+
+pub digit_no_space : (c : ℕ) → is_ascii_digit c ≡ true → is_space c ≡ false
+digit_no_space c h = grind (arith, nat_tests)
 
 natural_parts : (b c : Bool) (v n : ℕ) → cond (b && c) (Some v) None ≡ Some n → (b ≡ true) × (c ≡ true) × (v ≡ n)
 natural_parts true true v n h = (refl, refl, cc)
@@ -85,6 +90,16 @@ natural_parts false c v n h = absurd (true≢false (ap is_some (sym h)))
 -- digits that write a number are digits
 pub natural_digits : (w : List ℕ) (n : ℕ) → natural_number w ≡ Some n → list_all is_ascii_digit w ≡ true
 natural_digits w n h = (and_parts _ _ (natural_parts (is_decimal w) (nat_lt (digits_value 10 w) (2 ^ 32)) _ n h).0).0
+
+-- a number, and then a space
+pub number_before : (text : List ℕ) (n len : ℕ) → natural_number (take len text) ≡ Some n → len < length text → get_or text len 0 ≡ 32
+    → (Some n ≡ natural_number (before_first is_space text)) × (drop (len + 1) text ≡ after_first is_space text)
+number_before text n len number within space =
+    let at : position_or_len is_space text ≡ len =
+    first_space is_ascii_digit digit_no_space text len (natural_digits (take len text) n number) (omega arith) (λ l. space) in
+    (rw at (sym number), ap (λ k. drop (k + 1) text) (sym at))
+
+-- ---- integers
 
 -- a number below 2^32 fits in 64 bits
 pub natural_is_integer : (w : List ℕ) (n : ℕ) → slice_index w 0 ≢ 45 → natural_number w ≡ Some n → integer w ≡ Some (pos n)

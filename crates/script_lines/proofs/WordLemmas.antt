@@ -2,11 +2,12 @@
 use Rattle.std.proofs.Common.{ap, ◌∙◌, ◌&&◌, ◌==◌, sub-one, ◌≡◌, ◌≢◌, ◌+◌, ◌-◌, ◌<◌, ◌≤◌, ◌++◌, ℕ, zero, suc, Bool, true, false, List, [], ◌∷◌, None, Some, nat_lt, add-one, append_assoc, arith, cond, drop, drop-cons, get_or, length, not, position, refl, sym, take, true≢false}
 use Rattle.std.proofs.lemmas.Bool.{and_parts, or_parts}
 use Rattle.std.proofs.lemmas.Bool.Decides.{nat_tests}
+use Rattle.std.proofs.lemmas.List.{drop_all}
 use Rattle.std.proofs.lemmas.List.Quantifiers.{position-Some}
-use Rattle.std.proofs.lemmas.List.Sums.{prefix_len-le-length}
+use Rattle.std.proofs.lemmas.List.Sums.{passes_at_first, prefix_len-le-length}
 use Rattle.std.proofs.Math.Seq.{drop-length, take-length}
 use Rattle.std.specs.List.{after_first, before_first, list_all, position_or_len}
-use Rattle.script_lines.specs.Words.{is_mark, is_space, quoted_len, word_len, words_after}
+use Rattle.script_lines.specs.Words.{begins_word, is_mark, is_one_word, is_space, quoted_len, word_len, words_after}
 
 -- ---- the length of a word
 
@@ -135,7 +136,7 @@ cut_begins_at : (b : Bool) (c : ℕ) (cs : List ℕ) (n : ℕ) → is_space c �
 cut_begins_at true c cs n is h = absurd (true≢false (sym h))
 cut_begins_at false c cs n is h = let f : 1 + n ≡ suc n = omega arith in rw f at h
 
-cut_begins : (bs : List ℕ) → begins_plain (before_first is_space bs) ≡ true → begins_plain bs ≡ true
+pub cut_begins : (bs : List ℕ) → begins_plain (before_first is_space bs) ≡ true → begins_plain bs ≡ true
 cut_begins [] h = h
 cut_begins (c ∷ cs) h = cut_begins_at (is_space c) c cs (position_or_len is_space cs) refl h
 
@@ -148,7 +149,73 @@ plain_cut bs h = plain_cut_at bs (cut_begins bs h)
 pub whole_word : (bs : List ℕ) → 0 < length bs → get_or bs 0 0 ≢ 32 → word_len bs ≡ length bs → words_after 0 bs ≡ bs ∷ []
 whole_word bs some space h = first_word bs some space ∙ (rw (h, take-length bs, drop-length bs) refl)
 
+pub one_word : (bs : List ℕ) → is_one_word bs ≡ true → words_after 0 bs ≡ bs ∷ []
+one_word [] h = absurd (true≢false (sym h))
+one_word (c ∷ cs) h =
+    let parts = and_parts (not (is_space c)) _ h in
+    let other : c ≢ 32 = grind (arith, nat_tests) in
+    let len : word_len (c ∷ cs) ≡ length (c ∷ cs) = grind (arith, nat_tests) in
+    whole_word (c ∷ cs) (omega arith) other len
+
+-- a text without a space that begins with no quotation mark is one word
+pub unspaced_word : (bs : List ℕ) → begins_plain bs ≡ true → position_or_len is_space bs ≡ length bs → words_after 0 bs ≡ bs ∷ []
+unspaced_word bs begins none =
+    let before : before_first is_space bs ≡ bs = ap (λ k. take k bs) none ∙ take-length bs in
+    let after : after_first is_space bs ≡ [] = ap (λ k. drop (k + 1) bs) none ∙ drop_all (length bs + 1) bs (omega arith) in
+    let cut = plain_cut_at bs begins in
+    rw (before, after) at cut
+
+-- ---- a space follows a word
+
+plain_end : (bs : List ℕ) → position_or_len is_space bs < length bs → get_or bs (position_or_len is_space bs) 0 ≡ 32
+plain_end bs within = let space = passes_at_first is_space bs 0 within in grind (arith, nat_tests)
+
+quoted_end : (e : Bool) (bs : List ℕ) → quoted_len e bs < length bs → get_or bs (quoted_len e bs) 0 ≡ 32
+quoted_end e [] within = absurd (omega arith)
+quoted_end true (c ∷ cs) within = quoted_end false cs (omega arith)
+quoted_end false (c ∷ cs) within = at (c == 34) (c == 92) (quoted_end true cs) (quoted_end false cs) within
+  where
+    at : (q b : Bool) → (quoted_len true cs < length cs → get_or cs (quoted_len true cs) 0 ≡ 32)
+        → (quoted_len false cs < length cs → get_or cs (quoted_len false cs) 0 ≡ 32)
+        → cond q (suc (position_or_len is_space cs)) (cond b (suc (quoted_len true cs)) (suc (quoted_len false cs))) < suc (length cs)
+        → get_or (c ∷ cs) (cond q (suc (position_or_len is_space cs)) (cond b (suc (quoted_len true cs)) (suc (quoted_len false cs)))) 0 ≡ 32
+    at true b escaped other within = plain_end cs (omega arith)
+    at false true escaped other within = escaped (omega arith)
+    at false false escaped other within = other (omega arith)
+
+word_end : (bs : List ℕ) → word_len bs < length bs → get_or bs (word_len bs) 0 ≡ 32
+word_end [] within = absurd (omega arith)
+word_end (c ∷ cs) within = at (c == 34) within
+  where
+    at : (q : Bool) → cond q (suc (quoted_len false cs)) (suc (position_or_len is_space cs)) < suc (length cs)
+        → get_or (c ∷ cs) (cond q (suc (quoted_len false cs)) (suc (position_or_len is_space cs))) 0 ≡ 32
+    at true within = quoted_end false cs (omega arith)
+    at false within = plain_end cs (omega arith)
+
+behind_space : (k : ℕ) (bs : List ℕ) → (k < length bs → get_or bs k 0 ≡ 32) → words_after 0 (drop k bs) ≡ words_after 0 (drop (k + 1) bs)
+behind_space zero [] space = refl
+behind_space zero (c ∷ cs) space = let is : c ≡ 32 = space (omega arith) in rw is refl
+behind_space (suc k) [] space = let e : suc k + 1 ≡ suc (k + 1) = omega arith in rw e refl
+behind_space (suc k) (c ∷ cs) space = let e : suc k + 1 ≡ suc (k + 1) = omega arith in rw e (behind_space k cs (λ l. space (omega arith)))
+
+-- the first word of a text, and the words after the space that follows it
+pub word_cut : (bs : List ℕ) → begins_word bs ≡ true → words_after 0 bs ≡ take (word_len bs) bs ∷ words_after 0 (drop (word_len bs + 1) bs)
+word_cut [] h = absurd (true≢false (sym h))
+word_cut (c ∷ cs) h =
+    let other : c ≢ 32 = grind (arith, nat_tests) in
+    let w : List ℕ = c ∷ cs in
+    first_word w (omega arith) other ∙ ap (λ x. take (word_len w) w ∷ x) (behind_space (word_len w) w (word_end w))
+
 -- ---- bytes that are no spaces, up to the first space
+
+-- a text without a space has none up to its end
+pub no_space_in : (p : ℕ → Bool) → ((c : ℕ) → p c ≡ true → is_space c ≡ false) → (bs : List ℕ) → list_all p bs ≡ true → position_or_len is_space bs ≡ length bs
+no_space_in p other [] h = refl
+no_space_in p other (c ∷ cs) h =
+    let parts = and_parts (p c) _ h in
+    let e = other c parts.0 in
+    let f = no_space_in p other cs parts.1 in
+    rw (e, f) (omega arith)
 
 -- a space, or the end, follows bytes that pass a test which no space passes
 pub first_space : (p : ℕ → Bool) → ((c : ℕ) → p c ≡ true → is_space c ≡ false) → (bs : List ℕ) (k : ℕ) → list_all p (take k bs) ≡ true → k ≤ length bs

@@ -2,5 +2,4 @@ pub mod Lines
 pub mod Words
 pub mod Values
 pub mod Forms
-pub mod Frequent
 pub mod Source

@@ -1,6 +1,6 @@
 -- The words of a line are separated by spaces. A word that begins with a quotation mark goes on at least to the next
 -- quotation mark that no backslash escapes.
-use Rattle.std.specs.Prelude.{ℕ, zero, suc, ◌==◌, ◌||◌, ◌-◌, Bool, true, false, List, [], ◌∷◌, take, if◌then◌else◌}
+use Rattle.std.specs.Prelude.{ℕ, zero, suc, ◌==◌, ◌||◌, ◌-◌, ◌&&◌, Bool, true, false, not, List, [], ◌∷◌, length, take, if◌then◌else◌}
 use Rattle.std.specs.List.{position_or_len}
 use Rattle.script_lines.specs.declared.grammar.TheConstants.{BACKSLASH, QUOTE, SPACE}
 
@@ -32,6 +32,15 @@ quoted_len false (c ∷ cs) = if c == QUOTE then suc (plain_len cs)
 abbrev pub word_len : List ℕ → ℕ
 word_len [] = 0
 word_len (c ∷ cs) = if c == QUOTE then suc (quoted_len false cs) else suc (plain_len cs)
+
+-- whether bytes begin with a word: there are some, and the first is no space
+abbrev pub begins_word : List ℕ → Bool
+begins_word [] = false
+begins_word (c ∷ cs) = not (is_space c)
+
+-- whether bytes are one word
+abbrev pub is_one_word : List ℕ → Bool
+is_one_word bytes = begins_word bytes && word_len bytes == length bytes
 
 -- the words after the next k bytes
 abbrev pub words_after : ℕ → List ℕ → List (List ℕ)

@@ -29,39 +29,39 @@ pub enum FeatureForm<'a> {
 /// What a line asks for. Classes and features are given by the names that are in the line.
 #[derive(Drop)]
 pub enum Form<'a> {
-    /// A new object of a class (EMF: EFactory.create).
+    /// Makes an object of a class (EMF: EFactory.create).
     New {
         class: Name<'a>,
     },
-    /// What is asked of a feature of a node, or done to it.
+    /// A question about a feature of a node, or a change of the feature.
     At {
         node: Node,
         feature: Name<'a>,
         form: FeatureForm<'a>,
     },
-    /// A new resource of the URI that a text gives (EMF: ResourceSet.createResource).
+    /// Makes a resource of the URI that a text gives (EMF: ResourceSet.createResource).
     Resource(Text),
-    /// Every proxy resolved, one after another; a proxy that can't be resolved is left (EMF: EcoreUtil.resolveAll).
+    /// Resolves every proxy, one after another; a proxy that can't be resolved is left (EMF: EcoreUtil.resolveAll).
     ResolveAll,
-    /// An adapter attached to a node. A deep adapter is also notified of changes below the node (EMF: Notifier.eAdapters().add).
+    /// Attaches an adapter to a node. A deep adapter is also notified of changes below the node (EMF: Notifier.eAdapters().add).
     Attach {
         no: AdapterNo,
         target: Node,
         deep: bool,
     },
-    /// One more target for an adapter that is attached (EMF: Notifier.eAdapters().add).
+    /// Gives an attached adapter one more target (EMF: Notifier.eAdapters().add).
     Watch {
         no: AdapterNo,
         target: Node,
         deep: bool,
     },
-    /// One target taken from an adapter (EMF: Notifier.eAdapters().remove).
+    /// Takes one target from an adapter (EMF: Notifier.eAdapters().remove).
     Unwatch(AdapterNo, Node),
-    /// An adapter detached from all its targets (EMF: Notifier.eAdapters().remove).
+    /// Detaches an adapter from all its targets (EMF: Notifier.eAdapters().remove).
     Detach(AdapterNo),
     /// Destroys an object and all objects below it (EMF: EcoreUtil.delete, recursively).
     Delete(ObjectNo),
-    /// A resource loaded from a document; the line has the text of the document as it is (EMF: Resource.load).
+    /// Loads a document into a resource; the line has the text of the document as it is (EMF: Resource.load).
     Load {
         resource: ResourceNo,
         text: Text,

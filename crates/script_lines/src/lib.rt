@@ -4,7 +4,6 @@
 
 mod adapter_forms;
 mod form;
-mod frequent;
 pub mod grammar;
 pub mod laws;
 mod line;
@@ -16,18 +15,16 @@ mod parse;
 mod source;
 mod texts;
 mod values;
-mod word;
 mod words;
 mod written_value;
 
 pub use form::{FeatureForm, Form};
-pub use frequent::{Frequent, frequent_of};
 pub use line::{Line, parse_line, text_line_of};
 pub use lines::next_line;
 pub use load::load_parts;
 pub use name::Name;
+pub use numbers::{natural_of, number_before_space};
 pub use source::Source;
-pub use values::value_of;
-pub use word::Word;
-pub use words::{MOST_WORDS, words_of};
+pub use values::{object_of, value_of};
+pub use words::{MOST_WORDS, after_byte, cut_at, is_word, word_len_of, words_of};
 pub use written_value::WrittenValue;

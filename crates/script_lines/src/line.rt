@@ -31,7 +31,7 @@ fn line_with(form: Option<Form<'_>>) -> Line<'_>
     }
 }
 
-/// The command of the words of a line.
+/// What the words of a line ask for.
 fn line_of<'a>(alloc: Global, words: &[&'a str]) -> Result<Line<'a>, AllocError>
     ensures { IfOk result (λ l. l ≡ the_line_of (map (λ w. w.now) words.now)) }
 {

@@ -1,5 +1,5 @@
 //! Names.
-ghost use Rattle.std.specs.Prelude.{◌≡◌, IfSome, Some, not, position};
+ghost use Rattle.std.specs.Prelude.{◌≡◌, IfSome, not, option_map, position};
 ghost use Rattle.std.specs.List.{after_first, before_first, prefix_len};
 ghost use Rattle.mm_types.specs.Names.{is_name_byte as is_a_name_byte};
 ghost use Rattle.script_lines.specs.Values.{name_in};
@@ -24,7 +24,7 @@ impl<'a> Model for Name<'a> {
     ghost view = { λ n. n.text.now };
 }
 
-/// Whether a name may have a byte.
+/// Whether a byte may be in a name.
 fn is_name_byte(byte: u8) -> bool
     ensures { result ≡ is_a_name_byte byte }
 {
@@ -37,7 +37,7 @@ fn first_other(bytes: &[u8]) -> Option<usize>
     bytes.iter().position(|b| !is_name_byte(*b))
 }
 
-/// How many of the first bytes are bytes that a name may have.
+/// How many bytes at the front may be in a name.
 fn name_len_of(bytes: &[u8]) -> usize
     ensures { result ≡ prefix_len is_a_name_byte bytes.now }
 {
@@ -49,8 +49,9 @@ fn name_len_of(bytes: &[u8]) -> usize
 
 impl<'a> Name<'a> {
     /// The name before the first space of a text, and the text after that space, which is empty if there is no space.
-    pub(crate) fn before_space(text: &'a str) -> Option<(Self, &'a str)>
-        ensures { IfSome result (λ p. (name_in (before_first is_space text.now) ≡ Some p.0) × (p.1.now ≡ after_first is_space text.now)) }
+    pub fn before_space(text: &'a str) -> Option<(Self, &'a str)>
+        ensures name { option_map (λ p. p.0) result ≡ name_in (before_first is_space text.now) }
+        ensures rest { IfSome result (λ p. p.1.now ≡ after_first is_space text.now) }
     {
         let bytes = text.as_bytes();
         let len = name_len_of(bytes);
@@ -65,7 +66,7 @@ impl<'a> Name<'a> {
     }
 
     /// The word as a name, if the word is a letter or `_`, and then letters, digits and `_`.
-    pub(crate) fn from_word(word: &'a str) -> Option<Self>
+    pub fn from_word(word: &'a str) -> Option<Self>
         ensures { result ≡ name_in word.now }
     {
         if is_name(word.as_bytes()) {

@@ -1,11 +1,13 @@
-//! Numbers of up to nine digits, read in one loop.
-ghost use Rattle.std.specs.Prelude.{◌≡◌, ◌≢◌, ◌≤◌, ◌<◌, IfSome, Some, length, slice_index, take};
+//! Numbers are read. A number of up to nine digits is read in one loop.
+ghost use Rattle.std.specs.Prelude.{◌≡◌, ◌≢◌, ◌≤◌, ◌<◌, IfSome, Some, length, option_map, slice_index, take};
 ghost use Rattle.std.specs.Char.{is_ascii_digit};
-ghost use Rattle.std.specs.List.{prefix_len};
+ghost use Rattle.std.specs.List.{after_first, before_first, prefix_len};
 ghost use Rattle.std.specs.Str.Parse.{digits_value};
 ghost use Rattle.mm_types.specs.Integers.{integer, natural_number};
+ghost use Rattle.script_lines.specs.Words.{is_space};
 
-use crate::grammar::MINUS;
+use crate::grammar::{MINUS, SPACE};
+use crate::words::cut_at_space;
 use mm_types::integers;
 use mm_types::integers::integer_of;
 
@@ -57,14 +59,46 @@ pub(crate) fn number_begun(bytes: &[u8]) -> Option<(u32, usize)>
     Some((number, len))
 }
 
-/// The number of a word, of 32 bits.
+/// The 32-bit number that a word writes.
 #[inline]
-pub(crate) fn natural_of(word: &str) -> Option<u32>
+pub fn natural_of(word: &str) -> Option<u32>
     ensures { result ≡ natural_number word.now }
 {
     match number_begun(word.as_bytes()) {
         Some((number, len)) if len == word.len() => Some(number),
         _ => integers::natural_of(word),
+    }
+}
+
+/// The number before the first space of a text. The function is never inlined into the code that reads a number of up to nine digits.
+#[inline(never)]
+fn long_number_of(text: &str) -> Option<u32>
+    ensures { result ≡ natural_number (before_first is_space text.now) }
+{
+    integers::natural_of(cut_at_space(text).0)
+}
+
+/// The text after the first space of a text, which is empty if there is no space. The function is never inlined, like `long_number_of`.
+#[inline(never)]
+fn behind_space(text: &str) -> &str
+    ensures { result.now ≡ after_first is_space text.now }
+{
+    cut_at_space(text).1
+}
+
+/// The number before the first space of a text, and the text after that space, which is empty if there is no space.
+#[inline(always)]
+pub fn number_before_space(text: &str) -> Option<(u32, &str)>
+    ensures number { option_map (λ p. p.0) result ≡ natural_number (before_first is_space text.now) }
+    ensures rest { IfSome result (λ p. p.1.now ≡ after_first is_space text.now) }
+{
+    let bytes = text.as_bytes();
+    match number_begun(bytes) {
+        Some((number, len)) if len < bytes.len() && bytes[len] == SPACE => {
+            let rest = &text[len + 1..];
+            Some((number, rest))
+        }
+        _ => Some((long_number_of(text)?, behind_space(text))),
     }
 }
 
@@ -80,7 +114,7 @@ fn non_negative_of(word: &str) -> Option<i64>
     }
 }
 
-/// The number of a word with a minus, of 64 bits.
+/// The 64-bit number that a word with a minus sign writes.
 fn negative_of(word: &str) -> Option<i64>
     requires some { 0 < length word.now }
     requires minus { slice_index word.now 0 ≡ MINUS }
@@ -92,7 +126,7 @@ fn negative_of(word: &str) -> Option<i64>
     }
 }
 
-/// The number of a word, of 64 bits.
+/// The 64-bit number that a word writes.
 pub(crate) fn int_of(word: &str) -> Option<i64>
     requires { 0 < length word.now }
     ensures { result ≡ integer word.now }

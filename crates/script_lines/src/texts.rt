@@ -34,7 +34,7 @@ fn plain_text(word: &str) -> Option<&str>
     Some(&word[1..len - 1])
 }
 
-/// The text of a JSON value that is a string; it is moved.
+/// The text of a JSON value that is a string; the text is moved out of the value.
 fn string_of(alloc: Global, value: Value) -> Result<Option<Text>, AllocError>
     ensures { IfOk result (λ o. o ≡ as_str (view value)) }
 {

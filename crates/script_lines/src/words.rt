@@ -1,8 +1,8 @@
 //! A line is cut into words at its spaces. A word that begins with a quotation mark goes on at least to the next quotation mark.
-ghost use Rattle.std.specs.Prelude.{◌≡◌, ◌<◌, ◌≤◌, ◌+◌, ◌∷◌, [], drop, false, length, map, position, slice_index, take, true};
+ghost use Rattle.std.specs.Prelude.{◌≡◌, ◌<◌, ◌≤◌, ◌+◌, drop, false, length, map, position, slice_index, take};
 ghost use Rattle.std.specs.List.{after_first, before_first};
 ghost use Rattle.std.specs.Str.{IsUtf8, bytes_eq};
-ghost use Rattle.script_lines.specs.Words.{is_mark, is_space, plain_len, quoted_len, word_len, words};
+ghost use Rattle.script_lines.specs.Words.{is_mark, is_one_word, is_space, plain_len, quoted_len, word_len, words};
 
 use crate::grammar::{BACKSLASH, QUOTE, SPACE};
 use arrayvec::ArrayVec;
@@ -66,7 +66,8 @@ fn escaped_len_of(bytes: &[u8]) -> usize
 }
 
 /// The length of the word with which the bytes begin.
-fn word_len_of(bytes: &[u8]) -> usize
+#[inline(always)]
+pub fn word_len_of(bytes: &[u8]) -> usize
     requires { 0 < length bytes.now }
     ensures value { result ≡ word_len bytes.now }
     ensures some { 0 < result }
@@ -126,7 +127,7 @@ pub(crate) fn is_verb(word: &str, verb: &str) -> bool
 
 /// Whether a text is one word.
 pub fn is_word(text: &str) -> bool
-    ensures { result ≡ true → words text.now ≡ text.now ∷ [] }
+    ensures { result ≡ is_one_word text.now }
 {
     let bytes = text.as_bytes();
     !bytes.is_empty() && (bytes[0] != SPACE && word_len_of(bytes) == bytes.len())

@@ -26,7 +26,7 @@ abbrev pub enum_of_kind : Kind → Option ℕ
 enum_of_kind (Attribute t unique unsettable default) = enum_of_type t
 enum_of_kind (Reference target containment opposite) = None
 
--- the enumeration that is the type of a feature, if it is one
+-- the enumeration that is the type of a feature; none if the type is no enumeration
 abbrev pub enum_of : Metamodel → FeatureNo → Option ℕ
 enum_of m f = option_and_then (λ g. enum_of_kind g.kind) (lookups.feature m f)
 

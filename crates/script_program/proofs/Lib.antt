@@ -1,5 +1,6 @@
 mod PoolLemmas
 mod SessionLemmas
+mod BoundLemmas
 mod ScriptLemmas
 mod LostLemmas
 mod PlainLemmas

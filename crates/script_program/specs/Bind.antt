@@ -45,7 +45,7 @@ feature_number s (node.Resource r) name = if bytes_eq name (codes "contents") th
 abbrev pub literal_number : Metamodel → FeatureNo → List ℕ → ℕ
 literal_number m f name = unwrap_or (option_and_then (λ e. lookups.literal_by_name m e name) (enum_of m f)) NOTHING
 
--- the value of a written value, for a feature
+-- the value that a written value gives under a feature
 abbrev pub value_in : Metamodel → FeatureNo → WrittenValue → Value
 value_in m f written.Null = value.Null
 value_in m f (written.Bool b) = value.Bool b
@@ -54,7 +54,7 @@ value_in m f (written.Text t) = value.Text t
 value_in m f (written.Literal name) = value.Literal (literal_number m f name)
 value_in m f (written.Object o) = value.Object o
 
--- the value of a written value, for the named feature of a node
+-- the value that a written value gives under the named feature of a node
 abbrev pub named_value : State → Node → List ℕ → WrittenValue → Value
 named_value s n name v = value_in s.model.metamodel (feature_number s n name) v
 
@@ -71,7 +71,7 @@ set_command s n name v = command.At (named_end s n name) (act.Set (named_value s
 abbrev pub add_command : {A : Type 0} → State → Node → List ℕ → WrittenValue → Option ℕ → Command A
 add_command s n name v index = command.At (named_end s n name) (act.Add (named_value s n name v) index)
 
--- the command by which something is asked of an end, or done to it
+-- the command that asks something of an end, or changes the end
 abbrev pub at_command : {A : Type 0} → Metamodel → End → FeatureForm → Command A
 at_command m e (form.Read q) = command.Read (read.At e q)
 at_command m e (form.Set v) = command.At e (act.Set (value_in m e.feature v))

@@ -35,7 +35,7 @@ use Rattle.script_program.specs.declared.request.Request.TheVariants as request
 use Rattle.script_answers.specs.declared.turn.Turn.{Turn}
 use Rattle.script_answers.specs.declared.turn.Turn.TheVariants as turned
 
--- whether a feature is changed, and not read
+-- whether a form changes a feature, and does not only read it
 abbrev pub edits : FeatureForm → Bool
 edits (feature.Read q) = false
 edits _ = true
@@ -154,7 +154,7 @@ abbrev pub kept_outcome : Result (Unit {0}) RunFault → Result (Unit {0}) KeptF
 kept_outcome (Ok done) = Ok done
 kept_outcome (Err fault) = Err (stopping.Stopped fault)
 
--- A run came to its end, and so did the lines of the file before it.
+-- The lines of the file were run again, and then a run came to its end.
 pub record EndsKept (m : Metamodel) (head file : List ℕ) (ls : List (List ℕ)) (old new : Option (List ℕ)) (file_after : List ℕ) (t : Session) : Type 0 where
   pub start : Session
   pub had : model_of m (begun_lines head (recovered_lines file)) ≡ Some start.state.model

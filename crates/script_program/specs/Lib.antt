@@ -2,7 +2,7 @@ pub mod Pool
 pub mod Session
 pub mod Bind
 pub mod Answers
-pub mod SetOrAdd
+pub mod BareActs
 pub mod Script
 pub mod Lists
 pub mod Loading

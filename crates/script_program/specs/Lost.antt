@@ -73,7 +73,7 @@ is_form (line.Form f) = true
 abbrev pub is_command_at : List (List ℕ) → ℕ → Bool
 is_command_at ls j = option_map_or (λ l. is_form (form l)) (slice_get ls j) false
 
--- the numbers are of lines that have a form, and rise
+-- the numbers rise, and each is the number of a line that has a form
 pub record AreCommands (ls : List (List ℕ)) (numbers : List ℕ) : Type 0 where
   pub each_once : IsStrictlyIncreasing numbers
   pub commands : All (λ j. IsTrue (is_command_at ls j)) numbers

@@ -35,7 +35,7 @@ fn print_answer(
     ensures ok { OnOk result (output.new ≡ output.old ++ a.answer_text meta.now feature answer.now) }
 {
     match answer {
-        Answer::Done => output.text("ok"),
+        Answer::Done => output.short_text("ok"),
         Answer::Object(object) => output.node(Node::Object(*object)),
         Answer::Value(value) => output.value(value, literal_name(meta, feature, value)),
         Answer::Values(values) => output.values(meta, feature, values.as_slice()),

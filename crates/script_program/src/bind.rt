@@ -78,7 +78,7 @@ fn create_command<A>(meta: &Meta, class: Name<'_>) -> Command<A>
     Command::Create(class_number(meta, class.as_str()))
 }
 
-/// The command by which something is asked of a named feature of a node, or done to it. It brings no adapter.
+/// The command that asks something of a named feature of a node, or changes the feature. The command brings no adapter.
 fn at_command<L: LinkStore, A: Adapter>(
     repository: &Repository<L, A>,
     node: Node,
@@ -127,6 +127,7 @@ pub(crate) fn class_number(meta: &Meta, name: &str) -> ClassNo
     meta.class_by_name(name).unwrap_or(ClassNo(NOTHING))
 }
 
+#[inline(always)]
 pub(crate) fn feature_number<L: LinkStore, A: Adapter>(
     repository: &Repository<L, A>,
     node: Node,

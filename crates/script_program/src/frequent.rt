@@ -1,20 +1,20 @@
-//! Lines of the most frequent forms are run. They call the repository directly, and the answer of a change that notifies no adapter is
-//! printed without a reply. Binding a line to a command and taking its reply apart would take longer than the change.
+//! Lines of the most frequent forms are run. The functions here call the repository directly, and the answer of a change that notifies no
+//! adapter is printed without a reply. Binding a line to a command and taking its reply apart would take longer than the change.
 ghost use Rattle.std.specs.Prelude.{◌≡◌, Err, IfOk, MatchOption, None, Ok, OnErr, Some};
 ghost use Rattle.mm_types.specs.Resolved.{Metamodel};
 ghost use Rattle.mm_types.specs.declared.numbers.Node.TheVariants as node;
 ghost use Rattle.notice_chain.specs.View.{View};
 ghost use Rattle.repository.specs.Run.{change_outcome, read_outcome};
 ghost use Rattle.repository.specs.declared.command.Command.{Command};
+ghost use Rattle.repository.specs.declared.command.Command.TheVariants.{At};
 ghost use Rattle.repository.specs.Commands.{container, fragment as fragment_of};
 ghost use Rattle.repository.specs.declared.reply.Answer.{Answer};
 ghost use Rattle.repository.specs.declared.reply.Answer.TheVariants as answer;
-ghost use Rattle.script_lines.specs.Frequent.{frequent_line};
-ghost use Rattle.script_lines.specs.Values.{value_in};
-ghost use Rattle.script_lines.specs.declared.frequent.Frequent.TheVariants as frequent;
+ghost use Rattle.frequent_lines.specs.Frequent.{act_line, frequent_line};
+ghost use Rattle.frequent_lines.specs.declared.frequent_act.FrequentAct.TheVariants as act;
 ghost use Rattle.script_program.specs.Answers.{feature_of, unheard_text};
 ghost use Rattle.script_program.specs.Bind as b;
-ghost use Rattle.script_program.specs.SetOrAdd.{edit_command};
+ghost use Rattle.script_program.specs.BareActs.{act_of};
 ghost use Rattle.script_program.specs.Pool.{Pool as PoolView};
 ghost use Rattle.script_program.specs.Script.{Adds, IsLeft, RunsCommand, RunsLine, command_printed};
 ghost use Rattle.script_program.specs.Session.{session};
@@ -24,11 +24,13 @@ use crate::bind::{class_number, feature_number, value_in};
 use crate::line::{finish_change, print_bad, run_command, run_get, turn_of_refusal};
 use crate::pool::Pool;
 use adapters::Adapter;
+use frequent_lines::{Frequent, FrequentAct};
+use handshake::Act;
 use links::LinkStore;
 use mm_types::{End, Node, ObjectNo, Refused, Text};
 use repository::{Brief, Command, EndRead, Read, Repository};
 use script_answers::Turn;
-use script_lines::{Frequent, Name, Word, WrittenValue, value_of};
+use script_lines::{Name, WrittenValue, value_of};
 use script_output::Output;
 use std::alloc::{AllocError, Global};
 
@@ -48,8 +50,8 @@ fn run_read<L: LinkStore, A: Adapter>(
     object: ObjectNo,
     name: &str,
 ) -> Result<Turn, AllocError>
-    ensures ok { IfOk result (λ t. Adds output.old output.new t (λ p. RunsLine (session repository.old pool.old) (frequent_line (frequent.Get object name.now)) p (session repository.new pool.new))) }
-    ensures left { OnErr result (IsLeft (RunsLine (session repository.old pool.old) (frequent_line (frequent.Get object name.now))) repository.old repository.new) }
+    ensures ok { IfOk result (λ t. Adds output.old output.new t (λ p. RunsLine (session repository.old pool.old) (act_line object name.now act.Get) p (session repository.new pool.new))) }
+    ensures left { OnErr result (IsLeft (RunsLine (session repository.old pool.old) (act_line object name.now act.Get)) repository.old repository.new) }
 {
     let node = Node::Object(object);
     let feature = feature_number(repository, node, name);
@@ -137,15 +139,6 @@ fn run_fragment<L: LinkStore, A: Adapter>(
     }
 }
 
-/// How a line gives a feature of an object a value.
-#[derive(Clone, Copy)]
-enum SetOrAdd {
-    /// The value is set.
-    Set,
-    /// The value is added at the end.
-    Add,
-}
-
 /// Prints the outcome of a change that notified no adapter; `done` is the text of its answer. Fails only if memory is refused for the
 /// output.
 #[inline(always)]
@@ -159,42 +152,310 @@ fn print_change(
 {
     match outcome {
         Ok(()) => {
-            output.text(done)?;
+            output.short_text(done)?;
             Ok(Turn::Done)
         }
         Err(refused) => print_refused(output, refused),
     }
 }
 
-/// Gives a feature of an object a value, and prints the answer. Fails only if memory is refused for the output.
-#[inline(always)]
-fn run_edit<L: LinkStore, A: Adapter>(
+/// Does an act at an end, and prints the answer. Fails only if memory is refused for the output.
+#[inline(never)]
+fn run_act<L: LinkStore, A: Adapter>(
     repository: &mut Repository<L, A>,
     pool: &mut Pool<A>,
     output: &mut Output,
-    edit: SetOrAdd,
+    end: End,
+    act: Act,
+) -> Result<Turn, AllocError>
+    ensures ok { IfOk result (λ t. Adds output.old output.new t (λ p. RunsCommand (session repository.old pool.old) (At end act) p (session repository.new pool.new))) }
+    ensures left { OnErr result (IsLeft (RunsCommand (session repository.old pool.old) (At end act)) repository.old repository.new) }
+{
+    let outcome = repository.act(end, act);
+    finish_change(repository, pool, output, end.feature, outcome)
+}
+
+/// Sets a feature of an object to a value, and prints the answer. Fails only if memory is refused for the output.
+#[inline(always)]
+fn run_set<L: LinkStore, A: Adapter>(
+    repository: &mut Repository<L, A>,
+    pool: &mut Pool<A>,
+    output: &mut Output,
     object: ObjectNo,
-    name: Name<'_>,
+    name: &str,
     written: WrittenValue<'_>,
 ) -> Result<Turn, AllocError>
     ensures ok { IfOk result (λ t. Adds output.old output.new t (λ p. RunsCommand (session repository.old pool.old)
-        (edit_command repository.old edit (node.Object object) name.entry written.entry)
-        p (session repository.new pool.new))) }
+        (b.set_command repository.old (node.Object object) name.now written.entry) p (session repository.new pool.new))) }
     ensures left { OnErr result (IsLeft (RunsCommand (session repository.old pool.old)
-        (edit_command repository.old edit (node.Object object) name.entry written.entry)) repository.old repository.new) }
+        (b.set_command repository.old (node.Object object) name.now written.entry)) repository.old repository.new) }
 {
     let node = Node::Object(object);
-    let feature = feature_number(repository, node, name.as_str());
+    let feature = feature_number(repository, node, name);
     let value = value_in(repository.meta(), feature, written);
-    match edit {
-        SetOrAdd::Set => match repository.set_brief(node, feature, value) {
-            Brief::Unheard(outcome) => print_change(output, outcome, "ok\n"),
-            Brief::Replied(outcome) => finish_change(repository, pool, output, feature, outcome),
-        },
-        SetOrAdd::Add => match repository.add_brief(node, feature, value, None) {
-            Brief::Unheard(outcome) => print_change(output, outcome, "true\n"),
-            Brief::Replied(outcome) => finish_change(repository, pool, output, feature, outcome),
-        },
+    match repository.set_brief(node, feature, value) {
+        Brief::Unheard(outcome) => print_change(output, outcome, "ok\n"),
+        Brief::Replied(outcome) => finish_change(repository, pool, output, feature, outcome),
+    }
+}
+
+/// Adds a value to a list of an object, at an index or at the end, and prints the answer. Fails only if memory is refused for the output.
+#[inline(always)]
+fn run_add<L: LinkStore, A: Adapter>(
+    repository: &mut Repository<L, A>,
+    pool: &mut Pool<A>,
+    output: &mut Output,
+    object: ObjectNo,
+    name: &str,
+    written: WrittenValue<'_>,
+    index: Option<u32>,
+) -> Result<Turn, AllocError>
+    ensures ok { IfOk result (λ t. Adds output.old output.new t (λ p. RunsCommand (session repository.old pool.old)
+        (b.add_command repository.old (node.Object object) name.now written.entry index) p (session repository.new pool.new))) }
+    ensures left { OnErr result (IsLeft (RunsCommand (session repository.old pool.old)
+        (b.add_command repository.old (node.Object object) name.now written.entry index)) repository.old repository.new) }
+{
+    let node = Node::Object(object);
+    let feature = feature_number(repository, node, name);
+    let value = value_in(repository.meta(), feature, written);
+    match repository.add_brief(node, feature, value, index) {
+        Brief::Unheard(outcome) => print_change(output, outcome, "true\n"),
+        Brief::Replied(outcome) => finish_change(repository, pool, output, feature, outcome),
+    }
+}
+
+/// Runs a line that sets a feature of an object. Fails only if memory is refused for a text that is the value, or for the output.
+#[inline(always)]
+fn run_set_line<L: LinkStore, A: Adapter>(
+    alloc: Global,
+    repository: &mut Repository<L, A>,
+    pool: &mut Pool<A>,
+    output: &mut Output,
+    object: ObjectNo,
+    name: &str,
+    word: &str,
+) -> Result<Turn, AllocError>
+    ensures ok { IfOk result (λ t. Adds output.old output.new t (λ p. RunsLine (session repository.old pool.old) (act_line object name.now (act.Set word.now)) p (session repository.new pool.new))) }
+    ensures left { OnErr result (IsLeft (RunsLine (session repository.old pool.old) (act_line object name.now (act.Set word.now))) repository.old repository.new) }
+{
+    match value_of(alloc, word)? {
+        Some(written) => run_set(repository, pool, output, object, name, written),
+        None => print_bad(output),
+    }
+}
+
+/// Runs a line that adds a value at the end of a list of an object. Fails only if memory is refused for a text that is the value, or for
+/// the output.
+#[inline(always)]
+fn run_add_line<L: LinkStore, A: Adapter>(
+    alloc: Global,
+    repository: &mut Repository<L, A>,
+    pool: &mut Pool<A>,
+    output: &mut Output,
+    object: ObjectNo,
+    name: &str,
+    word: &str,
+) -> Result<Turn, AllocError>
+    ensures ok { IfOk result (λ t. Adds output.old output.new t (λ p. RunsLine (session repository.old pool.old) (act_line object name.now (act.Add word.now)) p (session repository.new pool.new))) }
+    ensures left { OnErr result (IsLeft (RunsLine (session repository.old pool.old) (act_line object name.now (act.Add word.now))) repository.old repository.new) }
+{
+    match value_of(alloc, word)? {
+        Some(written) => run_add(repository, pool, output, object, name, written, None),
+        None => print_bad(output),
+    }
+}
+
+/// Runs a line that adds a value to a list of an object at an index. Fails only if memory is refused for a text that is the value, or for
+/// the output. The function is never inlined into the code of an addition at the end.
+#[inline(never)]
+fn run_add_at_line<L: LinkStore, A: Adapter>(
+    alloc: Global,
+    repository: &mut Repository<L, A>,
+    pool: &mut Pool<A>,
+    output: &mut Output,
+    object: ObjectNo,
+    name: &str,
+    word: &str,
+    index: u32,
+) -> Result<Turn, AllocError>
+    ensures ok { IfOk result (λ t. Adds output.old output.new t (λ p. RunsLine (session repository.old pool.old) (act_line object name.now (act.AddAt word.now index)) p (session repository.new pool.new))) }
+    ensures left { OnErr result (IsLeft (RunsLine (session repository.old pool.old) (act_line object name.now (act.AddAt word.now index))) repository.old repository.new) }
+{
+    match value_of(alloc, word)? {
+        Some(written) => run_add(repository, pool, output, object, name, written, Some(index)),
+        None => print_bad(output),
+    }
+}
+
+/// Runs a line that takes a value out of a list of an object. Fails only if memory is refused for a text that is the value, or for the
+/// output.
+#[inline(never)]
+fn run_remove_value_line<L: LinkStore, A: Adapter>(
+    alloc: Global,
+    repository: &mut Repository<L, A>,
+    pool: &mut Pool<A>,
+    output: &mut Output,
+    object: ObjectNo,
+    name: &str,
+    word: &str,
+) -> Result<Turn, AllocError>
+    ensures ok { IfOk result (λ t. Adds output.old output.new t (λ p. RunsLine (session repository.old pool.old) (act_line object name.now (act.RemoveValue word.now)) p (session repository.new pool.new))) }
+    ensures left { OnErr result (IsLeft (RunsLine (session repository.old pool.old) (act_line object name.now (act.RemoveValue word.now))) repository.old repository.new) }
+{
+    match value_of(alloc, word)? {
+        Some(written) => {
+            let node = Node::Object(object);
+            let feature = feature_number(repository, node, name);
+            let value = value_in(repository.meta(), feature, written);
+            let end = End { node, feature };
+            run_act(repository, pool, output, end, Act::RemoveValue(value))
+        }
+        None => print_bad(output),
+    }
+}
+
+/// An act without a value.
+#[derive(Clone, Copy)]
+enum BareAct {
+    Unset,
+    /// Takes out the value at an index.
+    Remove(u32),
+    /// Moves a value from one index to another.
+    Move { to: u32, from: u32 },
+    /// Resolves the proxy at an index.
+    Resolve(u32),
+}
+
+impl BareAct {
+    /// The act of a change.
+    fn into_act(self) -> Act
+        ensures { result ≡ act_of self }
+    {
+        match self {
+            BareAct::Unset => Act::Unset,
+            BareAct::Remove(index) => Act::Remove(index),
+            BareAct::Move { to, from } => Act::Move { to, from },
+            BareAct::Resolve(index) => Act::Resolve(index),
+        }
+    }
+}
+
+/// Does an act without a value at a feature of an object, and prints the answer. Fails only if memory is refused for the output.
+#[inline(never)]
+fn run_bare_act<L: LinkStore, A: Adapter>(
+    repository: &mut Repository<L, A>,
+    pool: &mut Pool<A>,
+    output: &mut Output,
+    object: ObjectNo,
+    name: &str,
+    bare: BareAct,
+) -> Result<Turn, AllocError>
+    ensures ok { IfOk result (λ t. Adds output.old output.new t (λ p. RunsCommand (session repository.old pool.old)
+        (At (b.named_end repository.old (node.Object object) name.now) (act_of bare)) p (session repository.new pool.new))) }
+    ensures left { OnErr result (IsLeft (RunsCommand (session repository.old pool.old)
+        (At (b.named_end repository.old (node.Object object) name.now) (act_of bare))) repository.old repository.new) }
+{
+    let node = Node::Object(object);
+    let feature = feature_number(repository, node, name);
+    run_act(
+        repository,
+        pool,
+        output,
+        End { node, feature },
+        bare.into_act(),
+    )
+}
+
+/// Asks whether a feature of an object is set, and prints the answer. Fails only if memory is refused for the output.
+#[inline(never)]
+fn run_is_set<L: LinkStore, A: Adapter>(
+    repository: &mut Repository<L, A>,
+    pool: &mut Pool<A>,
+    output: &mut Output,
+    object: ObjectNo,
+    name: &str,
+) -> Result<Turn, AllocError>
+    ensures ok { IfOk result (λ t. Adds output.old output.new t (λ p. RunsLine (session repository.old pool.old) (act_line object name.now act.IsSet) p (session repository.new pool.new))) }
+    ensures left { OnErr result (IsLeft (RunsLine (session repository.old pool.old) (act_line object name.now act.IsSet)) repository.old repository.new) }
+{
+    let node = Node::Object(object);
+    let feature = feature_number(repository, node, name);
+    let read = Read::At(End { node, feature }, EndRead::IsSet);
+    run_command(repository, pool, output, Command::Read(read))
+}
+
+/// Does an act at a feature of an object, or asks for the value of the feature, and prints the answer.
+///
+/// Fails only if memory is refused for a text that is the value of the line, or for the output.
+#[inline(always)]
+fn run_at<L: LinkStore, A: Adapter>(
+    alloc: Global,
+    repository: &mut Repository<L, A>,
+    pool: &mut Pool<A>,
+    output: &mut Output,
+    object: ObjectNo,
+    name: Name<'_>,
+    act: FrequentAct<'_>,
+) -> Result<Turn, AllocError>
+    ensures ok { IfOk result (λ t. Adds output.old output.new t (λ p. RunsLine (session repository.old pool.old) (act_line object name.entry act.entry) p (session repository.new pool.new))) }
+    ensures left { OnErr result (IsLeft (RunsLine (session repository.old pool.old) (act_line object name.entry act.entry)) repository.old repository.new) }
+{
+    let name = name.as_str();
+    match act {
+        FrequentAct::Get => run_read(repository, pool, output, object, name),
+        FrequentAct::IsSet => run_is_set(repository, pool, output, object, name),
+        FrequentAct::Set(word) => {
+            run_set_line(alloc, repository, pool, output, object, name, word.as_str())
+        }
+        FrequentAct::Add(word) => {
+            run_add_line(alloc, repository, pool, output, object, name, word.as_str())
+        }
+        FrequentAct::AddAt(word, index) => {
+            run_add_at_line(
+                alloc,
+                repository,
+                pool,
+                output,
+                object,
+                name,
+                word.as_str(),
+                index,
+            )
+        }
+        FrequentAct::RemoveValue(word) => {
+            run_remove_value_line(alloc, repository, pool, output, object, name, word.as_str())
+        }
+        FrequentAct::Unset => run_bare_act(repository, pool, output, object, name, BareAct::Unset),
+        FrequentAct::Remove(index) => {
+            run_bare_act(
+                repository,
+                pool,
+                output,
+                object,
+                name,
+                BareAct::Remove(index),
+            )
+        }
+        FrequentAct::Move { to, from } => {
+            run_bare_act(
+                repository,
+                pool,
+                output,
+                object,
+                name,
+                BareAct::Move { to, from },
+            )
+        }
+        FrequentAct::Resolve(index) => {
+            run_bare_act(
+                repository,
+                pool,
+                output,
+                object,
+                name,
+                BareAct::Resolve(index),
+            )
+        }
     }
 }
 
@@ -214,38 +475,10 @@ pub(crate) fn run_frequent<L: LinkStore, A: Adapter>(
 {
     match line {
         Frequent::New(class) => run_create(repository, output, class),
-        Frequent::Get(object, feature) => {
-            run_read(repository, pool, output, object, feature.as_str())
-        }
         Frequent::Container(object) => run_container(repository, output, object),
         Frequent::Fragment(object) => run_fragment(repository, output, object),
-        Frequent::Set(object, feature, word) => {
-            match value_of(alloc, word.as_str())? {
-                Some(written) => run_edit(
-                    repository,
-                    pool,
-                    output,
-                    SetOrAdd::Set,
-                    object,
-                    feature,
-                    written,
-                ),
-                None => print_bad(output),
-            }
-        }
-        Frequent::Add(object, feature, word) => {
-            match value_of(alloc, word.as_str())? {
-                Some(written) => run_edit(
-                    repository,
-                    pool,
-                    output,
-                    SetOrAdd::Add,
-                    object,
-                    feature,
-                    written,
-                ),
-                None => print_bad(output),
-            }
+        Frequent::At(object, name, act) => {
+            run_at(alloc, repository, pool, output, object, name, act)
         }
     }
 }

@@ -43,7 +43,7 @@ impl<L: LinkStore, A: Adapter> Interpreter<L, A> {
         })
     }
 
-    /// Runs a line, and returns how it is counted. From then on the text is its output.
+    /// Runs a line, and returns how it is counted. From then on `text` returns the output of the line.
     ///
     /// Fails only if memory is refused to the run itself; then no contract determines the state of the interpreter. If memory is refused to
     /// the repository, the line prints `refused 28 MEMORY`, and nothing has changed.

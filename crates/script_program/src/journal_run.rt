@@ -41,7 +41,7 @@ pub fn run_journal<R: Read, D: Disk, W: Write, L: LinkStore, A: Adapter, H: List
         (W.contents (writer_of outbox.old)) (W.contents (writer_of outbox.new)) (kept_by D.seen outbox.new) (session_of session.new))) }
     ensures end { OnOk result (OnSome (reader_remaining R.remaining reader.old) (IsAtEnd (reader_remaining R.remaining reader.new))) }
     ensures at_rest { OnOk result (IsAtRest D.seen D.may_leave outbox.new) }
-    // Whatever stops the run, each file that may be left has the lines that were answered. So it is also if each call fails because the
+    // Whatever stops the run, each file that may be left has the lines that were answered. This also holds if each call fails because the
     // machine fails.
     ensures stopped { (m : Metamodel) → model_of m (kept_by D.seen outbox.old) ≡ Some (session_of session.old).state.model
         → IfErr result (λ fault. IfSome (reader_remaining R.remaining reader.old) (λ input. StopsJournaled m fault (session_of session.old) (lines input)

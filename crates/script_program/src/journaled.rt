@@ -22,13 +22,13 @@ pub struct Journaled<L: LinkStore, A: Adapter, H: Listener> {
     interpreter: Interpreter<L, A>,
     /// The listener that is called with each line.
     listener: H,
-    /// How many lines it has run.
+    /// How many lines the interpreter has run.
     lines: u64,
     /// Whether one of these lines was refused, or bad.
     is_faulty: bool,
 }
 
-/// Whether a feature is changed, and not read.
+/// Whether a form changes a feature, and does not only read it.
 fn is_edit(form: &FeatureForm<'_>) -> bool
     ensures { result ≡ edits form.now }
 {
@@ -122,7 +122,7 @@ impl<L: LinkStore, A: Adapter, H: Listener> Journaled<L, A, H> {
         self.interpreter.repository()
     }
 
-    /// How many lines it has run.
+    /// How many lines the interpreter has run.
     pub fn lines(&self) -> u64
         ensures { result ≡ lines_run self.now }
     {

@@ -37,7 +37,7 @@ pub enum KeptFault {
 /// The result of a run with a journal.
 #[derive(Drop)]
 pub struct KeptRun<D, W> {
-    /// Whether it came to its end.
+    /// Whether the run came to its end.
     pub outcome: Result<(), KeptFault>,
     /// The disk that has the journal.
     pub disk: D,
@@ -119,8 +119,8 @@ fn run_opened<R: Read, D: Disk, W: Write, L: LinkStore, A: Adapter, H: Listener>
     }
 }
 
-/// Runs the lines of a journal again, and then runs a script live. The file of the journal has these bytes, and the journal keeps the
-/// changes of the script. A file without lines gets the head first. The session is new: its repository is empty.
+/// Runs the lines of a journal again, and then runs a script live. The file of the journal has the content `bytes`, and the journal keeps
+/// the changes of the script. A file without lines gets the head first. The session is new: its repository is empty.
 ///
 /// Answered lines are kept. A crash may happen in the recovery, between two calls, or inside a call. The file that it leaves is a journal
 /// of the model of all lines that were answered, and perhaps of some further lines. A call that opens this file begins with that model.

@@ -14,8 +14,8 @@ ghost use Rattle.script_program.specs.Summary.{summary_of};
 ghost use Rattle.script_answers.specs.declared.dress.Dress.{Dress};
 
 /// A line is lost if its command is refused for memory. For each choice of lost lines a text of the script is defined, and the lines print
-/// exactly the text for the lines that were lost. The numbers of the lost lines are all different, each is of a line that has a form, and
-/// there are as many as `no_memory` counts. The text of the first lines is a prefix of this text.
+/// exactly the text for the lines that were lost. The numbers of the lost lines are all different, each is the number of a line that has a
+/// form, and there are as many of them as `no_memory` counts. The text of the first lines is a prefix of this text.
 pub fn what_lines_print_is_the_script()
     ensures whole { (s t : Session) (bytes : List ℕ) (printed : List Printed) → RunsLines s (lines bytes) printed t
         → script s bytes (lost_lines printed) ≡ printed }
@@ -47,8 +47,9 @@ pub fn a_live_run_writes_the_script_with_empty_lines()
         → live_text (script s bytes (lost_lines printed)) ≡ live_text printed }
 {}
 
-/// What was kept comes back. If the lines that a journal keeps of a run are run again, without adapters, from the model before the run, all
-/// are done, and they leave the model that all lines of the run left. Only memory can make a session without adapters refuse one of them.
+/// What was kept comes back. If the lines of a run that a journal keeps are run again, without adapters, from the model before the run,
+/// then all of them are done, and they leave the model that all lines of the run left. Only memory can make a session without adapters
+/// refuse one of them.
 pub fn what_was_kept_comes_back()
     ensures again { (s t : Session) (ls : List (List ℕ)) (printed : List Printed) → RunsLines s ls printed t
         → model_after_lines s.state.model (kept_lines ls printed) ≡ Some t.state.model }

@@ -26,11 +26,12 @@ use crate::frequent::run_frequent;
 use crate::pool::Pool;
 use crate::request::Request;
 use adapters::Adapter;
+use frequent_lines::frequent_of;
 use links::LinkStore;
 use mm_types::{AdapterNo, End, FeatureNo, Refused, ResourceNo};
 use repository::{Command, EndRead, Failure, Read, Reply, Repository};
 use script_answers::Turn;
-use script_lines::{Line, Source, frequent_of, load_parts, text_line_of};
+use script_lines::{Line, Source, load_parts, text_line_of};
 use script_output::Output;
 use std::alloc::{AllocError, Global};
 

@@ -24,7 +24,7 @@ use std::io::{BufReader, Read, Write};
 /// The bytes after an answer: an empty line.
 const BEHIND: &[u8] = b"\n";
 
-/// Runs a line, and writes its output with an empty line after it; `output` is a buffer for that.
+/// Runs a line, and writes its output with an empty line after it; `output` is a buffer for the output.
 ///
 /// Fails with `Memory` if memory is refused to the run itself, and with `Write` if a write fails or takes no byte.
 fn answer_live<W: Write, L: LinkStore, A: Adapter, H: Listener>(
@@ -124,7 +124,7 @@ pub fn live_over<R: Read, W: Write, L: LinkStore, A: Adapter, H: Listener>(
 }
 
 /// Runs a script as `run` does, but answers each line before it reads the next: the text that a line prints is written with an empty line
-/// after it, and for a line that is skipped only an empty line. Before a read that may wait, the writer is flushed.
+/// after it, and for a line that is skipped only an empty line is written. Before a read that may wait, the writer is flushed.
 ///
 /// Fails with `Read` if a read fails, with `TooLong` if a line has more than `INPUT_BYTES` bytes or the script more than `u64::MAX - 1`
 /// lines, with `Write` if a write or a flush fails or a write takes no byte, and with `Memory` if memory is refused to the run itself: then

@@ -49,7 +49,8 @@ impl<A: Adapter> Pool<A> {
         Ok(Pool { boxes: slots })
     }
 
-    /// Puts an adapter, or none, into the place of a number, and returns what was there. Returns `None` if there is no such place.
+    /// Puts `entry` under the number of an adapter, and returns the entry that was there. Returns `None` if the pool has no entry of the
+    /// number.
     fn replaced(&mut self, no: AdapterNo, entry: Option<A>) -> Option<Option<A>>
         ensures before { option_map (λ o. option_map A.heard o) result ≡ option_and_then (slice_get self.old) (p.index no) }
         ensures after { self.new ≡ p.with_entry (option_map A.heard entry) self.old no }

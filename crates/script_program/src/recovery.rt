@@ -24,10 +24,10 @@ pub fn run_again<L: LinkStore, A: Adapter, H: Listener>(
     bytes: &[u8],
     head: &[u8],
 ) -> Result<(), JournalFault>
-    // Then the session has the model that the lines leave.
+    // After `Ok` the session has the model that the lines leave.
     ensures model { (m : Metamodel) → (session_of session.old).state ≡ empty_state m
         → OnOk result (model_of m (begun_lines head.now (recovered_lines bytes.now)) ≡ Some (session_of session.new).state.model) }
-    // Only memory can make it refuse a journal whose lines leave a model.
+    // If the lines of a journal leave a model, then the journal is refused only for memory.
     ensures head { IfErr result (λ fault. IsOfHead fault → (rest : List (List ℕ)) → recovered_lines bytes.now ≢ head.now ∷ rest) }
     ensures taken { (m : Metamodel) (model : Model) → (session_of session.old).state ≡ empty_state m → IsJournalOf m head.now bytes.now model
         → IfErr result (λ fault. fault ≡ JournalFault.Memory) }

@@ -9,9 +9,9 @@ use script_answers::Turn;
 pub struct Summary {
     /// How many lines were not blank.
     pub lines: u64,
-    /// How many of them printed a refusal.
+    /// How many of the lines printed a refusal.
     pub refused: u64,
-    /// How many of them printed `bad line`.
+    /// How many of the lines printed `bad line`.
     pub bad: u64,
     /// How many of the refused lines were out of memory.
     pub no_memory: u64,

@@ -83,7 +83,7 @@ impl Output {
     ) -> Result<(), AllocError>
         ensures ok { OnOk result (self.new ≡ self.old ++ notice_text meta.now no notice.now ++ NEWLINE ∷ []) }
     {
-        self.text("told ")?;
+        self.short_text("told ")?;
         self.adapter(no)?;
         self.byte(SPACE)?;
         self.report(meta, notice)?;

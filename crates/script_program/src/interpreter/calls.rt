@@ -17,7 +17,7 @@ use script_answers::Turn;
 use std::alloc::AllocError;
 
 impl<L: LinkStore, A: Adapter> Interpreter<L, A> {
-    /// Reads how many values a list has, and returns how the read is counted. From then on the text is the number, or the refusal.
+    /// Reads how many values a list has, and returns how the read is counted. From then on `text` returns the number, or the refusal.
     ///
     /// Fails only if memory is refused for the text.
     pub fn list_len(&mut self, node: Node, feature: &str) -> Result<Turn, AllocError>
@@ -39,7 +39,7 @@ impl<L: LinkStore, A: Adapter> Interpreter<L, A> {
         }
     }
 
-    /// Reads the value at an index of a list, and returns how the read is counted. From then on the text is the value, as `get` prints a
+    /// Reads the value at an index of a list, and returns how the read is counted. From then on `text` returns the value, as `get` prints a
     /// value, or the refusal.
     ///
     /// Fails only if memory is refused for the text.
@@ -66,8 +66,8 @@ impl<L: LinkStore, A: Adapter> Interpreter<L, A> {
         }
     }
 
-    /// Loads a document into a resource, as a line with `load` does, but from bytes of any length, newlines among them. From then on the
-    /// text is its output.
+    /// Loads a document into a resource, as a line with `load` does, but from bytes of any length, newlines among them. From then on `text`
+    /// returns the output of the load.
     ///
     /// Fails only if memory is refused for the text; then no contract determines the state of the interpreter.
     pub fn load(&mut self, resource: ResourceNo, document: &[u8]) -> Result<Turn, AllocError>

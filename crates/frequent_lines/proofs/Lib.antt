@@ -1,0 +1,2 @@
+mod FrequentLemmas
+mod VerbLemmas

@@ -1,0 +1,47 @@
+use Rattle.std.proofs.Common.{◌≡◌, true, refl}
+use Rattle.mm_types.specs.declared.numbers.Node.TheVariants as node
+use Rattle.notice_chain.specs.View.{View}
+use Rattle.repository.specs.Commands.{add}
+use Rattle.repository.specs.Run.{change_outcome, read_outcome}
+use Rattle.repository.specs.Views.{changed_view}
+use Rattle.repository.specs.declared.command.Command.{Command}
+use Rattle.repository.specs.declared.reply.Answer.TheVariants as answer
+use Rattle.script_program.specs.Script.{RunsCommand, command_printed}
+use Rattle.script_program.specs.Session.{Session, session}
+use Rattle.script_program.proofs.BoundLemmas.{bound}
+use Rattle.script_program.proofs.LeftLemmas.{as_executed}
+use Rattle.script_program.proofs.SessionLemmas.{adds-run, unheard-pool}
+use Rattle.script_program.proofs.frequent.run_add.Goals as goal
+
+pub returns-in-Unheard-clause-ok : goal.returns-in-Unheard-clause-ok
+returns-in-Unheard-clause-ok g c =
+    let s : Session = session c.args.repository.now c.args.pool.now in
+    let t : Session = session c.add_brief.new.self c.args.pool.now in
+    let k : Command View = add (node.Object c.args.object) c.feature_number-feature.result c.value_in-value.result c.args.index in
+    let o = read_outcome (λ u. answer.Flag true) c.in-Unheard.outcome in
+    let b = bound c.args.repository.now (node.Object c.args.object) c.args.name.now c.args.written _ _ _ c.meta.ensures c.feature_number-feature.ensures c.value_in-value.ensures in
+    rw (b.1, b.0)
+    (adds-run c.print_change.result _ _ (λ p. p ≡ command_printed s.state.model.metamodel k o) (λ p. RunsCommand s k p t)
+    (λ p is. record { outcome = o; executed = rw c.in-Unheard.is at c.add_brief.ensures; pool = unheard-pool _ k (λ u. answer.Flag true) c.in-Unheard.outcome refl; printed = is })
+    (c.print_change.ensures s.state.model.metamodel k (answer.Flag true) refl))
+
+pub returns-in-Replied-clause-ok : goal.returns-in-Replied-clause-ok
+returns-in-Replied-clause-ok g c =
+    let b = bound c.args.repository.now (node.Object c.args.object) c.args.name.now c.args.written _ _ _ c.meta.ensures c.feature_number-feature.ensures c.value_in-value.ensures in
+    rw (b.1, b.0) (c.finish_change.ensures c.args.repository.now (add (node.Object c.args.object) c.feature_number-feature.result c.value_in-value.result c.args.index) refl refl (rw c.in-Replied.is at c.add_brief.ensures))
+
+-- ---- what is left if the answer could not be added
+
+pub returns-in-Unheard-clause-left : goal.returns-in-Unheard-clause-left
+returns-in-Unheard-clause-left g c =
+    let s : Session = session c.args.repository.now c.args.pool.now in
+    let k : Command View = add (node.Object c.args.object) c.feature_number-feature.result c.value_in-value.result c.args.index in
+    let b = bound c.args.repository.now (node.Object c.args.object) c.args.name.now c.args.written _ _ _ c.meta.ensures c.feature_number-feature.ensures c.value_in-value.ensures in
+    rw (b.1, b.0) (as_executed c.print_change.result s k (read_outcome (λ u. answer.Flag true) c.in-Unheard.outcome) c.add_brief.new.self (rw c.in-Unheard.is at c.add_brief.ensures))
+
+pub returns-in-Replied-clause-left : goal.returns-in-Replied-clause-left
+returns-in-Replied-clause-left g c =
+    let s : Session = session c.args.repository.now c.args.pool.now in
+    let k : Command View = add (node.Object c.args.object) c.feature_number-feature.result c.value_in-value.result c.args.index in
+    let b = bound c.args.repository.now (node.Object c.args.object) c.args.name.now c.args.written _ _ _ c.meta.ensures c.feature_number-feature.ensures c.value_in-value.ensures in
+    rw (b.1, b.0) (as_executed c.finish_change.result s k (change_outcome (changed_view g.A.Adapter.heard c.in-Replied.outcome)) c.add_brief.new.self (rw c.in-Replied.is at c.add_brief.ensures))

@@ -1,0 +1,65 @@
+use Rattle.std.proofs.Common.{ap}
+use Rattle.frequent_lines.specs.Frequent.{act_line}
+use Rattle.script_program.proofs.frequent.run_at.Goals as goal
+
+pub returns-in-Get-clause-ok : goal.returns-in-Get-clause-ok
+returns-in-Get-clause-ok g c = rw (ap (act_line c.args.object c.args.name) c.in-Get.is) (rw c.as_str-name.ensures at c.run_read.ensures.ok)
+
+pub returns-in-IsSet-clause-ok : goal.returns-in-IsSet-clause-ok
+returns-in-IsSet-clause-ok g c = rw (ap (act_line c.args.object c.args.name) c.in-IsSet.is) (rw c.as_str-name.ensures at c.run_is_set.ensures.ok)
+
+pub returns-in-Set-clause-ok : goal.returns-in-Set-clause-ok
+returns-in-Set-clause-ok g c = rw (ap (act_line c.args.object c.args.name) c.in-Set.is) (rw (c.as_str-name.ensures, c.as_str.ensures) at c.run_set_line.ensures.ok)
+
+pub returns-in-Add-clause-ok : goal.returns-in-Add-clause-ok
+returns-in-Add-clause-ok g c = rw (ap (act_line c.args.object c.args.name) c.in-Add.is) (rw (c.as_str-name.ensures, c.as_str-in-Add.ensures) at c.run_add_line.ensures.ok)
+
+pub returns-in-AddAt-clause-ok : goal.returns-in-AddAt-clause-ok
+returns-in-AddAt-clause-ok g c = rw (ap (act_line c.args.object c.args.name) c.in-AddAt.is) (rw (c.as_str-name.ensures, c.as_str-in-AddAt.ensures) at c.run_add_at_line.ensures.ok)
+
+pub returns-in-RemoveValue-clause-ok : goal.returns-in-RemoveValue-clause-ok
+returns-in-RemoveValue-clause-ok g c = rw (ap (act_line c.args.object c.args.name) c.in-RemoveValue.is) (rw (c.as_str-name.ensures, c.as_str-in-RemoveValue.ensures) at c.run_remove_value_line.ensures.ok)
+
+pub returns-in-Unset-clause-ok : goal.returns-in-Unset-clause-ok
+returns-in-Unset-clause-ok g c = rw (ap (act_line c.args.object c.args.name) c.in-Unset.is) (rw c.as_str-name.ensures at c.run_bare_act.ensures.ok)
+
+pub returns-in-Remove-clause-ok : goal.returns-in-Remove-clause-ok
+returns-in-Remove-clause-ok g c = rw (ap (act_line c.args.object c.args.name) c.in-Remove.is) (rw c.as_str-name.ensures at c.run_bare_act-in-Remove.ensures.ok)
+
+pub returns-in-Move-clause-ok : goal.returns-in-Move-clause-ok
+returns-in-Move-clause-ok g c = rw (ap (act_line c.args.object c.args.name) c.in-Move.is) (rw c.as_str-name.ensures at c.run_bare_act-in-Move.ensures.ok)
+
+pub returns-in-Resolve-clause-ok : goal.returns-in-Resolve-clause-ok
+returns-in-Resolve-clause-ok g c = rw (ap (act_line c.args.object c.args.name) c.in-Resolve.is) (rw c.as_str-name.ensures at c.run_bare_act-in-Resolve.ensures.ok)
+
+-- ---- what is left if the answer could not be added
+
+pub returns-in-Get-clause-left : goal.returns-in-Get-clause-left
+returns-in-Get-clause-left g c = rw (ap (act_line c.args.object c.args.name) c.in-Get.is) (rw c.as_str-name.ensures at c.run_read.ensures.left)
+
+pub returns-in-IsSet-clause-left : goal.returns-in-IsSet-clause-left
+returns-in-IsSet-clause-left g c = rw (ap (act_line c.args.object c.args.name) c.in-IsSet.is) (rw c.as_str-name.ensures at c.run_is_set.ensures.left)
+
+pub returns-in-Set-clause-left : goal.returns-in-Set-clause-left
+returns-in-Set-clause-left g c = rw (ap (act_line c.args.object c.args.name) c.in-Set.is) (rw (c.as_str-name.ensures, c.as_str.ensures) at c.run_set_line.ensures.left)
+
+pub returns-in-Add-clause-left : goal.returns-in-Add-clause-left
+returns-in-Add-clause-left g c = rw (ap (act_line c.args.object c.args.name) c.in-Add.is) (rw (c.as_str-name.ensures, c.as_str-in-Add.ensures) at c.run_add_line.ensures.left)
+
+pub returns-in-AddAt-clause-left : goal.returns-in-AddAt-clause-left
+returns-in-AddAt-clause-left g c = rw (ap (act_line c.args.object c.args.name) c.in-AddAt.is) (rw (c.as_str-name.ensures, c.as_str-in-AddAt.ensures) at c.run_add_at_line.ensures.left)
+
+pub returns-in-RemoveValue-clause-left : goal.returns-in-RemoveValue-clause-left
+returns-in-RemoveValue-clause-left g c = rw (ap (act_line c.args.object c.args.name) c.in-RemoveValue.is) (rw (c.as_str-name.ensures, c.as_str-in-RemoveValue.ensures) at c.run_remove_value_line.ensures.left)
+
+pub returns-in-Unset-clause-left : goal.returns-in-Unset-clause-left
+returns-in-Unset-clause-left g c = rw (ap (act_line c.args.object c.args.name) c.in-Unset.is) (rw c.as_str-name.ensures at c.run_bare_act.ensures.left)
+
+pub returns-in-Remove-clause-left : goal.returns-in-Remove-clause-left
+returns-in-Remove-clause-left g c = rw (ap (act_line c.args.object c.args.name) c.in-Remove.is) (rw c.as_str-name.ensures at c.run_bare_act-in-Remove.ensures.left)
+
+pub returns-in-Move-clause-left : goal.returns-in-Move-clause-left
+returns-in-Move-clause-left g c = rw (ap (act_line c.args.object c.args.name) c.in-Move.is) (rw c.as_str-name.ensures at c.run_bare_act-in-Move.ensures.left)
+
+pub returns-in-Resolve-clause-left : goal.returns-in-Resolve-clause-left
+returns-in-Resolve-clause-left g c = rw (ap (act_line c.args.object c.args.name) c.in-Resolve.is) (rw c.as_str-name.ensures at c.run_bare_act-in-Resolve.ensures.left)
