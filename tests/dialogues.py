@@ -5,12 +5,15 @@ Each function named in `DIALOGUES` has one dialogue, and returns whether the pro
 import os
 import pathlib
 import pty
+import re
 import select
 import subprocess
 import tempfile
 
 LIBRARY = pathlib.Path(__file__).resolve().parent.parent / 'examples/library.json'
 LONGEST = 16_777_216  # bytes of a line
+ROUNDS = 200  # of a thousand refused commands
+SLACK = 256  # KB that a program may take for nothing that it keeps
 SECONDS = 60  # the longest wait for an answer
 STOPPED = 'run stopped: {}\n'.format
 
@@ -145,6 +148,29 @@ def journal_comes_back(program):
         return is_answered and answers(running, b'get #0 pages\nnew Book\n', b'5\n\n#1\n\n') and ends(running, 0, '')
 
 
+def resident(running):
+    """The resident memory of a running program, in KB."""
+    return int(re.search(r'^VmRSS:\s+(\d+) kB$', pathlib.Path(f'/proc/{running.pid}/status').read_text(), re.M)[1])
+
+
+def is_refused(running, line, answer):
+    """Whether a line that is sent a thousand times gets the same answer each time."""
+    running.stdin.write(line * 1_000)
+    return received(running.stdout, 1_000 * len(answer)) == answer * 1_000
+
+
+def refused_commands_keep_no_memory(program):
+    """A command that is refused again and again takes no more memory. It would replace a link, and a full adapter would be notified."""
+    running = started(program)
+    made = b'new Person\nnew Book\nnew Book\nset #0 favourite #1\nattach A8 #0 flat\nset #0 favourite #1\n'
+    if not answers(running, made, b'#0\n\n#1\n\n#2\n\nok\n\nok\n\nok\ntold A8 SET #0.favourite #1 #1 -1\n\n'):
+        return False
+    words = b'set #0 favourite #2\n', b'refused 27 ADAPTER_FULL\n\n'
+    holds, before = is_refused(running, *words), resident(running)
+    holds = holds and all(is_refused(running, *words) for _ in range(ROUNDS))
+    return holds and resident(running) < before + SLACK and ends(running, 0, '')
+
+
 DIALOGUES = (
     each_line_is_answered,
     half_a_line_waits,
@@ -155,6 +181,7 @@ DIALOGUES = (
     terminal_is_prompted,
     journal_comes_back,
     examples_are_answered_alike,
+    refused_commands_keep_no_memory,
 )
 
 

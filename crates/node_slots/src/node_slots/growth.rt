@@ -116,10 +116,12 @@ impl NodeSlots {
     {
         let mut forgotten = None;
         for edit in plan {
-            // Of consecutive edits of one end, the first edit takes back the capacity of that end.
+            // Of consecutive edits that add something to one end, the first edit takes back the capacity of that end.
             let end = edit.end();
             self.forget_edit(edit, forgotten == Some(end));
-            forgotten = Some(end);
+            if matches!(edit, Edit::Put(_) | Edit::PutProxy { .. }) {
+                forgotten = Some(end);
+            }
         }
     }
 
