@@ -18,8 +18,8 @@ class Refused(Exception):
 
 
 class Telling(NamedTuple):
-    """A notification at one end. Its value is the new one of SET and UNSET, and the old index of MOVE. The index of ADD and REMOVE may be
-    left open: then it is the end of the list, or the index of the value."""
+    """A notification at one end. `value` is the new value of SET and UNSET, the value of ADD and REMOVE, and the old index of MOVE. `place`
+    is the index. If it is None, ADD puts the value at the end of the list, and REMOVE takes it out at its index."""
 
     node: str
     feature: MFeature
@@ -39,7 +39,7 @@ def lost(node, feature, value):
 
 
 def gained(node, feature, value):
-    """The notification that an end gains a value, at its end if it is a list."""
+    """The notification that an end gains a value, which comes last if the end is a list."""
     return Telling(node, feature, 'ADD' if feature.is_many else 'SET', value)
 
 

@@ -20,7 +20,7 @@ class Session:
             return [f'refused {refused}']
 
     def change(self, answer, tellings):
-        """An answer, with the lines of the adapters that are notified of a change: those that are attached to the state before it."""
+        """An answer, with the lines of the adapters that are notified of a change. They are found in the state before the change."""
         hearing = [self.adapters.audience(it.node, self.model.above(it.node)) for it in tellings]
         self.adapters.reserve(hearing)
         notices = [self.model.tell(it) for it in tellings]

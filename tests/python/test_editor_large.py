@@ -85,7 +85,8 @@ class Large(BrowserTest):
     """One file with all objects."""
 
     def timed(self, what, times, limit=STEP):
-        """Checks that the first of some times, their median, is below a limit in milliseconds; prints the times if EDITOR_MEASURES is set.
+        """Checks that the first time is below a limit; prints all times if EDITOR_MEASURES is set. `times` are in milliseconds, and begin
+        with the median of the measured times.
         """
         if os.environ.get('EDITOR_MEASURES'):
             print(f'{what}: {" / ".join(f"{it:,.0f}" for it in times)} ms')

@@ -1,4 +1,4 @@
-"""Random models in files: a shard has the same as the whole model has of its files, and what was edited and saved is read again."""
+"""Random models in files: a shard has what the whole model has of the same files, and what was edited and saved is read again."""
 
 import json
 import random
@@ -124,7 +124,7 @@ class Random(ClientTest):
         return top
 
     def test_shards(self):
-        """Each group of files has the same as the whole model has of these files, unresolved proxies included."""
+        """Each group of files has what the whole model has of these files, unresolved proxies included."""
         left = resolved = 0
         for seed in range(MODELS):
             top = self.folder(seed, seed % 5 == 0)

@@ -196,8 +196,8 @@ class Metamodels(unittest.TestCase):
                 self.assertEqual(json.loads(text), json.loads(METAMODEL))
 
     def test_a_reference_of_a_supertype(self):
-        """For an opposite that a supertype declares, the first fix that is offered gives the metamodel that was meant, the second an
-        accepted one."""
+        """For an opposite that a supertype declares, the first fix that is offered gives the metamodel that was meant, and the second fix
+        gives a metamodel that is accepted."""
         pattern = r'class Shop, feature clerks: its opposite "(\w+)" is no feature that (\w+) declares itself; declare it in \2 and not in (\w+), or give .*'
         text = self.mended(LIFTED, pattern, edited(moved_down))
         self.assertEqual(json.loads(text), json.loads(METAMODEL))

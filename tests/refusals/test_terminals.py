@@ -17,7 +17,7 @@ def read_all(terminal):
     while select.select([terminal], [], [], SECONDS)[0]:
         try:
             data = os.read(terminal, 4096)
-        except OSError:  # so Linux reports the end
+        except OSError:  # Linux reports the end by this error
             break
         if not data:
             break

@@ -27,7 +27,8 @@ class EmfTest(ToolTest):
         return [it.replace(file.name, name) for it in lines]
 
     def check_same(self, ecore, name, notes=()):
-        """Checks that EMF reads a file of the cases as before after both tools, and that xmi2doc prints these notes; returns the document.
+        """Checks that EMF reads a file of the cases and the file that both tools make of it alike, and that xmi2doc prints these notes;
+        returns the document.
         """
         source = CASES / f'{name}.xmi'
         ended = run_tool('xmi2doc', '--ecore', CASES / f'{ecore}.ecore', source)

@@ -7,7 +7,7 @@ from typing import Any
 
 
 class Several(argparse.Action):
-    """An option that takes several files, and notes that it was the last one to do so."""
+    """An option that takes several files. `last` has the files of the last such option on the command line."""
 
     def __call__(self, parser: argparse.ArgumentParser, words: argparse.Namespace, values: Any, option: Any = None) -> None:
         """Adds the files to those of earlier options of the name."""

@@ -27,7 +27,7 @@ FLAGS = {
 
 
 def built_in(feature: EFeature) -> str:
-    """The name of the type of Ecore that a feature has, as `ecore:EInt`; empty if it has another."""
+    """The name of the type of a feature, as `ecore:EInt`; empty if the type is not one of Ecore."""
     found = feature.type
     if isinstance(found, str):
         return found

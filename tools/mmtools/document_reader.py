@@ -76,7 +76,9 @@ class DocumentReader:
             notes.tell('URI', uri, text)
 
     def made(self, value: Dict[str, Any]) -> Any:
-        """An object for a JSON object that has the keys of one. Its class stays a name until it is checked."""
+        """An object for a JSON object that has the keys `class` and `features`, else the value itself. The class is checked later: if
+        no class has the name, the name takes its place.
+        """
         if len(value) == 2 and 'class' in value and type(value.get('features')) is dict:
             self.count += 1
             name = value['class']

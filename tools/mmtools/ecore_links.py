@@ -57,7 +57,7 @@ class Links:
         return f'type:{name}' if uri == XML_TYPE else None
 
     def file_of(self, file: EFile, uri: str) -> Optional[EFile]:
-        """The file of a URI: by its path, or, if the URI is no path, the only file of that last segment."""
+        """The file of a URI: the file at the path of the URI, or, if there is none, the only file with the URI's last segment as name."""
         path = path_of(uri)
         wanted = real_path(os.path.dirname(file.path), path)
         same = [other for other in self.files if os.path.realpath(other.path) == wanted]

@@ -26,7 +26,7 @@ class EPackage:
 
 @dataclass(eq=False)
 class ENamed:
-    """What a name and a line of a file belong to."""
+    """A part of a package that has a name, and its element in the file."""
 
     name: str
     element: Element

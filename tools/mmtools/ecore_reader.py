@@ -40,7 +40,7 @@ def links_of(element: Element, name: str) -> List[str]:
 
 
 def link_of(element: Element, name: str) -> Optional[str]:
-    """The first of the references."""
+    """The first reference that `links_of` finds; None if there is none."""
     return next(iter(links_of(element, name)), None)
 
 
@@ -74,7 +74,7 @@ class Reader:
     """Reads one file."""
 
     def __init__(self, path: str, notes: Notes) -> None:
-        """What has no place whatever it says, operations and annotations, goes to the notes."""
+        """Operations and annotations, which are always left out, go to the notes."""
         self.notes = notes
         self.file = EFile(path, read_xml(path))
 

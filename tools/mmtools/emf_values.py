@@ -19,12 +19,12 @@ DATE = re.compile(r'([0-9]{4})-([0-9]{2})-([0-9]{2})(T[0-9]{2}:[0-9]{2}(:[0-9]{2
 
 
 def whole(bound: int) -> Check:
-    """A number from -bound to bound - 1."""
+    """The check whether a text is a number from -bound to bound - 1."""
     return lambda text: re.fullmatch(r'[+-]?[0-9]{1,20}', text, re.ASCII) is not None and -bound <= int(text) < bound
 
 
 def like(pattern: str) -> Check:
-    """A text of a pattern."""
+    """The check whether a text matches a pattern."""
     compiled = re.compile(pattern, re.ASCII | re.DOTALL)
     return lambda text: compiled.fullmatch(text) is not None
 

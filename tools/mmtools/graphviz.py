@@ -38,7 +38,7 @@ def pair(line: Line) -> FrozenSet[int]:
 
 
 def labels(line: Line, is_one_of_many: bool) -> List[Tuple[str, str]]:
-    """The texts of a line. Of many lines between two boxes the bounds are in the label: at the ends they would lie over each other."""
+    """The texts of a line. If many lines join two boxes, the bounds are in the label, since at the ends they would lie over each other."""
     if not is_one_of_many or not line.far:
         return [('label', line.label), ('taillabel', line.near), ('headlabel', line.far)]
     bounds = f'{line.near} / {line.far}' if line.near else line.far

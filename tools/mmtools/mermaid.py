@@ -29,7 +29,7 @@ def row_text(row: str) -> str:
 
 
 def identifiers(picture: Picture) -> List[str]:
-    """The identifier of each box: its title if that is a name that says nothing to Mermaid, else a numbered one."""
+    """The identifier of each box: its title if the title is a name, no keyword of Mermaid and not in use, else a numbered name."""
     taken = {box.title for box in picture.boxes}
     given: List[str] = []
     used: Set[str] = set()

@@ -13,7 +13,7 @@ MOST_LISTS = 100_000  # the most lists that are remembered by their paths
 ATTRIBUTE, CONTAINED, REFERENCE, CONTAINER = range(4)
 NEVER = object()  # the default of a feature that is written whatever its value
 BEYOND = object()  # what a fragment leads to if its list is known and has no such position
-MARKS = ': #'  # what a path has that is more than positions, or a part of a name that a reader cuts at
+MARKS = ': #'  # characters at which a reader cuts a text: a path with one of them is not remembered
 
 
 class Obj:
@@ -102,7 +102,7 @@ class Lists(Dict[str, List[Obj]]):
     """The lists of contained objects that were looked up, by the paths to them."""
 
     def at(self, fragment: str) -> Union[Obj, object, None]:
-        """The object of a fragment, or `BEYOND`, if its list is known; None if that is not known."""
+        """The object of a fragment, or `BEYOND`, if its list is known; None if the list is not known."""
         path, _, digits = fragment.rpartition('.')
         parts = self.get(path)
         if parts is None or INDEX.fullmatch(digits) is None:

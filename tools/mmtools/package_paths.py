@@ -28,7 +28,7 @@ class PackagePaths:
     """Finds the elements of the Ecore files of one run."""
 
     def __init__(self, bent: Bent) -> None:
-        """The files are those that were bent."""
+        """The files are those that were converted to `bent`."""
         self.links = Links(bent.files)
         self.by_name = bent.by_name
 

@@ -17,13 +17,13 @@ class Progress:
     """Says how many steps of a long file are done."""
 
     def __init__(self, what: str, total: int, many: int = MANY_OBJECTS) -> None:
-        """`what` names the work, `total` counts its steps; from `many` on it is said how far it is."""
+        """`what` names the work, and `total` counts its steps. The progress is shown if there are at least `many` steps."""
         self.what, self.total, self.done = what, total, 0
         self.shows = total >= many and sys.stderr.isatty()
         self.next = time.monotonic()
 
     def step(self, count: int) -> None:
-        """Counts steps, and says so if it is time for it."""
+        """Counts steps, and shows the progress if it is time for that."""
         self.done += count
         if self.shows and time.monotonic() >= self.next:
             self.next = time.monotonic() + SECONDS

@@ -14,7 +14,8 @@ FRAGMENT = re.compile(r'/(0|[1-9][0-9]{0,6})?(/@[A-Za-z_][A-Za-z0-9_]*(\.(0|[1-9
 
 @dataclass(frozen=True)
 class Step:
-    """A step from an object to one that it contains: by feature, or by the value of an attribute; with its position among them.
+    """A step from an object to an object that it contains: by a feature, or by the value of an attribute, and by the position among
+    the objects that these give.
 
     `keys` has the attributes of a step by keys, and the texts of their values, with None for null.
     """
@@ -34,7 +35,7 @@ KEYED = re.compile(rf'@([^\[\]]+)\[([^=,\[\]]+={VALUES}(?:,[^=,\[\]]+={VALUES})*
 
 
 def renamed(fragment: str, names: Mapping[str, Set[str]]) -> str:
-    """A fragment by positions with each name of a feature replaced, if there is only one for it."""
+    """A fragment by positions in which each name of a feature is replaced by its name in `names`, if there is exactly one."""
     return NAMED.sub(lambda it: f'/@{next(iter(names[it[1]]))}' if len(names.get(it[1], ())) == 1 else it[0], fragment)
 
 

@@ -13,7 +13,9 @@ NOWHERE = 'http://nowhere.invalid/' + '0/' * DEEP
 
 
 def joined(base: Optional[str], uri: str) -> Optional[str]:
-    """A URI joined with that of a resource, or for itself; None if there is none of http or https. Without a base it may stay relative."""
+    """A URI joined with the URI of a resource, or read alone if there is no base; None if the result is no URI of http or https. Without
+    a base a relative URI stays relative.
+    """
     there = parse(base, None) if base is not None else None
     if there is None and base is None and SCHEME.fullmatch(uri) is None:
         return relative(uri)
@@ -46,7 +48,7 @@ def below(found: Url, base: Url) -> str:
 
 
 def path_of(uri: str) -> str:
-    """The path that a URI of a file or of a platform has, or that a relative one is."""
+    """The path of a URI of a file or of a platform. A relative URI is the path itself."""
     try:
         return unquote(urlsplit(uri).path if uri.startswith(('file:', 'platform:')) else uri)
     except ValueError:

@@ -27,7 +27,9 @@ class LinkJoiner:
         self.holes: Set[Tuple[Obj, Slot]] = set()
 
     def join(self) -> None:
-        """Joins all references, in the order of EMF: those of attributes with many of them at last. Completes both ends."""
+        """Joins all references in the order of EMF, in which those of an attribute with many references come last. Then completes the
+        links that only one of two opposite ends names.
+        """
         waiting = self.reader.pending + self.reader.many
         object_at = self.reader.addresses.lists.at
         for it in Progress(f'joining the references of {self.file}', len(waiting)).each(waiting):

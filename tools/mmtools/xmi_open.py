@@ -25,5 +25,5 @@ class Text:
     __slots__ = ('owner', 'slot', 'line', 'is_nil')
 
     def __init__(self, owner: Obj, slot: Slot, line: int, is_nil: bool) -> None:
-        """The text is read at its end."""
+        """The text is taken when the element ends."""
         self.owner, self.slot, self.line, self.is_nil = owner, slot, line, is_nil

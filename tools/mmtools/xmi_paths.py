@@ -20,7 +20,7 @@ class Addresses:
     """The addresses of one file, while it is read and after it."""
 
     def __init__(self, graph: Graph) -> None:
-        """The last object of an `xmi:id` has it, and the first one of the value of an `iD` attribute, as in EMF."""
+        """As in EMF, an `xmi:id` that several objects have leads to the last of them, and a value of an `iD` attribute to the first."""
         self.graph = graph
         self.ids: Dict[str, Obj] = {}
         self.keys: Dict[str, Obj] = {}
@@ -28,7 +28,9 @@ class Addresses:
         self.gaps: Dict[Tuple[Obj, str], List[int]] = {}
 
     def skip(self, owner: Obj, slot: Slot) -> None:
-        """Notes that a part is left out at this position, so that the positions after it count it. No list is looked up from here on."""
+        """Notes that a part is left out at this position, so that the positions after it count the part. From here on no list is
+        remembered or looked up.
+        """
         self.lists.clear()
         gaps = self.gaps.setdefault((owner, slot.name), [])
         gaps.append(len(held(owner, slot)) + len(gaps))
@@ -77,7 +79,7 @@ class Addresses:
         return parts[index] if index < len(parts) else NO_POSITION
 
     def written(self, obj: Obj) -> str:
-        """The fragment of an object by the names of Ecore, which counts what was left out before it."""
+        """The fragment of an object by the names of Ecore. Its positions count the parts that were left out before the object."""
         if obj.parent is None or obj.via is None:
             return self.graph.fragment(obj, True)
         index = obj.index

@@ -28,7 +28,7 @@ class XmiReader(Parser):
     """Reads one file."""
 
     def __init__(self, file: str, bent: Bent, plans: Plans, notes: Notes) -> None:
-        """The classes are those of the packages that were bent."""
+        """The classes are those of the packages that were converted to `bent`."""
         super().__init__(file)
         self.bent, self.plans, self.notes = bent, plans, notes
         self.graph = Graph(plans)
@@ -87,12 +87,12 @@ class XmiReader(Parser):
             self.open.pop()
 
     def data(self, text: str) -> None:
-        """Takes text. Spaces say something in a value alone."""
+        """Takes text. Outside of a value, spaces are ignored."""
         if self.open and (type(self.open[-1]) is Text or not text.isspace()):
             self.texts.append(text)
 
     def text_before(self) -> None:
-        """Notes text of an object, which has no place."""
+        """Notes text between the elements of an object, which is left out."""
         top = self.open[-1] if self.open else None
         if type(top) is Obj and id(top) not in self.texted:
             self.texted.add(id(top))
@@ -133,7 +133,7 @@ class XmiReader(Parser):
         return found
 
     def typed(self, slot: Slot, attributes: List[str]) -> MClass:
-        """The class of a contained object: that of its type, else that of the reference."""
+        """The class of a contained object: the class that its `xsi:type` names, else the type of the reference."""
         text, to = type_text(attributes), slot.type
         assert isinstance(to, MClass)
         if text is None:
@@ -185,14 +185,16 @@ class XmiReader(Parser):
         return made
 
     def note_shape(self, of: MClass, slot: Slot, attributes: List[str]) -> None:
-        """Records that objects of a slot with these attributes are simple, if they are: without type, link, and names of other spaces."""
+        """Records the class and the slots of objects of a slot with these attributes, if all attributes are features and none is a link
+        or a type. `start` reads further such objects by this record.
+        """
         names = attributes[::2]
         slots = [self.plans[of].by_key.get(name) for name in names]
         if None not in slots and 'href' not in names and of is slot.type:
             self.shapes[(slot, *names)] = (of, slots)
 
     def other_attribute(self, owner: Obj, name: str, text: str) -> None:
-        """An attribute that is no feature that has a place: one of XMI or XML, or of what is left out."""
+        """An attribute that is no feature here: an attribute of XMI or XML, or a feature that is left out."""
         space, local = name_of(name)
         if not space:
             self.left(owner, local, [])
@@ -206,7 +208,7 @@ class XmiReader(Parser):
             self.fault(f'class {owner.of.name} has no feature {shortened(local)} of {space}')
 
     def left(self, owner: Obj, name: str, attributes: List[str]) -> Skipped:
-        """Notes a feature that has no place, or refuses one that is unknown."""
+        """Notes a feature that is left out, or refuses a feature that is unknown."""
         found = self.plans[owner.of].left.get(name)
         if found is None:
             self.fault(f'class {owner.of.name} has no feature {shortened(name)}')
@@ -215,7 +217,7 @@ class XmiReader(Parser):
         return Skipped(self.skipped_class(attributes, found.source) if is_part else None)
 
     def attribute(self, owner: Obj, slot: Slot, text: str) -> None:
-        """A feature that is written as an attribute. A list is cut at spaces, like one of EMF."""
+        """A feature that is written as an attribute. A list is cut at spaces, as EMF does."""
         if slot.is_many and not text.strip(' ') and slot.feature.source is not None and slot.feature.source.flags['unsettable']:
             self.notes.tell('unsettable', slot.feature.qualified, 'is set to an empty list there, and not set here', self.line)
         if slot.kind == ATTRIBUTE:
@@ -258,7 +260,7 @@ class XmiReader(Parser):
             self.notes.tell('reference', slot.feature.qualified, why, line, True)
 
     def refer(self, owner: Obj, slot: Slot, text: str, line: int) -> bool:
-        """Joins a reference to an object that was read already; whether there is one."""
+        """Joins a reference to an object that was read already. Returns whether there is such an object."""
         fragment = text[1:] if text.startswith('#') else text
         if slot.kind == CONTAINER or '#' in fragment:
             return False
@@ -299,7 +301,7 @@ class XmiReader(Parser):
         self.open.append(Text(owner, slot, line, is_nil))
 
     def other_child(self, owner: Obj, tag: str, attributes: List[str]) -> None:
-        """An element that is no feature that has a place. A feature is in the default namespace if there is one."""
+        """An element whose tag is no feature. If there is a default namespace, the element may be a feature in that namespace."""
         space, name = name_of(tag)
         if is_xmi(space):
             self.skip(f'xmi:{name}')
@@ -311,7 +313,7 @@ class XmiReader(Parser):
             self.open.append(self.left(owner, name, attributes))
 
     def contained(self, owner: Obj, slot: Slot, attributes: List[str], is_nil: bool) -> None:
-        """An object that is contained. One of another file has no place."""
+        """An object that is contained. An object of another file is left out."""
         href = value_under(attributes, 'href') if 'href' in attributes else None
         if is_nil or href is not None:
             if href is not None:

@@ -1,4 +1,6 @@
-"""Writes objects as XMI, as EMF does: attributes in the element, lists of values, references to other files and parts as elements below."""
+"""Writes objects as XMI, as EMF does. Single values, and references inside of the file, are attributes of the object's element. Lists of
+values, references to other files, and the objects that it contains are elements below.
+"""
 
 from __future__ import annotations
 
@@ -46,7 +48,7 @@ class XmiWriter:
         self.progress = Progress('', 0)
 
     def pieces(self, count: int) -> List[bytes]:
-        """The file in pieces. The head is written at last, when all prefixes are known."""
+        """The file in pieces. The head is made last, when all prefixes are known."""
         self.progress = Progress('writing the objects', count)
         roots = self.graph.roots
         name = 'xmi:XMI' if len(roots) != 1 else self.type_text(roots[0])

@@ -14,7 +14,7 @@ INVALID_TOKEN = 'not well-formed (invalid token)'
 
 
 class Parser:
-    """Parses one file. A reader derives its own from it, with `start`, `end` and `data` for elements and texts."""
+    """Parses one file. A reader derives its own class from this one, with `start`, `end` and `data` for elements and texts."""
 
     def __init__(self, file: str) -> None:
         """`file` is named by faults."""
@@ -105,7 +105,7 @@ class Parser:
             self.parser.StartElementHandler = self.parser.EndElementHandler = self.parser.CharacterDataHandler = None
 
     def tell(self, found: expat.ExpatError, rest: bytes) -> NoReturn:
-        """Ends with the fault of the parser; `rest` begins where it is. A byte that the encoding doesn't have is named."""
+        """Ends with the fault of the parser; `rest` has the bytes from the fault on. A byte that the encoding doesn't have is named."""
         text = expat.ErrorString(found.code)
         if text == INVALID_TOKEN and rest:
             try:

@@ -1,4 +1,4 @@
-"""Builds the shared library, and the extension module for Python, of the proved static library (docs/C.md)."""
+"""Builds the shared library from the proved static library (docs/C.md), and the extension module for Python."""
 
 from __future__ import annotations
 
@@ -47,7 +47,7 @@ def headers() -> Path:
 
 
 def shared_library(static: Path, folder: Path) -> Path:
-    """The shared library of a static one, in a folder: linked by the linker of the system, which exports mmrepo's own names alone."""
+    """Links the shared library of a static one, in a folder, by the linker of the system. The library exports only mmrepo's own names."""
     made = folder / SHARED
     words = ['-shared', '-Wl,--whole-archive', static, '-Wl,--no-whole-archive', kit() / 'c/liblibc_c.a', '-Wl,-z,defs']
     _run([compiler(), *words, f'-Wl,--version-script={EXPORTS}', f'-Wl,-soname,{SHARED}', '-Wl,--gc-sections', '-o', made])

@@ -1,4 +1,4 @@
-"""What is proved: `./check` leaves a record of the sources that `rt ci` has proved, and of the program and the library that it made of them."""
+"""What is proved: `./check` leaves a record of the sources that `rt ci` has proved, and of the program and the library built from them."""
 
 from __future__ import annotations
 
@@ -11,7 +11,7 @@ from typing import Dict, NamedTuple, Optional
 TOP = Path(__file__).resolve().parent.parent.parent
 PROGRAM = TOP / 'crates/mmrepo/out/mmrepo'
 STATIC = TOP / 'crates/mmrepo_c/out/libmmrepo_c.a'
-SOURCES = ('src', 'specs', 'proofs', 'include')  # the folders of a crate that it is made of
+SOURCES = ('src', 'specs', 'proofs', 'include')  # the folders of a crate that have its sources
 
 
 class NotProved(Exception):

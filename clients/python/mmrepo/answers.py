@@ -1,4 +1,4 @@
-"""Reads answers, each function those of one kind. Raises a ValueError for an answer of another kind."""
+"""Reads answers. Each function reads the answers of one kind, and raises a ValueError for an answer of another kind."""
 
 from __future__ import annotations
 

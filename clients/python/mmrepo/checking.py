@@ -15,8 +15,8 @@ Placed = Tuple[int, Finding]  # with the number of the object in the document
 
 
 class Scope(NamedTuple):
-    """What is checked: the files below some names, where an empty name stands for all files, without the metamodel; and the
-    beginnings of URIs that may lead outside.
+    """What is checked: the files with or below the names of `tops`, in which an empty name stands for all files, but not the
+    metamodel. A proxy may lead outside if its URI begins with one of `accepted`.
     """
 
     tops: Tuple[str, ...]

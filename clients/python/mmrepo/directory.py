@@ -17,7 +17,7 @@ LINK = 'it is a symbolic link, which is not followed'
 
 
 def digest_of(content: bytes) -> bytes:
-    """What distinguishes two contents."""
+    """The hash of a content, by which contents are compared."""
     return blake2b(content, digest_size=16).digest()
 
 
@@ -35,7 +35,7 @@ def reason(error: OSError) -> str:
 
 
 class State(NamedTuple):
-    """A file at one moment: values that identify its content, and that differ after a change of the file."""
+    """A file at one moment: the hash of its content, its mode, and a mark that differs after a change of the file."""
 
     digest: bytes
     mode: int
@@ -152,8 +152,9 @@ class Directory:
 
 
 class Replacement:
-    """New content of a file. It is in a second file beside the first until one step puts it in its place. A crash leaves the
-    old content or the new one, and perhaps the second file, whose name begins with `.mmrepo-`.
+    """New content of a file. The new content is in a second file beside the first, until `put` puts the second file in the place
+    of the first in one step. A crash leaves the old content or the new one, and perhaps the second file, whose name begins with
+    `.mmrepo-`.
     """
 
     def __init__(self, directory: Directory, name: str, temporary: str) -> None:
@@ -161,13 +162,13 @@ class Replacement:
         self._is_done = False
 
     def put(self) -> None:
-        """Puts it in the place of the file."""
+        """Puts the second file in the place of the first."""
         with self._directory._folder(self._name) as (fd, leaf):
             os.rename(self._temporary, leaf, src_dir_fd=fd, dst_dir_fd=fd)
             self._is_done = True
 
     def drop(self) -> None:
-        """Deletes the second file, unless it was put in its place."""
+        """Deletes the second file, unless it was put in the place of the first."""
         if not self._is_done:
             self._is_done = True
             with self._directory._folder(self._name) as (fd, _):
@@ -208,5 +209,5 @@ def _leads_to_folder(entry: os.DirEntry) -> bool:
 
 
 def _mark(status: os.stat_result) -> Tuple[int, ...]:
-    """What a change of a file changes."""
+    """Values of which each change of the file changes at least one."""
     return status.st_dev, status.st_ino, status.st_size, status.st_mtime_ns, status.st_ctime_ns

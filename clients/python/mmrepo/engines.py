@@ -23,11 +23,13 @@ class Engine:
     may_hang = False  # whether an answer may never come
     is_shut = False  # whether each call raises an error
     list_length: Optional[Callable[[bool, int, str], str]] = None
-    """How many values a list has: of a resource or not, by its number, under a name. None: it has no such call, and neither the next two."""
+    """How many values a list has. The arguments are whether the list is of a resource, the number of the resource or object, and the
+    name of the feature. None if the engine has no such call; then it has none for `list_value` and `load` either.
+    """
     list_value: Optional[Callable[[bool, int, str, int], str]] = None
     """The value at an index of a list."""
     load: Optional[Callable[[int, bytes], str]] = None
-    """Loads a document into the resource of a number."""
+    """Loads a document into the resource with a number."""
 
     def __init__(self) -> None:
         _open.add(self)
@@ -91,9 +93,10 @@ os.register_at_fork(after_in_child=_after_fork)
 def start(metamodel: str, document: bytes, program: Optional[str], library: Optional[str], journal: Optional[str] = None) -> Engine:
     """The engine of a repository over a metamodel.
 
-    Only the program keeps a journal, so with a journal the engine is the program. Otherwise it is the library, if that is an
-    argument; else the program, if that is an argument; else the library that MMREPO_LIBRARY names, or the library beside this
-    package; else the program. If neither is an argument, MMREPO_ENGINE can demand an engine by its name.
+    Only the program keeps a journal, so with a journal the engine is the program. Otherwise the engine is the library, if
+    `library` is given; else the program, if `program` is given; else the library that MMREPO_LIBRARY names, or the library
+    beside this package; else the program. If neither is given, MMREPO_ENGINE can demand an engine by its name; if only
+    `library` is given, it can demand `extension` or `ctypes`.
     """
     from .inprocess import InProcess
     from .process import Program, program_file

@@ -111,7 +111,7 @@ class ProgramError(MmrepoError):
 
 
 class NotStarted(ProgramError):
-    """There is no program of the name, or the system can't run it."""
+    """No engine can be started: for example, there is no program or library of the name, or the system can't run or load it."""
 
 
 class ProgramEnded(ProgramError):

@@ -22,10 +22,10 @@ _REFUSED = re.compile(r'refused ([0-9]+) ([A-Z_]+)(?: ([0-9]+) ([A-Z_]+))?')
 
 
 class Exchange:
-    """Gives lines to an engine, and reads the answers. It belongs to the thread that made it.
+    """Gives lines to an engine, and reads the answers. An exchange belongs to the thread that made it.
 
-    It is `busy` from before a line is given until its answer is read. During that time a Ctrl-C waits, and `interrupted` says
-    so.
+    An exchange is `busy` from before a line is given until the answer to the line is read. A Ctrl-C that comes in this time
+    waits, and `interrupted` is the handler of the waiting Ctrl-C.
     """
 
     def __init__(self, engine: Engine) -> None:
@@ -46,7 +46,7 @@ class Exchange:
         raise NotImplementedError
 
     def ask(self, line: str, read: Callable[[str], T]) -> T:
-        """The result of `read` for the answer to a line. The views are notified before it is returned.
+        """The result of `read` for the answer to a line. The views are notified before the result is returned.
 
         Raises a Refused if the command is refused, and a BadLine if the engine does not know it. If `read` raises a ValueError,
         the engine is ended and a ReplyNotUnderstood is raised.
@@ -85,7 +85,7 @@ class Exchange:
             self._hand_out()
 
     def value(self, line: str) -> Any:
-        """The value of a command that answers one."""
+        """The value that a command answers."""
         if get_ident() != self._owner:
             raise self._foreign()
         self.busy = True
@@ -200,7 +200,7 @@ class Exchange:
         return ReplyNotUnderstood(f'not understood: {shown(text.strip())}, at the line `{shown(line)}`')
 
     def _leave(self) -> None:
-        """Is called when a command was not done. Handles a Ctrl-C that came in the meantime."""
+        """Ends the time in which a Ctrl-C waits, and handles a Ctrl-C that came in that time."""
         self.busy = False
         handler, self.interrupted = self.interrupted, None
         if handler is not None:

@@ -127,7 +127,7 @@ class Folder:
         return digest_of(document.encode('utf-8')), document
 
     def prepared(self, force: bool) -> Tuple[List[Ready], List[Finding]]:
-        """The files to write, and the findings that forbid it."""
+        """The files to write, and a finding for each changed file that must not be written."""
         ready: List[Ready] = []
         findings: List[Finding] = []
         for kept in self._kept.values():
@@ -185,7 +185,7 @@ class _InTheWay(Exception):
 
 
 def _check_differ(texts: Sequence[str], place: str) -> None:
-    """Refuses a list that has an object and also a proxy with its address: a document with one text twice is not read again."""
+    """Refuses a list that has an object and also a proxy with its address: a document with one text twice could not be read."""
     if len(set(texts)) < len(texts):
         text = next(it for it in texts if texts.count(it) > 1)
         raise _InTheWay('DUPLICATE', place, f'{text_word(text)} is in the list twice, as an object and as a proxy that was left; take one out')

@@ -119,11 +119,11 @@ class _Session:
         raise RuntimeError('the session is closed')
 
     def close(self) -> None:
-        """Closes it, and frees what it has."""
+        """Closes the session, and frees its memory."""
         self._library.close(self._at)
 
     def abandon(self) -> None:
-        """Closes it, and frees nothing."""
+        """Closes the session, and frees nothing."""
         self._struct.at, self._struct.is_open = None, False
 
     def __del__(self) -> None:
@@ -193,16 +193,16 @@ class InProcess(Engine):
         return done.stderr.decode('utf-8', 'replace').strip()
 
     def end(self, why: str) -> None:
-        """Closes it."""
+        """Closes the session. Later lines raise a RepositoryClosed with the reason."""
         self._session.close()
         self.shut(why)
 
     def close(self) -> None:
-        """Closes it."""
+        """Closes the session."""
         self.end('the repository is closed')
 
     def abandon(self) -> None:
-        """Leaves its memory as it is."""
+        """Leaves the memory of the session as it is."""
         super().abandon()
         self._session.abandon()
 

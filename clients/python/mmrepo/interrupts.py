@@ -25,8 +25,8 @@ class Handler:
         self._until = 0.0  # the moment until which a program may take to answer
 
     def __call__(self, number: int, frame: Optional[FrameType]) -> None:
-        """Leaves a Ctrl-C to a session that is busy. A second one is handled at once, since a program that takes long may never
-        answer.
+        """Leaves a Ctrl-C to a session that is busy. If a Ctrl-C has waited for more than PATIENCE seconds and the answer of the
+        engine may never come, a further Ctrl-C is handled at once.
         """
         for session in _watched:
             if session.is_busy_in(frame) and not (session.interrupted and session.engine.may_hang and time.monotonic() > self._until):
@@ -41,7 +41,7 @@ class Handler:
 
 
 def watch(session: Session) -> None:
-    """Makes Ctrl-C wait for a session. If Python has a handler already, that is called later; without a handler nothing is done."""
+    """Makes Ctrl-C wait for a session. The handler that Python has already is called later; without a handler nothing is done."""
     if threading.current_thread() is not threading.main_thread():
         return
     current = signal.getsignal(signal.SIGINT)

@@ -126,12 +126,12 @@ def _reasons(name: str, refused: Refused) -> List[Finding]:
 
 
 def several(given: Union[str, os.PathLike, Sequence[Any]]) -> Tuple[str, ...]:
-    """A list of paths or texts, from one or several."""
+    """A tuple of paths or texts, made from one of them or from several."""
     return tuple(os.fspath(it) for it in ([given] if isinstance(given, (str, os.PathLike)) else given))
 
 
 def parsed(document: str) -> Dict[str, List[dict]]:
-    """A document that the program has loaded."""
+    """The JSON of a document that the program has loaded."""
     return json.loads(document)
 
 

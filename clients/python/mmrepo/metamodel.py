@@ -93,7 +93,7 @@ class EClass(EClassifier):
         self.eSuperTypes: List[EClass] = []
         self.eStructuralFeatures: List[EStructuralFeature] = []
         self._all: Optional[Dict[str, EStructuralFeature]] = None
-        self.attributes: Optional[Dict[str, EStructuralFeature]] = None  # those that objects have as attributes, once one was asked for
+        self.attributes: Optional[Dict[str, EStructuralFeature]] = None  # the features that are Python attributes; None until one is read
 
     def eAllStructuralFeatures(self) -> List[EStructuralFeature]:
         """All features, own and inherited, in the order of docs/METAMODEL.md."""
@@ -131,7 +131,7 @@ class EClass(EClassifier):
         return self._all
 
     def _merged(self) -> Dict[str, EStructuralFeature]:
-        """The features of the supertypes, each where it comes up first, and then its own."""
+        """The features of the supertypes, each at the position where it comes up first, and then the features that the class declares."""
         found: Dict[str, EStructuralFeature] = {}
         for above in self.eSuperTypes:
             for name, feature in above._features().items():

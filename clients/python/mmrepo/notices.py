@@ -52,8 +52,8 @@ class Notice(NamedTuple):
 
 _KINDS = dict(Kind.__members__)
 _notice = tuple.__new__
-_known: Set[str] = set()  # features of earlier notifications, whose names are names
-MANY = 10_000  # so many of them are kept
+_known: Set[str] = set()  # names of features in earlier notifications, which need no further check
+MANY = 10_000  # the most names in `_known`
 
 Hearer = Callable[[Notice], Any]
 
@@ -146,7 +146,7 @@ class Views:
         return self._free[0] if self._free else self._next
 
     def add(self, session: Session, number: int, hearer: Hearer) -> View:
-        """A view with that number."""
+        """Makes the view of a callable under a number, which is the lowest free number."""
         if self._free:
             heapq.heappop(self._free)
         else:
@@ -168,8 +168,8 @@ class Views:
         return view
 
     def hear(self, lines: List[str], named: Named) -> None:
-        """Takes the lines that follow an answer. Raises a ValueError for a line that is neither a notification nor the release
-        of a view.
+        """Reads the lines that follow an answer: queues the notifications, and releases views. Raises a ValueError for a line that
+        is neither a notification nor the release of a view.
         """
         for line in lines:
             if line[:5] == 'told ':

@@ -169,7 +169,7 @@ class EObject(Node):
         return found[0]
 
     def eContainingFeature(self) -> Optional[EReference]:
-        """The same as `eContainmentFeature`: a repository has no feature that stands for others."""
+        """The same as `eContainmentFeature`, since a repository has no feature maps (EMF: FeatureMap)."""
         return self.eContainmentFeature()
 
     @property
@@ -238,7 +238,7 @@ _HIDDEN = frozenset(dir(EObject))  # names that are no attributes for features
 
 
 def _attributes(eclass: EClass) -> Dict[str, EStructuralFeature]:
-    """The features that are attributes of an object, by their names."""
+    """The features that an object has as Python attributes, by their names."""
     found = eclass.attributes
     if found is None:
         features = eclass.eAllStructuralFeatures()

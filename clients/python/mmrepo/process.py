@@ -56,16 +56,16 @@ class Program(Engine):
         self._metamodel = metamodel
         self._journal = journal
         self._said = tempfile.TemporaryFile()
-        self._said_before = 0  # how many bytes there were of what it said before
+        self._said_before = 0  # how many bytes of its standard error were read
         self._sent = 0  # how many lines it was sent
         self._data: Union[bytes, bytearray] = b''  # what was read
-        self._at = 0  # where the next answer begins in it
-        self._known = 0  # up to here it does not end
+        self._at = 0  # where the next answer begins in `_data`
+        self._known = 0  # the offset in `_data` before which the next answer does not end
         command = [file, '--meta', os.path.abspath(metamodel), '--live', '--explain']
         if journal is not None:
             command += ['--journal', os.path.abspath(journal)]
         try:
-            # In a session of its own no Ctrl-C of a terminal ends it, and a file, other than a pipe, is never full.
+            # In a session of its own the program gets no Ctrl-C from a terminal. Its standard error is a file, since a pipe could be full.
             self._process = subprocess.Popen(
                 command, stdin=subprocess.PIPE, stdout=subprocess.PIPE, stderr=self._said, start_new_session=True, bufsize=0
             )
@@ -159,13 +159,13 @@ class Program(Engine):
     def explained(self, line: str, uri: Optional[str]) -> List[str]:
         """What `--explain` says of the line that was sent last, without its number. For most lines it says nothing."""
         start = f'line {self._sent}: '
-        if self.exchange(''):  # once this line is answered, all has been said of the one before it
+        if self.exchange(''):  # when this empty line is answered, the explanation of the line before is complete
             raise self.not_understood('', 'an answer to an empty line')
         return [said[len(start):] for said in self._news().split('\n') if said.startswith(start)]
 
     def _news(self) -> str:
-        """What the program wrote on standard error since the last call. The offset of the file is shared with the program, and
-        stays.
+        """What the program wrote on standard error since the last call. Reading leaves the offset of the file, which is shared
+        with the program, as it is.
         """
         size = os.fstat(self._said.fileno()).st_size
         data = os.pread(self._said.fileno(), size - self._said_before, self._said_before)

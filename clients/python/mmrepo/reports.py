@@ -9,7 +9,7 @@ from .findings import Finding
 
 
 class Counts:
-    """What a check has gone through."""
+    """How many files and objects were checked, how many findings there are, and how many files have findings."""
 
     def __init__(self) -> None:
         self.files = self.objects = self.findings = self.faulty = 0
@@ -57,7 +57,7 @@ class JsonReport(Report):
 
 
 class GithubReport(Report):
-    """Prints a workflow command of GitHub for each finding, which makes it an annotation of its file."""
+    """Prints a workflow command of GitHub for each finding. The command makes the finding an annotation of its file."""
 
     def add(self, finding: Finding) -> None:
         file = _escaped(finding.file).replace(':', '%3A').replace(',', '%2C')
@@ -69,7 +69,7 @@ REPORTS: Dict[str, Type[Report]] = {'text': Report, 'json': JsonReport, 'github'
 
 
 def _escaped(text: str) -> str:
-    """A text of a workflow command."""
+    """A text as it is escaped in a workflow command."""
     return text.replace('%', '%25').replace('\r', '%0D').replace('\n', '%0A')
 
 

@@ -1,4 +1,4 @@
-"""A repository: what a session of the library has, or a program in its live mode."""
+"""A repository, which a session of the library or a program in its live mode holds."""
 
 from __future__ import annotations
 
@@ -49,8 +49,8 @@ class Repository:
         program.
 
         The library is the argument, else the file that MMREPO_LIBRARY names, else the one beside this package. The program is
-        used if it is an argument, or if there is no library. It is the argument, else the file that MMREPO names, else the one
-        beside this package, else `mmrepo` on the PATH.
+        used if it is an argument, or if there is no library. The program is the argument, else the file that MMREPO names, else
+        the one beside this package, else `mmrepo` on the PATH.
 
         With the file of a journal, each change is on the disk before its call returns, and the repository begins with the
         content of the journal (docs/JOURNAL.md). Only the program keeps a journal, so no library may be an argument then.
@@ -133,8 +133,8 @@ class Repository:
     def copy(self, node: EObject) -> EObject:
         """A copy of an object with all that is below it, in no container.
 
-        A reference to an object that is copied leads to its copy. Any other reference leads to the same object, and is left out
-        if it has an opposite. Raises a ValueError if an object has a proxy.
+        A reference to a copied object leads, in the copy, to the copy of that object. Any other reference leads to the same
+        object as in the original, but is left out if it has an opposite. Raises a ValueError if an object has a proxy.
         """
         self._session.check_node(node)
         return copied(self._session, node)

@@ -35,7 +35,7 @@ class Resource(Node):
 
     @contents.setter
     def contents(self, value: FeatureList) -> None:
-        """Takes the list itself, so that `resource.contents += [..]` works."""
+        """Accepts only the list itself, so that `resource.contents += [..]` works."""
         if not (isinstance(value, FeatureList) and value.is_of(self, 'contents')):
             raise AttributeError('contents is changed by the methods of its list')
 

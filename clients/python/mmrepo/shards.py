@@ -90,7 +90,7 @@ def weight(content: bytes, is_xmi: bool) -> int:
 
 
 def groups(models: Models, names: Iterable[str], objects: int) -> Iterator[Group]:
-    """Cuts files, in order, into groups of at most so many objects. A file that has more is a group of its own."""
+    """Cuts files, in order, into groups of at most `objects` objects. A file that has more objects is a group of its own."""
     directory = Directory(models.path)
     group: List[str] = []
     count = 0
@@ -114,7 +114,7 @@ def in_order(work: Callable[[Group], Any], parts: Iterable[Group], executor: Opt
         for part in parts:
             yield work(part)
         return
-    run = uuid.uuid4().hex  # so that an executor that keeps results, as Dask's, takes no two runs for one
+    run = uuid.uuid4().hex  # an executor that keeps results, as Dask's, then does not return the results of an earlier run
     waiting: Deque[Future] = deque(executor.submit(_called, work, part, run) for part in parts)
     try:
         while waiting:
@@ -125,7 +125,7 @@ def in_order(work: Callable[[Group], Any], parts: Iterable[Group], executor: Opt
 
 
 def _called(work: Callable[[Group], Any], part: Group, run: str) -> Any:
-    """What a worker does."""
+    """The work of a worker on a group. `run` is different in each run, and is not used."""
     return work(part)
 
 

@@ -230,8 +230,8 @@ def _next_line() -> str:
 
 
 def _edit_lines(shell: Shell, repo: Repository) -> Callable[[], None]:
-    """Reads the history, and completes words at the tabulator key. Returns a function that writes the history, which does
-    nothing without `readline`.
+    """Reads the history, and completes words at the tabulator key. Returns a function that writes the history. Without
+    `readline` nothing is read or completed, and the function does nothing.
     """
     try:
         import readline

@@ -19,9 +19,9 @@ class Snapshot(Dict[Node, Dict[str, Any]]):
     """The features of a node and of each node below it, by their names: a value, or a list of values. `snapshot` of a
     repository makes it.
 
-    `replay` brings it up to date by a notification. If it replays all notifications of a deep view of its node, it stays right
-    for each node that stays below that node, which is proved of the repository's own snapshots. It has no node that comes
-    later.
+    `replay` makes the change of a notification in the snapshot. If all notifications of a deep view of the node are replayed,
+    the snapshot stays right for the node and for each node that stays below it; this is proved of the repository's own
+    snapshots. A node that comes below it later is not in the snapshot.
     """
 
     def replay(self, notice: Notice) -> None:

@@ -89,7 +89,7 @@ def _is_hidden(name: str) -> bool:
 
 
 def _feature(feature: EStructuralFeature) -> Iterator[str]:
-    """The lines of a feature: a list, or a property whose values may be None, as what is read may be a proxy too."""
+    """The lines of a feature: a property for a list, else an attribute. No type says that a reference may also have a proxy."""
     if feature.many:
         yield '    @property'
         yield f'    def {feature.name}(self) -> FeatureList[{_value(feature)}]: ...'

@@ -47,7 +47,7 @@ def shortened(base: str, own: str, address: str) -> str:
 
 @lru_cache(maxsize=10_000)
 def _relative(base: str, folder: str, uri: str) -> str:
-    """A URI relative to a folder, if the relative URI leads back to it; else the URI itself."""
+    """A URI relative to a folder, if joining the relative URI with the folder gives the URI again; else the URI itself."""
     if not (folder.startswith(base) and uri.startswith(base)):
         return uri
     way = posixpath.relpath('/' + uri[len(base):], '/' + folder[len(base):])

@@ -1,4 +1,4 @@
-"""Goes through a document that the program has loaded, in the order in which it numbers the objects (docs/DOCUMENTS.md)."""
+"""Goes through a document that the program has loaded, in the order in which the program numbers the objects (docs/DOCUMENTS.md)."""
 
 from __future__ import annotations
 
@@ -6,7 +6,7 @@ from typing import Any, Dict, Iterator, List, NamedTuple, Optional, Tuple
 
 from .metamodel import EAttribute, EClass, EReference, EStructuralFeature, Metamodel
 
-Place = Tuple[Any, ...]  # the place above, the name of a feature and the index there; None for what there is not
+Place = Tuple[Any, ...]  # the place of the container, the name of a feature, and the index there; None for no container, or no index
 
 
 class Shape:

@@ -100,7 +100,7 @@ def query_of(text: str) -> Optional[str]:
 
 
 def segments(above: List[str], text: str) -> List[str]:
-    """The segments of a path below others."""
+    """The segments of the path `text`, joined with the segments `above`."""
     made = list(above)
     words = re.split(r'[/\\]', text[1:] if text[:1] in ('/', '\\') else text)
     for place, word in enumerate(words):

@@ -74,14 +74,14 @@ class Xmi:
             return Path(output).read_bytes()
 
     def _referred(self, name: str, content: bytes) -> List[str]:
-        """The other files whose names, or the URIs of whose packages, the file has with a `#` after them."""
+        """The other files to which the file may refer: its content has their name, or the URI of their package, before a `#`."""
         return [
             other for other in self._names
             if other != name and any(alias + b'#' in content for alias in self._aliases_of(other))
         ]
 
     def _aliases_of(self, name: str) -> List[bytes]:
-        """What a reference to a file may end with."""
+        """What a reference to a file may have directly before its `#`: the file's name, or the URI of its package."""
         if name not in self._aliases:
             head = self._directory.read(name)[:HEAD]
             self._aliases[name] = [os.fsencode(name.rpartition('/')[2]), *_SPACE.findall(head)[:1]]

@@ -102,7 +102,7 @@ def _picks(model: Model, it: Dict[str, Any]) -> Any:
 
 
 def _search(model: Model, it: Dict[str, Any]) -> Any:
-    """The objects with a text, of a class."""
+    """The objects of a class that have a text in an attribute."""
     if it['class'] is not None and it['class'] not in model.repo.metamodel.classes:
         raise NotDone('NO_CLASS', f'NO_CLASS: there is no class {it["class"][:100]}')
     return search.search(model.mirror, it['text'], it['class'])
@@ -115,7 +115,7 @@ def _below(model: Model, it: Dict[str, Any]) -> Any:
 
 
 def _import(model: Model, it: Dict[str, Any]) -> Any:
-    """Imports a file under a name of a folder."""
+    """Imports a file into a folder, under a name."""
     try:
         content = base64.b64decode(it['data'], validate=True)
     except (binascii.Error, ValueError):
@@ -183,5 +183,5 @@ CALLS: Dict[str, Call] = {
     'export': Call('node xmi', _export),
     'draw': Call('node? class? steps?', _draw),
 }
-# The calls that run a tool: they take the model for themselves only while they need it.
+# The calls that run a tool: they hold the lock of the model only while they need the model.
 ALONE = (_import, _export, _draw)

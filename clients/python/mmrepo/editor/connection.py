@@ -46,7 +46,7 @@ class Connection(BaseHTTPRequestHandler):
     server: Server
     protocol_version = 'HTTP/1.1'
     server_version, sys_version = 'mmrepo', ''
-    timeout = SECONDS + 5  # of a socket; that of a request is looked at by the server, which says so
+    timeout = SECONDS + 5  # of the socket; a request that takes more than SECONDS to arrive is ended by the server, which says so
     wbufsize = -1  # so that an answer is one write
     disable_nagle_algorithm = True
     _is_first = True
@@ -162,7 +162,7 @@ class Connection(BaseHTTPRequestHandler):
         self._send(status, 'application/json', json.dumps(content, separators=(',', ':')).encode())
 
     def _send(self, status: HTTPStatus, kind: str, content: bytes, more: Optional[Dict[str, str]] = None) -> None:
-        """Answers a content."""
+        """Sends an answer with a content."""
         self.send_response(status)
         for name, value in {**HEADERS, 'Content-Type': kind, 'Content-Length': str(len(content)), **(more or {})}.items():
             self.send_header(name, value)
@@ -173,7 +173,7 @@ class Connection(BaseHTTPRequestHandler):
         """Answers what is wrong as JSON, and ends the connection."""
         text = json.dumps({'refused': HTTPStatus(code).name, 'text': message or HTTPStatus(code).phrase})
         self.close_connection = True
-        if self.request_version == 'HTTP/0.9':  # so it is if the first line is not understood
+        if self.request_version == 'HTTP/0.9':  # the version has this value if the first line is not understood
             self.request_version = 'HTTP/1.0'
         self._send(HTTPStatus(code), 'application/json', text.encode() + b'\n', {'Connection': 'close'})
 

@@ -95,7 +95,9 @@ class Edits:
         return number
 
     def place(self, number: int, node: Id, feature: str, at: Optional[int] = None) -> None:
-        """Puts an object into a container or a resource, at the end or at an index; or moves it there within its list."""
+        """Puts an object into a container or a resource, at the end or at an index. If the object is there already, moves it within
+        its list.
+        """
         thing = object_of(self._repo, number)
         entry = self._mirror.nodes.get(number)
         if entry is not None and (entry.holder, entry.under) == (node, feature):
@@ -191,7 +193,9 @@ class Edits:
             raise NotDone('NOT_MANY', f'NOT_MANY: {feature.name} is no list')
 
     def _check_not_held(self, feature: EStructuralFeature, node: int) -> None:
-        """Raises a NotDone for an edit that would leave an object in no resource: its container is changed in the tree."""
+        """Raises a NotDone for an edit of a containment or of a container reference, which could leave an object in no resource:
+        the container of an object is changed in the tree.
+        """
         if isinstance(feature, EReference) and (feature.containment or feature.container):
             raise NotDone('HELD', f'HELD: {feature.name} is changed in the tree, so that no object is lost: delete, drag, or make a new one')
 

@@ -11,7 +11,7 @@ KEPT = 10_000  # events that are kept for windows that have missed them
 
 
 class Events:
-    """The last events. It is for several threads."""
+    """The last events. Several threads may use the same Events at a time."""
 
     def __init__(self) -> None:
         self._condition = threading.Condition()
@@ -28,8 +28,8 @@ class Events:
             return self.number
 
     def after(self, number: int, seconds: float) -> Optional[List[Tuple[int, str]]]:
-        """The events after one, each with its number: none, if there is none within so many seconds. None if they are not kept any
-        more, or if nothing follows."""
+        """The events after the event `number`, each with its number; an empty list if no event comes within `seconds` seconds. None
+        if some of these events are not kept any more, if there was no event `number` yet, or if the events have ended."""
         with self._condition:
             self._condition.wait_for(lambda: self.number > number or self.is_over, seconds)
             if self.is_over or number > self.number or number < self.number - len(self._kept):

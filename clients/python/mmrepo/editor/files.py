@@ -84,8 +84,8 @@ class Files:
     # What comes in
 
     def converted(self, name: str, content: bytes) -> Converted:
-        """The document of an imported file: XMI is converted by the tool, a document is taken as it is. It is loaded on trial first, so
-        that either all of it is taken or nothing."""
+        """The document of an imported file: XMI is converted by the tool, a document is taken as it is. The document is loaded into a
+        trial repository first, so that either all of it is imported or nothing."""
         is_document = name.endswith(DOCUMENTS)
         made = Converted(content, []) if is_document else self._by_tool(name, content)
         try:

@@ -16,7 +16,7 @@ NAMES = ('name', 'id')  # the attributes that name an object for a reader, the f
 
 
 class Form(NamedTuple):
-    """What is asked of a feature again and again."""
+    """The properties of a feature that are needed again and again."""
 
     name: str
     many: bool
@@ -56,7 +56,7 @@ def default_of(feature: EAttribute) -> Any:
 
 
 class Shape:
-    """The forms of the features of a class, in the order of all of them."""
+    """The forms of all features of a class, own and inherited, in their order."""
 
     def __init__(self, eclass: EClass) -> None:
         features = eclass.eAllStructuralFeatures()

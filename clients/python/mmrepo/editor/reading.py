@@ -11,7 +11,7 @@ from ..resources import Resource
 from .forms import CONTENTS, ROOTS, Form, encoded, id_of
 from .mirror import Entry, Mirror
 
-Later = Tuple[Entry, int, Form, Any]  # texts that refer to objects, of an object by its number
+Later = Tuple[Entry, int, Form, Any]  # the entry and the number of an object, a reference of it, and the texts of the reference
 
 
 def read_resources(repo: Repository, mirror: Mirror, resources: Sequence[Resource], has_proxies: bool) -> None:

@@ -35,7 +35,7 @@ class Server(ThreadingHTTPServer):
         self.token = secrets.token_urlsafe(24)
         self.page = read_page()
         self._lock = threading.Lock()
-        # The connections whose request has not come in, until when it may, and whether it is the first one.
+        # The connections whose request has not arrived: until when it may arrive, and whether it is the connection's first request.
         self._coming: Dict[socket.socket, Tuple[float, bool]] = {}
         self._open = self._listening = 0
 

@@ -65,7 +65,7 @@ def _serve(server: Server, has_browser: bool) -> None:
 
 def _model(repo: Repository, words: argparse.Namespace) -> Model:
     """The model of the folders, or an empty one without a file."""
-    gc.disable()  # what is read stays: to look through it again and again would make each edit wait now and then
+    gc.disable()  # the objects that are read stay; if the collector looked through them, an edit would wait now and then
     for path in words.paths:
         os.makedirs(path, exist_ok=True)
     suffixes = tuple(words.suffix) or XMI_FILES
