@@ -150,6 +150,18 @@ class Dying(ClientTest):
         repo.close()
         return found.exception
 
+    def test_object_of_a_batch_refused(self):
+        """If an object of a batch is refused memory, the other objects have their own numbers."""
+        repo = self.begun("for line, said in zip(lines(), ('#0', 'refused 28 MEMORY', '#1', '#2')): say(said + '\\n\\n')")
+        batch = repo.batch()
+        made = [batch.create(name) for name in ('Book', 'Person', 'Library')]
+        with self.assertRaises(Refused) as found:
+            batch.send()
+        self.assertEqual((found.exception.name, found.exception.command), ('MEMORY', 'new Person'))
+        self.assertEqual([repr(made[0]), repr(made[2])], ['<Book #0>', '<Library #1>'])
+        self.assertEqual(repr(repo.create('Folder')), '<Folder #2>')
+        repo.close()
+
     def test_dies(self):
         repo = self.begun('next(lines())\nsys.stderr.write("run stopped: MEMORY\\n")\nsys.exit(3)')
         error = self.assert_ended(repo, ProgramEnded, lambda: repo.create('Book'))

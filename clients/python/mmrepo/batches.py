@@ -20,19 +20,19 @@ NOT_MADE = '#?'  # the word of an object that is not made yet, which no line of 
 
 class Batch:
     """Commands that are collected and then sent at once: by `send`, and at the end of a `with`. `batch` of a repository makes
-    it.
+    a Batch.
 
     All commands are sent, even if one of them is refused. `answers` has the results in order: None for a change of a feature, a
-    truth value for `append`, the object that was made, how many objects a `delete` destroyed, and the Refused of a command that
-    was refused. When all commands are done, the first Refused is raised.
+    truth value for `append`, the object for `create`, how many objects were destroyed for `delete`, and the Refused for a
+    command that was refused. When all commands are done, the first Refused is raised.
 
-    The objects are made first. Before that, an object of `create` can only be used in the batch.
+    When the batch is sent, the objects are made first. Until then an object of `create` can be used only in the batch.
     """
 
     def __init__(self, session: Session) -> None:
         self._session = session
         self._objects: List[EObject] = []
-        # An edit is a verb, a node, and the words after it: a text, or a name with an object that has no number yet.
+        # An edit is a verb, a node, and the words after the node: a text, or a name with an object that has no number yet.
         self._verbs: List[str] = []
         self._nodes: List[Node] = []
         self._tails: List[Union[str, Tuple[str, EObject]]] = []
@@ -106,7 +106,7 @@ class Batch:
     def send(self) -> List[Any]:
         """Sends the collected commands, and returns their results. Further commands may be collected afterwards.
 
-        If an object is refused, its Refused is raised and nothing else is sent.
+        If objects are refused, the Refused of the first is raised, and no edit is sent; the other objects are made.
         """
         calls, is_collecting = self._calls, gc.isenabled()
         gc.disable()  # what is made here stays, and looking through it again and again takes as long as all else

@@ -31,7 +31,7 @@ class Session(Exchange):
         super().__init__(engine)
         self.metamodel = metamodel
         self.folders: List[Folder] = []
-        self.is_shard = False  # whether it has a part of a model alone, so that no file of it is written
+        self.is_shard = False  # whether the session has only a part of a model; then no file is written
         self._next = 0  # the number that the next object gets
         self._objects: Dict[str, ref[EObject]] = {}
         self._many = FEW
@@ -83,7 +83,7 @@ class Session(Exchange):
 
     def load(self, word: str, document: str) -> int:
         """Loads a document into a resource, given by its word, and returns how many objects were made."""
-        # On a line a newline may be between tokens, and so may a tab; inside of a text of the document neither may.
+        # A line has no newline. JSON allows a newline only between tokens, and there a tab means the same.
         line = f'load {word} ' + document.replace('\n', '\t')
         call = self.engine.load
         if call is None:
@@ -128,11 +128,11 @@ class Session(Exchange):
         return self.ask(line, lambda answer: values_of(answer, self.named))
 
     def text(self, line: str) -> str:
-        """The text of a command that answers one."""
+        """The text that a command answers."""
         return self.ask(line, lambda answer: checked(value_of(answer, self.named), str))
 
     def object(self, line: str, eclass: Optional[EClass] = None) -> EObject:
-        """The object of a command that answers one."""
+        """The object that a command answers."""
         return self.ask(line, lambda answer: self._read_object(answer, eclass))
 
     def _read_object(self, answer: str, eclass: Optional[EClass]) -> EObject:
@@ -157,7 +157,7 @@ class Session(Exchange):
         return self.ask(line, read_names)
 
     def document(self, line: str) -> str:
-        """The document of a command that answers one."""
+        """The document that a command answers."""
         return self.ask(line, read_document)
 
     def class_of(self, word: str) -> EClass:
@@ -177,17 +177,17 @@ class Session(Exchange):
         return Batch(self)
 
     def make(self, objects: Sequence[EObject]) -> None:
-        """Makes the objects of a batch that are not made yet; their classes are known. If one is refused, its Refused is raised
-        and no further object is made.
+        """Makes the objects of a batch that are not made yet; their classes are known. If some of them are refused, the Refused of
+        the first is raised; the others are made.
         """
         waiting = iter(objects)
 
         def read(line: str, answer: str) -> Optional[MmrepoError]:
+            made = next(waiting)
             if answer.startswith('refused '):
                 return self._refusal(line, answer)
             if answer[:1] != '#' or not is_number(answer[1:]):
                 raise ValueError('no object')
-            made = next(waiting)
             name_object(made, answer)
             known[answer] = ref(made)
             self._next = int(answer[1:]) + 1
@@ -286,7 +286,7 @@ class Session(Exchange):
         return data_word(value, feature is not None and feature.is_enumeration)
 
     def close(self) -> None:
-        """Ends the engine in order."""
+        """Ends the engine in the regular way."""
         self.check()
         interrupts.leave(self)
         self.engine.close()
