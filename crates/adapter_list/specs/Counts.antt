@@ -1,4 +1,4 @@
--- How many copies each adapter gets, whether it is ready for them, and which adapter refuses them.
+-- How many copies each adapter gets, whether the adapter is ready for its copies, and which adapter refuses its copies.
 use Rattle.std.specs.Prelude.{◌≡◌, ◌&&◌, ℕ, Bool, true, nat_eq, nat_lt, [], ◌∷◌, ◌+◌, ◌^◌, ◌<◌, ◌≤◌, List, length, map, slice_index, Option, Some, None}
 use Rattle.std.specs.List.{list_any}
 use Rattle.notice_chain.specs.Listed.{Listed}

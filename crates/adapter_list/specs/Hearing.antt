@@ -37,7 +37,8 @@ is_touched os r = list_any (λ o. has_target (node.Object o) r) os
 abbrev pub touched_indexes : List ObjectNo → List Listed → List ℕ
 touched_indexes os rs = ordinals_from (is_touched os) 0 rs
 
--- the result of the last search is still right: it is for no node, or has the adapters that get the notifications of its node
+-- what is remembered from the last search is still right: no node is remembered, or a node with exactly the adapters that get its
+-- notifications
 abbrev pub AreKnown : Above → List Listed → Hearers → Type 0
 AreKnown up rs h = IfSome h.node (λ x. h.ordinals.items ≡ hearers up x rs)
 

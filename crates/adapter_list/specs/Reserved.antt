@@ -8,7 +8,7 @@ use Rattle.adapter_list.specs.Counts.{IsFirstFull}
 use Rattle.adapter_list.specs.Refusals.{IsChainRefusal}
 use Rattle.adapter_list.specs.Rounds.{RoundFits, RoundView, round_copies, round_of}
 
--- a chain was reserved: the adapters and their capacities before and after it, and the round or the refusal
+-- the outcome of reserving a chain: the adapters and their capacities before and after it, and the round or the refusal
 pub record IsReserved (up : Above) (chain : List Notice) (old new : List Listed × List ℕ) (result : Result RoundView Refused) : Type 0 where
   pub kept : new.0 ≡ old.0
   pub round : IfOk result (λ r. r ≡ round_of up chain old.0)

@@ -1,4 +1,4 @@
-//! A list while targets are taken away.
+//! A list of adapters while targets are taken away from the adapters.
 ghost use Rattle.std.specs.Prelude.{◌≡◌, ◌≤◌, ◌<◌, ◌+◌, ◌++◌, ◌∷◌, [], None, Some, false, true, length, map, filter, not, position, vec_len, vec_capacity, IfSome, is_some};
 ghost use Rattle.std.specs.List.{IsDistinct};
 ghost use Rattle.indexmap.specs.IndexSet.{index_set_len};
@@ -48,7 +48,7 @@ impl<A: Adapter> Model for Going<A> {
 }
 
 impl<A: Adapter> Going<A> {
-    /// The parts of a list, and its capacity for giving back all of its adapters.
+    /// The parts of a list, and an empty `Vec` with capacity for giving back all of its adapters.
     pub(crate) fn of(list: AdapterList<A>) -> (Self, Vec<(AdapterNo, A)>)
         ensures now { result.0 ≡ list.0 }
         ensures some { HaveTargets list.0 }
@@ -161,7 +161,7 @@ impl<A: Adapter> Going<A> {
         Some(Detached { notice, adapter })
     }
 
-    /// Releases targets, one after another, and then gives back the adapters that have none left.
+    /// Releases targets, one after another, and then gives back the adapters that have no target left.
     pub(crate) fn release(
         &mut self,
         spots: &[(AdapterNo, Node)],

@@ -27,15 +27,16 @@ use std::marker::Model;
 /// The attached adapters, in attach order (EMF: the adapters of all notifiers). Contracts see two lists: the adapters with their targets
 /// and with what each was notified of; and the capacity of each adapter.
 ///
-/// Their numbers are distinct. They have at most 100,000 targets in all; each adapter has at least one target, and no target twice. Each
-/// has capacity reserved for its last notification from each of its targets, and can count those notifications.
+/// The numbers of the adapters are distinct. All adapters together have at most 100,000 targets; each adapter has at least one target, and
+/// no target twice. Each adapter has capacity reserved for its last notification from each of its targets, and can count those
+/// notifications.
 #[derive(Drop)]
 pub struct AdapterList<A: Adapter> {
     pub(crate) alloc: Global,
     pub(crate) attached: Vec<Attached<A>>,
     /// The numbers of `attached`, in the same order, to find an adapter by its number.
     pub(crate) numbers: IndexSet<AdapterNo>,
-    /// For each node the adapters that have it as a target, in attach order.
+    /// For each node the adapters that have the node as a target, in attach order.
     pub(crate) by_target: TargetLists,
     /// For each object whether it is a target of any adapter.
     pub(crate) marks: Vec<bool>,

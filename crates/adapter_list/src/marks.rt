@@ -1,5 +1,5 @@
-//! Which objects have adapters: a mark for each object number, so that a walk up skips objects without adapters, and needs no look-up for
-//! them.
+//! Which objects have adapters: a mark for each object number, so that a walk up the containers skips objects without adapters, and needs
+//! no look-up for them.
 ghost use Rattle.std.specs.Prelude.{◌≡◌, ◌≤◌, ◌<◌, ℕ, true, false, get_or, length, nat_eq, OnOk, if◌then◌else◌};
 ghost use Rattle.adapter_list.specs.Targets.{AreSameMarks, AreSetAt, HasMarkRoom, is_marked as is_marked_in};
 

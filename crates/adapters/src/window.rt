@@ -10,7 +10,7 @@ use circular_buffer::HeapCircularBuffer;
 use notice_chain::Notice;
 use std::alloc::{AllocError, Global};
 
-/// Keeps the last notifications that it gets, as many as it was made for.
+/// Keeps the last notifications that it gets, up to the number that `new` was given.
 #[derive(Drop)]
 pub struct Window {
     latest: HeapCircularBuffer<Notice>,
@@ -18,7 +18,7 @@ pub struct Window {
 }
 
 impl Window {
-    /// A window that keeps the last `n` notifications, from 1 to `limits::WINDOW_NOTICES` of them, and was notified of nothing yet. Fails
+    /// A window that keeps the last `n` notifications, and was notified of nothing yet. `n` is from 1 to `limits::WINDOW_NOTICES`. Fails
     /// only if memory is refused.
     pub fn new(alloc: Global, n: u64) -> Result<Window, AllocError>
         requires some { 1 ≤ n }

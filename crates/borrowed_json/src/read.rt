@@ -25,8 +25,8 @@ struct Unfinished<'t> {
     members: Vec<(&'t str, Json<'t>)>,
 }
 
-/// Reads a text as a JSON value. Its items and members are kept in `arena`, and texts with escapes in `scratch`; all other texts are
-/// borrowed from the text that is read.
+/// Reads a text as a JSON value. The items and the members of the value are kept in `arena`, and texts with escapes in `scratch`; all other
+/// texts are borrowed from the text that is read.
 pub fn read_json<'t>(
     alloc: Global,
     arena: &'t Bump,

@@ -44,8 +44,8 @@ fn do_list<L: LinkStore, A: Adapter, W: Write>(
     Ok(())
 }
 
-/// Makes a book, attaches the adapter `first` to it, and does the list of commands, which attaches the adapter `second`. Then prints the
-/// snapshot that was taken of the book before the list, after a replay of a notification.
+/// Makes a book, attaches the adapter `first` to it, and takes a snapshot of the book. Then does the list of commands, which attaches the
+/// adapter `second`. At the end prints the snapshot, on which the notification that the book gets its name was replayed.
 fn session<L: LinkStore, A: Adapter, W: Write>(
     alloc: Global,
     writer: &mut W,
@@ -76,7 +76,7 @@ fn run<L: LinkStore, A: Adapter, W: Write>(
 }
 
 /// Does the list of commands, and prints the outcome of each command; if there is no memory for the outcomes, prints the commands that come
-/// back. Then it prints what the repository has.
+/// back. Then prints what the repository has, and a snapshot on which a notification was replayed.
 pub(crate) fn run_list<W: Write>(alloc: Global, writer: &mut W) -> Result<(), Fault> {
     // A recorder takes memory when it is attached.
     let first: Box<dyn Adapter> = Box::new(alloc, Recorder::new(alloc))?;
@@ -84,7 +84,8 @@ pub(crate) fn run_list<W: Write>(alloc: Global, writer: &mut W) -> Result<(), Fa
     run::<SlotStore, _, W>(alloc, writer, first, second)
 }
 
-/// Follows `count` books by notifications, and prints how many nodes the view has.
+/// Makes and names `count` books, replays the notifications on a snapshot from before they were named, and prints how many nodes this
+/// snapshot then has; prints `None` if it differs from a new snapshot.
 pub(crate) fn follow<W: Write>(alloc: Global, writer: &mut W, count: u32) -> Result<(), Fault> {
     let meta = check_document(alloc, BOOKS.as_bytes())?;
     let mut repository: Repository<SlotStore, Counter> = Repository::new(alloc, meta);

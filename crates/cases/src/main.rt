@@ -1,15 +1,16 @@
 //! Runs cases and compares what each gives with what it expects.
 //!
 //! `cases FILE..` reads files of cases and the metamodels that they name; CONTRIBUTING.md explains how a case is written.
-//! A script is run over each store of links. A case that differs is printed with the store, what was expected and what it
-//! gave, and the status is then 1. The last line counts the cases.
+//! A script is run over each store of links. If a case does not give what it expects, the program prints the case with the
+//! store, what was expected and what was given, and exits with status 1. The last line counts the cases.
 //!
 //! The word `commands` does a list of commands by one call of a repository, and prints the outcome of each command. If there is no memory
 //! for the outcomes, it prints the commands that come back. Then it prints what the repository has. `tests/run_refused_memory` runs the
 //! program with this word once for each of its allocations, and refuses that allocation. No script makes this call, and no test function
 //! can refuse memory.
 //!
-//! A number N follows N books: it takes a snapshot, names each book, and replays the notifications. `bench/measure` runs the program so.
+//! With a number N as its word, the program takes a snapshot of N books, names each book, and replays the notifications on the snapshot.
+//! `bench/measure` runs the program with such a word.
 #![tactic(auto)]
 
 mod case;
@@ -56,7 +57,7 @@ fn read_file(rt: &HostRuntime, path: &str) -> Result<Vec<u8>, Fault> {
     }
 }
 
-/// Whether a case gives what it expects. If not, writes the difference, with the name of the part that ran.
+/// Whether a case gives what it expects. If not, writes the difference; `part` is the name of the store over which the script ran.
 fn gives_expected<W: Write>(
     writer: &mut W,
     case: &Case<'_>,

@@ -81,7 +81,7 @@ pub record IsNothing (g : Progress) : Type 0 where
   pub gone : (k : ReferenceKey) → has g.gone k ≡ false
   pub linked : (k : ReferenceKey) → has g.linked k ≡ false
 
----------------------------------------------------------------- all of them
+---------------------------------------------------------------- all proxies
 
 abbrev pub joint_of : Resolution → Joint
 joint_of y = joint y.site y.target
@@ -96,14 +96,14 @@ abbrev pub told_by : Joint → List FeatureChange
 told_by j = changes_of_resolve (end_of j.site) j.site.index j.target
 
 -- the proxies js were resolved, and `ends` has the values of each end after that. Exactly the proxies at the locations in `gone` are gone;
--- an object is at a reference now if it was there before or `linked` has it
+-- an object is at a reference after that exactly if it was there before, or if `linked` has the key of the reference and the object
 pub record IsKnown (r : Reading) (js : List Joint) (ends : End → List Value) (g : Progress) : Type 0 where
   pub joints : g.joints.items ≡ js
   pub gone : (p : ProxySite) → is_proxy_site (record r { values = ends }) p ≡ (is_proxy_site r p && not (has g.gone (key_of p)))
   pub linked : (o : ObjectNo) (f : FeatureNo) (b : ObjectNo) → (let e = at_end (node.Object o) f in
       has_value (ends e) (value.Object b) ≡ (has_value (r.values e) (value.Object b) || has g.linked (reference_key o f b.0)))
 
--- the proxies at these locations were resolved; a proxy that is refused was skipped
+-- the proxies at the locations ps were resolved one after another; a proxy that is refused was skipped
 abbrev pub IsProgress : Reading → List ProxySite → Progress → Type 0
 IsProgress r ps g = IsKnown r (map joint_of (resolutions r ps)) (values_left r ps) g
 

@@ -47,8 +47,8 @@ abbrev pub resolved_in : Finding → Option Resolved
 resolved_in (finding.Counts n) = Some n
 resolved_in _ = None
 
--- the plan of a change that is not refused: the objects that it destroys, the target that it finds, the proxies that it resolves, the edits
--- that make it, and its chain if an adapter may have to get it
+-- the plan of a change that is not refused: the objects that the change destroys, the target of the proxy that it resolves, how many of all
+-- proxies it resolves, the edits that make the change, and its notifications if an adapter may have to get them
 pub record IsPlanOf (is_heard : Bool) (s : Model) (c : Change) (p : Planned) : Type 0 where
   pub allowed : late_refusal (reading s) c ≡ None
   pub removed : IsRemovalOf (reading s) c (removal_in p.finding)

@@ -41,10 +41,11 @@ use std::alloc::{AllocError, Global};
 /// index, or if there would be a gap before a value that is put in. `Duplicate` if a unique list has the value that is added at an index.
 /// `Bound` if an end that has to gain a value is full. `Recursive` if an object would become a part of itself. `Limit` if 1,000,000 objects
 /// or 100,000 resources were made, or an end has 1,000,000 values. `ResourceExists` if a resource has the URI. For a proxy to be resolved:
-/// `NotProxy` if another value is there, `Unloaded` if no resource has its URI, `Unresolved` if no object is at its address, `Unmatched` if
-/// the reference has an opposite and no proxy there has the address of the referring object. For a document: `Limit` if more than 1,000,000
-/// objects would then have been made in all, `NotEmpty` if the resource has roots. `Memory` only if none of these applies; but since the
-/// target of a proxy is looked for first, `Memory` may come before the refusals of a proxy.
+/// `WrongType` if the feature is an attribute, or the object at the address of the proxy is not of the feature's type, `Duplicate` if this
+/// object is at the end already, `NotProxy` if another value is at the index, `Unloaded` if no resource has its URI, `Unresolved` if no
+/// object is at its address, `Unmatched` if the reference has an opposite and no proxy there has the address of the referring object. For a
+/// document: `Limit` if more than 1,000,000 objects would then have been made in all, `NotEmpty` if the resource has roots. `Memory` only
+/// if none of these applies; but since the target of a proxy is looked for first, `Memory` may come before the refusals of a proxy.
 pub fn plan<L: LinkStore>(
     alloc: Global,
     model: &ModelRef<L>,

@@ -17,7 +17,7 @@ use std::alloc::{AllocError, Global};
 pub struct Options<'a> {
     /// The file of the metamodel (`--meta`).
     pub meta: &'a str,
-    /// The file of the script (`--script`); without it the script is read from standard input.
+    /// The file of the script (`--script`); `None` if the script is read from standard input.
     pub script: Option<&'a str>,
     /// The resources that are loaded before the script (`--load`), each as URI=FILE, in the order of the words.
     pub load: Vec<&'a str>,
@@ -128,7 +128,7 @@ fn values_of<'a>(
     }
 }
 
-/// The usage of the program: a line, with its title. Fails only if memory is refused.
+/// The usage of the program: one line, which begins with a title. Fails only if memory is refused.
 pub fn usage_of(alloc: Global) -> Result<String, AllocError> {
     command(alloc)?.render_usage()
 }
@@ -162,9 +162,9 @@ pub fn options_of<'a>(alloc: Global, words: &'a [&'a str]) -> Result<Options<'a>
     })
 }
 
-/// The value of `--meta` among the words of the command line, the first of which is the program's name.
+/// The value of `--meta` among the words of a command line; the first word is the program's name.
 ///
-/// Fails as `clap` does: with the text of `--help`, with what is wrong in the words, or if memory is refused.
+/// Fails as `options_of` does: with the text of `--help` or `--version`, with what is wrong in the words, or if memory is refused.
 pub fn meta_file<'a>(alloc: Global, words: &'a [&'a str]) -> Result<&'a str, Error>
     // The file is the first value that the words give `--meta`.
     ensures value { IfOk result (λ file. first_of (codes "meta") (matches_of program (texts words.entry.now)) ≡ Some file.now) }

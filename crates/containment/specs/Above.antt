@@ -1,4 +1,4 @@
--- Read from the nodes above a node: the topmost node, and the resource that an object is in.
+-- The topmost among a node and the nodes above it, and the resource that an object is in. Both are read from the list of the nodes above.
 use Rattle.std.specs.Prelude.{List, Option, Some, None, unwrap_or}
 use Rattle.std.specs.List.{last_or}
 use Rattle.mm_types.specs.declared.numbers.ObjectNo.{ObjectNo}

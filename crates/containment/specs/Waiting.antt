@@ -1,4 +1,4 @@
--- Objects that wait, by their numbers.
+-- The objects at which a search still has to look, as a list of their numbers.
 use Rattle.std.specs.Prelude.{ℕ, List, map}
 use Rattle.mm_types.specs.declared.numbers.ObjectNo.{ObjectNo}
 

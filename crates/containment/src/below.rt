@@ -21,8 +21,8 @@ const MOST_WAITING: usize = 32;
 /// The numbers of objects that are still to be looked at. The objects below each of these objects are still to be looked at too.
 type Waiting = ArrayVec<u32, MOST_WAITING>;
 
-/// Whether an object is above a node. The search looks in turn at a node above the node and at an object below the object. So if the object
-/// has few objects below it, few steps show that the object is not above the node, however deep the node is. Takes no memory.
+/// Whether an object is above a node. The search looks alternately at a node above the node and at an object below the object. So if the
+/// object has few objects below it, few steps show that the object is not above the node, however deep the node is. Takes no memory.
 pub(crate) fn is_object_above<L: LinkStore>(
     model: &ModelRef<L>,
     object: ObjectNo,

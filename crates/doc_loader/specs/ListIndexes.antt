@@ -21,7 +21,7 @@ use Rattle.doc_loader.specs.declared.indexes.ListIndexes.{ListIndexes}
 abbrev pub object_key : ObjectNo → FeatureNo → ObjectNo → ReferenceKey
 object_key o f b = reference_key o f b.0
 
--- the key and the index of an object at a position; nothing for another value
+-- the key and the index of an object at a position; nothing for a value that is no object
 abbrev pub key_and_index : ObjectNo → FeatureNo → ℕ × Value → List (ReferenceKey × ℕ)
 key_and_index o f (i, value.Object b) = (object_key o f b, i) ∷ []
 key_and_index o f (i, v) = []

@@ -1,5 +1,5 @@
--- The objects of a document that is loaded, with numbers from the next number on, and their values. Also their links and proxies: at each
--- end a link has the position that the document says.
+-- What the load of a document makes: the objects of the document, with numbers from the next number on; their values; and their links and
+-- proxies. At each end a link has the position that the document says.
 use Rattle.std.specs.Prelude.{ℕ, ◌+◌, ◌&&◌, Bool, List, [], ◌∷◌, ◌++◌, filter_map, flat_map, fold, map, position, Option, Some, None, unwrap_or, if◌then◌else◌}
 use Rattle.std.specs.List.{enumerate_from}
 use Rattle.std.specs.FinSet as set

@@ -43,7 +43,7 @@ fn is_ascending(values: &[Value]) -> bool
     true
 }
 
-/// Whether the values under the higher feature of a pair are not in the order of their numbers.
+/// Whether a content is under the higher feature of a pair, and its objects are not in the order of their numbers.
 fn is_unordered(meta: &Meta, content: &Content) -> bool
     ensures { result ≡ e.is_unordered meta.now content.now }
 {
@@ -86,7 +86,8 @@ pub(crate) fn has_higher(meta: &Meta, objects: &[DocObject]) -> bool
         .any(|object| has_any_higher(meta, object.contents.as_slice()))
 }
 
-/// Adds the edits that put the ends of a document's objects in order. If all ends are in order, it takes no memory.
+/// Adds the edits that bring the values under the higher features of pairs into the order of the document. Takes no memory if all of them
+/// are in this order already.
 pub(crate) fn push_in_order(
     alloc: Global,
     meta: &Meta,
@@ -110,7 +111,7 @@ pub(crate) fn push_in_order(
     push_objects(&source, objects, edits)
 }
 
-/// Adds the edits that put objects' ends in order.
+/// Adds the edits of `push_in_order` for some objects.
 fn push_objects(
     source: &LoadContext,
     objects: &[DocObject],
@@ -127,7 +128,7 @@ fn push_objects(
     Ok(())
 }
 
-/// Adds the edits that put an object's ends in order.
+/// Adds the edits of `push_in_order` for one object.
 fn push_object(
     source: &LoadContext,
     object: ObjectNo,
@@ -144,8 +145,8 @@ fn push_object(
     Ok(())
 }
 
-/// Adds the edits that put the object's end of `content.feature` in order, if this feature is the higher of a pair and the end is not in
-/// order.
+/// Adds the edits that bring the values of the object under `content.feature` into the order of the document, if this feature is the higher
+/// of a pair and the values are in another order.
 fn push_content(
     source: &LoadContext,
     object: ObjectNo,

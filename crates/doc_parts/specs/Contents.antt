@@ -41,7 +41,8 @@ attribute_value m single (Enum e) d = option_map value.Literal (as_str d >>= loo
 abbrev pub conforms_to : Metamodel → ClassNo → Data → Bool
 conforms_to m target d = option_map_or (λ c. lookups.conforms m c target) (class_of m d) false
 
--- whether data may be a part under a containment: it is an object whose class, if there is such a class, conforms to the target
+-- whether data may be a part under a containment: it is a JSON object, and if it names a class of the metamodel, this class conforms to the
+-- target
 abbrev pub may_stand : Metamodel → ClassNo → Data → Bool
 may_stand m target d = is_some (as_object d) && option_map_or (λ c. lookups.conforms m c target) (class_of m d) true
 

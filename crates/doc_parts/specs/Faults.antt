@@ -13,7 +13,7 @@ use Rattle.mm_types.specs.declared.numbers.ClassNo.{ClassNo}
 use Rattle.doc_parts.specs.Layout.{Written, written_object}
 use Rattle.doc_parts.specs.Parts.{Entry, Part, entries, level_of, values_of}
 
----------------------------------------------------------------- of which parts
+---------------------------------------------------------------- tests of all parts
 
 -- whether `holds` is true of some object among the parts; and `of_entry`, whether `holds` is true of the content of some feature in them
 abbrev pub of_written : (Written → Bool) → List Part → Bool

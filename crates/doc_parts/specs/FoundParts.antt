@@ -48,7 +48,7 @@ part_seen r =
       number = Some r.number;
     }
 
--- the found parts are these parts, as a metamodel reads them
+-- the found parts f are the parts ps, as a metamodel reads them
 pub record Knows (m : Metamodel) (f : FoundParts) (ps : List Part) : Type 0 where
   pub parts : map part_seen f.parts.items ≡ map (seen_part m ps) ps
   pub finds : Finds f.numbers ps

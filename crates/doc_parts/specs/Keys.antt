@@ -1,4 +1,4 @@
--- Numbers of parts by their keys: a part has the number of the first part of its path.
+-- Numbers of parts by their keys: a part has the number of the first part that has the same path.
 use Rattle.std.specs.Prelude.{ℕ, ◌&&◌, Bool, false, List, [], ◌∷◌, Option, nat_eq, option_and_then, reverse}
 use Rattle.std.specs.Map.{lookup}
 use Rattle.std.specs.Str.{bytes_eq}

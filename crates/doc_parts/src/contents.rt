@@ -28,8 +28,8 @@ fn names_class(meta: &Meta, class: ClassNo, json: &Json) -> bool
     }
 }
 
-/// Whether a JSON value may be under a containment with the class `target`: it is an object whose class, if there is such a class, conforms
-/// to `target`. Most objects have exactly the class of their containment.
+/// Whether a JSON value may be under a containment with the class `target`: it is a JSON object, and if it names a class of the metamodel,
+/// this class conforms to `target`. Most objects have exactly the class of their containment.
 fn may_stand(meta: &Meta, target: ClassNo, json: &Json) -> bool
     ensures { result ≡ may_be meta.now target (view json.now) }
 {

@@ -43,7 +43,8 @@ fn no_values<'t>() -> &'t [Json<'t>]
     &[]
 }
 
-/// The values of a feature's content: the items of the array if the feature is many-valued. Takes no memory.
+/// The values of a feature's content: the content itself if the feature is single, otherwise the items of the array. If the content of a
+/// many-valued feature is no array, there are no values. Takes no memory.
 pub fn values_of<'t>(meta: &Meta, feature: FeatureNo, content: &'t Json<'t>) -> &'t [Json<'t>]
     ensures { map view result.now ≡ values_meant meta.now (new_entry feature (view content.now)) }
 {

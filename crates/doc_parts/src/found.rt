@@ -7,8 +7,8 @@ use mm_types::ClassNo;
 use std::alloc::{AllocError, Global};
 use web_uris::{Path, Step};
 
-/// The key of a part. For a root, the key is the position of the root. For any other part, the key is a step, and the number of the first
-/// part that has the path from which the step leads on.
+/// The key of a part. For a root, the key is the position of the root. For any other part, the key has the step to the part from the part
+/// above it, and the number of the first part that has the path of the part above it.
 #[derive(Clone, Copy, PartialEq, Eq, Hash)]
 pub enum PartKey<'m> {
     Root(u32),

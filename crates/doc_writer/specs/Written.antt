@@ -15,7 +15,7 @@ use Rattle.fragment_paths.specs.Finding.{roots}
 abbrev pub objects_in : Reading → ResourceNo → List ObjectNo
 objects_in r k = flat_map (subtree r) (roots r k)
 
--- whether objects may have a feature written: it is no container reference
+-- whether a feature may be written: it is no container reference
 abbrev pub is_writable : Metamodel → FeatureNo → Bool
 is_writable m f = not (lookups.is_container m f)
 

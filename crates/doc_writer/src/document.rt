@@ -20,7 +20,8 @@ use links::LinkStore;
 use mm_types::{ObjectNo, ResourceNo, limits};
 use std::alloc::{AllocError, Global};
 
-/// Writes the roots of a resource and all objects in them. The features of the first root's class are put in order, for use with all roots.
+/// Writes the roots of a resource and all objects in them. The features of the first root's class are sorted by name, for use with all
+/// roots.
 fn write_roots<L: LinkStore>(
     source: &WriteContext<L>,
     roots: &[ObjectNo],
@@ -36,7 +37,7 @@ fn write_roots<L: LinkStore>(
     write_list(source, &order, roots, out)
 }
 
-/// Writes objects as an array. `order` has the features of some class in order.
+/// Writes objects as an array. `order` has the features of some class, sorted by name.
 fn write_list<L: LinkStore>(
     source: &WriteContext<L>,
     order: &ClassOrder,

@@ -100,8 +100,8 @@ fn first_class<L: LinkStore>(
     }
 }
 
-/// Writes all values of an end. If the values are contained objects, the features of the first object's class are put in order, for use
-/// with all of these objects.
+/// Writes all values of an end. If the values are contained objects, the features of the first object's class are sorted by name, for use
+/// with all of these objects, unless `order` has them already.
 #[cycle(object)]
 fn write_items<L: LinkStore>(
     source: &WriteContext<L>,
@@ -233,7 +233,7 @@ fn write_class<L: LinkStore>(
     write_text(class_name(source.positions.model(), object), out)
 }
 
-/// Writes the features of an object as a member. The class of `order` may be a different one.
+/// Writes the features of an object as a member. The class of `order` may be different from the object's class.
 #[cycle(object)]
 fn write_members<L: LinkStore>(
     source: &WriteContext<L>,

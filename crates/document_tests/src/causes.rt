@@ -1,4 +1,4 @@
-//! Why documents are refused: for each cause, documents to which no lower cause applies.
+//! Why documents are refused: for each cause but DEPTH, documents to which no cause with a lower number applies.
 use crate::resource::{library, of_new_roots, of_roots, told};
 use std::test::Fail;
 

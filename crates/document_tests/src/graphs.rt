@@ -1,4 +1,4 @@
-//! Small graphs with answers by hand, and a ladder with more paths than can be walked one by one.
+//! Small graphs whose answers were worked out by hand, and a ladder with more paths than can be walked one by one.
 ghost use Rattle.std.specs.Prelude.{◌≡◌, ◌<◌, ◌↔◌, IsTrue, length};
 ghost use Rattle.std.specs.List.{All};
 ghost use Rattle.mm_graph.specs.Order.{InRange, IsOrder};
@@ -237,7 +237,7 @@ fn last_conforms(alloc: Global, graph: &[Seq<usize>]) -> Result<Option<bool>, Al
     Ok(Some(conforms.as_slice().iter().all(|conforms| *conforms)))
 }
 
-/// The first class on a cycle, how many features the last class has, and whether it conforms to every class.
+/// The first class on a cycle, how many features the last class has, and whether the last class conforms to every class.
 fn last_of(alloc: Global, graph: &[Seq<usize>], own: &[Seq<u32>]) -> Result<String, Fail> {
     if !is_in_range(graph) || own.len() != graph.len() {
         return Err(Fail::new("these are no classes"));

@@ -1,5 +1,5 @@
-//! A metamodel and two of its documents are cut after each byte, or one byte is replaced by a different byte. Each text is read or refused,
-//! and the answers are counted.
+//! A metamodel and two of its documents are cut after each byte, or one byte is replaced by a byte 0, by a byte 255 or by a quote. Each
+//! text is read or refused, and the answers are counted.
 //!
 //! The expected counts follow from the grammar of JSON. None of the texts has a backslash. A text that is cut before its last brace is no
 //! JSON. Neither is a text with a byte 0, which JSON never has, with a byte 255, which is not UTF-8, or with an odd number of quotes.
@@ -119,7 +119,7 @@ fn cut(alloc: Global, meta: &Meta, input: &Input) -> Result<Counts, Fail> {
     Ok(counts)
 }
 
-/// A text with a different byte at a position.
+/// A text with the byte at a position replaced by `byte`.
 fn with_byte(alloc: Global, text: &str, at: usize, byte: u8) -> Result<Vec<u8>, AllocError> {
     let mut bytes = text.as_bytes().to_vec(alloc)?;
     if at < bytes.len() {

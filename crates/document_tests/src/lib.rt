@@ -1,7 +1,7 @@
-//! Tests of the crates that read documents, by calls that no document can cause: metamodels and their look-ups, documents of resources, and
+//! Tests of the crates that read documents, by direct calls of their functions: metamodels and their look-ups, documents of resources, and
 //! the texts that address objects.
 //!
-//! The cases test what is printed for a metamodel: that it is accepted, or its first fault.
+//! The crate `cases` tests what is printed for a metamodel: that it is accepted, or its first fault.
 #![tactic(auto)]
 
 #[cfg(test)]

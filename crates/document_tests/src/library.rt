@@ -6,7 +6,7 @@ use mm_types::RawMeta;
 use std::alloc::Global;
 use std::test::Fail;
 
-/// A library of books and its members, with each key of the layout.
+/// The document of a metamodel of libraries with books and members. It has each key of the layout of metamodels.
 pub(crate) const LIBRARY: &str = r#"{
   "enums": [
     { "name": "Genre", "literals": ["NOVEL", "POEM", "PLAY"] }

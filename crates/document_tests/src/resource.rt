@@ -6,9 +6,10 @@ use resource_docs::{Content, Doc, DocObject, read_doc};
 use std::alloc::{AllocError, Global};
 use std::test::Fail;
 
-/// 0 `name`, 1 `books`, 2 `members`, 3 `staff`, 4 `pages`, 5 `tags`, 6 `scores`, 7 `note`, 8 `genre`, 9 `big`, 10 `lent`,
-/// 11 `library`, 12 `next`, 13 `prev`, 14 `job`, 15 `likes`, 16 `cover`, 17 `subs`, 18 `parent`, 19 `friends`,
-/// 20 `friends_of`; 0 `Named`, 1 `Library`, 2 `Book`, 3 `Person`, 4 `Folder`.
+/// The document of the metamodel. Its features have these numbers: 0 `name`, 1 `books`, 2 `members`, 3 `staff`, 4 `pages`,
+/// 5 `tags`, 6 `scores`, 7 `note`, 8 `genre`, 9 `big`, 10 `lent`, 11 `library`, 12 `next`, 13 `prev`, 14 `job`, 15 `likes`,
+/// 16 `cover`, 17 `subs`, 18 `parent`, 19 `friends`, 20 `friends_of`. Its classes have these numbers: 0 `Named`,
+/// 1 `Library`, 2 `Book`, 3 `Person`, 4 `Folder`.
 const LIBRARY: &str = r#"{"enums": [{"name": "Genre", "literals": ["NOVEL", "POEM"]}], "classes": [
   {"name": "Named", "abstract": true, "features": [{"name": "name", "kind": "attribute", "type": "EString"}]},
   {"name": "Library", "supers": ["Named"], "features": [

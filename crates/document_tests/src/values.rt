@@ -1,9 +1,9 @@
-//! Texts, values and sequences by their calls.
+//! The calls of texts, values and sequences.
 use mm_types::{ObjectNo, Seq, Text, Value};
 use std::alloc::{AllocError, Global};
 use std::test::Fail;
 
-/// The text as it is, its copy, and the text of a `String`.
+/// A text, its copy, and a text that was made from a `String` with the same characters.
 fn texts(alloc: Global, text: &str) -> Result<String, AllocError> {
     let text = Text::from_str(alloc, text)?;
     let copy = text.clone()?;

@@ -1,4 +1,4 @@
-//! Words that write a number or a name, and words that write none.
+//! Words that are numbers or names, and words that are not.
 use mm_types::integers::{integer_of, natural_of};
 use mm_types::names::is_name;
 

@@ -25,8 +25,8 @@ abbrev pub IsTooLong : List (List ℕ) → Type 0
 IsTooLong ls = (list_any (λ l. nat_lt INPUT_BYTES (length l)) ls ≡ true) ⊎ (2 ^ 64 - 1 ≤ length ls)
 
 module _ {S : Type 0} (runs : Runs S) where
-  -- A file stands for the lines from before, and after them the lines to be kept among the first lines of the run; no line is skipped, and
-  -- no line is there in part.
+  -- A file stands for the lines that it had before the run, followed by the lines to be kept among the first lines of the run; no line is
+  -- skipped, and no line is there in part.
   pub record LeavesFront (s : S) (before : List (List ℕ)) (ls : List (List ℕ)) (file : List ℕ) : Type 0 where
     pub first : List (List ℕ)
     pub rest : List (List ℕ)
@@ -37,7 +37,8 @@ module _ {S : Type 0} (runs : Runs S) where
     pub stands : StandsFor (before ++ kept_lines first printed) file
 
   -- A run stopped for a fault. Answers to the first lines were written; the next lines were run but not answered. A file that a crash
-  -- leaves has the lines to be kept among the first lines, and perhaps the lines to be kept among all next lines.
+  -- leaves has the lines from before the run and the lines to be kept among the first lines, and either none or all of the lines to be kept
+  -- among the next lines.
   pub record Stops (fault : RunFault) (s : S) (before : List (List ℕ)) (ls : List (List ℕ)) (old new : Option (List ℕ)) (may_leave : List ℕ → Type 0) : Type 0 where
     pub first : List (List ℕ)
     pub next : List (List ℕ)
@@ -59,7 +60,7 @@ module _ {S : Type 0} (runs : Runs S) where
     pub written : Appends old new (answers printed)
     pub kept : kept_after ≡ before ++ kept_lines ls printed
 
-  -- a run of the lines of an input came to its end, if the bytes of the input are known
+  -- `LeavesFront`, `Stops` and `Ends` for a run of the lines of an input, if the bytes of the input are known
 
   abbrev pub LeavesIn : Option (List ℕ) → S → List (List ℕ) → List ℕ → Type 0
   LeavesIn input s before file = IfSome input (λ bytes. LeavesFront s before (lines bytes) file)

@@ -32,7 +32,7 @@ module _ {D W : Type 0} (contents : W → Option (List ℕ)) (seen : D → List 
     pub moments : AtRest x → LeavesBoth seen moment left_since x y
     pub later : faults (disk_under x) ≤ faults (disk_under y)
 
-  -- The outbox failed to give its answers, for a fault.
+  -- The outbox failed to give its answers because of a fault.
   pub record Fails (x : Box) (fault : RunFault) (y : Box) : Type 0 where
     pub stopped : FailsToGive contents seen may_leave faults x fault y
     pub moments : AtRest x → LeavesBoth seen moment left_since x y

@@ -1,4 +1,4 @@
-//! Lines are run as they come in.
+//! Runs lines as they come in.
 ghost use Rattle.std.specs.Prelude.{◌≡◌, ◌<◌, ◌⊎◌, [], true, false, length, IfErr, IfSome, IsErrOf, OnOk, OnSome};
 ghost use Rattle.std.specs.Io.Buffered.{reader_remaining};
 ghost use Rattle.std.specs.Io.KnownBytes.{IsAtEnd};
@@ -55,7 +55,7 @@ pub fn run_dialogue<R: Read, S: Session, D: Disk, W: Write>(
     // is full.
     ensures long { IsErrOf result RunFault.TooLong → IfSome (reader_remaining R.remaining reader.old) (λ input. IsTooLong (lines input)) }
     ensures disk { IsErrOf result RunFault.Journal → (D.faults (disk_under outbox.old) < D.faults (disk_under outbox.new)) ⊎ IsFull D.seen outbox.new }
-    // A crash at any moment leaves the lines from before, and after them the lines to be kept among the first lines.
+    // A crash at any moment leaves the lines from before the run, followed by the lines to be kept among the first lines.
     ensures any_moment { LeavesOnly D.moment D.left_since (disk_under outbox.old) (disk_under outbox.new)
         (LeavesIn S.runs (reader_remaining R.remaining reader.old) session.old (kept_by D.seen outbox.old)) }
 {

@@ -14,7 +14,7 @@ const HEAD: &[u8] = b"mmrepo-journal 1 ";
 /// The byte that ends a line.
 const NEWLINE: u8 = b'\n';
 
-/// The first line of a journal, by a digest of the document of its metamodel. Fails only if memory is refused.
+/// The first line of a journal, which has a digest of the metamodel's document. Fails only if memory is refused.
 pub fn head_of(alloc: Global, digest: &[u8]) -> Result<Vec<u8>, AllocError>
     ensures head { IfOk result (λ v. v.items ≡ codes "mmrepo-journal 1 " ++ encode_lower digest.now) }
     ensures line { IfOk result (λ v. IsLine v.items) }

@@ -4,8 +4,8 @@ ghost use Rattle.durable.specs.Printed.{Printed, Refuses, RunsKept, RunsLines, k
 
 use crate::session::Twin;
 
-/// If a twin runs the lines that were kept of a run, it becomes equivalent to the session of that run. Only a refusal of memory can make
-/// the twin refuse one of these lines.
+/// If a twin of a session runs the lines that were kept of the session's run, the twin is alike to the session after that run. If the twin
+/// has nothing of its own, it refuses one of these lines only if memory is refused.
 pub fn what_was_kept_comes_back<S: Twin>()
     ensures alike { (s t x y : S) (ls : List (List ℕ)) (ps : List Printed) → S.Twin.alike s x → RunsLines S.Session.runs s ls ps t
         → RunsKept S.Session.runs x (kept_lines ls ps) y → S.Twin.alike t y }

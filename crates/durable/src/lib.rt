@@ -1,4 +1,4 @@
-//! Lines are run, and a line is answered when the lines that are to be kept are on the disk.
+//! Runs lines, and answers a line when the lines that are to be kept are on the disk.
 #![tactic(auto)]
 
 mod dialogue;

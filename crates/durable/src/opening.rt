@@ -1,4 +1,4 @@
-//! A journal is opened, and begun if it has no line.
+//! Opens a journal, and begins the journal if it has no line.
 ghost use Rattle.std.specs.Prelude.{◌≡◌, [], ◌∷◌, IfErr, IfOk};
 ghost use Rattle.journal.specs.Disk.{IsDurable, LeavesOnly};
 ghost use Rattle.journal.specs.Journal.{IsSettled, disk_of, journal_lines, noted_lines};
@@ -56,7 +56,7 @@ fn begin<D: Disk + Drop>(
     }
 }
 
-/// Opens the journal in a file that has these bytes, and begins it with the head if it has no line.
+/// Opens the journal in a file that has these bytes, and begins the journal with the head if it has no line.
 ///
 /// Fails with `Failed` if the disk fails, and with `Memory` if memory is refused. An error returns the disk too.
 pub fn open_journal<D: Disk + Drop>(

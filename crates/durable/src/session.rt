@@ -4,7 +4,7 @@ ghost use Rattle.durable.specs.Printed.{AddsRun, Printed, is_kept as is_kept_tur
 
 use std::alloc::AllocError;
 
-/// An answer ends with an empty line.
+/// The byte that makes the empty line at the end of an answer.
 pub(crate) const NEWLINE: u8 = b'\n';
 
 /// How a line ended.
@@ -57,7 +57,7 @@ pub trait Twin: Session {
     ghost kept: { (s t x y : Self) (l : List ℕ) (p q : Printed) → Self.Session.runs s l p t → is_kept_turn p.turn ≡ true → alike s x
         → Self.Session.runs x l q y → is_kept_turn q.turn ≡ true → alike t y };
 
-    /// If a session has nothing of its own, only memory can make it refuse a line that was kept.
+    /// A session that has nothing of its own refuses a line that was kept only if memory is refused.
     ghost done: { (s t x y : Self) (l : List ℕ) (p q : Printed) → Self.Session.runs s l p t → is_kept_turn p.turn ≡ true → alike s x → is_alone x
         → Self.Session.runs x l q y → is_kept_turn q.turn ≡ false → is_lost_turn q.turn ≡ true };
 

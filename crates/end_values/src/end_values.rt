@@ -18,8 +18,8 @@ use std::alloc::{AllocError, Global};
 use std::marker::Model;
 use std::mem;
 
-/// The layout of the values of an end in memory. Most ends have only objects: four bytes each. If a removal finds that the objects of a
-/// long list are in no order, the list is `Shuffled` until there is memory for labels.
+/// The layout of the values of an end in memory. Most ends have only objects: four bytes each. If a removal in a long list finds that the
+/// guess for the removed object is wrong, so that the objects are in no order, the list is `Shuffled` until there is memory for labels.
 #[derive(Drop)]
 enum Layout {
     Objects(ShortList<ObjectNo>),

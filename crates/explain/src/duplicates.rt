@@ -9,7 +9,7 @@ use std::collections::BTreeMap;
 /// The names that no enumeration and no class may have.
 const RESERVED: [&str; 5] = ["EString", "EInt", "ELong", "EBoolean", "Resource"];
 
-/// The first position of a text before another position.
+/// The first position of a text, if it is before `end`.
 fn position_before(texts: &[Text], end: usize, text: &str) -> Option<usize> {
     for (i, other) in texts.iter().enumerate() {
         if i < end && other.as_str() == text {
@@ -116,7 +116,7 @@ fn explain_inner(alloc: Global, out: &mut String, at: Named<'_>) -> Result<(), A
     }
 }
 
-/// The place of an enumeration or a class whose name a later enumeration or class has too.
+/// The place of the first enumeration or class with a name, if it comes before a given place. Enumerations come before classes.
 fn earlier(raw: &RawMeta, name: &str, place: Place) -> Option<Place> {
     match (place, enum_named(raw, name), class_named(raw, name)) {
         (Place::Enum(i), Some(e), _) if e < i => Some(Place::Enum(e)),

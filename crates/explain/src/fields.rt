@@ -159,7 +159,7 @@ const OPPOSITE: Field = Field {
 /// A word, and the text about it.
 pub(crate) type Hint = (&'static str, &'static str);
 
-/// The hint for a key that is not listed for its object: keys of Ecore and of similar formats, and keys of other objects.
+/// Hints for keys that their object may not have: keys of Ecore and of similar formats, and keys of other objects of a metamodel document.
 pub(crate) const MISPLACED: [Hint; 41] = [
     ("upperBound", "a feature has \"upper\""),
     ("lowerBound", "a feature has \"lower\""),
@@ -222,7 +222,8 @@ pub(crate) const MISPLACED: [Hint; 41] = [
     ("enums", "only the document has it"),
 ];
 
-/// For some keys, a text that is added to the explanation of a value, or of an item of an array, that is not written as its field says.
+/// For some keys, a text that is added to the explanation if the value of the key, or an item of its array, is not written as the field
+/// says.
 pub(crate) const ADVICE: [Hint; 3] = [
     ("upper", "; -1 stands for any number"),
     (

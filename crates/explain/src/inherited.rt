@@ -4,8 +4,8 @@ use mm_types::{Place, RawMeta};
 use std::alloc::{AllocError, Global};
 use std::fmt;
 
-/// A class that was reached through supertypes. `before` is the position, among the reached classes, of the class from which it was
-/// reached.
+/// A class that was reached through supertypes. `before` is the position, among the reached classes, of a class of which `class` is a
+/// direct supertype. The class at which the search begins has 0 there.
 #[derive(Drop)]
 struct Reached {
     class: usize,

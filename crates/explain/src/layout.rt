@@ -1,5 +1,5 @@
-//! What is wrong with the layout of a document, or which limits it passes: unknown and absent keys, and values that are not written as
-//! their fields say.
+//! What is wrong with the layout of a document: unknown and absent keys, values that are not written as their fields say, and limits that
+//! are exceeded.
 use crate::fields::{
     ATTRIBUTE, CLASS, DOCUMENT, ENUMERATION, FEATURE, Field, Hint, MISPLACED, REFERENCE, advice_in,
 };
@@ -13,7 +13,7 @@ use std::alloc::{AllocError, Global};
 /// If an explanation has more than this many bytes, no further object is looked at.
 const ENOUGH: usize = 4096;
 
-/// The names of the keys that are listed.
+/// The keys of some fields.
 fn listed(alloc: Global, fields: &[Field]) -> Result<Vec<&'static str>, AllocError> {
     let mut keys = Vec::new(alloc);
     for field in fields {
@@ -39,7 +39,7 @@ fn explain_unknown(
     }
 }
 
-/// Explains the keys that are not listed.
+/// Explains the keys of an object that are not among `keys`.
 fn explain_keys(
     alloc: Global,
     out: &mut String,
@@ -81,7 +81,7 @@ fn explain_fields(
     Ok(())
 }
 
-/// Adds a line for each fault of an object, with hints on keys that are not listed.
+/// Adds a line for each fault of an object, with hints for keys that are not among the fields.
 fn explain_listed(
     alloc: Global,
     out: &mut String,
@@ -107,8 +107,8 @@ fn explain_listed(
     }
 }
 
-/// Adds a line for each key of an object that is unknown or absent, and for each value that is not written as its field says. The text
-/// explains one document; if it has more than 4,096 bytes already, nothing is added. Fails only if memory is refused.
+/// Adds a line for each key of an object that is unknown or absent, and for each value that is not written as its field says. `out` is the
+/// explanation of one document; if `out` already has more than 4,096 bytes, nothing is added. Fails only if memory is refused.
 pub fn explain_object(
     alloc: Global,
     out: &mut String,
@@ -247,7 +247,7 @@ fn explain_enums(alloc: Global, out: &mut String, enums: &[Value]) -> Result<(),
     Ok(())
 }
 
-/// Adds a line for each fault of the layout of a document, and for each limit that is passed.
+/// Adds a line for each fault of the layout of a document, and for each limit that is exceeded.
 pub(crate) fn explain_layout(
     alloc: Global,
     out: &mut String,

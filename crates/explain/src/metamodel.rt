@@ -8,7 +8,7 @@ use mm_types::{Condition, MetaFault, Place};
 use serde_json::Value;
 use std::alloc::{AllocError, Global};
 
-/// Explains the place at which the bytes are no JSON; or else what is wrong with their layout.
+/// Explains from which place on the bytes are no JSON. If they are JSON, explains what is wrong with the layout.
 fn explain_bytes(alloc: Global, out: &mut String, bytes: &[u8]) -> Result<(), AllocError> {
     match Value::from_slice(alloc, bytes) {
         Ok(json) => explain_layout(alloc, out, &json),
@@ -42,9 +42,10 @@ fn explain_place(
 
 /// Explains what to fix in a document for which a fault was returned: a line, ended by a newline, for each place that is found.
 ///
-/// `Syntax` has the line and the column, counted from 1. `Layout` and `Limit` have a line for each key and each value that is wrong, until
-/// the text has 4,096 bytes; an object is named by positions in arrays, as `classes[3].features[2]`. The lines of the other faults have the
-/// names of classes and features. Fails only if memory is refused.
+/// For `Syntax` the text names the line and the column of the place, counted from 1. For `Layout` and `Limit` the text has a line for each
+/// key and each value that is wrong; once the text has more than 4,096 bytes, no further object is looked at. These lines name an object by
+/// positions in arrays, as `classes[3].features[2]`. For an ill-formed metamodel the lines have the names of enumerations, classes and
+/// features. For `Memory` the text is empty. Fails only if memory is refused.
 pub fn explain_meta(alloc: Global, bytes: &[u8], fault: MetaFault) -> Result<String, AllocError> {
     let mut out = String::new(alloc);
     match fault {

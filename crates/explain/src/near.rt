@@ -2,14 +2,15 @@
 use std::alloc::{AllocError, Global};
 use strsim::levenshtein;
 
-/// The greatest length of a word for which a near word is looked for; no key, verb or type is longer.
+/// The greatest number of bytes of a word for which a near word is looked for; no key, no verb and no data type is longer.
 const LONGEST: usize = 64;
 
 /// The greatest number of edits between a word and a near word.
 const MOST_EDITS: usize = 2;
 
-/// The word of a list that takes the fewest edits from a given word: at most two edits, and fewer than the found word has bytes. Fails only
-/// if memory is refused.
+/// The word of a list that is nearest to a given word by the number of edits, the first one if there are several. At most two edits are
+/// accepted, and fewer than the found word has bytes. A given word of more than 64 bytes has no nearest word. Fails only if memory is
+/// refused.
 pub fn nearest<'a>(
     alloc: Global,
     word: &str,

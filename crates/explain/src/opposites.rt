@@ -113,8 +113,7 @@ fn is_reference_at(raw: &RawMeta, place: Place, name: &str) -> bool {
     }
 }
 
-/// The name of the class that declares a reference with a given name: the type of another reference, or a class from which that type
-/// inherits.
+/// The name of the class that declares a reference with a given name: a given class itself, or a class from which the given class inherits.
 fn declaring<'m>(
     alloc: Global,
     raw: &'m RawMeta,

@@ -55,7 +55,7 @@ pub fn offset_of(bytes: &[u8], line: usize, column: usize) -> usize {
     start_of(bytes, line).saturating_add(column.saturating_sub(1))
 }
 
-/// The text at the front of some bytes, as far as they are UTF-8.
+/// The longest beginning of some bytes that is UTF-8.
 fn text_at(bytes: &[u8]) -> &str {
     match str::from_utf8(bytes) {
         Ok(text) => text,

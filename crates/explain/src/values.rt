@@ -110,7 +110,7 @@ fn explain_objects(out: &mut String, at: Keyed<'_>, most: usize) -> Result<(), A
     }
 }
 
-/// Adds a line for each fault of the value of a key, and for each limit that it passes.
+/// Adds a line for each fault of the value of a key, and for each limit that the value exceeds.
 pub(crate) fn explain_value(
     out: &mut String,
     place: &str,

@@ -1,4 +1,4 @@
-//! A script is watched while it runs.
+//! Follows the lines of a script while it runs, and comments on them.
 use crate::answer::{Printed, printed_as};
 use crate::resources::resource_of;
 use crate::scene::Scene;
@@ -60,7 +60,7 @@ impl Commentary {
         self.number = 0;
     }
 
-    /// The resource of the URI that a text gives.
+    /// The resource whose URI a text gives; the text is normalised first.
     ///
     /// Refused, the first that applies: `Memory`, also if memory was refused before for the URI of a resource; `BadUri`; `NoResource`.
     pub fn resource_named(&self, text: &str) -> Result<ResourceNo, Refused> {

@@ -9,7 +9,8 @@ use script_lines::{FeatureForm, Form, WrittenValue};
 use script_output::literal_name;
 use std::alloc::{AllocError, Global};
 
-/// The first index of a line that is too high, and the greatest index that the command accepts; `None` if it accepts no index.
+/// The first of a line's indexes that is too high, and the greatest index that the command accepts there. `last` is `None` if the command
+/// accepts no index.
 #[derive(Clone, Copy)]
 struct TooHigh {
     index: u32,
@@ -144,7 +145,7 @@ impl<L: LinkStore, A: Adapter> Scene<'_, L, A> {
         )
     }
 
-    /// Explains a value that a list has already: the value of the line, or the object to which the proxy of the line leads.
+    /// Explains a value that a list has already: the value of the line, or the object to which a proxy leads that the line resolves.
     pub(crate) fn explain_duplicate(&self, out: &mut String, form: &Form<'_>, end: End) -> Written {
         match (resolved_index(form), value_in(form)) {
             (_, Some(value)) => self.explain_repeated(out, end, value),

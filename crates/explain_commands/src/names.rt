@@ -1,4 +1,4 @@
-//! Names that should name classes or features, and name none, or an abstract class.
+//! Unknown names of classes and features, and names of abstract classes.
 use crate::named::Named;
 use crate::scene::{Scene, Written};
 use adapters::Adapter;

@@ -1,4 +1,4 @@
-//! URIs that no resource can have, and resources that are not empty.
+//! URIs that no resource can have, URIs that a resource has already, and resources that are not empty.
 use crate::called::URI_BYTES;
 use crate::scene::{Scene, Written};
 use adapters::Adapter;

@@ -8,11 +8,11 @@ use std::alloc::{AllocError, Global};
 /// The result of a function that writes an explanation. Fails only if memory is refused.
 pub(crate) type Written = Result<(), AllocError>;
 
-/// The data from which a refusal is explained, and the text with which its line begins.
+/// The data from which a refusal is explained, and the text with which the line of the explanation begins.
 #[derive(Drop)]
 pub(crate) struct Scene<'s, L: LinkStore, A: Adapter> {
     pub(crate) alloc: Global,
-    /// The text with which the line begins, as `line 12`.
+    /// The text with which the line of the explanation begins, as `line 12`.
     pub(crate) prefix: &'s str,
     pub(crate) repository: &'s Repository<L, A>,
     /// The URIs of the resources.

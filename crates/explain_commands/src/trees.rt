@@ -139,7 +139,7 @@ impl<L: LinkStore, A: Adapter> Scene<'_, L, A> {
         Ok(true)
     }
 
-    /// Goes through the objects of a resource, level by level, to the first object that needs an explanation.
+    /// Goes through the objects of a resource, level by level, and explains the first object that has the fault that is looked for.
     fn explain_first(&self, out: &mut String, resource: Node, sought: Sought) -> Written {
         let mut queue = VecDeque::new(self.alloc);
         self.add_contents(&mut queue, resource, 1)?;

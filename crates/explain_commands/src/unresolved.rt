@@ -110,7 +110,7 @@ impl<L: LinkStore, A: Adapter> Scene<'_, L, A> {
         }
     }
 
-    /// Explains the first step of a path that finds nothing.
+    /// Explains which step of a path is the first that finds nothing.
     fn explain_steps(&self, out: &mut String, root: Way, steps: &[Step]) -> Written {
         let mut way = root;
         for step in steps {
@@ -152,7 +152,7 @@ impl<L: LinkStore, A: Adapter> Scene<'_, L, A> {
         }
     }
 
-    /// Explains a proxy whose object has no proxy that leads back.
+    /// Explains a proxy that leads to an object without a proxy that leads back.
     pub(crate) fn explain_unmatched(&self, out: &mut String, end: End, index: u32) -> Written {
         let prefix = self.prefix;
         let opposite = self.repository.meta().opposite(end.feature);

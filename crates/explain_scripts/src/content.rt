@@ -1,4 +1,4 @@
-//! What is wrong with the contents of features: values of a wrong type, lists that are too long, and values that occur twice.
+//! What is wrong with the contents of features: values of a wrong type, and lists that are too long.
 use crate::parts::{At, Entry};
 use crate::written::{class_of, is_attribute_value, values_of};
 use explain::Shown;

@@ -25,7 +25,7 @@ pub struct RefusedDocument<'d> {
     pub cause: DocFault,
 }
 
-/// The beginning of a text from a byte on.
+/// A text from the byte `start` on, cut after at most 20 bytes.
 fn shown_at(text: &str, start: usize) -> &str {
     front_of(text.get(start..).unwrap_or(""), SHOWN_BYTES)
 }
@@ -58,7 +58,7 @@ fn explain_syntax(
     )
 }
 
-/// Explains what is wrong with the values of an object, or with the targets of its references.
+/// Explains what is wrong with the values of the objects of a document, or with the targets of their references.
 fn explain_content(
     alloc: Global,
     out: &mut String,

@@ -37,7 +37,7 @@ pub(crate) static FORMS: [&str; 28] = [
 /// A word of a form that stands for other words.
 pub(crate) struct Sort {
     name: &'static str,
-    /// The beginning of a line. With a word of this kind after it, the line fits a form of the language.
+    /// The beginning of a line. If one more word follows, the line fits a form of the language exactly if that word is of this kind.
     before: &'static str,
     /// What a word of this kind is, in words for a reader.
     pub(crate) wanted: &'static str,
@@ -91,7 +91,7 @@ static SORTS: [Sort; 9] = [
     },
 ];
 
-/// The kind of a word of a form; the rest of a line has none.
+/// The kind of a word of a form; `REST`, the rest of a line, has none.
 pub(crate) fn sort_of(word: &str) -> Option<&'static Sort> {
     for sort in SORTS.iter() {
         if sort.name == word {

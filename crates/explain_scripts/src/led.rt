@@ -13,7 +13,7 @@ pub(crate) enum Led {
     Nowhere,
     /// The text leads to the part that has this number.
     Here(usize),
-    /// The text leads to another resource, at this address with the whole URI.
+    /// The text leads to another resource, namely to this address, which has the whole URI of that resource.
     Elsewhere(String),
 }
 
@@ -51,7 +51,8 @@ fn led_elsewhere(
     }
 }
 
-/// What the text of a reference leads to, in the resource of a URI. Fails only if memory is refused.
+/// What the text of a reference leads to, if a document of the resource with the URI `uri` has the reference. Fails only if memory is
+/// refused.
 pub(crate) fn led_by(
     alloc: Global,
     uri: &str,

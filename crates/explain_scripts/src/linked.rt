@@ -84,7 +84,7 @@ fn links_in<'e>(
     Ok(links)
 }
 
-/// The references that are written in a document, in the resource of a URI. Fails only if memory is refused.
+/// The references that are written in a document of the resource with the URI `uri`. Fails only if memory is refused.
 pub(crate) fn links_of<'e>(
     alloc: Global,
     meta: &Meta,
@@ -160,7 +160,7 @@ pub(crate) fn explain_references(
     Ok(())
 }
 
-/// Explains references with an opposite that lead to a different resource.
+/// Explains references that have an opposite and lead to a different resource.
 pub(crate) fn explain_crosses(
     out: &mut String,
     meta: &Meta,
@@ -179,7 +179,7 @@ pub(crate) fn explain_crosses(
     Ok(())
 }
 
-/// A part and a feature under which the part names another part.
+/// The number of a part, a feature under which the part names an object of the document, and the number of that object's part.
 type Naming = (usize, u32, usize);
 
 fn namings_of(alloc: Global, links: &[Link<'_>]) -> Result<BTreeSet<Naming>, AllocError> {
@@ -217,8 +217,8 @@ fn explain_one_sided(
     )
 }
 
-/// Explains references with an opposite that lead to an object of the document, if this object does not name the referring object under the
-/// opposite.
+/// Explains references that only one end has: each has an opposite and leads to an object of the document, but this object does not name
+/// the referring object under the opposite.
 pub(crate) fn explain_ends(
     alloc: Global,
     out: &mut String,

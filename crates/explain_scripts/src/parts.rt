@@ -7,7 +7,7 @@ use std::alloc::{AllocError, Global};
 use std::collections::VecDeque;
 use std::fmt;
 
-/// What is written for an object.
+/// A part of a document: the JSON of an object, and where it is.
 #[derive(Drop)]
 pub(crate) struct Part<'v> {
     /// The path of the object in the JSON, as `line 7: roots[0].features.books[1]`.

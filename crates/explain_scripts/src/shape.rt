@@ -165,7 +165,7 @@ pub(crate) fn explain_names(
     Ok(())
 }
 
-/// Explains objects below the last level.
+/// Explains the first object that is below the last level.
 pub(crate) fn explain_depth(out: &mut String, parts: &[Part<'_>]) -> Result<(), AllocError> {
     for part in parts {
         if part.level > limits::LEVELS {

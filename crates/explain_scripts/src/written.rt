@@ -1,5 +1,5 @@
-//! The objects of a document, as it writes them. Here the document is read as an owned value, which can be shown and has the keys of each
-//! object in order.
+//! The objects of a document, as they are written there. Here the document is read as an owned value. An owned value can be shown, and has
+//! the keys of each object in order.
 use json_fields::{find, has_only_keys};
 use mm_meta::Meta;
 use mm_types::{ClassNo, DataType, FeatureNo, limits};
@@ -76,7 +76,7 @@ fn is_literal(meta: &Meta, enumeration: u32, json: &Value) -> bool {
     }
 }
 
-/// Whether JSON writes a value of a data type, under a single or a many-valued attribute.
+/// Whether a JSON value is written as a value of a data type, under a single-valued attribute (`is_single`) or under a many-valued one.
 pub(crate) fn is_attribute_value(
     meta: &Meta,
     is_single: bool,

@@ -1,4 +1,4 @@
--- The calls on a file, its content after them, and what a crash may leave of it.
+-- The calls on a file, the content of the file after them, and what a crash may leave of it.
 use Rattle.std.specs.Prelude.{◌≡◌, ◌≤◌, ◌⊎◌, ℕ, ◌+◌, Bool, true, false, List, [], ◌∷◌, ◌++◌, length, take, drop, if◌then◌else◌, refl}
 use Rattle.std.specs.Coded.{Coded, code_by, coded_bool, coded_list, coded_ℕ, coded×, coded⊎}
 use Rattle.std.proofs.Common.{arith, inl, inr}

@@ -14,7 +14,7 @@ kept_map = map.from_entries
 abbrev pub is_full_for : Kept → ObjectNo → Bool
 is_full_for m o = nat_le 1024 (map.len m) && not (map.contains_key m o.0)
 
--- the map with capacity for a text of the object: emptied first if it is full
+-- the map, prepared for a text of the object: if the map is full and has no text of the object, all texts are dropped
 abbrev pub with_room : Kept → ObjectNo → Kept
 with_room m o = if is_full_for m o then map.empty else m
 

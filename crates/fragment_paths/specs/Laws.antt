@@ -24,7 +24,7 @@ pub record IsFound (r : Reading) (o : ObjectNo) (k : ResourceNo) : Type 0 where
   pub by_fragment : option_and_then (found_by r k) (fragments.fragment r o) ≡ Some o
   pub by_address : option_and_then (at r) (fragments.address r o) ≡ Some o
 
--- each object in a resource is found there
+-- each object that is in a resource is found there by its path and by its fragment, and is found by its address
 abbrev pub FindsEach : Reading → Type 0
 FindsEach r = (o : ObjectNo) (k : ResourceNo) → resource_of r.above o ≡ Some k → IsFound r o k
 

@@ -72,14 +72,14 @@ impl PathCache {
         self.texts.clear();
     }
 
-    /// Whether the map has no capacity for the text of an object.
+    /// Whether the map is full, and has no text of the object.
     fn is_full_for(&self, object: ObjectNo) -> bool
         ensures { result ≡ kept.is_full_for self.now object }
     {
         self.texts.len() >= MOST && !self.texts.contains_key(&object.0)
     }
 
-    /// Reserves capacity for the text of an object.
+    /// Prepares the map for the text of an object: if the map is full and has no text of the object, all texts are dropped.
     fn make_room(&mut self, object: ObjectNo)
         ensures { self.new ≡ kept.with_room self.old object }
     {
@@ -88,7 +88,7 @@ impl PathCache {
         }
     }
 
-    /// Keeps a text. The map has capacity for it.
+    /// Keeps the text of an object. The map is not full, or has a text of the object. If memory is refused, the text is not kept.
     fn put(&mut self, object: ObjectNo, text: Text)
         requires { kept.is_full_for self.old object ≡ false }
         ensures { (self.new ≡ map.insert self.old object.0 text) ⊎ (self.new ≡ self.old) }

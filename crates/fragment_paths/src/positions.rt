@@ -74,7 +74,7 @@ impl<'m, 'a, L: LinkStore> Positions<'m, 'a, L> {
         self.model
     }
 
-    /// Every model is legal. Proofs that know a model by its view call this.
+    /// Every model is legal. Code calls this function to make the fact known to a proof that has only the view of the model.
     pub(crate) fn lemma_is_legal(&self)
         ensures { IsLegal self.now }
     {

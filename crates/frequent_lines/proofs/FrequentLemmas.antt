@@ -21,6 +21,7 @@ use Rattle.script_lines.specs.Values.{name_in, node_in, object, object_in, value
 use Rattle.script_lines.specs.Words.{after_spaces, begins_word, is_one_word, is_space, word_len, words}
 use Rattle.script_lines.specs.declared.form.FeatureForm.TheVariants as feature
 use Rattle.script_lines.specs.declared.form.Form.TheVariants as asks
+use Rattle.frequent_lines.specs.declared.bare_act.BareAct.TheVariants as bare
 use Rattle.frequent_lines.specs.declared.frequent.Frequent.{Frequent}
 use Rattle.frequent_lines.specs.declared.frequent.Frequent.TheVariants as frequent
 use Rattle.frequent_lines.specs.declared.frequent_act.FrequentAct.{FrequentAct}
@@ -178,26 +179,26 @@ gives_add args = at (is_one_word args) (begins_word args) (natural_number (drop 
 gives_remove : (args : List ℕ) → Gives (codes "remove") args (act_in (codes "remove") args)
 gives_remove args = at (natural_number args) refl
   where
-    at : (k : Option ℕ) → natural_number args ≡ k → Gives (codes "remove") args (option_map act.Remove k)
+    at : (k : Option ℕ) → natural_number args ≡ k → Gives (codes "remove") args (option_map (λ n. act.Bare (bare.Remove n)) k)
     at (Some k) number = λ w f o object name. rw (natural_word args k number, node_is w o object, name, number) refl
     at None number = tt
 
 gives_resolve : (args : List ℕ) → Gives (codes "resolve") args (act_in (codes "resolve") args)
 gives_resolve args = at (natural_number args) refl
   where
-    at : (k : Option ℕ) → natural_number args ≡ k → Gives (codes "resolve") args (option_map act.Resolve k)
+    at : (k : Option ℕ) → natural_number args ≡ k → Gives (codes "resolve") args (option_map (λ n. act.Bare (bare.Resolve n)) k)
     at (Some k) number = λ w f o object name. rw (natural_word args k number, object, name, number) refl
     at None number = tt
 
 moved : (args to from : List ℕ) (j k : ℕ) → natural_number to ≡ Some j → natural_number from ≡ Some k → words args ≡ to ∷ from ∷ []
-    → (w f : List ℕ) (o : ObjectNo) → object_in w ≡ Some o → name_in f ≡ Some f → line_of (codes "move" ∷ w ∷ f ∷ words args) ≡ act_line o f (act.Move j k)
+    → (w f : List ℕ) (o : ObjectNo) → object_in w ≡ Some o → name_in f ≡ Some f → line_of (codes "move" ∷ w ∷ f ∷ words args) ≡ act_line o f (act.Bare (bare.Move j k))
 moved args to from j k is_to is_from two w f o object name = rw (two, node_is w o object, name, is_to, is_from) refl
 
 gives_move : (args : List ℕ) → Gives (codes "move") args (act_in (codes "move") args)
 gives_move args = at (natural_number (before_first is_space args)) (natural_number (after_first is_space args)) refl refl
   where
     at : (j k : Option ℕ) → natural_number (before_first is_space args) ≡ j → natural_number (after_first is_space args) ≡ k
-        → Gives (codes "move") args (option_map (λ p. act.Move p.0 p.1) (option_zip j k))
+        → Gives (codes "move") args (option_map (λ p. act.Bare (bare.Move p.0 p.1)) (option_zip j k))
     at (Some j) (Some k) to from = λ w f o object name.
         moved args (before_first is_space args) (after_first is_space args) j k to from
         (plain_cut args (natural_begins (before_first is_space args) j to)

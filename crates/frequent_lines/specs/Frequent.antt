@@ -12,8 +12,11 @@ use Rattle.mm_types.specs.declared.read.Read.TheVariants as read
 use Rattle.script_lines.specs.Forms.{line_with}
 use Rattle.script_lines.specs.Values.{name_in, object_in, value_in}
 use Rattle.script_lines.specs.Words.{begins_word, is_one_word, is_space, word_len}
+use Rattle.script_lines.specs.declared.form.FeatureForm.{FeatureForm}
 use Rattle.script_lines.specs.declared.form.FeatureForm.TheVariants as feature
 use Rattle.script_lines.specs.declared.form.Form.TheVariants as asks
+use Rattle.frequent_lines.specs.declared.bare_act.BareAct.{BareAct}
+use Rattle.frequent_lines.specs.declared.bare_act.BareAct.TheVariants as bare
 use Rattle.frequent_lines.specs.declared.frequent.Frequent.{Frequent}
 use Rattle.frequent_lines.specs.declared.frequent.Frequent.TheVariants as frequent
 use Rattle.frequent_lines.specs.declared.frequent_act.FrequentAct.{FrequentAct}
@@ -23,18 +26,22 @@ use Rattle.script_lines.specs.declared.line.Line.TheVariants as line
 
 -- ---- what a frequent line asks for
 
+-- what an act without a value asks for
+abbrev pub bare_form : BareAct → FeatureForm
+bare_form bare.Unset = feature.Unset
+bare_form (bare.Remove k) = feature.Remove k
+bare_form (bare.Move to from) = feature.Move to from
+bare_form (bare.Resolve k) = feature.Resolve k
+
 -- what an act on a feature of an object asks for; the line is bad if the word for its value is no value
 abbrev pub act_line : ObjectNo → List ℕ → FrequentAct → Line
 act_line o f act.Get = line.Form (asks.At (node.Object o) f (feature.Read Get))
 act_line o f act.IsSet = line.Form (asks.At (node.Object o) f (feature.Read IsSet))
-act_line o f act.Unset = line.Form (asks.At (node.Object o) f feature.Unset)
 act_line o f (act.Set w) = line_with (option_map (λ v. asks.At (node.Object o) f (feature.Set v)) (value_in w))
 act_line o f (act.Add w) = line_with (option_map (λ v. asks.At (node.Object o) f (feature.Add v)) (value_in w))
 act_line o f (act.AddAt w k) = line_with (option_map (λ v. asks.At (node.Object o) f (feature.AddAt k v)) (value_in w))
-act_line o f (act.Remove k) = line.Form (asks.At (node.Object o) f (feature.Remove k))
 act_line o f (act.RemoveValue w) = line_with (option_map (λ v. asks.At (node.Object o) f (feature.RemoveValue v)) (value_in w))
-act_line o f (act.Move to from) = line.Form (asks.At (node.Object o) f (feature.Move to from))
-act_line o f (act.Resolve k) = line.Form (asks.At (node.Object o) f (feature.Resolve k))
+act_line o f (act.Bare b) = line.Form (asks.At (node.Object o) f (bare_form b))
 
 abbrev pub frequent_line : Frequent → Line
 frequent_line (frequent.New c) = line.Form (asks.New c)
@@ -44,7 +51,7 @@ frequent_line (frequent.At o f a) = act_line o f a
 
 -- ---- how a frequent line is read
 
--- an act without arguments
+-- an act that has no arguments; none if there are arguments
 abbrev pub alone : FrequentAct → List ℕ → Option FrequentAct
 alone a [] = Some a
 alone a (c ∷ cs) = None
@@ -64,7 +71,7 @@ add_in args =
 -- `N N`: first the index to which a value is moved, then the index from which it is moved
 abbrev pub move_in : List ℕ → Option FrequentAct
 move_in args =
-    option_map (λ p. act.Move p.0 p.1) (option_zip (natural_number (before_first is_space args)) (natural_number (after_first is_space args)))
+    option_map (λ p. act.Bare (bare.Move p.0 p.1)) (option_zip (natural_number (before_first is_space args)) (natural_number (after_first is_space args)))
 
 -- the act that a verb and the text after the name of a feature ask for
 abbrev pub act_in : List ℕ → List ℕ → Option FrequentAct
@@ -73,11 +80,11 @@ act_in verb args =
     else if bytes_eq verb (codes "set") then option_map act.Set (word_in args)
     else if bytes_eq verb (codes "add") then add_in args
     else if bytes_eq verb (codes "isset") then alone act.IsSet args
-    else if bytes_eq verb (codes "unset") then alone act.Unset args
-    else if bytes_eq verb (codes "remove") then option_map act.Remove (natural_number args)
+    else if bytes_eq verb (codes "unset") then alone (act.Bare bare.Unset) args
+    else if bytes_eq verb (codes "remove") then option_map (λ k. act.Bare (bare.Remove k)) (natural_number args)
     else if bytes_eq verb (codes "removevalue") then option_map act.RemoveValue (word_in args)
     else if bytes_eq verb (codes "move") then move_in args
-    else if bytes_eq verb (codes "resolve") then option_map act.Resolve (natural_number args)
+    else if bytes_eq verb (codes "resolve") then option_map (λ k. act.Bare (bare.Resolve k)) (natural_number args)
     else None
 
 -- `OBJ NAME` at the front of a text

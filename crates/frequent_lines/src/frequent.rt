@@ -1,6 +1,6 @@
 //! The most frequent lines, which are read without a list of their words. Most lines of a script are of these forms, and cutting a line
-//! into a list of words takes longer than the change that the line asks for. The functions are inlined, so that no part of a line that was
-//! read goes through memory.
+//! into a list of words takes longer than the change that the line asks for. The functions are inlined, so that the parts of a line that
+//! were read need not be stored in memory.
 ghost use Rattle.std.specs.Prelude.{◌≡◌, IfSome, None, option_map};
 ghost use Rattle.std.specs.List.{after_first, before_first};
 ghost use Rattle.script_lines.specs.Forms.{text_line};
@@ -10,6 +10,7 @@ ghost use Rattle.frequent_lines.specs.Verbs.{long_verb, short_verb, short_verb_i
 ghost use Rattle.script_lines.specs.Words.{is_space};
 ghost use Rattle.frequent_lines.specs.declared.frequent.Frequent.TheVariants as frequent;
 
+use crate::bare_act::BareAct;
 use crate::frequent_act::FrequentAct;
 use crate::verbs::{
     LongVerb, ShortVerb, asks_container, asks_fragment, long_verb_of, short_verb_of, verb_len_of,
@@ -61,7 +62,7 @@ fn object_feature_of(text: &str) -> Option<(ObjectNo, Name<'_>, &str)>
     Some((object, feature, more))
 }
 
-/// An act without arguments.
+/// An act that has no arguments; `None` if there are arguments.
 #[inline(always)]
 fn alone_of<'a>(act: FrequentAct<'a>, args: &str) -> Option<FrequentAct<'a>>
     ensures { result ≡ alone act.entry args.now }
@@ -106,7 +107,7 @@ fn move_of(args: &str) -> Option<FrequentAct<'_>>
 {
     let (to, rest) = number_before_space(args)?;
     let from = natural_of(rest)?;
-    Some(FrequentAct::Move { to, from })
+    Some(FrequentAct::Bare(BareAct::Move { to, from }))
 }
 
 /// The act that a verb of three letters and the text after the name of a feature ask for.
@@ -129,11 +130,11 @@ fn long_act_of(verb: LongVerb, args: &str) -> Option<FrequentAct<'_>>
 {
     match verb {
         LongVerb::IsSet => alone_of(FrequentAct::IsSet, args),
-        LongVerb::Unset => alone_of(FrequentAct::Unset, args),
-        LongVerb::Remove => Some(FrequentAct::Remove(natural_of(args)?)),
+        LongVerb::Unset => alone_of(FrequentAct::Bare(BareAct::Unset), args),
+        LongVerb::Remove => Some(FrequentAct::Bare(BareAct::Remove(natural_of(args)?))),
         LongVerb::RemoveValue => Some(FrequentAct::RemoveValue(word_of(args)?)),
         LongVerb::Move => move_of(args),
-        LongVerb::Resolve => Some(FrequentAct::Resolve(natural_of(args)?)),
+        LongVerb::Resolve => Some(FrequentAct::Bare(BareAct::Resolve(natural_of(args)?))),
     }
 }
 

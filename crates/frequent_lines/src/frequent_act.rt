@@ -1,4 +1,5 @@
 //! What a frequent line asks of a feature, or does to it.
+use crate::bare_act::BareAct;
 use crate::word::Word;
 
 /// What a frequent line asks of a feature of an object, or does to the feature. A value is given by its word. If the word is no value, the
@@ -9,20 +10,14 @@ pub enum FrequentAct<'a> {
     Get,
     /// `isset OBJ NAME`
     IsSet,
-    /// `unset OBJ NAME`
-    Unset,
     /// `set OBJ NAME VALUE`
     Set(Word<'a>),
     /// `add OBJ NAME VALUE`
     Add(Word<'a>),
     /// `add OBJ NAME VALUE N`
     AddAt(Word<'a>, u32),
-    /// `remove OBJ NAME N`
-    Remove(u32),
     /// `removevalue OBJ NAME VALUE`
     RemoveValue(Word<'a>),
-    /// `move OBJ NAME N N`: first the index `to`, then the index `from`.
-    Move { to: u32, from: u32 },
-    /// `resolve OBJ NAME N`
-    Resolve(u32),
+    /// A line without a value: `unset`, `remove`, `move` or `resolve`.
+    Bare(BareAct),
 }

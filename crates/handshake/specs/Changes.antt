@@ -24,12 +24,12 @@ abbrev pub HasReadDocument : Metamodel → Change → Type 0
 HasReadDocument m (Load k doc) = IsDocument m doc
 HasReadDocument m _ = Unit {0}
 
--- the objects of a load's document get numbers within the limit, if the first object gets n
+-- the objects of a load's document get numbers within the limit, if the first object gets the number n
 abbrev pub HasFittingDocument : ℕ → Change → Type 0
 HasFittingDocument n (Load k doc) = IsFitting n doc
 HasFittingDocument n _ = Unit {0}
 
--- the removal of the object that a change destroys; none if the change destroys none
+-- the removal of the object that a change destroys; none if the change destroys no object
 pub record IsRemovalOf (r : Reading) (c : Change) (q : Option Removal) : Type 0 where
   pub whose : option_map (λ (x : Removal). x.object) q ≡ destroyed_by c
   pub found : IfSome q (IsRemoval r)

@@ -105,7 +105,8 @@ abbrev pub cut_by_new : Reading → End → Value → List LinkEnd
 cut_by_new r e (value.Object o) = displaced_link_ends r e o
 cut_by_new r e v = []
 
--- the link of the counterpart of a proxy that is resolved, if the proxy has a counterpart
+-- the link of the counterpart of a proxy that is resolved, which is the proxy of the same link at the opposite end; none if the proxy has
+-- no counterpart
 abbrev pub counter_link_end : Reading → ResolvedProxy → List LinkEnd
 counter_link_end r x = option_map_or (λ c. link_end_in r c.end c.index) x.counterpart []
 
@@ -126,7 +127,8 @@ taken_index r e (Remove i) = Some i
 taken_index r e (RemoveValue v) = first_at r e v
 taken_index r e _ = None
 
--- the links that a change cuts, in order; none for a resolve of all proxies, in which the edits of each proxy cut its link
+-- the links that a change cuts, in order; none for a resolve of all proxies, since the edits of each proxy (`edits_of`) cut the links of
+-- that proxy
 abbrev pub cut_link_ends : Reading → Change → List LinkEnd
 cut_link_ends r (At e (Set v)) = if is_plain_set r e v then [] else cut_by_set r e v
 cut_link_ends r (At e Unset) = if (shape_at r e).is_reference then link_ends_backwards e (r.values e) else []

@@ -23,12 +23,13 @@ use Rattle.links.specs.Plans.{put_of}
 abbrev pub cut_of : LinkEnd → Edit
 cut_of t = Cut t.end t.value
 
--- the edit that puts an object at a position of an end; none for another value
+-- the edit that puts an object at a position of an end; none for a value that is no object
 abbrev pub new_put : Reading → End → ℕ → Value → Option Edit
 new_put r e i (value.Object o) = Some (put_of e i o (shape_at r e).opposite (shape_at r e).containing)
 new_put r e i v = None
 
--- the edit after the cuts, if there is one: it makes a link, or moves a value in a list. The old value of a single end is cut by then
+-- the edit that follows the cuts, if there is one: it makes a link, or moves a value in a list. If the end is single, the cuts have already
+-- taken its old value out
 abbrev pub made_edit : Reading → Change → Option Edit
 made_edit r (At e (Set v)) = if is_plain_set r e v then None else new_put r e 0 v
 made_edit r (At e (Add v i)) = if is_plain_add r e v then None else new_put r e (position_for r e i) v
@@ -39,11 +40,12 @@ made_edit r _ = None
 abbrev pub back_edit : Reading → Counterpart → Edit
 back_edit r c = Shift c.end c.index (length (r.values c.end) - 1)
 
--- the edits that put a link instead of its proxies
+-- the edits that put a new link in the place of a proxy and of its counterpart
 abbrev pub joining_edits : Reading → End → ℕ → ResolvedProxy → List Edit
 joining_edits r e i x = option_to_list (new_put r e i (value.Object x.object)) ++ option_to_list (option_map (back_edit r) x.counterpart)
 
--- the edits of one proxy when all are resolved: they cut the links of the proxy and of its counterpart, and put the new link in their place
+-- the edits of one proxy when all proxies are resolved: they cut the links of the proxy and of its counterpart, and put the new link in
+-- their place
 abbrev pub edits_of : Resolution → List Edit
 edits_of x =
     let e = end_of x.site in

@@ -32,7 +32,7 @@ use Rattle.proxies.specs.Resolving.{target_at}
 
 ---------------------------------------------------------------- values
 
--- the edit that puts new values of an attribute; a resource has no attributes
+-- the edit that puts new values of an attribute; none for a resource, which has no attributes
 abbrev pub put_under : FeatureNo → List Value → Bool → Node → List ValueEdit
 put_under f vs flag (node.Object o) = PutList o f vs flag ∷ []
 put_under f vs flag (node.Resource k) = []
@@ -81,7 +81,7 @@ value_edits r _ = []
 abbrev pub without_link_ends : Links → List LinkEnd → Links
 without_link_ends s ts = fold (λ t x. cut_value t x.end x.value) s ts
 
--- the links after an object is put at a position of an end, or last; a value that is no object is not put
+-- the links after an object is put into an end, at a position or after the last value; a value that is no object is not put
 abbrev pub with_value : Links → Reading → End → Option ℕ → Value → Links
 with_value s r e i (value.Object o) = put s e (unwrap_or i (length (end s e))) o (shape_at r e).opposite (shape_at r e).containing
 with_value s r e i v = s
@@ -103,7 +103,7 @@ with_resolution s x =
     let e = end_of x.site in
     links_after_join (without_link_ends s (link_ends_joined x.reads e x.site.index x.target)) x.reads e x.site.index x.target
 
--- the links after a change made its links or moved a value in a list; s has the links after its cuts
+-- the links after a change made its links or moved a value in a list; s has the links after the cuts of the change
 abbrev pub put_by : Links → Reading → Change → Links
 put_by s r (At e (Set v)) = if is_plain_set r e v then s else with_value s r e None v
 put_by s r (At e (Add v i)) = if is_plain_add r e v then s else with_value s r e i v
@@ -113,7 +113,8 @@ put_by s r ResolveAll = fold with_resolution s (resolutions r (sites r))
 put_by s r (Load k doc) = with_links s (loaded_links r.metamodel r.next k doc)
 put_by s r _ = s
 
--- the links that a change leaves: a deletion takes all links that name a destroyed object, any other change the links that it cuts
+-- the links that are left after the cuts of a change: a deletion cuts all links that name a destroyed object, and any other change cuts the
+-- links of `cut_link_ends`
 abbrev pub links_left : Links → Reading → Change → Links
 links_left s r c = option_map_or (λ o. without_nodes s (is_in_subtree r o)) (destroyed_by c) (without_link_ends s (cut_link_ends r c))
 

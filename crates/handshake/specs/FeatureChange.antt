@@ -22,7 +22,7 @@ use Rattle.handshake.specs.declared.change_kind.FeatureChange.{FeatureChange}
 abbrev pub feature_change : End → ChangeKind → FeatureChange
 feature_change e h = record { at = e; does = h }
 
----------------------------------------------------------------- its notification
+---------------------------------------------------------------- the notification of a feature change
 
 -- a notification at an end that holds h
 abbrev pub notice : Shape → End → Held → NoticeKind → Value → Value → ℤ → Notice
@@ -58,7 +58,7 @@ change_notices m e (t ∷ ts) =
     let n = notice_of (shape m t.at.feature) t.at t.does (e t.at) in
     n ∷ change_notices m (ends_after_notice (has_flag m) e n) ts
 
----------------------------------------------------------------- what it does, said plainly
+---------------------------------------------------------------- what a feature change does, without its notification
 
 -- the list without the first occurrence of a value
 abbrev pub list_without_value : List Value → Value → List Value

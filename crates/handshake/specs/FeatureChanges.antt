@@ -1,4 +1,4 @@
--- The feature changes that a change makes, end by end in the order of the rules, and its chain of notifications.
+-- The feature changes that a change makes, end by end in the order of the notifications, and the chain of these notifications.
 use Rattle.std.specs.Prelude.{ℕ, zero, suc, ◌&&◌, ◌||◌, Bool, true, false, not, List, [], ◌∷◌, ◌++◌, filter, flat_map, length, map, Option, Some, None, option_to_list, if◌then◌else◌}
 use Rattle.std.specs.Option.{option_map_or}
 use Rattle.mm_types.specs.Same.{node_value, same_end}
@@ -51,7 +51,7 @@ far_losses r ts = flat_map (far_loss r) ts
 abbrev pub is_replaced : Reading → End → ObjectNo → End → Bool
 is_replaced r e o d = (shape_at r d).is_single && (same_end e d || option_map_or (same_end d) (opposite_end r e o) false)
 
--- the losses of a displaced link at each end that the new link doesn't replace
+-- the losses of a displaced link, without the loss at an end whose value the new link replaces
 abbrev pub other_losses : Reading → End → ObjectNo → LinkEnd → List FeatureChange
 other_losses r e o t = filter (λ x. not (is_replaced r e o x.at)) (losses r t)
 
@@ -77,7 +77,7 @@ abbrev pub gain_at : Option ℕ → Value → ChangeKind
 gain_at None v = Gains v
 gain_at (Some i) v = GainsAt i v
 
--- the losses at the far ends of the links that are cut, and then the losses of the end itself
+-- the losses at the far ends of the links that are cut, and then the loss at the index i of the end itself
 abbrev pub changes_of_remove : Reading → End → List LinkEnd → ℕ → List FeatureChange
 changes_of_remove r e ts i = far_losses r ts ++ feature_change e (LosesAt i) ∷ []
 

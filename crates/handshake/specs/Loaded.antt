@@ -39,14 +39,13 @@ pub record HasObjectsOf (r : Reading) (doc : Doc) (t : Reading) : Type 0 where
   -- an attribute has the values that are written, else its default
   pub attributes : (o : ObjectNo) (f : FeatureNo) → (shape r.metamodel f).is_reference ≡ false
       → t.values (object_end r.next o f) ≡ attribute_values (shape r.metamodel f) (values_in doc o f)
-  -- a single unsettable attribute is set if it is written; no other feature has the flag
+  -- a single unsettable attribute has its set flag if the document writes a value for it; no other feature has a set flag
   pub flags : (o : ObjectNo) (f : FeatureNo)
       → t.flag (object_end r.next o f) ≡ ((shape r.metamodel f).is_unsettable && ((shape r.metamodel f).is_single && not (is_nil (values_in doc o f))))
   -- a reference that is no container reference has the values that are written, in that order: objects by their new numbers, and proxies
   pub references : (o : ObjectNo) (f : FeatureNo) → (shape r.metamodel f).is_reference ≡ true → lookups.is_container r.metamodel f ≡ false
       → t.values (object_end r.next o f) ≡ map (loaded_value r.next) (values_in doc o f)
-  -- the container reference of an object has the object in whose containment the object is written. It is empty for an object that no
-  -- object contains
+  -- the container reference of an object o has the object b, if o is written under a containment of b. It is empty if no object contains o
   pub containers : (o b : ObjectNo) (f c : FeatureNo) → IsContainer r.metamodel f c → IsWrittenWith doc b c o
       → t.values (object_end r.next o f) ≡ value.Object (loaded_number r.next b) ∷ []
   pub no_containers : (o : ObjectNo) (f c : FeatureNo) → IsContainer r.metamodel f c → ((b : ObjectNo) → IsWrittenWith doc b c o → ⊥)

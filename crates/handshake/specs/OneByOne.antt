@@ -25,13 +25,13 @@ abbrev pub after_each : Model → List ProxySite → Model
 after_each s [] = s
 after_each s (p ∷ ps) = if is_refused s (resolve p) then after_each s ps else after_each (model_after s (resolve p)) ps
 
--- the notifications of these resolves, one after another
+-- the notifications when the proxies at some locations are resolved one after another
 abbrev pub told_by_each : Model → List ProxySite → List Notice
 told_by_each s [] = []
 told_by_each s (p ∷ ps) =
     if is_refused s (resolve p) then told_by_each s ps else chain (reading s) (resolve p) ++ told_by_each (model_after s (resolve p)) ps
 
--- how many proxies these resolves resolve
+-- how many proxies are resolved, if the proxies at some locations are resolved one after another
 abbrev pub count_of_each : Model → List ProxySite → ℕ
 count_of_each s [] = zero
 count_of_each s (p ∷ ps) = if is_refused s (resolve p) then count_of_each s ps else suc (count_of_each (model_after s (resolve p)) ps)

@@ -79,7 +79,7 @@ abbrev pub set_refusal : Reading → End → Value → Option Refused
 set_refusal r e (value.Object o) = if has_already r e (value.Object o) then None else link_refusal r e o
 set_refusal r e v = None
 
--- why a value can't be added; if a unique list has the value already, the addition is refused only at an index
+-- why a value can't be added; if a unique list has the value already, the addition is refused only if an index is given
 abbrev pub add_refusal : Reading → End → Value → Option ℕ → Option Refused
 add_refusal r e v i = if is_repeat r e v then (Duplicate where_so is_some i) else gain_refusal r e v
 
@@ -125,7 +125,8 @@ named_refusal r e a = option_map_or (value_refusal r e) (value_of a) (end_refusa
 abbrev pub list_refusal : Reading → End → Value → Option Refused
 list_refusal r e v = value_refusal r e v else_by many_refusal r.metamodel e.feature
 
--- why a change is refused before it is planned: something that the change names is not there, or the feature is of another kind
+-- why a change is refused before it is planned: something that the change names is not there, or the act needs a single feature and the
+-- feature is many-valued, or the other way round
 abbrev pub early_refusal : Reading → Change → Option Refused
 early_refusal r (At e a) = named_refusal r e a else_by kind_refusal r.metamodel e.feature a
 early_refusal r (Create c) = class_refusal r.metamodel c

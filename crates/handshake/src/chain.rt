@@ -107,6 +107,7 @@ pub(crate) struct Report {
 }
 
 /// The notification of a feature change, computed in the model before the change.
+#[inline(always)]
 pub fn notice<L: LinkStore>(
     alloc: Global,
     model: &ModelRef<L>,
@@ -129,6 +130,7 @@ pub fn notice<L: LinkStore>(
 }
 
 /// What is reported of the end at which a feature change happens.
+#[inline(always)]
 fn report_of<L: LinkStore>(
     alloc: Global,
     model: &ModelRef<L>,
@@ -187,6 +189,7 @@ fn resolved<L: LinkStore>(
 }
 
 /// The report of a gain: SET at a single end, with the old value; else ADD after the last value.
+#[inline(always)]
 fn gain<L: LinkStore>(
     alloc: Global,
     model: &ModelRef<L>,

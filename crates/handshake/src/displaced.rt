@@ -145,7 +145,7 @@ fn contained(meta: &Meta, end: End, object: ObjectNo) -> Option<Node>
     }
 }
 
-/// The links that a change cuts, in order.
+/// The links that a change cuts, in order; none for a resolve of all proxies, since the edits of each proxy cut the links of that proxy.
 pub fn cut_link_ends<L: LinkStore>(
     alloc: Global,
     model: &ModelRef<L>,

@@ -177,7 +177,7 @@ fn push_value_taken_out<L: LinkStore>(
     }
 }
 
-/// Adds the feature changes of an end that is unset: a list loses each value, the last one first.
+/// Adds the feature changes of an end that is unset: a single end gets its default again, and a list loses each value, the last one first.
 fn push_emptied<L: LinkStore>(
     model: &ModelRef<L>,
     end: End,
@@ -260,7 +260,7 @@ struct AddedLink {
     object: ObjectNo,
 }
 
-/// Adds the losses of displaced links at each end that a new link doesn't replace.
+/// Adds the losses of displaced links, without the loss at an end whose value the new link replaces.
 fn push_other_losses<L: LinkStore>(
     model: &ModelRef<L>,
     link: AddedLink,
@@ -275,7 +275,8 @@ fn push_other_losses<L: LinkStore>(
     Ok(())
 }
 
-/// Adds the losses at both ends of a link. If one of the ends is a containment, its loss comes first.
+/// Adds the losses at both ends of a displaced link, without the loss at an end whose value the new link replaces. If one of the ends is a
+/// containment, its loss comes first.
 fn push_losses<L: LinkStore>(
     model: &ModelRef<L>,
     link: AddedLink,

@@ -33,8 +33,8 @@ pub fn the_notices_of_feature_changes_replay_them()
 {}
 
 /// The chain of a change of a legal model that is not refused, replayed on the values of an end, gives the values of the end after the
-/// change. Excepted are the ends of nodes that the change destroys, and of objects that a load makes. The document of a load must have been
-/// read.
+/// change. The ends of nodes that the change destroys, and of objects that a load makes, are excepted. The document of a load must have
+/// been read.
 pub fn the_chain_of_a_change_replays_it()
     ensures { (s : Model) (c : Change) → ChainReplays s c }
 {}

@@ -12,8 +12,8 @@ use mm_meta::Meta;
 use mm_types::{End, FeatureNo, Node, Refused, Value};
 use models::{ModelRef, class_refusal, end_refusal, node_refusal, value_refusal};
 
-/// The first refusal of a change that is found without memory: something that the change names is not there, or a feature is of another
-/// kind.
+/// The first refusal of a change that is found without memory: something that the change names is not there, or the act needs a single
+/// feature and the feature is many-valued, or the other way round.
 ///
 /// `NoObject` if the node, or the value, is an object that does not live; `NoResource`, `NoClass`, `Abstract`, `NoFeature`; `NotSingle` if
 /// a value is set under a many-valued feature, `NotMany` if a list is edited under a single feature.

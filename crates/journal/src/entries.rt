@@ -5,7 +5,7 @@ ghost use Rattle.journal.specs.Lines.{CutsEntry, CutsLine, entries, entry, recov
 use memchr::memchr;
 use std::alloc::AllocError;
 
-/// The first byte of an entry. A line without it does not count.
+/// The first byte of an entry. A line without this byte does not count.
 pub(crate) const MARK: u8 = b' ';
 
 /// The last byte of an entry.
@@ -21,7 +21,7 @@ fn cut_line(bytes: &[u8]) -> Option<(&[u8], &[u8])>
     }
 }
 
-/// The first line that the bytes of a file stand for, and the bytes after its entry. `None` if they stand for no line.
+/// The first line that the bytes of a file stand for, and the bytes after its entry. `None` if the bytes stand for no line.
 pub fn next_entry(bytes: &[u8]) -> Option<(&[u8], &[u8])>
     ensures { CutsEntry result bytes.now }
 {

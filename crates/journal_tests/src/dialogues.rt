@@ -132,7 +132,8 @@ fn lines_that_come_in_together_are_put_on_the_disk_together(rt: HostRuntime) -> 
     Ok(())
 }
 
-/// Stops a dialogue after a number of calls of the disk. The answered lines are in the file, and come back from it.
+/// Stops a dialogue after `calls` calls of the disk, and checks that the answered lines are in the file and are replayed from the file. The
+/// file may also have the kept lines of the commit that failed; `more` is their number.
 fn check(
     rt: &impl Abort,
     alloc: Global,

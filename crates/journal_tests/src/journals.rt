@@ -1,4 +1,4 @@
-//! A journal is opened, written and crashed.
+//! A journal is opened and written, and its disk crashes.
 ghost use Rattle.std.specs.Prelude.{◌≡◌, true};
 ghost use Rattle.journal.specs.Lines.{IsLine};
 ghost use Rattle.journal.specs.Journal.{IsSettled};
@@ -72,7 +72,7 @@ fn lines_after(commits: usize) -> &'static [u8] {
     }
 }
 
-/// How many calls of a disk three commits take: four for a new file, and four a commit.
+/// How many calls of a disk a new file with three commits takes: four for the new file, and four for each commit.
 const CALLS: u64 = 16;
 
 /// Opens a new file on a disk that stops after `calls` calls, and commits. Returns how many commits succeeded, and the file that a crash
@@ -105,7 +105,7 @@ fn a_journal_that_no_call_stops_is_a_script(rt: HostRuntime) -> Result<(), Fail>
     Ok(())
 }
 
-/// Crashes a recovery at each of its calls: the lines stay.
+/// Crashes a recovery at each of its calls, and checks that the file keeps its lines.
 fn check_recovery(
     rt: &impl Abort,
     alloc: Global,

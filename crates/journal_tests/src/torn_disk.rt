@@ -20,7 +20,7 @@ pub(crate) struct TornDisk {
     random: u64,
 }
 
-/// A byte in the range of a torn write: the old one, the new one, a mark or a newline.
+/// A byte in the range of a torn write: the old byte, the new byte, a space, with which each entry of a journal begins, or a newline.
 fn torn(old: Option<u8>, new: Option<u8>, pick: u64) -> u8 {
     match pick {
         0 => old.unwrap_or(b'\n'),

@@ -1,4 +1,4 @@
-//! The calls before a wait.
+//! How often `before_wait` is called while a line is read.
 ghost use Rattle.std.specs.Prelude.{⊤};
 
 use script_streams::{RunFault, Waits, read_line_waiting};

@@ -45,7 +45,7 @@ whole_number d = as_number d >>= as_i64 such_that is_of_bits 32
 abbrev pub whole_number_of_64 : Data → Option ℤ
 whole_number_of_64 d = as_number d >>= as_i64 such_that is_of_bits 64
 
--- whether a value is this text
+-- the text `wanted`; none for any other value
 abbrev pub word : List ℕ → Data → Option (Unit {0})
 word wanted d = do
   found ← as_str d

@@ -73,7 +73,7 @@ far_position (Proxy t) = None
 abbrev pub positions : Link → LinkPositions
 positions l = record { end = l.end; index = l.index; far = far_position l.far }
 
----------------------------------------------------------------- what has a node
+---------------------------------------------------------------- the ends that have a node
 
 abbrev pub if_end : Bool → End → List End
 if_end true e = e ∷ []

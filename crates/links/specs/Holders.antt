@@ -36,7 +36,7 @@ held_through (Some h) l n =
 abbrev pub holding_end : Link → Node → Option End
 holding_end l n = held_through l.container l n
 
--- the end by which the first link that contains n holds it; none if no link contains n
+-- the end through which the first link that contains n contains it; none if no link contains n
 abbrev pub first_holding : List Link → Node → Option End
 first_holding [] n = None
 first_holding (l ∷ ls) n = option_or (holding_end l n) (first_holding ls n)

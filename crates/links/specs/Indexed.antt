@@ -9,7 +9,7 @@ use Rattle.links.specs.declared.link.Far.{Far}
 use Rattle.links.specs.declared.link.Far.TheVariants.{At, Alone, Proxy}
 use Rattle.links.specs.declared.link.Link.{Link}
 
--- the value at a link's near side
+-- the value that a link has in its own end, which is the value of the far side
 abbrev pub far_value : Far → Value
 far_value (At d j) = node_value d.node
 far_value (Alone o) = value.Object o
@@ -29,7 +29,7 @@ indexed_value l e = if same_end l.end e then Some (l.index, far_value l.far) els
 abbrev pub is_value_at : Value → Option (ℕ × Value) → Bool
 is_value_at v p = option_map_or (λ q. same_value q.1 v) p false
 
--- a link is in e with the value v
+-- whether a link is in e with the value v
 abbrev pub has_value : End → Value → Link → Bool
 has_value e v l = is_value_at v (indexed_value l e)
 
@@ -48,6 +48,6 @@ bare_far (At d j) = At d 0
 bare_far (Alone o) = Alone o
 bare_far (Proxy t) = Proxy t
 
--- the link with both of its positions set to 0; no edit of another link changes what remains
+-- the link with both of its positions set to 0; edits of other links change only positions, so they leave this value as it is
 abbrev pub link_without_positions : Link → Link
 link_without_positions l = record { end = l.end; index = 0; far = bare_far l.far; container = l.container }

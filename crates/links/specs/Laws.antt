@@ -62,13 +62,13 @@ pub record PutGives (s : Links) (e : End) (i : ℕ) (o : ObjectNo) (g c : Option
   pub ends : (d : End) → end (put s e i o g c) d ≡ put_end s e i o g d
   pub holders : (n : Node) → holder (put s e i o g c) n ≡ put_holder s e o g c n
 
--- the node that would be the container of x is neither x nor below x
+-- if a put makes a node x contained, the node that then contains x is neither x nor below x
 abbrev pub IsPutOutside : Links → End → ObjectNo → Option FeatureNo → Type 0
 IsPutOutside s e o c =
     (x : Node) (d : End) → node_contained e o c ≡ Some x → end_containing e o c ≡ Some d
     → (same_node d.node x ≡ false) × (list_any (same_node x) (above s d.node) ≡ false)
 
--- the proxy is at its position, and all else is as it was
+-- after a put of a proxy, the proxy is at its position, and all else is as it was
 pub record PutProxyMakes (s : Links) (e : End) (i : ℕ) (t : List ℕ) : Type 0 where
   pub near : end (put_proxy s e i t) e ≡ insert (end s e) i (value.Proxy t)
   pub others : (d : End) → (e ≡ d → ⊥) → end (put_proxy s e i t) d ≡ end s d
@@ -81,7 +81,7 @@ pub record CutMakes (s : Links) (l : Link) : Type 0 where
   pub ends : (d : End) → end (cut s l) d ≡ list_without (end s d) (indexed_value l d)
   pub holders : (n : Node) → holder (cut s l) n ≡ option_map_or (λ x. None) (holding_end l n) (holder s n)
 
--- one value of one end moves, and all else is as it was
+-- after a shift, one value of one end is at its new position, and all else is as it was
 pub record ShiftMakes (s : Links) (e : End) (to from : ℕ) : Type 0 where
   pub near : end (shift s e to from) e ≡ values_after_move (end s e) to from
   pub others : (d : End) → (e ≡ d → ⊥) → end (shift s e to from) d ≡ end s d
@@ -135,7 +135,7 @@ pub record CutsByNameMake (m : Kinds) (s : Links) (ts : List (End × Value)) : T
 abbrev pub cut_edits : List (End × Value) → List Edit
 cut_edits ts = map (λ t. edit.Cut t.0 t.1) ts
 
--- each of the values is in its end
+-- each value of the list is in the end with which it is paired
 abbrev pub AreThere : Links → List (End × Value) → Type 0
 AreThere s ts = AllByRecursion (λ (t : End × Value). Has s t.0 t.1) ts
 
@@ -144,15 +144,15 @@ abbrev pub AreOnce : Kinds → List (End × Value) → Type 0
 AreOnce m [] = Unit {0}
 AreOnce m (t ∷ ts) = AllByRecursion (λ (u : End × Value). names m t.0 t.1 u.0 u.1 ≡ false) ts × AreOnce m ts
 
----------------------------------------------------------------- nodes that go
+---------------------------------------------------------------- nodes that are removed
 
 -- whether a value is an object that is removed
 abbrev pub goes : (Node → Bool) → Value → Bool
 goes gone (value.Object o) = gone (node.Object o)
 goes gone _ = false
 
--- a node that is removed has empty ends and no holder, each other end loses the objects that are removed, and no link names a node that is
--- removed
+-- a node that is removed has empty ends, and each other end loses the objects that are removed; a node has no holder if it is removed, or
+-- if the node of its holder is removed; no link names a node that is removed
 pub record WithoutNodesMakes (s : Links) (gone : Node → Bool) : Type 0 where
   pub ends : (d : End) → end (without_nodes s gone) d ≡ (if gone d.node then [] else filter (λ v. not (goes gone v)) (end s d))
   pub holders : (n : Node) → holder (without_nodes s gone) n ≡ option_and_then (λ (d : End). if gone d.node || gone n then None else Some d) (holder s n)

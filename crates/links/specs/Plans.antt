@@ -105,7 +105,7 @@ abbrev pub PlanMakesNoCycle : Links → List Edit → Type 0
 PlanMakesNoCycle s [] = Unit {0}
 PlanMakesNoCycle s (x ∷ xs) = MakesNoCycle s x × PlanMakesNoCycle (links_after_edit s x) xs
 
----------------------------------------------------------------- what has an object
+---------------------------------------------------------------- the ends that have an object
 
 abbrev pub has_end : List End → End → Bool
 has_end [] d = false

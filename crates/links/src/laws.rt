@@ -77,8 +77,8 @@ pub fn a_put_gives_each_end_and_holder()
     ensures { (s : Links) (e : End) (i : ℕ) (o : ObjectNo) (g c : Option FeatureNo) → IsLegalSet s → EditFits s (put_of e i o g c) → PutGives s e i o g c }
 {}
 
-/// A put that fits keeps a legal set legal, and the set still agrees with the same kinds. The put makes no cycle if the containing node is
-/// neither the other node nor below it.
+/// A put that fits keeps a legal set legal, and the set still agrees with the same kinds. The put makes no cycle if the node that becomes
+/// the container is neither the contained node nor below it.
 pub fn a_put_keeps_a_set_legal()
     ensures legal { (s : Links) (e : End) (i : ℕ) (o : ObjectNo) (g c : Option FeatureNo) → IsLegalSet s → EditFits s (put_of e i o g c) → IsLegalSet (put s e i o g c) }
     ensures kinds { (m : Kinds) → AreKinds m → (s : Links) (e : End) (i : ℕ) (o : ObjectNo) → AreOfKind m s → AreOfKind m (put s e i o (m.opposite e.feature) (m.container e.feature)) }
@@ -158,12 +158,13 @@ pub fn a_plan_of_other_links_leaves_what_contains()
     ensures { (m : Kinds) → AreKinds m → (s : Links) (plan : List Edit) → IsLegalSet s → AreOfKind m s → PlanFits s plan → IsPlanOfKind m plan → touches_containment m plan ≡ false → (d : End) → contains_by m d.feature ≡ true → end (links_after_edits s plan) d ≡ end s d }
 {}
 
-/// Links of the kinds of features agree at both ends.
+/// Links that agree with the kinds of features agree at both ends: if the features are opposites and the end x has the node of the end y,
+/// then y has the node of x.
 pub fn both_ends_agree()
     ensures { (m : Kinds) (s : Links) → IsLegalSet s → AreOfKind m s → BothEndsAgree m s }
 {}
 
-/// Links of the kinds of features are determined by their ends: two legal sets with the same ends are equal.
+/// Links that agree with the kinds of features are determined by their ends: two such legal sets with the same ends are equal.
 pub fn the_ends_determine_the_links()
     ensures { (m : Kinds) (s t : Links) → IsLegalSet s → IsLegalSet t → AreOfKind m s → AreOfKind m t → HaveSameEnds s t → s ≡ t }
 {}

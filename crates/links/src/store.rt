@@ -41,12 +41,12 @@ pub trait LinkStore: Drop {
         requires legal { IsLegalSet (links self.now) }
         ensures { result ≡ length (end_of (links self.now) end) };
 
-    /// The object at a position of an end; `None` past the last, and if a proxy is there.
+    /// The object at a position of an end; `None` past the last position, and if a proxy is there.
     fn at(&self, end: End, index: u32) -> Option<ObjectNo>
         requires legal { IsLegalSet (links self.now) }
         ensures { result ≡ object_at (links self.now) end index };
 
-    /// The text of the proxy at a position of an end; `None` past the last, and if an object is there.
+    /// The text of the proxy at a position of an end; `None` past the last position, and if an object is there.
     fn proxy_at(&self, end: End, index: u32) -> Option<&str>
         requires legal { IsLegalSet (links self.now) }
         ensures { option_copied result ≡ proxy_of (links self.now) end index };

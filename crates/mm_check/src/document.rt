@@ -27,14 +27,15 @@ const CONDITIONS: [Condition; 9] = [
 /// What the check of a document finds.
 #[derive(Drop)]
 enum Outcome {
-    /// The first condition, in the order of their numbers, that applies somewhere, and the first place at which it does.
+    /// The first condition, in the order of the numbers of conditions, that applies somewhere, and the first place at which this condition
+    /// applies.
     Fault(Condition, Place),
     /// The document is well-formed, and resolves to this resolution.
     Resolution(Resolution),
 }
 
-/// The first condition, in the order of their numbers, that applies somewhere, and the first place at
-/// which it does.
+/// The first condition, in the order of the numbers of conditions, that applies somewhere, and the first place at which this condition
+/// applies.
 fn first_fault(
     alloc: Global,
     checker: &Checker<'_>,

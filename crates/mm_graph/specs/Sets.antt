@@ -14,7 +14,8 @@ IsSetOf P s = (k : ℕ) → (is_in s k ≡ true) ↔ P k
 abbrev pub HasSupers : List (List ℕ) → List Bool → ℕ → Type 0
 HasSupers g s k = All (λ (e : ℕ). is_in s e ≡ true) (by_class g k)
 
--- class c was added to a set, and besides it only classes that c conforms to; the supertypes of each added class are in the set
+-- class c was added to a set; any other class that was added is a class that c conforms to; the supertypes of each added class are in the
+-- set
 pub record IsAdded (g : List (List ℕ)) (c : ℕ) (old new : List Bool) : Type 0 where
   pub long : length new ≡ length old
   pub here : is_in new c ≡ true

@@ -44,7 +44,7 @@ fn merged(
 /// that each class declares, and `order` is an order that `order_of` returns. Fails only if memory is refused.
 ///
 /// Each class's list is made once, from the lists of its supertypes, so many paths to one supertype cost no more than one path. A list
-/// takes four bytes a feature and no more: all lists together are the largest part of a metamodel.
+/// takes four bytes a feature and no more, since all lists together are the largest part of a metamodel.
 pub fn features_table(
     alloc: Global,
     graph: &[Seq<usize>],
@@ -61,7 +61,7 @@ pub fn features_table(
     'empty: for _class in 0..graph.len() {
         rows.push(Seq::new(alloc))?;
     }
-    // The lists of a class's supertypes are made by now: they come before it in the order.
+    // The lists of a class's supertypes are made by now, since the supertypes come before the class in the order.
     'classes: for c in order {
         let made = merged(
             alloc,

@@ -24,9 +24,9 @@ feature_fields = makes new_head
     also required_field (codes "name") text
     -- the name of its type
     also required_field (codes "type") text
-    -- its lower bound, or 0
+    -- its lower bound; 0 if the key is absent
     also optional_field (codes "lower") whole_number (pos 0)
-    -- its upper bound, or 1
+    -- its upper bound; 1 if the key is absent
     also optional_field (codes "upper") whole_number (pos 1)
 
 abbrev pub new_attribute : Unit {0} → Bool → Bool → Option (List ℕ) → RawKind
@@ -37,11 +37,11 @@ abbrev pub attribute_fields : Fields RawKind
 attribute_fields = makes new_attribute
     -- its kind, which is `attribute`
     also required_field (codes "kind") (word (codes "attribute"))
-    -- whether it repeats no value, or true
+    -- whether it repeats no value; true if the key is absent
     also optional_field (codes "unique") flag true
-    -- whether it is unsettable, or false
+    -- whether it is unsettable; false if the key is absent
     also optional_field (codes "unsettable") flag false
-    -- the literal of its default, or none
+    -- the literal of its default; none if the key is absent
     also optional_field (codes "default") (given_value text) None
 
 abbrev pub new_reference : Unit {0} → Bool → Option (List ℕ) → RawKind
@@ -52,9 +52,9 @@ abbrev pub reference_fields : Fields RawKind
 reference_fields = makes new_reference
     -- its kind, which is `reference`
     also required_field (codes "kind") (word (codes "reference"))
-    -- whether it holds its objects as parts, or false
+    -- whether it holds its objects as parts; false if the key is absent
     also optional_field (codes "containment") flag false
-    -- the name of its opposite, or none
+    -- the name of its opposite; none if the key is absent
     also optional_field (codes "opposite") (given_value text) None
 
 abbrev pub new_feature : Head → RawKind → RawFeature
@@ -65,15 +65,15 @@ abbrev pub is_unsettable : RawKind → Bool
 is_unsettable (Attribute unique unsettable default) = unsettable
 is_unsettable (Reference containment opposite) = false
 
--- whether a feature is single or not unsettable
+-- whether a feature is single, or is not unsettable
 abbrev pub unsets_one : RawFeature → Bool
 unsets_one f = not (is_unsettable f.kind) || int_eq f.upper (pos 1)
 
--- an object of the fields of features and attributes; an unsettable attribute is single
+-- a JSON object that has only the fields of a feature and of an attribute; if the attribute is unsettable, it has to be single
 unfoldable pub attribute : Data → Option RawFeature
 attribute d = object_of (makes new_feature also feature_fields also attribute_fields) d such_that unsets_one
 
--- an object of the fields of features and references
+-- a JSON object that has only the fields of a feature and of a reference
 unfoldable pub reference : Data → Option RawFeature
 reference = object_of (makes new_feature also feature_fields also reference_fields)
 
@@ -92,11 +92,11 @@ abbrev pub class_fields : Fields RawClass
 class_fields = makes new_class
     -- its name
     also required_field (codes "name") text
-    -- whether it has no objects of its own, or false
+    -- whether it has no objects of its own; false if the key is absent
     also optional_field (codes "abstract") flag false
-    -- the names of its supertypes, in order, or none
+    -- the names of its supertypes, in order; none if the key is absent
     also optional_field (codes "supers") (array_of text) []
-    -- the features that it declares, in order, or none
+    -- the features that it declares, in order; none if the key is absent
     also optional_field (codes "features") (array_of feature) []
 
 -- a JSON object that has only the fields of a class
@@ -113,7 +113,7 @@ abbrev pub enumeration_fields : Fields Enumeration
 enumeration_fields = makes new_enumeration
     -- its name
     also required_field (codes "name") text
-    -- its literals, in order, and one at least
+    -- its literals, in order; at least one
     also required_field (codes "literals") (array_of_some text)
 
 -- a JSON object that has only the fields of an enumeration
@@ -128,7 +128,7 @@ new_document enums classes = record { enums = enums; classes = classes }
 -- the fields of the document
 abbrev pub document_fields : Fields RawMetamodel
 document_fields = makes new_document
-    -- the enumerations, in order, or none
+    -- the enumerations, in order; none if the key is absent
     also optional_field (codes "enums") (array_of enumeration) []
     -- the classes, in order
     also required_field (codes "classes") (array_of class)

@@ -12,12 +12,12 @@ use Rattle.mm_load.specs.Layout.{document}
 abbrev pub metamodel_if_within_limits : RawMetamodel → Result RawMetamodel MetaFault
 metamodel_if_within_limits raw = if is_within_limits raw then Ok raw else Err Limit
 
--- `Layout` if the layout is wrong, else what the limits say
+-- `Layout` if the layout is wrong, else the result of the check of the limits
 abbrev pub metamodel_of_layout : Option RawMetamodel → Result RawMetamodel MetaFault
 metamodel_of_layout None = Err Layout
 metamodel_of_layout (Some raw) = metamodel_if_within_limits raw
 
--- `Syntax` if the bytes are no JSON, else what the layout says
+-- `Syntax` if the bytes are no JSON, else the result of the checks of the layout and of the limits
 abbrev pub metamodel_of_json : Option Data → Result RawMetamodel MetaFault
 metamodel_of_json None = Err Syntax
 metamodel_of_json (Some d) = metamodel_of_layout (document d)

@@ -1,4 +1,4 @@
-//! A document of the right layout. Its counts and lengths may pass the limits.
+//! A document of the right layout. Its counts and lengths are not yet checked against the limits.
 ghost use Rattle.std.specs.Prelude.{◌≡◌};
 ghost use Rattle.serde_json.specs.Data.{object};
 ghost use Rattle.serde_json.specs.View.{members_view};

@@ -65,7 +65,7 @@ fn take_reference(alloc: Global, members: &mut Map<String, Value>) -> Result<Raw
     })
 }
 
-/// Whether a feature is single or not unsettable; a reference is not unsettable.
+/// Whether a feature is single, or is not unsettable. A reference is never unsettable.
 fn unsets_one_at_most(feature: &RawFeature) -> bool
     ensures { result ≡ unsets_one feature.now }
 {

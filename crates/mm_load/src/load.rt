@@ -10,7 +10,7 @@ use std::alloc::Global;
 
 /// The metamodel that a document describes, with its names unresolved; else the lowest fault that applies:
 ///
-/// - `Syntax` if the bytes are no JSON, of at most 127 levels, in UTF-8;
+/// - `Syntax` if the bytes are no JSON in UTF-8, or if the JSON has more than 127 levels;
 /// - `Layout` if the value does not have the shape of a metamodel, or has a key that is not listed;
 /// - `Limit` if a count or a length passes its limit.
 ///

@@ -1,4 +1,4 @@
--- Tables that find names in lists of them.
+-- Tables that find the position of a name in a list of names.
 use Rattle.std.specs.Prelude.{ℕ, ◌≡◌, List, Option, option_and_then, position, slice_get}
 use Rattle.std.specs.List.{AllZip}
 use Rattle.std.specs.Str.{bytes_eq}

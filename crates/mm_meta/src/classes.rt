@@ -66,7 +66,7 @@ impl<'a> Resolver<'a> {
         Ok(rows)
     }
 
-    /// A class with its names resolved, given the supertypes of each and all its features.
+    /// A class with its names resolved, given the supertypes of each class and all features of this class.
     fn resolved_class(
         &self,
         alloc: Global,

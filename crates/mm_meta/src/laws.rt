@@ -13,8 +13,8 @@ pub fn conformance()
     ensures { (m : Metamodel) → IsOfDocument m → ConformanceIsComputed m }
 {}
 
-/// The opposite of a reference is another reference, whose opposite is the first one. If one of them is a containment,
-/// it is the containing feature of both (MOF 2.5.1: Property, opposite; EMF: EReference.eOpposite).
+/// The opposite of a reference is another reference, whose opposite is the first reference. If one of the two is a containment, it is the
+/// containing feature of both (MOF 2.5.1: Property, opposite; EMF: EReference.eOpposite).
 pub fn opposites()
     ensures pairs { (m : Metamodel) → IsOfDocument m → OppositesArePairs m }
     ensures shape { (m : Metamodel) (f : FeatureNo) → (shape m f).opposite ≡ opposite m f }

@@ -96,7 +96,8 @@ impl Meta {
         Ok(meta)
     }
 
-    /// Every metamodel is the metamodel of a well-formed document. Proofs that know a metamodel by its view call this.
+    /// Every metamodel is the metamodel of a well-formed document. Code calls this function to make the fact known to a proof that has only
+    /// the view of the metamodel.
     pub fn lemma_is_of_document(&self)
         ensures { IsOfDocument self.now }
     {

@@ -27,7 +27,7 @@ impl Meta {
         }
     }
 
-    /// Whether the values of a feature are distinct (EMF: ETypedElement.isUnique); the values of a reference are. Takes no memory.
+    /// Whether the values of a feature are distinct (EMF: ETypedElement.isUnique). The values of a reference always are. Takes no memory.
     pub fn is_unique(&self, feature: FeatureNo) -> bool
         ensures { result ≡ (shape self.now feature).is_unique }
     {

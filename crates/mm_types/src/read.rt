@@ -23,9 +23,9 @@ pub enum Read {
 /// A question about a feature of a node.
 #[derive(Clone, Copy, Drop)]
 pub enum EndRead {
-    /// Its value or its list (EMF: EObject.eGet; MOF 2.5.1: Reflection, Object.get).
+    /// The value or the list of the feature (EMF: EObject.eGet; MOF 2.5.1: Reflection, Object.get).
     Get,
-    /// Whether it is set (EMF: EObject.eIsSet; MOF 2.5.1: Reflection, Object.isSet).
+    /// Whether the feature is set (EMF: EObject.eIsSet; MOF 2.5.1: Reflection, Object.isSet).
     IsSet,
 }
 
@@ -49,7 +49,7 @@ pub enum ObjectRead {
 pub enum NodeRead {
     /// The objects that the node directly contains (EMF: EObject.eContents).
     Contents,
-    /// All that the node and each node below it have.
+    /// The state of the node and of each node below it: its class, the values of its features and its set flags.
     Snapshot,
 }
 

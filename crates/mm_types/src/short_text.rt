@@ -1,4 +1,4 @@
-//! Texts without a block of memory.
+//! Short texts, which are stored inline, without an allocation.
 ghost use Rattle.std.specs.Prelude.{◌≡◌, IfSome, is_some, length, nat_le};
 
 use std::marker::Model;

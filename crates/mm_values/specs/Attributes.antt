@@ -21,14 +21,14 @@ stored_under l f = unwrap_or (map.get (stored_in l) f.0) nothing_stored
 abbrev pub change_stored : StoredMap → ℕ → (List Value → List Value) → StoredMap
 change_stored m f g = with_stored m f (list_changed g (unwrap_or (map.get m f) nothing_stored))
 
--- an entry that is made before it holds anything
+-- the entry of the attribute f when it is made in advance: it holds nothing yet
 abbrev pub place_for : ℕ → Entry
 place_for f = record { feature = record { 0 = f }; list = record { items = []; spare = 0 }; flag = false }
 
 abbrev pub feature_at : List Entry → ℕ → ℕ
 feature_at l i = let e = slice_index_or l i (place_for 0) in e.feature.0
 
--- the attributes' numbers rise, so no attribute comes twice
+-- the attribute numbers rise along the list, so no attribute comes twice
 abbrev pub IsRising : List Entry → Type 0
 IsRising l = (i j : ℕ) → i < j → j < length l → feature_at l i < feature_at l j
 

@@ -33,7 +33,7 @@ inserted_in _ = None
 abbrev pub is_insert : ValueEdit → Bool
 is_insert e = is_some (inserted_in e)
 
--- whether an edit inserts a value into this list
+-- whether an edit inserts a value into the given list; false if no list is given
 abbrev pub is_insert_in : Option (ObjectNo × FeatureNo) → ValueEdit → Bool
 is_insert_in None e = false
 is_insert_in (Some p) e = is_insert_at p.0.0 p.1.0 e

@@ -12,8 +12,8 @@ use std::alloc::{AllocError, Global};
 use std::marker::Model;
 use value_lists::ValueList;
 
-/// What is stored under one attribute. If the list of an entry is empty and its flag is off, the entry was made in advance, for a list that
-/// is put later.
+/// What is stored under one attribute. If the list of an entry is empty and its flag is off, nothing is stored: the entry was made in
+/// advance for a list that is put later, or its values were taken out.
 #[derive(Drop)]
 pub(crate) struct Entry {
     feature: FeatureNo,

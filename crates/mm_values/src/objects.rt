@@ -172,7 +172,7 @@ impl Objects {
         self.next += 1;
     }
 
-    /// Ends an object, and frees its values.
+    /// Destroys an object, and frees its values.
     pub fn remove(&mut self, object: ObjectNo)
         ensures objects { objects_of self.new ≡ without_object (objects_of self.old) object }
         ensures next { self.new.next ≡ self.old.next }

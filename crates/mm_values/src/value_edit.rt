@@ -9,9 +9,9 @@ use mm_types::{ClassNo, FeatureNo, ObjectNo, Text, Value};
 pub enum ValueEdit {
     /// Makes an object of a class (EMF: EFactory.create). The number of the object is the count of all objects that were made before it.
     NewObject(ClassNo),
-    /// Ends an object. Its number is never given again.
+    /// Destroys an object. Its number is never given again.
     DropObject(ObjectNo),
-    /// Replaces the values that an object has under an attribute, and whether it is set (EMF: eSet, eUnset).
+    /// Replaces the values that an object has under an attribute, and the set flag of the attribute (EMF: eSet, eUnset).
     PutList {
         object: ObjectNo,
         feature: FeatureNo,
@@ -60,7 +60,7 @@ impl ValueEdit {
         matches!(self, ValueEdit::NewUri(_))
     }
 
-    /// The list into which a value is put.
+    /// The list into which the edit inserts a value; `None` if it inserts none.
     pub(crate) fn inserted_in(&self) -> Option<(ObjectNo, FeatureNo)>
         ensures { result ≡ inserted_in self.now }
     {
@@ -74,14 +74,14 @@ impl ValueEdit {
         }
     }
 
-    /// Whether a value is put into a list.
+    /// Whether the edit inserts a value into a list.
     pub(crate) fn is_insert(&self) -> bool
         ensures { result ≡ is_insert self.now }
     {
         self.inserted_in().is_some()
     }
 
-    /// Whether a value is put into this list.
+    /// Whether the edit inserts a value into the given list; false if no list is given.
     pub(crate) fn is_insert_in(&self, list: Option<(ObjectNo, FeatureNo)>) -> bool
         ensures { result ≡ is_insert_in list self.now }
     {
@@ -91,7 +91,7 @@ impl ValueEdit {
         }
     }
 
-    /// Whether a value is put into the list that an object has under an attribute.
+    /// Whether the edit inserts a value into the list that the object `at` has under the attribute `under`.
     pub(crate) fn is_insert_at(&self, at: ObjectNo, under: FeatureNo) -> bool
         ensures { result ≡ is_insert_at at.0 under.0 self.now }
     {

@@ -198,7 +198,7 @@ impl Values {
     }
 
     /// Replaces the list of an object under an attribute, as `ValueEdit::PutList` does. Fails only if memory is refused, and then nothing
-    /// that contracts see has changed. Most changes of values are such edits. To make a plan for one of them would take longer than the
+    /// that contracts see has changed. Most changes of values are such edits, and making a plan for such an edit would take longer than the
     /// edit itself.
     pub fn try_put(
         &mut self,

@@ -14,7 +14,7 @@ pub(crate) struct ResourceFile {
     pub(crate) file: String,
 }
 
-/// What the program has to do, by its options.
+/// What the program has to do, as its options say.
 #[derive(Drop)]
 pub(crate) struct Asked {
     /// The file of the metamodel.

@@ -1,4 +1,4 @@
-//! What the program says in addition, with `--explain`, when it reports why it stops.
+//! What the program says in addition when it reports why it stops: with `--explain`, and about files also for a person at a terminal.
 use crate::asked::Asked;
 use crate::stop::{JournalRefusal, Stop};
 use durable::JournalFault;
@@ -10,7 +10,7 @@ use script_streams::RunFault;
 use std::alloc::AllocError;
 use std::io;
 
-/// A fault of a file for which the system has a reason.
+/// Why the program stops for a fault of a file. If `explain` is set, a text has the path and the reason that the system gives.
 fn failed(rt: &HostRuntime, explain: bool, path: &str, fault: RunFault, error: io::Error) -> Stop {
     if !explain {
         return Stop::Run(fault);

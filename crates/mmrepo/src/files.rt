@@ -1,4 +1,4 @@
-//! Resources are loaded from files before the script.
+//! Loads resources from files, before the script.
 use crate::asked::{Asked, ResourceFile};
 use crate::explained::{explained_open, explained_read};
 use crate::stop::Stop;
@@ -125,7 +125,7 @@ fn not_loaded<L: LinkStore, A: Adapter>(
     }
 }
 
-/// Loads the document of a file into a resource, which gets the next number.
+/// Makes a resource, which gets the number `resource`, and loads the document of a file into it.
 fn load_file<L: LinkStore, A: Adapter>(
     rt: &HostRuntime,
     asked: &Asked,

@@ -88,7 +88,8 @@ fn run_session<A: Adapter>(
     Ok(session.is_faulty())
 }
 
-/// Runs a journal and standard input over an empty repository. Returns whether a line was refused or bad.
+/// Runs the lines of a journal, and then the lines of standard input, over an empty repository, and saves files. Returns whether a line was
+/// refused or bad.
 pub(crate) fn run_journaled<A: Adapter>(
     rt: &HostRuntime,
     asked: &Asked,

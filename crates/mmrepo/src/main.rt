@@ -19,14 +19,14 @@ use crate::running::{run_asked, status_of};
 use crate::stop::{Stop, report};
 use std::process::ExitCode;
 
-/// Reads the metamodel and the script, and returns the status.
+/// Reads the metamodel, runs the script, and returns the exit status.
 fn run(rt: &HostRuntime, asked: &Asked) -> Result<u8, Stop> {
     let mut document = read_meta(rt, asked)?;
     let is_faulty = run_asked(rt, asked, &mut document)?;
     Ok(status_of(is_faulty, asked.strict))
 }
 
-/// Reads the words, and runs the program with their options. Returns the status.
+/// Reads the words of the command line, and runs the program with the options that the words give. Returns the status.
 fn start(rt: &HostRuntime) -> Result<u8, Stop> {
     let words = words_of(rt)?;
     let asked = arguments_of(rt, words.as_slice())?;

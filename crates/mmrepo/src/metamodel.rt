@@ -1,4 +1,4 @@
-//! The metamodel is read and checked.
+//! Reads and checks the metamodel.
 use crate::asked::Asked;
 use crate::explained::{explained_fault, explained_open, explained_read};
 use crate::stop::Stop;

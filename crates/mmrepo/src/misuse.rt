@@ -2,7 +2,7 @@
 use command_line::Options;
 use std::fmt;
 
-/// Why a combination of valid options is refused.
+/// Why options that `clap` accepts are refused.
 #[derive(Clone, Copy)]
 pub(crate) enum Misuse {
     /// The first option can't be used with the second.
@@ -23,8 +23,8 @@ impl fmt::Display for Misuse {
     }
 }
 
-/// The first rule on options that is broken. A live run takes its lines from standard input, and its answers take no output options; a
-/// journal keeps lines, and no documents that options load.
+/// The first rule on options that is broken. A live run reads its lines from standard input, and writes its answers without output options.
+/// A journal needs a live run. It keeps lines, but not the documents that `--load` loads.
 pub(crate) fn misuse_of(options: &Options<'_>) -> Option<Misuse> {
     let is_live = options.live;
     let is_kept = options.journal.is_some();

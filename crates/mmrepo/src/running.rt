@@ -1,4 +1,4 @@
-//! The script is run.
+//! Runs the script.
 use crate::asked::Asked;
 use crate::explained::{explained_open, explained_run};
 use crate::files::load_files;
@@ -172,8 +172,8 @@ fn digest_for(asked: &Asked, document: &[u8]) -> [u8; 32] {
     }
 }
 
-/// Reads the metamodel, frees its document, and runs the script over an empty repository of it with its adapters. Returns whether a line
-/// was refused or bad.
+/// Checks the metamodel, frees its document, and runs the script over an empty repository of the metamodel, with the adapters `boxes`.
+/// Returns whether a line was refused or bad.
 fn run_over_metamodel<A: Adapter>(
     rt: &HostRuntime,
     asked: &Asked,
@@ -191,8 +191,8 @@ fn run_over_metamodel<A: Adapter>(
 }
 
 /// Runs the script with its adapters: A1 to A4 keep every notification, A5 keeps the last 2 and A6 the last 100, A7 counts, and A8 can
-/// count two more. A live run has further adapters, which only count, so a long run keeps no notifications. Returns whether a line was
-/// refused or bad.
+/// count two more. A live run has further adapters, which only count: so their notifications take no memory in a long run. Returns whether
+/// a line was refused or bad.
 fn run_with_boxes(
     rt: &HostRuntime,
     asked: &Asked,
@@ -212,8 +212,8 @@ fn run_with_boxes(
     run_over_metamodel(rt, asked, document, boxes, watch)
 }
 
-/// Runs the script by the options, over the metamodel of a document, and returns whether a line was refused or bad. The lines are watched
-/// if they are to be commented on, or if the resources that they make are to be saved.
+/// Runs the script as the options say, over the metamodel of a document, and returns whether a line was refused or bad. The lines are
+/// watched if they are to be commented on, or if the resources that they make are to be saved.
 pub(crate) fn run_asked(
     rt: &HostRuntime,
     asked: &Asked,

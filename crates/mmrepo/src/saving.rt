@@ -1,4 +1,4 @@
-//! Resources are saved into files after the script.
+//! Saves resources into files, after the script.
 use crate::asked::{Asked, ResourceFile};
 use crate::explained::explained_write;
 use crate::files::refused_form;

@@ -38,7 +38,7 @@ pub(crate) enum Stop {
     Arguments(clap::Error),
     /// An argument is not UTF-8.
     NotUtf8,
-    /// Options don't go together.
+    /// Options don't go together, or the value of an option is not of the form URI=FILE.
     Misuse(Misuse),
     /// The metamodel is refused.
     Metamodel(MetaFault),

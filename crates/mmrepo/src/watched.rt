@@ -8,7 +8,7 @@ use std::cell::RefCell;
 use std::io;
 use std::io::Write;
 
-/// The watch over a run; `None` if no line of the run is explained.
+/// The watch over a run; `None` if no line of the run is commented on and no resource is saved after the run.
 pub(crate) type Watching<'w> = Option<&'w RefCell<Commentary>>;
 
 /// Calls a watch with the lines that were run.

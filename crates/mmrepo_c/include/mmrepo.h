@@ -70,10 +70,10 @@ enum {
     MMREPO_MEMORY = 32
 };
 
-/* Opens a session: an empty repository over the metamodel of a document. If it was open, it is closed first. Its adapters are A1 to
-   A1000: their notifications are in the texts of lines, and they keep none of them.
+/* Opens a session: an empty repository over the metamodel of a document. A session that is open is closed first. The adapters of the
+   session are A1 to A1000. Their notifications are in the texts of lines, and the adapters keep no notifications.
    Returns MMREPO_OK, the first fault of the metamodel, MMREPO_TOO_LONG or MMREPO_MEMORY. After MMREPO_OK the session is open and its text
-   is empty. After any other value it is closed. */
+   is empty. After any other value the session is closed. */
 uint32_t mmrepo_open(mmrepo_session *session, const char *document, size_t size);
 
 /* Runs one line of a script, given without its newline. The text of the session becomes what the line prints: its answer, and the
@@ -83,7 +83,7 @@ uint32_t mmrepo_open(mmrepo_session *session, const char *document, size_t size)
 uint32_t mmrepo_line(mmrepo_session *session, const char *line, size_t size);
 
 /* Reads how many values a list has: a list of an object, by the number of the object and the name of the feature, or the `contents` of a
-   resource, by the number of the resource. The text of the session becomes that count. No line of a script reads it.
+   resource, by the number of the resource. The text of the session becomes that count. No line of a script reads such a count.
    Returns MMREPO_OK; or MMREPO_REFUSED if there is no list of that name, and the text says why. MMREPO_CLOSED (the session is closed) and
    MMREPO_BAD (the name is not UTF-8) leave the session and its text as they are. After MMREPO_MEMORY the session is closed. */
 uint32_t mmrepo_list_length(mmrepo_session *session, bool is_resource, uint32_t number, const char *name, size_t size);

@@ -73,7 +73,7 @@ asked_len n name s = list_len_printed s.state n name
 abbrev pub asked_value : Node → List ℕ → ℕ → Session → Printed
 asked_value n name i s = list_value_printed s.state n name i
 
--- a document was loaded as a command; if memory was refused to the call, the handle is closed
+-- a document was loaded, as the command `Load` does; if memory was refused to the call, the handle is closed
 abbrev pub LoadsDocument : Held → ResourceNo → List ℕ → ℕ → Option Held → Type 0
 LoadsDocument h k text status None = status ≡ MEMORY
 LoadsDocument h k text status (Some t) = (turn : Turn) × (status ≡ line_status turn) × RunsCommand (running_session h) (Load k text) (printed_line (answer t) turn) (running_session t)

@@ -10,7 +10,7 @@ use mm_types::{Node, ObjectNo, ResourceNo};
 use script_answers::Turn;
 use std::alloc::AllocError;
 
-/// The node of a number.
+/// The resource or the object that has a number.
 pub(crate) fn node_of(is_resource: bool, number: u32) -> Node
     ensures { result ≡ c.node_of is_resource number }
 {

@@ -1,4 +1,4 @@
-//! A text is copied into a caller's buffer.
+//! Copies a text into a caller's buffer.
 ghost use Rattle.std.specs.Prelude.{◌≡◌, length};
 ghost use Rattle.mmrepo_c.specs.Filled.{filled_buffer};
 

@@ -78,8 +78,8 @@ pub extern "C" fn mmrepo_line(alloc: Global, handle: &mut Handle, line: &[u8]) -
 /// Reads how many values a list has: a list of an object, or the `contents` of a resource. The number is the text of the session from then
 /// on.
 ///
-/// Returns `OK`; or `REFUSED` if there is no such list, and the refusal is the text. `CLOSED` if the handle is closed. `BAD` if the name is
-/// not UTF-8: the session is as it was. `MEMORY` if memory is refused for the text: the session is closed.
+/// Returns `OK`; or `REFUSED` if there is no such list, and then the text is the refusal. `CLOSED` if the handle is closed. `BAD` if the
+/// name is not UTF-8: the session is as it was. `MEMORY` if memory is refused for the text: the session is closed.
 #[unsafe(no_mangle)]
 pub extern "C" fn mmrepo_list_length(
     alloc: Global,

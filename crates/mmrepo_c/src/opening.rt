@@ -1,4 +1,4 @@
-//! A session is begun over the metamodel of a document.
+//! Begins a session over the metamodel of a document.
 ghost use Rattle.std.specs.Prelude.{IfErr, IfOk, Err};
 ghost use Rattle.mm_check.specs.Documents.{Gives};
 ghost use Rattle.mmrepo_c.specs.Calls.{Accepts};

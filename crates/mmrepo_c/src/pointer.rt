@@ -10,7 +10,7 @@ use std::alloc::Global;
 use std::marker::Model;
 use std::ptr;
 
-/// The `Box` of a session, or none, as C has it: an opaque pointer.
+/// The `Box` of a session, or none, in the form that C holds: an opaque pointer.
 #[repr(C)]
 #[derive(Drop)]
 pub struct SessionPointer {
@@ -41,7 +41,7 @@ impl SessionPointer {
         SessionPointer::of_loose(Loose::of(session))
     }
 
-    /// The `Box` of a pointer that has one.
+    /// The `Box` of a pointer that has a session.
     pub(crate) fn into_box(self) -> Box<Session>
         requires { IsSome self.held }
         ensures { self.held ≡ Some result.value }

@@ -36,8 +36,7 @@ pub(crate) fn counters(alloc: Global) -> Result<Vec<Counter>, AllocError>
 }
 
 impl Session {
-    /// A session over an empty repository, which has answered nothing. Fails only if memory is
-    /// refused.
+    /// A session over an empty repository. The session has answered nothing yet. Fails only if memory is refused.
     pub(crate) fn new(alloc: Global, meta: Meta, boxes: Vec<Counter>) -> Result<Session, AllocError>
         requires { AreUnheard (⟦<Counter as Adapter>⟧.heard) boxes.items }
         ensures { IfOk result (Begins meta) }

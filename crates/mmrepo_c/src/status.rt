@@ -11,7 +11,7 @@ pub const OK: u32 = 0;
 /// The line is empty, or has only spaces.
 pub const BLANK: u32 = 20;
 
-/// The line is no command.
+/// The line is no command, or the name of a feature is not UTF-8.
 pub const BAD: u32 = 21;
 
 /// The command was refused.

@@ -65,13 +65,14 @@ IsAtOrBelow target n s = is_within (reads s) target n ≡ true
 abbrev pub AreEnough : State → List (Command View) → Node → Node → List Notice → Type 0
 AreEnough s cs target n ns = state_at n (replayed_notices (snapshot_of (reads s) target) ns) ≡ state_at n (snapshot_of (reads (run s cs).after) target)
 
--- `Holds` is true under two conditions. An adapter is attached; and in each state of a run, the adapter has the node `target` as a deep
--- target, and the node n is that target or below it. Other targets of the adapter may come and go.
+-- `Holds` is true if three conditions apply: the state before a run is legal; an adapter is attached in this state; and in each state of
+-- the run, the adapter has the node `target` as a deep target, and the node n is that target or below it. Other targets of the adapter may
+-- come and go.
 abbrev pub OfWatched : State → List (Command View) → AdapterNo → Node → Listed → Node → Type 0 → Type 0
 OfWatched s cs number target a n Holds =
     IsLegal s → adapter number s.adapters ≡ Some a → AllAlong (HasDeepTarget number target) s cs → AllAlong (IsAtOrBelow target n) s cs → Holds
 
--- the adapter's notifications in the replies are enough, however many it keeps
+-- the adapter's notifications in the replies are enough, however many notifications the adapter keeps
 abbrev pub ToldIsEnough : State → List (Command View) → AdapterNo → Node → Listed → Node → Type 0
 ToldIsEnough s cs number target a n = OfWatched s cs number target a n (AreEnough s cs target n (told_to number (told_by_all (run s cs).outcomes)))
 
@@ -79,15 +80,18 @@ ToldIsEnough s cs number target a n = OfWatched s cs number target a n (AreEnoug
 abbrev pub KeepsEnough : State → List (Command View) → Node → Node → View → View → Type 0
 KeepsEnough s cs target n v w = v.room ≡ None → AreEnough s cs target n (drop (length v.kept) w.kept)
 
--- if an adapter keeps all notifications and is still attached, the notifications that it has kept since are enough
+-- if an adapter keeps all notifications and is still attached after a run, the notifications that it has kept since the beginning of the
+-- run are enough
 abbrev pub NoticesAreEnough : State → List (Command View) → AdapterNo → Node → Listed → Listed → Node → Type 0
 NoticesAreEnough s cs number target a b n = OfWatched s cs number target a n (adapter number (run s cs).after.adapters ≡ Some b → KeepsEnough s cs target n a.view b.view)
 
--- if an adapter keeps all notifications and is detached after the run, the notifications that it has kept since are enough
+-- if an adapter keeps all notifications and is detached after a run, the notifications that it has kept since the beginning of the run are
+-- enough
 abbrev pub DetachedKeepsEnough : State → List (Command View) → AdapterNo → Node → Listed → View → Node → Type 0
 DetachedKeepsEnough s cs number target a w n =
     OfWatched s cs number target a n (handed_out number (handed_out_by (step (run s cs).after (Detach number)).outcome) ≡ Some w → KeepsEnough s cs target n a.view w)
 
--- if an adapter keeps all notifications and the repository is closed after the run, the notifications that it has kept since are enough
+-- if an adapter keeps all notifications and the repository is closed after a run, the notifications that it has kept since the beginning of
+-- the run are enough
 abbrev pub ClosedKeepsEnough : State → List (Command View) → AdapterNo → Node → Listed → View → Node → Type 0
 ClosedKeepsEnough s cs number target a w n = OfWatched s cs number target a n (handed_out number (adapters_at_close (run s cs).after) ≡ Some w → KeepsEnough s cs target n a.view w)

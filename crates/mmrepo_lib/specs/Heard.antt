@@ -41,8 +41,8 @@ view_among number rs vs = option_map_or (λ (a : Listed). Some a.view) (adapter 
 abbrev pub view_after : AdapterNo → Stepped → Option View
 view_after number t = view_among number t.after.adapters (handed_out_by t.outcome)
 
--- An adapter that is attached before a command was notified of exactly the notifications that the reply has for it, in order, whether it is
--- still attached or given back.
+-- If an adapter is attached before a command, the command notifies it of exactly the notifications that the reply has for this adapter, in
+-- order, whether the adapter is then still attached or is given back.
 abbrev pub HearsItsReply : State → Command View → AdapterNo → Listed → Type 0
 HearsItsReply s c number a =
     IsLegal s → adapter number s.adapters ≡ Some a → view_after number (step s c) ≡ Some (hear_all a.view (told_to number (told_by (step s c).outcome)))

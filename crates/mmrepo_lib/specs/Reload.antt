@@ -68,8 +68,8 @@ pub record AreLoads (s : State) (texts : ResourceNo → List ℕ) (ts : List Tas
   pub legal : IsLegal (reloaded_state s texts ts)
   pub between : Between (reads s) (reads (reloaded_state s texts ts))
 
--- P is true for each order of tasks, and each legal state that has normalised URIs and no proxies, and whose resources were saved as these
--- texts
+-- P is true for each order of tasks, and each legal state that has normalised URIs and no proxies, and whose resources were saved as the
+-- texts `texts`
 abbrev pub OfSaved : ((s : State) → (ResourceNo → List ℕ) → List Task → Type 0) → State → Type 0
 OfSaved P s =
     IsLegal s → HasSteadyTexts s.model → IsSaved (reads s) → (texts : ResourceNo → List ℕ) → AreTexts (reads s) texts → (ts : List Task) → IsOrder (reads s) [] [] ts → P s texts ts
@@ -96,7 +96,7 @@ abbrev pub LeavesProxies : Outcome → ℕ → Type 0
 LeavesProxies (Ok r) n = CountsLeft r.answer n
 LeavesProxies (Err f) n = ⊥
 
--- resolving all proxies is not refused; no proxy is left, as its answer says, and the state is isomorphic to the saved one
+-- resolving all proxies is not refused; no proxy is left, and the answer says so; the state is isomorphic to the saved one
 pub record IsAllResolved (r : Reading) (t : State) : Type 0 where
   pub done : LeavesProxies (step t command.ResolveAll).outcome 0
   pub none : HasNoProxy (reads (step t command.ResolveAll).after)

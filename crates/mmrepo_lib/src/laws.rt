@@ -45,17 +45,17 @@ pub fn a_snapshot_has_each_node()
     ensures { (s : Model) (target n : Node) → HasEachNode s target n }
 {}
 
-/// An adapter that is attached before a command is notified by the command of exactly the notifications that the reply lists for this
-/// adapter, in order. This holds if the adapter is still attached after the command, and also if the reply gives it back.
+/// If an adapter is attached before a command, the command notifies it of exactly the notifications that the reply lists for this adapter,
+/// in order. This holds if the adapter is still attached after the command, and also if the reply gives it back.
 pub fn an_adapter_hears_what_the_reply_tells_it()
     ensures { (s : State) (c : Command View) (number : AdapterNo) (a : Listed) → HearsItsReply s c number a }
 {}
 
 /// Notifications are enough. Let a node be a deep target of an adapter during a whole run of commands, and let a snapshot of the target be
 /// taken at its beginning. Take a second node that is the target or below it during the whole run. If the adapter's notifications of the
-/// run are replayed on the snapshot, its state of the second node becomes the state in a snapshot at the end. The notifications are taken
-/// from the replies, however many the adapter keeps. If the adapter keeps all notifications, they are also the notifications that it has
-/// kept since the beginning: while it is attached, and when `detach` or `close` gives it back.
+/// run are replayed on the snapshot, the state of the second node in the snapshot becomes the state that a snapshot at the end has for this
+/// node. The notifications are taken from the replies, however many the adapter keeps. If the adapter keeps all notifications, they are
+/// also the notifications that it has kept since the beginning: while it is attached, and when `detach` or `close` gives it back.
 pub fn notices_are_enough()
     ensures kept { (s : State) (cs : List (Command View)) (number : AdapterNo) (target : Node) (a b : Listed) (n : Node) → NoticesAreEnough s cs number target a b n }
     ensures told { (s : State) (cs : List (Command View)) (number : AdapterNo) (target : Node) (a : Listed) (n : Node) → ToldIsEnough s cs number target a n }
@@ -73,7 +73,7 @@ pub fn loads_in_any_order_give_what_stands_between()
 {}
 
 /// In a partly resolved copy of a saved state without proxies, only memory can refuse to resolve a proxy. Afterwards the state is still
-/// such a copy, and has one proxy fewer, or two if they were the ends of one link.
+/// such a copy, and has one proxy fewer, or two fewer if the reference of the proxy has an opposite.
 pub fn resolving_stays_between()
     ensures { (s : State) (w : ValuesState) (b : Links) → ResolvesBetween s w b }
 {}
@@ -90,10 +90,10 @@ pub fn without_proxies_what_stands_between_is_alike()
 {}
 
 /// What was saved comes back. All resources of a state without proxies were saved, and the text of no reference is longer than 65,535
-/// bytes. In a new repository over the same metamodel the resources are created and loaded, both in any order, and then proxies are
-/// resolved, all at once or one after another in any order until no proxy is left. Only memory can refuse these commands, and the two
-/// states are isomorphic: they have the same addresses, and at each address the same class, values, flags and ends, with objects compared
-/// by their addresses.
+/// bytes. In a new repository over the same metamodel the resources are created and loaded, in any order in which no resource is loaded
+/// before it is created. Then proxies are resolved, all at once or one after another in any order until no proxy is left. Only memory can
+/// refuse these commands, and the two states are isomorphic: they have the same addresses, and at each address the same class, values,
+/// flags and ends, with objects compared by their addresses.
 pub fn what_was_saved_is_had_again_in_any_order()
     ensures { (s : State) → ReloadsInAnyOrder s }
 {}

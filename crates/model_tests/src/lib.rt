@@ -2,7 +2,7 @@
 //! dropped values, streams that fail, and command lines. The tests are in the folders whose names end with `_tests`, and their parts in
 //! `fixtures`.
 //!
-//! The cases test what a script prints.
+//! The crate `cases` tests what a script prints.
 #![tactic(auto)]
 
 #[cfg(test)]

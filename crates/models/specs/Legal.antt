@@ -67,7 +67,7 @@ kinds_of m = record { opposite = λ f. (shape m f).opposite; container = λ f. (
 abbrev pub takes_proxies : Shape → Bool
 takes_proxies a = a.is_reference && not (is_some a.containing)
 
--- an object of a feature's type, or a proxy if the feature takes proxies
+-- whether a value is an object of a feature's type, or a proxy if the feature takes proxies
 abbrev pub is_legal_target : Reading → FeatureNo → Value → Bool
 is_legal_target r f (value.Object o) = takes r f (value.Object o)
 is_legal_target r f (value.Proxy t) = takes_proxies (shape r.metamodel f)
@@ -83,8 +83,8 @@ is_legal_end r e (v ∷ vs) =
 abbrev pub OfProxies : (List ℕ → Type 0) → Links → Type 0
 OfProxies Holds s = (l : Link) (t : List ℕ) → In l s → l.far ≡ Proxy t → Holds t
 
--- the links agree with the metamodel's features and are legal at their ends; no object contains itself, directly or not, and each proxy has
--- the text of a proxy
+-- the links agree with the metamodel's features and are legal at their ends; no object contains itself, directly or not, and the text of
+-- each proxy is a URI, `#` and a fragment (`IsProxyText`)
 pub record AreLegalLinks (r : Reading) (s : Links) : Type 0 where
   pub set : IsLegalSet s
   pub kinds : AreOfKind (kinds_of r.metamodel) s

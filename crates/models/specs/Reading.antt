@@ -65,7 +65,7 @@ value_at r e = ends.value_in (held_at r e).values 0
 abbrev pub is_set : Reading → End → Bool
 is_set r e = ends.is_set (shape_at r e) (held_at r e)
 
----------------------------------------------------------------- who lives, and what it has
+---------------------------------------------------------------- which nodes are there, and what they have
 
 abbrev pub is_live : Reading → ObjectNo → Bool
 is_live r o = is_some (r.class o)
@@ -117,7 +117,7 @@ is_repeat r e v = (shape_at r e).is_unique && has_value (r.values e) v
 abbrev pub position_for : Reading → End → Option ℕ → ℕ
 position_for r e i = unwrap_or i (length (r.values e))
 
--- the objects among values
+-- the object that a value is; none if the value is no object
 abbrev pub object_of : Value → Option ObjectNo
 object_of (value.Object o) = Some o
 object_of _ = None

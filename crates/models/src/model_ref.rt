@@ -15,7 +15,7 @@ use std::marker::Model;
 
 /// A legal model in the parts in which it is kept: a metamodel, values, and a store of links. Contracts see it as the model of these parts.
 ///
-/// No read of it takes memory.
+/// No read of a `ModelRef` takes memory.
 #[derive(Drop)]
 pub struct ModelRef<'a, L: LinkStore> {
     meta: &'a Meta,
@@ -52,7 +52,7 @@ impl<'a, L: LinkStore> ModelRef<'a, L> {
         }
     }
 
-    /// Every model is legal. Proofs that know a model by its view call this.
+    /// Every model is legal. Code calls this function to make the fact known to a proof that has only the view of the model.
     pub fn lemma_is_legal(&self)
         ensures { IsLegal self.now }
     {

@@ -89,8 +89,8 @@ fn proxy_of(alloc: Global, text: &str) -> Result<Value, AllocError>
 }
 
 impl<'a, L: LinkStore> ModelRef<'a, L> {
-    /// The value of a single end (EMF: EObject.eGet): of an attribute the value that was set, else its default; of a reference its object
-    /// or proxy. `None` is null; a proxy is returned as it is.
+    /// The value of a single end (EMF: EObject.eGet). For an attribute, it is the value that was set, or else the default; for a reference,
+    /// it is the object or the proxy. `None` is null; a proxy is returned as it is.
     pub fn value_at(&self, end: End) -> Option<Found<'a>>
         ensures { unwrap_or (option_map found_value result) Null ≡ r.value_at (reading self.now) end }
     {

@@ -16,8 +16,8 @@ use Rattle.node_slots.specs.Slots.{CanEdit, no_pairing, slot_edit_capacity}
 use Rattle.node_slots.specs.Rows.{entered_after, entries_taken, hold_after, is_row, places_taken, row_entered, row_entries, row_hold, row_mixed, row_pairing, row_indexes, row_slots, row_vals, told_after, vals_after}
 use Rattle.node_slots.specs.Tables.{Table, place_at, row_index_at, row_from, row_in}
 
--- for each end: its values, and the opposite and the containing feature that puts named for the feature of the end; for each node: the end
--- that contains the node, and the ends without opposite that hold the node
+-- for each end: its values, and the opposite and the containing feature of its feature, as puts of objects gave them; for each node: the
+-- end that contains the node, and the ends without opposite that hold the node
 pub record Cells : Type 0 where
   pub vals : End → List Value
   pub pairing : End → Pairing

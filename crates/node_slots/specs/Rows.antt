@@ -118,7 +118,7 @@ pub record IsRowEdited (x : RowEdit) (old new : Option Row) : Type 0 where
   pub entries : row_entries old ≤ row_entries new + entries_taken x
   pub kept : is_row new ≡ is_row old
 
--- the row at i is changed, and no other
+-- the row at i is changed, and no other row
 pub record AreRowsEdited (i : ℕ) (x : RowEdit) (old new : ℕ → Option Row) : Type 0 where
   pub here : IsRowEdited x (old i) (new i)
   pub others : (j : ℕ) → ((j ≡ i) → ⊥) → new j ≡ old j

@@ -90,7 +90,7 @@ pub record IsFeatureEdited (x : SlotEdit) (old new : Option Slot) : Type 0 where
   pub places : places_of old ≤ places_of new + slot_edit_capacity x
   pub mixed : mixed_of new ≡ mixed_of old
 
--- the feature f is changed, and no other
+-- the feature f is changed, and no other feature
 pub record AreSlotsEdited (f : FeatureNo) (x : SlotEdit) (old new : List Slot) : Type 0 where
   pub here : IsFeatureEdited x (slot_in old f) (slot_in new f)
   pub others : (g : FeatureNo) → ((f.0 ≡ g.0) → ⊥) → slot_in new g ≡ slot_in old g

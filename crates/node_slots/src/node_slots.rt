@@ -200,8 +200,8 @@ impl NodeSlots {
         }
     }
 
-    /// Makes one change of a node, for which there is capacity. Takes no memory. An end can take an object always, and a proxy only if it
-    /// may have other values than objects. `reserve_for` allows that at each end into which its plan puts a proxy.
+    /// Makes one change of a node, for which there is capacity. Takes no memory. An end can always take an object. It can take a proxy only
+    /// if it may have values other than objects; `reserve_for` allows such values at each end into which its plan puts a proxy.
     pub fn edit(&mut self, node: Node, edit: RowEdit)
         requires { Fits node edit (room self.old) }
         ensures cells { cells self.new ≡ cell_edit node edit (cells self.old) }
@@ -230,7 +230,7 @@ impl NodeSlots {
         }
     }
 
-    /// Puts the ends with no opposite that hold a node in order, by the numbers that `entry_rank` gives. Takes no memory.
+    /// Sorts the ends with no opposite that hold a node, by the numbers that `entry_rank` gives. Takes no memory.
     pub fn order_entries(&mut self, node: Node)
         ensures cells { AreReordered (cells self.old) (cells self.new) }
         ensures room { room self.new ≡ room self.old }

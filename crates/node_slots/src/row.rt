@@ -33,7 +33,7 @@ pub struct Row {
     pub slots: RowSlots,
     /// The end that contains the node.
     pub holder: Option<End>,
-    /// The ends with no opposite that hold the node, in the order in which they came, until they are put in order.
+    /// The ends with no opposite that hold the node, in the order in which they came, until `order_entries` sorts them.
     pub entered: ShortList<End>,
     /// The number of further ends for which capacity is reserved in `entered`.
     pub promised: usize,
@@ -83,7 +83,7 @@ impl Row {
         }
     }
 
-    /// Puts the ends that hold the node in order. Takes no memory.
+    /// Sorts the ends with no opposite that hold the node. Takes no memory.
     pub fn order_entries(&mut self)
         ensures { IsRowReordered (Some self.old) (Some self.new) }
     {

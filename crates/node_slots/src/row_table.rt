@@ -54,7 +54,7 @@ impl RowTable {
         row_index_in(&self.places, number)
     }
 
-    /// Makes one change of the row of a number, which is at this index. Takes no memory.
+    /// Makes one change of the row of a number; the row is at the index `row_index`. Takes no memory.
     pub fn edit_at(&mut self, number: usize, row_index: usize, edit: RowEdit)
         requires at { row_index_at self.old.places number ≡ Some row_index }
         requires fits { RowFits edit (row_in self.old number) }
@@ -64,7 +64,7 @@ impl RowTable {
         self.rows[row_index].edit(edit);
     }
 
-    /// Puts the ends that hold the node of a row in order. Takes no memory.
+    /// Sorts the ends with no opposite that hold a node, in the row of the node. Takes no memory.
     pub fn order_entries(&mut self, number: usize)
         ensures { AreRowsReordered (row_in self.old) (row_in self.new) }
     {
@@ -145,7 +145,7 @@ fn row_index_in(places: &[u32], number: usize) -> Option<usize>
     }
 }
 
-/// Makes an entry for each number up to this one. No number gets a row.
+/// Makes an entry for each number up to the given number. No number gets a row.
 fn extend(places: &mut Vec<u32>, number: usize) -> Result<(), AllocError>
     ensures same { (n : ℕ) → row_index_at places.new.items n ≡ row_index_at places.old.items n }
     ensures ok { OnOk result (number < vec_len places.new) }

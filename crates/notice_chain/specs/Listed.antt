@@ -51,7 +51,7 @@ adapter number rs = find (has_no number) rs
 abbrev pub is_target : AdapterNo → Node → List Listed → Bool
 is_target number x rs = list_any (λ r. has_no number r && has_target x r) rs
 
--- the adapters after a change of the first adapter of a number, if there is one
+-- the adapters after a change of the first adapter that has a number, if there is such an adapter
 abbrev pub with_changed : AdapterNo → (Listed → Listed) → List Listed → List Listed
 with_changed number change [] = []
 with_changed number change (r ∷ rs) = if has_no number r then (change r ∷ rs) else r ∷ with_changed number change rs
@@ -108,7 +108,7 @@ abbrev pub told_list : Above → List Notice → List Listed → List (AdapterNo
 told_list up [] rs = []
 told_list up (n ∷ ns) rs = told_of up n rs ++ told_list up ns rs
 
------------------------------------------------------------------ counting on
+----------------------------------------------------------------- full adapters
 
 -- whether an adapter with t targets is too full for k notifications: k is above 0, and a u64 can't count k more notifications and then one
 -- for each target

@@ -1,4 +1,4 @@
--- The locations of proxies, in the order in which all are resolved (EMF: EcoreUtil.resolveAll).
+-- The locations of proxies, in the order in which all proxies are resolved (EMF: EcoreUtil.resolveAll).
 use Rattle.std.specs.Prelude.{ℕ, Bool, List, filter, flat_map, is_some, length, map}
 use Rattle.std.specs.List.{range_with_len}
 use Rattle.mm_types.specs.declared.end.End.{End}

@@ -16,7 +16,7 @@ use Rattle.proxies.specs.declared.resolved_proxy.ResolvedProxy.{ResolvedProxy}
 abbrev pub is_mistyped : Reading → End → Option ResolvedProxy → Bool
 is_mistyped r e q = not (shape_at r e).is_reference || option_map_or (λ x. not (takes r e.feature (value.Object x.object))) q false
 
--- whether the object at a proxy's address is in the list already
+-- whether the object at a proxy's address is at the end of the proxy already
 abbrev pub is_there_already : Reading → End → Option ResolvedProxy → Bool
 is_there_already r e q = option_map_or (λ x. has_value (r.values e) (value.Object x.object)) q false
 

@@ -17,8 +17,8 @@ use Rattle.proxies.specs.declared.resolved_proxy.ResolvedProxy.{ResolvedProxy}
 abbrev pub ends_after_replace : (End → List Value) → End → ℕ → Value → End → List Value
 ends_after_replace ends e i v d = if same_end e d then slice_set (ends d) i v else ends d
 
--- what ends hold after a proxy is resolved: the object at its address replaces it, and the referring object replaces its counterpart at the
--- opposite end, if there is one
+-- what ends hold after a proxy is resolved: the object at the address of the proxy replaces the proxy; if the proxy has a counterpart, the
+-- referring object replaces the counterpart at the opposite end
 abbrev pub values_with : Reading → End → ℕ → ResolvedProxy → End → List Value
 values_with r e i x =
     ends_after_replace (option_map_or (λ c. ends_after_replace r.values c.end c.index (node_value e.node)) x.counterpart r.values) e i (value.Object x.object)

@@ -137,7 +137,7 @@ pub fn is_mistyped<L: LinkStore>(
     }
 }
 
-/// Whether the object at a proxy's address is in the list already.
+/// Whether the object at a proxy's address is at the end of the proxy already.
 pub fn is_there_already<L: LinkStore>(
     model: &ModelRef<L>,
     end: End,

@@ -39,7 +39,8 @@ pub record IsFilling (made filled : List ResourceNo) (k : ResourceNo) : Type 0 w
   pub there : has made k ≡ true
   pub new : has filled k ≡ false
 
--- tasks that make and then fill each resource that is not made or filled yet, each once
+-- the tasks make each resource that is not made yet, and fill each resource that is not filled yet, each once; a resource is made before it
+-- is filled
 abbrev pub IsOrder : Reading → List ResourceNo → List ResourceNo → List Task → Type 0
 IsOrder r made filled [] = (k : ResourceNo) → has_resource r k ≡ true → has filled k ≡ true
 IsOrder r made filled (Make k ∷ ts) = IsMaking r made k × IsOrder r (made ++ k ∷ []) filled ts

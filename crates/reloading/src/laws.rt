@@ -42,8 +42,8 @@ pub fn loads_in_any_order_give_what_stands_between()
     ensures { (s : Model) → LoadsGiveBetween s }
 {}
 
-/// In a partly resolved copy of a saved model without proxies, only memory can refuse to resolve a proxy. After it, the model is still such
-/// a copy, and has one proxy fewer, or two if they were the ends of one link.
+/// In a partly resolved copy of a saved model without proxies, only memory can refuse to resolve a proxy. After the resolve, the model is
+/// still such a copy, and has one proxy fewer, or two fewer if the reference of the proxy has an opposite.
 pub fn resolving_stays_between()
     ensures { (s : Model) (w : ValuesState) (b : Links) → ResolvesBetween s w b }
 {}

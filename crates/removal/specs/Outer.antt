@@ -1,4 +1,4 @@
--- The objects that are destroyed with an object: the object itself and all objects below it. The ends of other nodes that hold some of
+-- The objects that are destroyed with an object (the object itself and all objects below it), and the ends of other nodes that hold some of
 -- these objects.
 use Rattle.std.specs.Prelude.{ℕ, suc, ◌&&◌, Bool, not, List, filter, flat_map, length, map, if◌then◌else◌}
 use Rattle.std.specs.List.{list_any, range_with_len}

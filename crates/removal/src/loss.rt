@@ -22,7 +22,7 @@ use std::alloc::{AllocError, Global};
 pub struct Loss {
     pub end: End,
     pub value: Value,
-    /// The position of the value after the losses before this one are made, from 0.
+    /// The position of the value, from 0, once the earlier losses are made.
     pub position: u32,
 }
 

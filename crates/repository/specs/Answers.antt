@@ -86,8 +86,8 @@ answer_of r rs (command.Unwatch number target) = answer.Flag (is_target number t
 answer_of r rs (command.Read q) = read_answer r rs q
 answer_of r rs _ = answer.Done
 
--- whether the answer of a change is known only when it is planned: how many objects a deletion destroys, which object a proxy finds, how
--- many proxies are resolved
+-- whether the answer of a change is known only when the change is planned; the answer then says how many objects a deletion destroys, which
+-- object a proxy finds, or how many proxies are resolved
 abbrev pub is_answered_late : Change → Bool
 is_answered_late c = is_some (destroyed_by c) || resolves_one c || resolves_all c
 

@@ -1,4 +1,4 @@
--- Reads of a list that make no copy of it.
+-- Reads of a list that do not copy the list.
 use Rattle.std.specs.Prelude.{ℕ, List, length, slice_get, ok_or, Result, Ok, Err}
 use Rattle.std.specs.Option.{option_map_or}
 use Rattle.mm_types.specs.declared.end.End.{End}

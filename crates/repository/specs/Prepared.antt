@@ -19,14 +19,15 @@ use Rattle.repository.specs.State.{State, reads}
 use Rattle.repository.specs.Views.{command_of}
 use Rattle.repository.specs.declared.reply.Answer.{Answer}
 
--- the notifications that were made notify the adapters as the whole chain does; notifications that no adapter gets may be left out
+-- delivering the notifications that were made has the same effect as delivering the whole chain; notifications that no adapter gets may be
+-- left out
 pub record TellsAll (up : Above) (made chain : List Notice) (rs : List Listed) : Type 0 where
   pub told : told_list up made rs ≡ told_list up chain rs
   pub adapters : tell_chain up made rs ≡ tell_chain up chain rs
   pub full : is_chain_full up made rs ≡ is_chain_full up chain rs
 
--- a change is ready: only a full adapter can refuse it; a is its answer, `going` has the targets that are taken away, es and vs are its
--- edits of links and of values, and ns are its notifications
+-- a change is ready: it can be refused only with `AdapterFull` or `Memory`; a is its answer, `going` has the targets that are taken away,
+-- es and vs are its edits of links and of values, and ns are its notifications
 pub record IsReady (s : State) (text : List ℕ) (c : Change) (a : Answer) (going : List Spot) (es : List Edit) (vs : List ValueEdit) (ns : List Notice) : Type 0 where
   pub asked : early_refusal (reads s) c ≡ None
   pub allowed : late_refusal (reads s) c ≡ None

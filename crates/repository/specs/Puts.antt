@@ -14,7 +14,7 @@ use Rattle.repository.specs.State.{State, reads}
 use Rattle.repository.specs.Views.{command_of}
 use Rattle.repository.specs.declared.reply.Answer.{Answer}
 
--- whether an adapter is notified of a put: at its end, or at the object if the feature has an opposite
+-- whether an adapter is notified of a put: at the end of the new link, or, if the feature has an opposite, at the object of the link
 abbrev pub is_put_heard : State → NewLink → Bool
 is_put_heard s p = is_heard (reads s).above p.end.node s.adapters || (is_some p.opposite && is_heard (reads s).above (node.Object p.object) s.adapters)
 

@@ -30,7 +30,8 @@ use Rattle.web_uris.specs.Addresses.{has_mark}
 use Rattle.fragment_paths.specs.Fragments.{fragment}
 use Rattle.doc_writer.specs.Saved.{save_refusal}
 
--- the change of the model that a command asks for, if it asks for one; a load has the document that its text gives
+-- the change of the model that a command asks for, if the command asks for a change; the change of a load has the document that its text is
+-- read as
 abbrev pub change_of : Reading → Command View → Option Change
 change_of r (command.At e a) = Some (change.At e a)
 change_of r (command.Create c) = Some (change.Create c)
@@ -49,7 +50,7 @@ chain r c = option_map_or (planned_chain.chain r) (change_of r c) []
 abbrev pub adapter_refusal : List Listed → AdapterNo → Option Refused
 adapter_refusal rs number = NoAdapter unless is_some (adapter number rs)
 
--- why a read is refused: something that it names is not there
+-- why a read is refused: something that the read names doesn't exist
 abbrev pub early_read_refusal : Reading → List Listed → Read → Option Refused
 early_read_refusal r rs (asks.At e q) = end_refusal r e
 early_read_refusal r rs (asks.Of o q) = object_refusal r o
@@ -70,7 +71,7 @@ early_refusal r rs c = option_map_or (planned.early_refusal r) (change_of r c) N
 
 ---------------------------------------------------------------- what is found later
 
--- why no resource of a text can be made; `uri` is the URI that the text gives, if it gives one
+-- why no resource can be made from a text; `uri` is the URI that the text gives, if it gives one
 abbrev pub resource_refusal : Reading → List ℕ → Option (List ℕ) → Option Refused
 resource_refusal r t uri =
     TextLength unless (is_short_text t && option_map_or is_short_text uri true) else_by

@@ -37,7 +37,7 @@ is_plain NoAdapter = true
 is_plain AdapterTaken = true
 is_plain _ = false
 
--- whether a read takes memory, to copy something or to look for it
+-- whether a read takes memory, to copy something or to search for something
 abbrev pub read_takes_memory : Read → Bool
 read_takes_memory (asks.At e IsSet) = false
 read_takes_memory (asks.Of o Class) = false
@@ -55,13 +55,13 @@ takes_memory _ = true
 abbrev pub may_want_memory : State → Command View → Bool
 may_want_memory s c = takes_memory c && not (option_map_or is_plain (refusal_of s c) false)
 
--- a command failed with MEMORY: nothing changed, no adapter was notified, and its adapter is given back
+-- a command failed with MEMORY: nothing changed, no adapter was notified, and the adapter that the command was given is given back
 pub record IsWanting (s : State) (c : Command View) (o : Outcome) (t : State) : Type 0 where
   pub may : IsTrue (may_want_memory s c)
   pub outcome : o ≡ Err (failure c Memory)
   pub state : t ≡ s
 
--- the outcome of a command that takes no adapter; and `read_outcome`, the outcome of a read
+-- the outcome of a command that is given no adapter; and `read_outcome`, the outcome of a read
 abbrev pub change_outcome : Result (Reply View) Refused → Outcome
 change_outcome (Ok r) = Ok r
 change_outcome (Err r) = Err (record { refused = r; given_back = None })

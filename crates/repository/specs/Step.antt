@@ -50,7 +50,8 @@ adapters_after_attach (command.Attach number target deep view) rs = rs ++ attach
 adapters_after_attach (command.Watch number target deep) rs = if is_target number target rs then rs else adapters_after_watch number (record { node = target; deep = deep }) rs
 adapters_after_attach _ rs = rs
 
--- adapters are notified of the chain, by the nodes that are above each notifier before the command; and then the targets are taken away
+-- first the adapters are notified of the chain, and then the targets are taken away; the nodes that are above a notifier before the command
+-- decide which adapters are notified
 abbrev pub releases : Reading → List Listed → Command View → Released
 releases r rs c = released_adapters (going_spots r rs c) (tell_chain r.above (chain r c) rs)
 
@@ -86,6 +87,6 @@ step_unless s c None = done_step s c
 abbrev pub step : State → Command View → Stepped
 step s c = step_unless s c (refusal_of s c)
 
--- closing releases all adapters: the number of each, with its view after its last notification
+-- the result of `close`, which releases all adapters: the number of each adapter, with its view after its last notification
 abbrev pub adapters_at_close : State → List (AdapterNo × View)
 adapters_at_close s = (released_where is_any s.adapters).views

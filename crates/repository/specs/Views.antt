@@ -22,7 +22,7 @@ command_of text (change.NewResource u) = command.CreateResource u
 command_of text (change.Load k doc) = command.Load k text
 command_of text change.ResolveAll = command.ResolveAll
 
--- the adapter that a command takes
+-- the adapter that a command is given, if it is given one
 abbrev pub brought_adapter : {A : Type 0} → Command A → Option A
 brought_adapter (command.Attach number target deep adapter) = Some adapter
 brought_adapter _ = None
@@ -51,7 +51,7 @@ module _ {A : Type 0} (heard : A → View) where
   outcome_view (Ok r) = Ok (reply_view r)
   outcome_view (Err f) = Err (failure_view f)
 
-  -- the reply or the refusal of a command that takes no adapter
+  -- the reply or the refusal of a command that is given no adapter
   abbrev pub changed_view : Result (Reply A) Refused → Result (Reply View) Refused
   changed_view (Ok r) = Ok (reply_view r)
   changed_view (Err r) = Err r

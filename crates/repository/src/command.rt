@@ -13,7 +13,7 @@ pub enum Command<A = Box<dyn Adapter>> {
     /// Destroys an object and all objects below it, and takes them out of every end that holds them (EMF: EcoreUtil.delete, recursively;
     /// MOF 2.5.1: Reflection, Object.delete).
     Delete(ObjectNo),
-    /// Makes a resource of the URI that a text gives (EMF: ResourceSet.createResource).
+    /// Makes a resource whose URI a text gives (EMF: ResourceSet.createResource).
     CreateResource(Text),
     /// Loads the document of a text into an empty resource (EMF: Resource.load).
     Load(ResourceNo, Text),
@@ -34,7 +34,7 @@ pub enum Command<A = Box<dyn Adapter>> {
         target: Node,
         deep: bool,
     },
-    /// Takes one target from an adapter. If that was its last target, the adapter is given back (EMF: Notifier.eAdapters().remove).
+    /// Takes one target from an adapter. If the adapter has no other target, it is given back (EMF: Notifier.eAdapters().remove).
     Unwatch {
         no: AdapterNo,
         target: Node,

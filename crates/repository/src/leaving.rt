@@ -1,4 +1,4 @@
-//! The targets that are taken away, and the adapters that are released with their last target.
+//! The targets that a command takes away from adapters, and the adapters that are released because they lose their last target.
 ghost use Rattle.std.specs.Prelude.{◌≡◌, ◌+◌, ◌^◌, ◌<◌, ◌≤◌, ◌++◌, ◌∷◌, [], filter, length, map, vec_capacity, vec_len, IfOk, IfSome, OnOk};
 ghost use Rattle.std.specs.Option.{option_map_or};
 ghost use Rattle.models.specs.Reading.{Reading};
@@ -62,7 +62,8 @@ pub(crate) fn spots_gone<A: Adapter>(
     }
 }
 
-/// The targets that are taken away with an object. Only adapters with a target among these objects are looked at.
+/// The targets that are taken away with a removal: those at the objects of the removal. Only adapters that have such a target are looked
+/// at.
 fn spots_with<A: Adapter>(
     alloc: Global,
     adapters: &AdapterList<A>,
@@ -81,7 +82,7 @@ fn spots_with<A: Adapter>(
     Ok(spots)
 }
 
-/// Adds to `spots` the targets of an adapter that are taken away.
+/// Adds to `spots` the targets of an adapter that are at objects of a removal.
 fn add_gone(
     spots: &mut Vec<(AdapterNo, Node)>,
     removal: &Removal,
@@ -102,14 +103,15 @@ fn add_gone(
 /// The targets that are taken away, and the capacity for all notifications. The memory for both is reserved before anything changes.
 #[derive(Drop)]
 pub(crate) struct Leaving<A> {
-    /// The targets that are taken away: the adapters in attach order, the targets of each in the order in which it got them.
+    /// The targets that are taken away, by adapter in attach order. The targets of one adapter have the order in which the adapter got
+    /// them.
     pub release: Release<A>,
-    /// Capacity for the notifications of a chain, and then for the last notifications from these targets.
+    /// An empty list, with capacity for the notifications of a chain and then for the last notification from each of these targets.
     pub told: Vec<(AdapterNo, Notice)>,
 }
 
 impl<A: Adapter> Leaving<A> {
-    /// Capacity for `chain_told` notifications of a chain, and then for the last notifications from targets that are taken away.
+    /// The targets `spots`, with capacity for `chain_told` notifications of a chain and then for the last notification from each target.
     pub(crate) fn reserve(
         alloc: Global,
         spots: Vec<(AdapterNo, Node)>,
@@ -162,7 +164,7 @@ pub(crate) fn notify<A: Adapter>(
     }
 }
 
-/// Releases targets. Their last notifications come after the notifications of a chain.
+/// Releases targets. In the result, the last notifications from these targets come after the notifications of a chain.
 fn let_go<A: Adapter>(
     adapters: &mut AdapterList<A>,
     leaving: Leaving<A>,

@@ -14,7 +14,7 @@ use mm_types::{End, Node, Value};
 use mm_values::{NewValues, Values};
 use std::alloc::AllocError;
 
-/// Forgets the remembered fragments, and which adapters are notified at a node, if a put makes a containing link. Takes no memory.
+/// If a put makes a containing link, forgets the remembered fragments and the adapters that are remembered for a node. Takes no memory.
 #[inline(always)]
 pub(crate) fn forget_put(paths: &mut PathCache, hearers: &mut Hearers, put: NewLink)
     ensures paths { paths.new ≡ (if is_some put.container then map.empty else paths.old) }
@@ -26,8 +26,8 @@ pub(crate) fn forget_put(paths: &mut PathCache, hearers: &mut Hearers, put: NewL
     }
 }
 
-/// Replaces the values of a node under an attribute by one value; nothing is done at a resource, which has no attributes. Fails only if
-/// memory is refused, and then nothing that contracts see has changed.
+/// Replaces the values of an attribute of a node by one value. Does nothing if the node is a resource, since resources have no attributes.
+/// Fails only if memory is refused, and then nothing that contracts see has changed.
 #[inline(always)]
 pub(crate) fn put_value(
     values: &mut Values,

@@ -40,7 +40,8 @@ use std::alloc::{AllocError, Global};
 #[derive(Drop)]
 pub(crate) struct Prepared {
     pub answer: Answer,
-    /// The adapters in attach order, the targets of each in the order in which it got them.
+    /// The targets that are taken away, by adapter in attach order. The targets of one adapter have the order in which the adapter got
+    /// them.
     pub spots: Vec<(AdapterNo, Node)>,
     pub planned: Planned,
 }
@@ -73,8 +74,7 @@ pub(crate) fn prepare<L: LinkStore, A: Adapter>(
     })
 }
 
-/// The answer of a change that is not refused; the answer of this kind of change does not depend on its plan. Fails only if memory is
-/// refused.
+/// The answer of a change that is not refused and whose answer does not depend on its plan. Fails only if memory is refused.
 fn known_answer<L: LinkStore>(
     alloc: Global,
     model: &ModelRef<L>,
@@ -227,6 +227,7 @@ pub(crate) fn reserve<L: LinkStore, A: Adapter>(
 }
 
 /// Takes all memory that a plan of links needs, and then the capacity that the adapters need, in attach order. Nothing changes.
+#[inline(always)]
 pub(crate) fn reserve_links<L: LinkStore, A: Adapter>(
     store: &mut L,
     adapters: &mut AdapterList<A>,

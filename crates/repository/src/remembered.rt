@@ -1,4 +1,4 @@
-//! When the remembered fragments, and the adapters that are notified at a node, are forgotten.
+//! When a repository forgets the fragments that it remembers, and the adapters that it remembers for a node.
 ghost use Rattle.std.specs.FinMap as map;
 ghost use Rattle.std.specs.Prelude.{◌≡◌, false, if◌then◌else◌, is_some, List};
 ghost use Rattle.links.specs.Laws.{touches_containment as touches};

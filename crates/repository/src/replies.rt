@@ -1,4 +1,4 @@
-//! Replies and refusals of commands that take no adapter.
+//! Replies and refusals of commands that are given no adapter.
 ghost use Rattle.std.specs.Prelude.{◌≡◌, [], true};
 ghost use Rattle.notice_chain.specs.View.{View};
 ghost use Rattle.repository.specs.Run.{answered_outcome, change_outcome, read_outcome};
@@ -20,7 +20,7 @@ pub(crate) fn reply<A>(alloc: Global, answer: Answer) -> Reply<A>
     }
 }
 
-/// The reply of a change that notifies no adapter, if its answer is known.
+/// The outcome of a change that notifies no adapter: a reply with `answer` if the change was done, else the refusal.
 pub(crate) fn replied<A>(
     alloc: Global,
     done: Result<(), Refused>,
@@ -54,7 +54,7 @@ pub(crate) fn replied_read<A>(
     Ok(reply(alloc, answer))
 }
 
-/// The outcome of a command that takes no adapter.
+/// The outcome of a command that is given no adapter: its failure gives no adapter back.
 pub(crate) fn outcome<A>(found: Result<Reply<A>, Refused>) -> Result<Reply<A>, Failure<A>>
     ensures { (heard : A → View) → outcome_view heard result ≡ change_outcome (changed_view heard found) }
 {

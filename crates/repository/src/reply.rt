@@ -11,15 +11,15 @@ use snapshots::Snapshot;
 pub enum Answer {
     /// The answer of a command that only changes something.
     Done,
-    /// The object that was made.
+    /// The object that was made, or the object that replaced a proxy.
     Object(ObjectNo),
     /// The resource that was made.
     Resource(ResourceNo),
-    /// The value of a single feature, or the value that was taken out of a list or moved in it.
+    /// The value of a single feature, or the value that was taken out of a list or moved within a list.
     Value(Value),
     /// The values of a many-valued feature, in order.
     Values(Seq<Value>),
-    /// Whether a feature is set, or whether a list changed.
+    /// Whether a feature is set, whether a list changed, or whether an adapter got or lost a target.
     Flag(bool),
     /// The class of an object.
     Class(ClassNo),
@@ -52,7 +52,7 @@ pub enum Answer {
 /// What a feature holds.
 #[derive(Debug, Drop)]
 pub enum FeatureValue {
-    /// The value of a single feature; null if it is empty.
+    /// The value of a single feature; null if the feature is empty.
     One(Value),
     /// The values of a many-valued feature, in order.
     Many(Seq<Value>),
@@ -82,10 +82,11 @@ pub struct Reply<A = Box<dyn Adapter>> {
     pub released: Seq<(AdapterNo, A)>,
 }
 
-/// The outcome of a change at an end, without a reply if the change notified no adapter: to make a reply takes longer than such a change.
+/// The outcome of a change at an end. If the change notified no adapter, the outcome may be without a reply, since making a reply takes
+/// longer than such a change.
 #[derive(Drop)]
 pub enum Brief<A = Box<dyn Adapter>> {
-    /// The change notified no adapter. If it was refused, this has the refusal.
+    /// The change notified no adapter. The value is the refusal if the change was refused.
     Unheard(Result<(), Refused>),
     /// The reply, or the refusal.
     Replied(Result<Reply<A>, Refused>),
@@ -95,6 +96,6 @@ pub enum Brief<A = Box<dyn Adapter>> {
 #[derive(Drop)]
 pub struct Failure<A = Box<dyn Adapter>> {
     pub refused: Refused,
-    /// The adapter that the command was given, as it was.
+    /// The adapter that the command was given, as it was; `None` if the command was given none.
     pub given_back: Option<A>,
 }

@@ -42,8 +42,8 @@ pub struct Repository<L: LinkStore, A: Adapter = Box<dyn Adapter>> {
     adapters: AdapterList<A>,
     /// The fragments that were computed since a containing link last changed.
     paths: PathCache,
-    /// The adapters that get the notifications of one node, as they were found last. They are forgotten when a containing link changes, or
-    /// an adapter gets or loses a target.
+    /// The adapters that get the notifications of one node, as the last search found them. They are forgotten when a node may get another
+    /// container, and when an adapter gets or loses a target.
     hearers: Hearers,
 }
 

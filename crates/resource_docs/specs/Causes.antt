@@ -116,7 +116,7 @@ reads_if m b (Some d) = reads m b d
 unfoldable pub reads_bytes : Metamodel → List ℕ → List ℕ → Result Doc DocFault
 reads_bytes m uri bytes = reads_if m (base_of uri) (parsed_json bytes)
 
--- each proxy of a document has the text of a proxy, with a normalised URI
+-- the text of each proxy of a document is a normalised URI, `#` and a fragment
 abbrev pub HasSteadyProxies : Doc → Type 0
 HasSteadyProxies = OfDocProxies IsSteadyProxy
 

@@ -38,7 +38,7 @@ by_objects os k = list_any (λ y. by_contents y.0 y.1.contents k) (enumerate_fro
 abbrev pub IsEndsOf : Ends → List DocObject → Type 0
 IsEndsOf e os = (k : Naming) → has e k ≡ by_objects os k
 
----------------------------------------------------------------- what is not answered
+---------------------------------------------------------------- which objects are not named back
 
 abbrev pub new_naming : ℕ → ℕ → ℕ → Naming
 new_naming o f b = record { object = o; feature = f; named = b }
@@ -53,8 +53,9 @@ one_sided_by m e o c = not (is_containment m c.feature) && list_any (unanswered_
 abbrev pub any_one_sided_by : Metamodel → Ends → List DocObject → Bool
 any_one_sided_by m e os = list_any (λ x. list_any (one_sided_by m e x.0) x.1.contents) (enumerate_from 0 os)
 
----------------------------------------------------------------- what has to be answered
+---------------------------------------------------------------- which objects have to be named back
 
--- whether an object that is named under a feature must name the first object in turn: the feature has an opposite and is no containment
+-- whether an object that another object names under a feature has to name that other object back: the feature has an opposite and is no
+-- containment
 abbrev pub asks_back : Metamodel → Content → Bool
 asks_back m c = not (is_containment m c.feature) && is_some (shape m c.feature).opposite

@@ -106,7 +106,7 @@ named_cause m b d ps doc = cause.Feature where_so of_written (has_other_key m) p
 
 ---------------------------------------------------------------- proxies
 
--- each proxy of a content has the text of a proxy, with a normalised URI
+-- the text of each proxy of a content is a normalised URI, `#` and a fragment
 abbrev pub IsProxyContent : Content → Type 0
 IsProxyContent c = All IsProxyValue c.values
 

@@ -35,7 +35,7 @@ target_at b part rest = parse rest >>= (λ p. option_map (λ u. target_in b rest
 abbrev pub target : Base → List ℕ → Option Referent
 target b t = if has_mark t then target_at b (uri_part t) (fragment_part t) else option_map Here (parse t)
 
--- the target in another resource has the text of a proxy, with a normalised URI
+-- a target in another resource is the text of a proxy with a normalised URI; a target in the document itself may be any
 abbrev pub IsProxyReferent : Referent → Type 0
 IsProxyReferent (Here p) = Unit {0}
 IsProxyReferent (Elsewhere t) = IsSteadyProxy t

@@ -67,6 +67,6 @@ abbrev pub OfProxy : (List ℕ → Type 0) → Value → Type 0
 OfProxy Holds (value.Proxy t) = Holds t
 OfProxy Holds _ = Unit {0}
 
--- if a value is a proxy, it has the text of a proxy, with a normalised URI
+-- if a value is a proxy, its text is a normalised URI, `#` and a fragment
 abbrev pub IsProxyValue : Value → Type 0
 IsProxyValue v = OfProxy IsSteadyProxy v

@@ -1,4 +1,4 @@
-//! Which objects of a document refer to which, and whether the other object refers back.
+//! Which objects of a document refer to which other objects, and whether the other objects refer back.
 ghost use Rattle.std.specs.Prelude.{◌≡◌, ◌||◌, ◌∷◌, [], IfOk, OnOk, false};
 ghost use Rattle.std.specs.List.{list_any};
 ghost use Rattle.resource_docs.specs.Causes.{is_one_sided, of_content};

@@ -1,7 +1,7 @@
 //! Documents of resources: how a document is read, and why it can't be read.
 //!
 //! `doc_parts` says which parts of a document are looked at. `specs/Read.antt` defines the document that bytes are read as, and
-//! `specs/Causes.antt` has the causes for which they are refused, in order.
+//! `specs/Causes.antt` has the causes for which bytes are refused, in order.
 #![tactic(auto)]
 
 mod contents;

@@ -139,7 +139,8 @@ fn left_after(left: usize, is_found: bool) -> usize
     if is_found { left - 1 } else { left }
 }
 
-/// Reads the contents of the features of a class, and says whether each member is the content of one of these features.
+/// Reads the contents of the features of a class. Also returns whether each member is known to be the content of one of these features; if
+/// a key comes twice, this is not known.
 fn read_features(
     source: &ReadContext,
     number: u32,
@@ -167,7 +168,8 @@ fn read_features(
     Ok((read, left == 0))
 }
 
-/// Reads the contents of the object of a part, and says whether the object has no other members.
+/// Reads the contents of the object of a part. Also returns whether it is known that each member is a feature of the class that may be
+/// read; true also if the class is unknown.
 fn read_contents(source: &ReadContext, part: &FoundPart) -> Result<(ReadContents, bool), AllocError>
     ensures all { IfOk result (λ r. r.1 ≡ true → has_other_member source.now.meta.now (part_seen part.now) ≡ false) }
     ensures value { IfOk result (λ r. (ps : List Part) (p : Part) → Knows source.now.meta.now source.now.found.now ps → part_seen part.now ≡ seen_part source.now.meta.now ps p
@@ -183,7 +185,8 @@ fn read_contents(source: &ReadContext, part: &FoundPart) -> Result<(ReadContents
     }
 }
 
-/// Reads the object of one more part, and says whether each of its members is the content of a feature.
+/// Reads the object of one more part. Also returns whether it is known that each member of the object is a feature of its class that may be
+/// read.
 fn add_object(
     read: &mut ReadObjects,
     source: &ReadContext,
@@ -213,8 +216,8 @@ fn add_object(
     Ok(is_all)
 }
 
-/// Reads the objects of the parts that were found, in loading order, and says whether each of their members is the content of a feature.
-/// Fails only if memory is refused.
+/// Reads the objects of the parts that were found, in loading order. Also returns whether it is known that each member of each object is a
+/// feature of its class that may be read. Fails only if memory is refused.
 pub(crate) fn read_objects(source: &ReadContext) -> Result<(ReadObjects, bool), AllocError>
     ensures all { IfOk result (λ r. (ps : List Part) → Knows source.now.meta.now source.now.found.now ps → r.1 ≡ true → of_written (other_key source.now.meta.now) ps ≡ false) }
     ensures value { IfOk result (λ r. (ps : List Part) → Knows source.now.meta.now source.now.found.now ps → r.0 ≡ objects_so_far source.now.meta.now (base_of source.now.uri.now) ps ps) }

@@ -149,14 +149,14 @@ pub fn read_doc_text(alloc: Global, meta: &Meta, uri: &str, text: &str) -> Resul
 /// Reads the bytes of a document in the resource of a URI. Returns the objects and roots of the document, or else `Document` with the
 /// lowest cause that applies:
 ///
-/// - `Syntax` if the bytes are no JSON, of at most 127 levels, in UTF-8;
+/// - `Syntax` if the bytes are no JSON in UTF-8, or if the JSON has more than 127 levels;
 /// - `Layout` if the value does not have the shape of a document, or has a key that is not listed;
 /// - `Format` if its format is neither 1 nor 2;
 /// - `Class` if an object names no class, or an abstract one;
-/// - `Feature` if a key is no feature of the object's class, or a container reference;
+/// - `Feature` if a key is no feature of the object's class, or is a container reference;
 /// - `Value` if the content of a feature is not of its type, or a text has more than 65,535 bytes;
-/// - `Reference` if a text is no fragment and no URI with a fragment, or leads to no object of the document that
-///   conforms;
+/// - `Reference` if a text is no fragment and no URI with a fragment, or leads to no object of the document that conforms to the type of
+///   the reference;
 /// - `Duplicate` if a unique list repeats a value;
 /// - `Bound` if a list has more values than its upper bound, or than 1,000,000;
 /// - `OneSided` if an object names another object under a feature with an opposite, and the other object does not name it back;

@@ -23,7 +23,7 @@ fn add_root(roots: &mut Seq<ObjectNo>, found: &FoundParts, position: u32) -> Res
     Ok(())
 }
 
-/// The numbers of the roots. Fails only if memory is refused, or if there are more than 2^32.
+/// The numbers of the roots. Fails only if memory is refused, or if there are more than 2^32 roots.
 pub(crate) fn read_roots(
     alloc: Global,
     found: &FoundParts,

@@ -166,7 +166,7 @@ fn no_values(alloc: Global, room: usize) -> Result<ReadValues, AllocError>
     })
 }
 
-/// Reads values under a feature. Fails only if memory is refused, or if there are more than 2^32.
+/// Reads values under a feature. Fails only if memory is refused, or if there are more than 2^32 values.
 fn read_values(
     source: &ReadContext,
     number: u32,

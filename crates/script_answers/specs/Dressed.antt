@@ -12,7 +12,7 @@ use Rattle.script_answers.specs.declared.turn.Turn.{Turn}
 abbrev pub plain_dress : Dress
 plain_dress = record { echo = false; number = false; stop = false }
 
--- the lines of a text, with some bytes before each
+-- the lines of a text, with the bytes `front` before each line
 abbrev pub each_behind : List ℕ → List ℕ → List ℕ
 each_behind front text = flat_map (λ l. front ++ l ++ NEWLINE ∷ []) (lines text)
 

@@ -1,4 +1,4 @@
-//! The answer of a line is written by the output options.
+//! Writes the answers of lines, as the output options say.
 ghost use Rattle.std.specs.Prelude.{◌≡◌, IfErr, OnErr, OnOk};
 ghost use Rattle.std.specs.Io.KnownBytes.{Appends};
 ghost use Rattle.script_answers.specs.Dressed.{dressed_answer, dressed_line, each_behind, echoed_line, numbered_lines};
@@ -71,7 +71,7 @@ fn write_answer<W: Write>(
     }
 }
 
-/// Writes the output of a line of the script, by the output options.
+/// Writes the output of a line of the script, as the output options say.
 ///
 /// Fails with `Write` as `write_all` does; then a prefix of the output was written.
 pub fn write_dressed<W: Write>(

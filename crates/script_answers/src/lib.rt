@@ -1,4 +1,4 @@
-//! The answers of the lines of a script: how a line is counted, and how its answer is written by the output options.
+//! The answers of the lines of a script: how a line is counted, and how its answer is written as the output options say.
 #![tactic(auto)]
 
 mod dress;

@@ -27,7 +27,7 @@ adapter n = record { 0 = n }
 abbrev pub name_in : List ℕ → Option (List ℕ)
 name_in w = if is_name w then Some w else None
 
--- the text of a word that is a JSON string; the string ends with the word
+-- the text of a word that is a JSON string; the word has to end with the string
 abbrev pub text_in : List ℕ → Option (List ℕ)
 text_in w = if slice_index w (length w - 1) == QUOTE && is_utf8 w then option_and_then as_str (read w) else None
 
@@ -40,7 +40,7 @@ string_in (c ∷ cs) = if c == QUOTE then text_in (c ∷ cs) else None
 abbrev pub is_plain : ℕ → Bool
 is_plain c = nat_le SPACE c && (not (c == QUOTE) && not (c == BACKSLASH))
 
--- the number of a word after a mark
+-- the number that a word has after its mark
 abbrev pub number_in : ℕ → List ℕ → Option ℕ
 number_in mark [] = None
 number_in mark (c ∷ cs) = if c == mark then natural_number cs else None
@@ -88,6 +88,6 @@ word_value_in w = if bytes_eq w (codes "null") then Some written.Null
     else if bytes_eq w (codes "false") then Some (written.Bool false)
     else None
 
--- `#3 pages 100`: a node, the name of one of its features, and a value for it
+-- `#3 pages 100`: a node, the name of one of its features, and a value for this feature
 abbrev pub feature_value_in : List ℕ → List ℕ → List ℕ → Option ((Node × List ℕ) × WrittenValue)
 feature_value_in n f v = option_zip (feature_in n f) (value_in v)

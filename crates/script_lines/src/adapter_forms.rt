@@ -1,11 +1,11 @@
-//! The forms of the lines that speak of adapters.
+//! The forms of lines about adapters.
 ghost use Rattle.std.specs.Prelude.{◌≡◌};
 ghost use Rattle.script_lines.specs.Forms.{attach_form, depth_in, detach_form, seen_form, unwatch_form, watch_form};
 
 use crate::form::Form;
 use crate::values::{adapter_of, node_of};
 
-/// Whether an adapter is deep, as a word says it: `flat` or `deep`.
+/// Whether an adapter is deep, by the word `flat` or `deep`.
 fn depth_of(word: &str) -> Option<bool>
     ensures { result ≡ depth_in word.now }
 {

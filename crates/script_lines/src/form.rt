@@ -39,7 +39,7 @@ pub enum Form<'a> {
         feature: Name<'a>,
         form: FeatureForm<'a>,
     },
-    /// Makes a resource of the URI that a text gives (EMF: ResourceSet.createResource).
+    /// Makes a resource whose URI a text gives (EMF: ResourceSet.createResource).
     Resource(Text),
     /// Resolves every proxy, one after another; a proxy that can't be resolved is left (EMF: EcoreUtil.resolveAll).
     ResolveAll,

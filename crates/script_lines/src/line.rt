@@ -13,11 +13,11 @@ use std::str;
 /// A line of a script.
 #[derive(Drop)]
 pub enum Line<'a> {
-    /// It is empty or has only spaces, and is skipped.
+    /// The line is empty or has only spaces, and is skipped.
     Blank,
-    /// It is not UTF-8, or fits no form.
+    /// The line is not UTF-8, or fits no form.
     Bad,
-    /// It asks for something.
+    /// The line fits a form, which says what the line asks for.
     Form(Form<'a>),
 }
 

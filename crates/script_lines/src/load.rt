@@ -38,7 +38,8 @@ fn verb_of(line: &str) -> (&str, &str)
     cut_at_space(after_spaces_of(line))
 }
 
-/// The text after the verb of a `load` line; `None` for a line with a different verb. Most lines are recognised by their first byte.
+/// The text after the verb of a `load` line; `None` for a line with a different verb. Most lines with a different verb are recognised by
+/// their first byte.
 pub fn loaded_of(line: &str) -> Option<&str>
     ensures { MatchOption result (is_load line.now ≡ false) (λ rest. (is_load line.now ≡ true) × (rest.now ≡ behind_verb line.now)) }
 {
@@ -58,8 +59,8 @@ fn parts_of(rest: &str) -> Option<(ResourceNo, &str)>
     Some((resource, text))
 }
 
-/// The resource and the text of a `load` line; `None` if the line has a different verb, or is bad. A line that begins with a space is left
-/// to the general reader, so that spaces are not looked through twice.
+/// The resource and the text of a `load` line; `None` if the line has a different verb, or is bad. A line that begins with a space gives
+/// `None` too: the general reader reads it, so that leading spaces are not skipped twice.
 pub fn load_parts(line: &str) -> Option<(ResourceNo, &str)>
     ensures { IfSome result (λ p. text_line line.now ≡ asked.Form (asks.Load p.0 p.1.now)) }
 {

@@ -1,4 +1,4 @@
-//! Numbers are read. A number of up to nine digits is read in one loop.
+//! Reads numbers. A number of up to nine digits is read in one loop.
 ghost use Rattle.std.specs.Prelude.{◌≡◌, ◌≢◌, ◌≤◌, ◌<◌, IfSome, Some, length, option_map, slice_index, take};
 ghost use Rattle.std.specs.Char.{is_ascii_digit};
 ghost use Rattle.std.specs.List.{after_first, before_first, prefix_len};

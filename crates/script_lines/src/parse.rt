@@ -235,7 +235,7 @@ fn alone_of<'a>(verb: &str) -> Option<Form<'a>>
     }
 }
 
-/// The question about an object that a verb asks.
+/// The question that a verb asks about an object.
 fn object_read_of(verb: &str) -> Option<ObjectRead>
     ensures { result ≡ object_read verb.now }
 {

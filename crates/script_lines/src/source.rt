@@ -11,7 +11,7 @@ use crate::lines::{line_len_of, next_line};
 use crate::words::after_byte;
 use std::str;
 
-/// Bytes of a script: all of them, those that are left, or a line. If a whole script is known to be UTF-8, so is each of its lines.
+/// Bytes of a script: the whole script, the rest of a script, or a line. If a whole script is known to be UTF-8, so is each of its lines.
 #[derive(Clone, Copy)]
 pub enum Source<'a> {
     /// Bytes that are known to be UTF-8.

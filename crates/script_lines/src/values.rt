@@ -58,7 +58,7 @@ pub fn node_of(word: &str) -> Option<Node>
     }
 }
 
-/// The node and the name of a feature that two words give, as `#3 pages`.
+/// A node and the name of one of its features, as two words give them: `#3 pages`.
 pub fn feature_of<'a>(node: &str, name: &'a str) -> Option<(Node, Name<'a>)>
     ensures { result ≡ feature_in node.now name.now }
 {
@@ -110,7 +110,7 @@ fn number_value_of(word: &str) -> Option<WrittenValue<'_>>
     Some(WrittenValue::Int(int_of(word)?))
 }
 
-/// The value of a word with a mark, or without one.
+/// The value of a word that is no text and no number: a literal after `:`, an object after `#`, or a word without a mark.
 fn marked_value_of(word: &str) -> Option<WrittenValue<'_>>
     requires some { 0 < length word.now }
     requires no_text { slice_index word.now 0 ≢ QUOTE }
@@ -154,7 +154,7 @@ pub fn value_of(alloc: Global, word: &str) -> Result<Option<WrittenValue<'_>>, A
     other_value_of(alloc, word)
 }
 
-/// The node, the name of one of its features, and the value for it, that three words give: `#3 pages 100`.
+/// A node, the name of one of its features, and a value for this feature, as three words give them: `#3 pages 100`.
 pub fn feature_value_of<'a>(
     alloc: Global,
     node: &str,

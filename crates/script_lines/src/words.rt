@@ -93,7 +93,7 @@ fn first_word(text: &str) -> (&str, &str)
     text.split_at(word_len_of(text.as_bytes()))
 }
 
-/// The first bytes of a text, and the text after the space that follows them, which is empty at the end of the text.
+/// The first `len` bytes of a text, and the text after the space that follows these bytes; the second text is empty if no space follows.
 #[inline]
 pub fn cut_at(text: &str, len: usize) -> (&str, &str)
     requires within { len ≤ length text.now }
@@ -145,7 +145,7 @@ pub fn after_byte(text: &str) -> &str
 /// How many words of a line are looked at: one more than the longest form has, since a line of more words fits no form.
 pub const MOST_WORDS: usize = 6;
 
-/// The first words of a line, as many as are looked at.
+/// The first words of a line, at most `MOST_WORDS` of them.
 pub fn words_of(line: &str) -> ArrayVec<&str, MOST_WORDS>
     ensures { map (λ w. w.now) result.items ≡ take MOST_WORDS (words line.now) }
 {

@@ -1,4 +1,4 @@
--- What is printed of adapters: their notifications, and the counts of these.
+-- What is printed of adapters: their notifications, and how many notifications they got and keep.
 use Rattle.std.specs.Prelude.{ℕ, List, [], ◌∷◌, ◌++◌, codes}
 use Rattle.std.specs.Fmt.{decimal, signed_decimal}
 use Rattle.std.specs.Option.{option_map_or}
@@ -14,7 +14,7 @@ use Rattle.script_output.specs.Names.{feature_name, literal_name}
 use Rattle.script_output.specs.Printed.{adapter_text, node_text, value_text}
 use Rattle.script_output.specs.declared.output.told.TheConstants.{FEATURE_MARK}
 
--- the end at which the change was made, as `#0.pages`; `#0` if the notification has no feature
+-- the end at which the change was made, such as `#0.pages`; `#0` if the notification has no feature
 abbrev pub end_text : Metamodel → Notice → List ℕ
 end_text m n = node_text n.notifier ++ option_map_or (λ f. FEATURE_MARK ∷ feature_name m f) n.feature []
 
@@ -27,7 +27,7 @@ abbrev pub text_before : NoticeKind → List ℕ → List ℕ
 text_before (RemovingAdapter number) old = adapter_text number
 text_before _ old = old
 
--- the old value, the new value and the position, as `100 1 -1`
+-- the old value, the new value and the position, such as `100 1 -1`
 abbrev pub values_text : Metamodel → Notice → List ℕ
 values_text m n = text_before n.kind (told_value_text m n n.old_value) ++ SPACE ∷ told_value_text m n n.new_value ++ SPACE ∷ signed_decimal n.position
 
@@ -35,22 +35,22 @@ values_text m n = text_before n.kind (told_value_text m n n.old_value) ++ SPACE 
 abbrev pub change_text : Metamodel → Notice → List ℕ
 change_text m n = end_text m n ++ SPACE ∷ values_text m n
 
--- what a notification reports, as `SET #0.pages 100 1 -1`
+-- what a notification reports, such as `SET #0.pages 100 1 -1`
 abbrev pub report_text : Metamodel → Notice → List ℕ
 report_text m n = kind_name n.kind ++ SPACE ∷ change_text m n
 
--- a notification of an adapter, as `told A1 SET #0.pages 100 1 -1`
+-- a notification of an adapter, such as `told A1 SET #0.pages 100 1 -1`
 abbrev pub notice_text : Metamodel → AdapterNo → Notice → List ℕ
 notice_text m number n = codes "told " ++ adapter_text number ++ SPACE ∷ report_text m n
 
--- how many notifications there were and how many are kept, as `3 kept 2`
+-- how many notifications there were and how many are kept, such as `3 kept 2`
 abbrev pub counts_text : ℕ → ℕ → List ℕ
 counts_text told kept = decimal told ++ codes " kept " ++ decimal kept
 
--- a released adapter, as `released A1 told 1 kept 1`
+-- a released adapter, such as `released A1 told 1 kept 1`
 abbrev pub released_text : AdapterNo → ℕ → ℕ → List ℕ
 released_text number told kept = codes "released " ++ adapter_text number ++ codes " told " ++ counts_text told kept
 
--- how often an adapter was notified, as `seen 3 kept 2`
+-- how often an adapter was notified, such as `seen 3 kept 2`
 abbrev pub seen_text : ℕ → ℕ → List ℕ
 seen_text told kept = codes "seen " ++ counts_text told kept

@@ -219,8 +219,8 @@ impl Output {
         self.json(text)
     }
 
-    /// Adds a value: `null`, `true`, `-12`, `"Emma"`, `:NOVEL`, `#3`, or `proxy "http://m.example/b#/0"`. If it is a literal, `literal` is
-    /// its name; otherwise `literal` is not looked at.
+    /// Adds a value: `null`, `true`, `-12`, `"Emma"`, `:NOVEL`, `#3`, or `proxy "http://m.example/b#/0"`. If the value is a literal,
+    /// `literal` is its name; otherwise `literal` is not used.
     pub fn value(&mut self, value: &Value, literal: &str) -> Result<(), AllocError>
         ensures ok { OnOk result (self.new ≡ self.old ++ value_text literal.now value.now) }
     {

@@ -21,7 +21,7 @@ pub record RunsFirst (d : Dress) (s : Session) (bytes : List ℕ) (first rest : 
   pub ran : RunsLines s first printed t
   pub none_behind : lines_until_end d printed ≡ printed
 
--- A line was run, and its output was written by the output options.
+-- A line was run, and its output was written as the output options say.
 pub record AnswersLine (d : Dress) (number : ℕ) (line : List ℕ) (s : Session) (old new : Option (List ℕ)) (turn : Turn) (t : Session) : Type 0 where
   pub printed : Printed
   pub ran : RunsLine s (form line) printed t
@@ -49,8 +49,8 @@ EndsIn q t = t.state ≡ q
 abbrev pub EndsAnywhere : Session → Type 0
 EndsAnywhere t = Unit {0}
 
--- A script was run to its end, or to the fault at which it is to stop; its answers were written by the output options, the counts are the
--- counts of the answers, and `Left` is true of the session that is left.
+-- A script was run to its end, or to the fault at which it is to stop; its answers were written as the output options say, the counts are
+-- the counts of the answers, and `Left` is true of the session that is left.
 pub record PrintsDressed (d : Dress) (s : Session) (Left : Session → Type 0) (old new : Option (List ℕ)) (bytes : List ℕ) (summary : Summary) : Type 0 where
   pub first : List (List ℕ)
   pub printed : List Printed
@@ -60,8 +60,8 @@ pub record PrintsDressed (d : Dress) (s : Session) (Left : Session → Type 0) (
   pub counted : summary_of printed ≡ summary
   pub written : Appends old new (dressed_output d first printed)
 
--- The first lines of a script were run, a prefix of their answers was written by the output options, and `Left` is true of the session that
--- is left.
+-- The first lines of a script were run, a prefix of their answers was written as the output options say, and `Left` is true of the session
+-- that is left.
 pub record PrintsDressedFront (d : Dress) (s : Session) (Left : Session → Type 0) (old new : Option (List ℕ)) (bytes : List ℕ) : Type 0 where
   pub first : List (List ℕ)
   pub rest : List (List ℕ)

@@ -36,7 +36,7 @@ use Rattle.script_program.specs.declared.request.Request.TheVariants as request
 abbrev pub class_number : Metamodel → List ℕ → ClassNo
 class_number m name = unwrap_or (lookups.class_by_name m name) (record { 0 = NOTHING })
 
--- the feature with a name, of an object's class; a resource has only `contents`
+-- the number of the feature that has a name: a feature of the object's class, or `contents` of a resource
 abbrev pub feature_number : State → Node → List ℕ → FeatureNo
 feature_number s (node.Object o) name =
     unwrap_or (option_and_then (λ c. lookups.feature_by_name s.model.metamodel c name) ((reads s).class o)) (record { 0 = NOTHING })
@@ -45,7 +45,7 @@ feature_number s (node.Resource r) name = if bytes_eq name (codes "contents") th
 abbrev pub literal_number : Metamodel → FeatureNo → List ℕ → ℕ
 literal_number m f name = unwrap_or (option_and_then (λ e. lookups.literal_by_name m e name) (enum_of m f)) NOTHING
 
--- the value that a written value gives under a feature
+-- the value that a written value gives for a feature
 abbrev pub value_in : Metamodel → FeatureNo → WrittenValue → Value
 value_in m f written.Null = value.Null
 value_in m f (written.Bool b) = value.Bool b
@@ -54,7 +54,7 @@ value_in m f (written.Text t) = value.Text t
 value_in m f (written.Literal name) = value.Literal (literal_number m f name)
 value_in m f (written.Object o) = value.Object o
 
--- the value that a written value gives under the named feature of a node
+-- the value that a written value gives for the named feature of a node
 abbrev pub named_value : State → Node → List ℕ → WrittenValue → Value
 named_value s n name v = value_in s.model.metamodel (feature_number s n name) v
 
@@ -83,7 +83,7 @@ at_command m e (form.RemoveValue v) = command.At e (act.RemoveValue (value_in m 
 at_command m e (form.Move to from) = command.At e (act.Move to from)
 at_command m e (form.Resolve i) = command.At e (act.Resolve i)
 
--- the request to attach an adapter of the pool; if the pool can't give it, the repository is not asked
+-- the request to attach an adapter of the pool; if the pool can't give the adapter, the repository is not called
 abbrev pub attach_request : Result View Refused → AdapterNo → Node → Bool → Request View
 attach_request (Ok v) number target deep = request.Execute (command.Attach number target deep v)
 attach_request (Err r) number target deep = request.Refuse r

@@ -81,7 +81,7 @@ pub record RunsJournaled (s : Session) (l : List ℕ) (p : durable.Printed) (t :
   pub ran : RunsLine s (form l) printed t
   pub counted : p ≡ journal_printed l printed
 
--- the lines that are kept, by the output of each
+-- the lines that are kept; the output of a line decides whether the line is kept
 abbrev pub kept_lines : List (List ℕ) → List Printed → List (List ℕ)
 kept_lines [] ps = []
 kept_lines (l ∷ ls) [] = []
@@ -147,7 +147,7 @@ pub record LeavesJournaled (m : Metamodel) (s : Session) (ls : List (List ℕ)) 
   pub ran : RunsLines s first printed after
   pub recalled : Recalls m after.state.model file
 
--- ---- a run from a file on, whose lines are run again first
+-- ---- a run that first runs the lines of a file again
 
 -- the outcome of a run whose journal was opened
 abbrev pub kept_outcome : Result (Unit {0}) RunFault → Result (Unit {0}) KeptFault

@@ -2,7 +2,6 @@ pub mod Pool
 pub mod Session
 pub mod Bind
 pub mod Answers
-pub mod BareActs
 pub mod Script
 pub mod Lists
 pub mod Loading

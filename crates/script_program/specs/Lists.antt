@@ -1,4 +1,4 @@
--- What is printed for a call that reads a list: how many values it has, or one of them.
+-- What is printed for a call that reads the length of a list, or one value of a list.
 use Rattle.std.specs.Prelude.{ℕ, List, [], ◌∷◌, ◌++◌, Result, Ok, Err}
 use Rattle.std.specs.Fmt.{decimal}
 use Rattle.mm_types.specs.Resolved.{Metamodel}

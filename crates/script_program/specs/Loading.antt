@@ -1,4 +1,4 @@
--- A resource is made of a URI, and a document is loaded into it.
+-- A resource with a given URI is made, and a document is loaded into it.
 use Rattle.std.specs.Prelude.{◌≡◌, ℕ, List, Option, Some, None, Ok, Err}
 use Rattle.mm_types.specs.declared.numbers.ResourceNo.{ResourceNo}
 use Rattle.mm_types.specs.declared.refused.Refused.TheVariants.{NoResource}
@@ -24,7 +24,8 @@ abbrev pub LoadsIfMade : Outcome → State → List ℕ → Outcome → State �
 LoadsIfMade (Ok r) s document o t = LoadsInto (made_resource r.answer) s document o t
 LoadsIfMade (Err f) s document o t = (o ≡ Err f) × (t ≡ s)
 
--- A resource was made of a URI, and a document was loaded into it, by two commands; the second was given only if the first was done.
+-- A resource with a given URI was made, and a document was loaded into it, by two commands; the second command was given only if the first
+-- command was done.
 pub record MakesAndLoads (s : State) (uri document : List ℕ) (o : Outcome) (t : State) : Type 0 where
   pub made : Outcome
   pub between : State

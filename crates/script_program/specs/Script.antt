@@ -44,12 +44,12 @@ bad_printed = record { text = codes "bad line" ++ NEWLINE ∷ []; turn = turned.
 abbrev pub refused_printed : Refused → Printed
 refused_printed r = record { text = refusal_line r; turn = turned.Refused }
 
--- how often an adapter was notified, if it is attached
+-- what `seen` prints: how often an adapter was notified and how many notifications it keeps, or the refusal `NoAdapter`
 abbrev pub seen_printed : State → AdapterNo → Printed
 seen_printed s number =
     option_map_or (λ a. record { text = seen_text a.view.told (length a.view.kept) ++ NEWLINE ∷ []; turn = turned.Done }) (adapter number s.adapters) (refused_printed NoAdapter)
 
--- A line appended a text to another text; `Said` is true of that text and of how the line is counted.
+-- A line appended its output to the text `old`; `Said` is true of this output and of how the line is counted.
 pub record Adds (old new : List ℕ) (turn : Turn) (Said : Printed → Type 0) : Type 0 where
   pub text : List ℕ
   pub added : new ≡ old ++ text

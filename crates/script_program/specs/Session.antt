@@ -26,11 +26,11 @@ session_with heard s boxes = session s (map (λ a. Some (heard a)) boxes)
 abbrev pub first_session : {A : Type 0} → (A → View) → Metamodel → List A → Session
 first_session heard m boxes = session_with heard (empty_state m) boxes
 
--- the adapter that a command takes is in the pool
+-- the adapter that a command attaches is in the pool
 abbrev pub IsBrought : Pool → Command View → Type 0
 IsBrought pool c = All (λ a. box_of pool a.no ≡ Ok a.view) (attached_adapters c)
 
--- the pool without the adapter that a command takes
+-- the pool without the adapter that a command attaches
 abbrev pub pool_after_take : Pool → Command View → Pool
 pool_after_take pool c = fold pool_without pool (map (λ a. a.no) (attached_adapters c))
 
@@ -39,7 +39,7 @@ abbrev pub pool_after : Pool → Command View → Outcome → Pool
 pool_after pool c (Ok r) = fold with_box (pool_after_take pool c) r.released
 pool_after pool c (Err f) = pool
 
--- the number of the adapter that a command takes
+-- the number of the adapter that a command attaches; none if the command attaches no adapter
 abbrev pub brought_no : Command View → Option AdapterNo
 brought_no c = option_map (λ a. a.no) (slice_get (attached_adapters c) 0)
 

@@ -110,7 +110,7 @@ fn print_value(
     output.line_end()
 }
 
-/// Adds the line of an answer to a command; `feature` is the feature that it names.
+/// Adds the line of an answer to a command; `feature` is the feature that the command names.
 fn print_answer_line(
     output: &mut Output,
     meta: &Meta,
@@ -171,7 +171,7 @@ fn print_notified<A: Adapter>(
     print_released(output, released)
 }
 
-/// Adds the lines that a command prints when it is done; `feature` is the feature that it names.
+/// Adds the lines that a command prints when it is done; `feature` is the feature that the command names.
 pub(crate) fn print_reply<A: Adapter>(
     output: &mut Output,
     meta: &Meta,
@@ -189,7 +189,7 @@ pub(crate) fn print_reply<A: Adapter>(
     )
 }
 
-/// Adds the lines that a command prints; `feature` is the feature that it names.
+/// Adds the lines that a command prints; `feature` is the feature that the command names.
 pub(crate) fn print_outcome<A: Adapter>(
     output: &mut Output,
     meta: &Meta,

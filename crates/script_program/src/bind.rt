@@ -78,7 +78,7 @@ fn create_command<A>(meta: &Meta, class: Name<'_>) -> Command<A>
     Command::Create(class_number(meta, class.as_str()))
 }
 
-/// The command that asks something of a named feature of a node, or changes the feature. The command brings no adapter.
+/// The command that asks something of a named feature of a node, or changes the feature. The command attaches no adapter.
 fn at_command<L: LinkStore, A: Adapter>(
     repository: &Repository<L, A>,
     node: Node,
@@ -162,7 +162,7 @@ fn literal_number(meta: &Meta, feature: FeatureNo, name: &str) -> u32
     meta.literal_by_name(e, name).unwrap_or(NOTHING)
 }
 
-/// The value that a written value stands for under a feature; only a literal needs the metamodel.
+/// The value that a written value gives for a feature; only a literal needs the metamodel.
 #[inline(always)]
 pub(crate) fn value_in(meta: &Meta, feature: FeatureNo, written: WrittenValue<'_>) -> Value
     ensures { result ≡ b.value_in meta.now feature written.entry }

@@ -1,5 +1,5 @@
-//! Lines of the most frequent forms are run. The functions here call the repository directly, and the answer of a change that notifies no
-//! adapter is printed without a reply. Binding a line to a command and taking its reply apart would take longer than the change.
+//! Runs lines of the most frequent forms. The functions here call the repository directly, and print the answer of a change that notifies
+//! no adapter without making a reply. Binding a line to a command and taking a reply apart would take longer than the change itself.
 ghost use Rattle.std.specs.Prelude.{◌≡◌, Err, IfOk, MatchOption, None, Ok, OnErr, Some};
 ghost use Rattle.mm_types.specs.Resolved.{Metamodel};
 ghost use Rattle.mm_types.specs.declared.numbers.Node.TheVariants as node;
@@ -14,7 +14,6 @@ ghost use Rattle.frequent_lines.specs.Frequent.{act_line, frequent_line};
 ghost use Rattle.frequent_lines.specs.declared.frequent_act.FrequentAct.TheVariants as act;
 ghost use Rattle.script_program.specs.Answers.{feature_of, unheard_text};
 ghost use Rattle.script_program.specs.Bind as b;
-ghost use Rattle.script_program.specs.BareActs.{act_of};
 ghost use Rattle.script_program.specs.Pool.{Pool as PoolView};
 ghost use Rattle.script_program.specs.Script.{Adds, IsLeft, RunsCommand, RunsLine, command_printed};
 ghost use Rattle.script_program.specs.Session.{session};
@@ -24,7 +23,7 @@ use crate::bind::{class_number, feature_number, value_in};
 use crate::line::{finish_change, print_bad, run_command, run_get, turn_of_refusal};
 use crate::pool::Pool;
 use adapters::Adapter;
-use frequent_lines::{Frequent, FrequentAct};
+use frequent_lines::{BareAct, Frequent, FrequentAct};
 use handshake::Act;
 use links::LinkStore;
 use mm_types::{End, Node, ObjectNo, Refused, Text};
@@ -34,7 +33,7 @@ use script_lines::{Name, WrittenValue, value_of};
 use script_output::Output;
 use std::alloc::{AllocError, Global};
 
-/// Prints the refusal of a change that takes no adapter. Fails only if memory is refused for the output.
+/// Prints the refusal of a command that is given no adapter. Fails only if memory is refused for the output.
 fn print_refused(output: &mut Output, refused: Refused) -> Result<Turn, AllocError>
     ensures { (m : Metamodel) (c : Command View) → IfOk result (λ t. Adds output.old output.new t (λ p. p ≡ command_printed m c (change_outcome (Err refused)))) }
 {
@@ -121,7 +120,7 @@ fn print_fragment(output: &mut Output, fragment: &Text) -> Result<Turn, AllocErr
     Ok(Turn::Done)
 }
 
-/// Reads the fragment of an object, which is remembered, and prints it. Fails only if memory is refused for the output.
+/// Reads the fragment of an object and prints it. The repository remembers the fragment. Fails only if memory is refused for the output.
 #[inline(never)]
 fn run_fragment<L: LinkStore, A: Adapter>(
     repository: &mut Repository<L, A>,
@@ -314,32 +313,6 @@ fn run_remove_value_line<L: LinkStore, A: Adapter>(
     }
 }
 
-/// An act without a value.
-#[derive(Clone, Copy)]
-enum BareAct {
-    Unset,
-    /// Takes out the value at an index.
-    Remove(u32),
-    /// Moves a value from one index to another.
-    Move { to: u32, from: u32 },
-    /// Resolves the proxy at an index.
-    Resolve(u32),
-}
-
-impl BareAct {
-    /// The act of a change.
-    fn into_act(self) -> Act
-        ensures { result ≡ act_of self }
-    {
-        match self {
-            BareAct::Unset => Act::Unset,
-            BareAct::Remove(index) => Act::Remove(index),
-            BareAct::Move { to, from } => Act::Move { to, from },
-            BareAct::Resolve(index) => Act::Resolve(index),
-        }
-    }
-}
-
 /// Does an act without a value at a feature of an object, and prints the answer. Fails only if memory is refused for the output.
 #[inline(never)]
 fn run_bare_act<L: LinkStore, A: Adapter>(
@@ -350,20 +323,20 @@ fn run_bare_act<L: LinkStore, A: Adapter>(
     name: &str,
     bare: BareAct,
 ) -> Result<Turn, AllocError>
-    ensures ok { IfOk result (λ t. Adds output.old output.new t (λ p. RunsCommand (session repository.old pool.old)
-        (At (b.named_end repository.old (node.Object object) name.now) (act_of bare)) p (session repository.new pool.new))) }
-    ensures left { OnErr result (IsLeft (RunsCommand (session repository.old pool.old)
-        (At (b.named_end repository.old (node.Object object) name.now) (act_of bare))) repository.old repository.new) }
+    ensures ok { IfOk result (λ t. Adds output.old output.new t (λ p. RunsLine (session repository.old pool.old) (act_line object name.now (act.Bare bare)) p (session repository.new pool.new))) }
+    ensures left { OnErr result (IsLeft (RunsLine (session repository.old pool.old) (act_line object name.now (act.Bare bare))) repository.old repository.new) }
 {
     let node = Node::Object(object);
     let feature = feature_number(repository, node, name);
-    run_act(
-        repository,
-        pool,
-        output,
-        End { node, feature },
-        bare.into_act(),
-    )
+    let end = End { node, feature };
+    match bare {
+        BareAct::Unset => run_act(repository, pool, output, end, Act::Unset),
+        BareAct::Remove(index) => run_act(repository, pool, output, end, Act::Remove(index)),
+        BareAct::Move { to, from } => {
+            run_act(repository, pool, output, end, Act::Move { to, from })
+        }
+        BareAct::Resolve(index) => run_act(repository, pool, output, end, Act::Resolve(index)),
+    }
 }
 
 /// Asks whether a feature of an object is set, and prints the answer. Fails only if memory is refused for the output.
@@ -425,37 +398,7 @@ fn run_at<L: LinkStore, A: Adapter>(
         FrequentAct::RemoveValue(word) => {
             run_remove_value_line(alloc, repository, pool, output, object, name, word.as_str())
         }
-        FrequentAct::Unset => run_bare_act(repository, pool, output, object, name, BareAct::Unset),
-        FrequentAct::Remove(index) => {
-            run_bare_act(
-                repository,
-                pool,
-                output,
-                object,
-                name,
-                BareAct::Remove(index),
-            )
-        }
-        FrequentAct::Move { to, from } => {
-            run_bare_act(
-                repository,
-                pool,
-                output,
-                object,
-                name,
-                BareAct::Move { to, from },
-            )
-        }
-        FrequentAct::Resolve(index) => {
-            run_bare_act(
-                repository,
-                pool,
-                output,
-                object,
-                name,
-                BareAct::Resolve(index),
-            )
-        }
+        FrequentAct::Bare(bare) => run_bare_act(repository, pool, output, object, name, bare),
     }
 }
 

@@ -1,4 +1,4 @@
-//! Lines that come one at a time.
+//! An interpreter, which runs lines one at a time.
 ghost use Rattle.std.specs.Prelude.{◌≡◌, [], IfOk};
 ghost use Rattle.script_lines.specs.Forms as forms;
 ghost use Rattle.script_program.specs.Script.{RunsLine};

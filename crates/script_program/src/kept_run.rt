@@ -1,4 +1,4 @@
-//! A script is run after the lines of a journal.
+//! Runs a script after the lines of a journal.
 ghost use Rattle.std.specs.Prelude.{◌≡◌, [], Err, Some, IfErr, IfOk, IfSome, OnOk, OnSome};
 ghost use Rattle.std.specs.Io.Buffered.{reader_remaining};
 ghost use Rattle.std.specs.Io.KnownBytes.{IsAtEnd};
@@ -55,7 +55,7 @@ fn stopped_by(outcome: Result<(), RunFault>) -> Result<(), KeptFault>
     }
 }
 
-/// Runs the lines of a file again, and opens the journal in it.
+/// Runs the lines of a file again, and opens the journal in that file.
 fn opened<D: Disk + Drop, L: LinkStore, A: Adapter, H: Listener>(
     alloc: Global,
     session: &mut Journaled<L, A, H>,

@@ -15,7 +15,7 @@ ghost use Rattle.script_answers.specs.declared.dress.Dress.{Dress};
 
 /// A line is lost if its command is refused for memory. For each choice of lost lines a text of the script is defined, and the lines print
 /// exactly the text for the lines that were lost. The numbers of the lost lines are all different, each is the number of a line that has a
-/// form, and there are as many of them as `no_memory` counts. The text of the first lines is a prefix of this text.
+/// form, and `no_memory` counts the lost lines. The text of the first lines is a prefix of this text.
 pub fn what_lines_print_is_the_script()
     ensures whole { (s t : Session) (bytes : List ℕ) (printed : List Printed) → RunsLines s (lines bytes) printed t
         → script s bytes (lost_lines printed) ≡ printed }
@@ -33,8 +33,8 @@ pub fn with_no_line_lost_the_script_is_a_function()
         → (summary_of printed).no_memory ≡ 0 → printed ≡ script s bytes [] }
 {}
 
-/// The output of a run is the text of all lines, written by the output options. The texts of the lines are defined by the numbers of the
-/// lost lines.
+/// The output of a run is the text of all lines, written as the output options say. The texts of the lines are defined by the numbers of
+/// the lost lines.
 pub fn a_run_writes_the_dressed_script()
     ensures { (d : Dress) (s t : Session) (bytes : List ℕ) (first : List (List ℕ)) (printed : List Printed) → RunsBatch d s bytes first printed t
         → dressed_output d (lines bytes) (script s bytes (lost_lines printed)) ≡ dressed_output d first printed }
@@ -48,8 +48,8 @@ pub fn a_live_run_writes_the_script_with_empty_lines()
 {}
 
 /// What was kept comes back. If the lines of a run that a journal keeps are run again, without adapters, from the model before the run,
-/// then all of them are done, and they leave the model that all lines of the run left. Only memory can make a session without adapters
-/// refuse one of them.
+/// then all of them are done, and they leave the model that all lines of the run left. A session without adapters refuses one of these
+/// lines only if memory is refused.
 pub fn what_was_kept_comes_back()
     ensures again { (s t : Session) (ls : List (List ℕ)) (printed : List Printed) → RunsLines s ls printed t
         → model_after_lines s.state.model (kept_lines ls printed) ≡ Some t.state.model }

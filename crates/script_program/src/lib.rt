@@ -1,4 +1,4 @@
-//! A script is run: its lines, what they print, and a journal that keeps them.
+//! Runs scripts: their lines, what the lines print, and a journal that keeps lines.
 #![tactic(auto)]
 
 mod answers;

@@ -1,4 +1,4 @@
-//! A line of a script is run.
+//! Runs one line of a script.
 ghost use Rattle.std.specs.Prelude.{◌≡◌, [], Err, true, IfOk, OnErr};
 ghost use Rattle.mm_types.specs.Shapes.{shape};
 ghost use Rattle.notice_chain.specs.View.{View};
@@ -56,7 +56,7 @@ fn turn_of<A>(outcome: &Result<Reply<A>, Failure<A>>) -> Turn
     }
 }
 
-/// The number of the adapter that a command takes.
+/// The number of the adapter that a command attaches; `None` if the command attaches none.
 fn number_of<A>(command: &Command<A>) -> Option<AdapterNo>
     ensures { (heard : A → View) → result ≡ brought_no (command_view heard command.now) }
 {
@@ -110,8 +110,9 @@ fn run_seen<L: LinkStore, A: Adapter>(
     }
 }
 
-/// Executes a command, whose adapter is out of the pool, and prints its answer. Adapters that are released, or not attached, go back to the
-/// pool. Fails only if memory is refused for the output; then the command was executed.
+/// Executes a command, and prints its answer. An adapter that the command attaches is out of the pool already; it goes back to the pool if
+/// the command is refused. Adapters that the command releases go back to the pool. Fails only if memory is refused for the output; then the
+/// command was executed.
 pub(crate) fn run_command<L: LinkStore, A: Adapter>(
     repository: &mut Repository<L, A>,
     pool: &mut Pool<A>,
@@ -186,7 +187,7 @@ fn print_as_refused(output: &mut Output, refused: Refused) -> Result<Turn, Alloc
     Ok(Turn::Refused)
 }
 
-/// Adds the line that a bad line prints. Fails only if memory is refused for it.
+/// Adds the text `bad line`, which a bad line prints. Fails only if memory is refused for this text.
 pub(crate) fn print_bad(output: &mut Output) -> Result<Turn, AllocError>
     ensures { (s : Session) → IfOk result (λ t. Adds output.old output.new t (λ p. RunsLine s asked.Bad p s)) }
 {
@@ -194,8 +195,8 @@ pub(crate) fn print_bad(output: &mut Output) -> Result<Turn, AllocError>
     Ok(Turn::Bad)
 }
 
-/// Loads a document into a resource, and prints the answer. It is never inlined into `run_text`, whose frame would then be larger for every
-/// line. Fails only if memory is refused for the output.
+/// Loads a document into a resource, and prints the answer. This function is never inlined into `run_text`, whose frame would then be
+/// larger for every line. Fails only if memory is refused for the output.
 #[inline(never)]
 fn run_load<L: LinkStore, A: Adapter>(
     repository: &mut Repository<L, A>,
@@ -238,7 +239,7 @@ fn run_text<L: LinkStore, A: Adapter>(
     }
 }
 
-/// Runs a line that is a text, as one of the most frequent forms if it is one.
+/// Runs a line that is a text: by `run_frequent` if `frequent_of` reads the line, else by `run_text`.
 ///
 /// Fails as `run_line` does.
 fn run_text_line<L: LinkStore, A: Adapter>(

@@ -3,7 +3,7 @@ use adapters::Adapter;
 use links::LinkStore;
 use repository::Repository;
 
-/// A listener is called with each line of a script after it was run. It can read the repository, but not change it.
+/// A listener is called with each line of a script after the line was run. The listener can read the repository, but can't change it.
 pub trait Listener: Drop {
     /// Whether the listener has to be called. If not, a run takes no time for the listener.
     fn is_listening(&self) -> bool;

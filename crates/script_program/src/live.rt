@@ -1,4 +1,4 @@
-//! A script is run live: each line is answered before the next is read.
+//! Runs scripts live: each line is answered before the next is read.
 ghost use Rattle.std.specs.Prelude.{◌≡◌, ◌⊎◌, IfErr, IfOk, IfSome, IsErrOf, OnErr, OnOk, OnSome, length};
 ghost use Rattle.std.specs.Io.Buffered.{reader_remaining};
 ghost use Rattle.std.specs.Io.KnownBytes.{IsAtEnd};
@@ -98,7 +98,7 @@ fn answer_lines<R: Read, W: Write, L: LinkStore, A: Adapter, H: Listener>(
     Err(RunFault::TooLong)
 }
 
-/// Runs a script as `run_live` does, over a repository that its caller lends. The listener is called with each line.
+/// Runs a script as `run_live` does, over a repository that the caller lends. The listener is called with each line.
 ///
 /// Fails as `run_live` does.
 pub fn live_over<R: Read, W: Write, L: LinkStore, A: Adapter, H: Listener>(

@@ -1,4 +1,4 @@
-//! A resource is made and loaded, as by two lines of a script.
+//! Makes a resource and loads it, as two lines of a script do.
 ghost use Rattle.std.specs.Prelude.{◌≡◌};
 ghost use Rattle.repository.specs.Run.{change_outcome};
 ghost use Rattle.repository.specs.Views.{changed_view};
@@ -19,7 +19,7 @@ fn resource_in(answer: &Answer) -> Option<ResourceNo>
     }
 }
 
-/// Loads a document into a resource, if there is one.
+/// Loads a document into a resource; refused with `NoResource` if there is no resource.
 fn load_into<L: LinkStore, A: Adapter>(
     repository: &mut Repository<L, A>,
     resource: Option<ResourceNo>,
@@ -33,7 +33,7 @@ fn load_into<L: LinkStore, A: Adapter>(
     }
 }
 
-/// Makes a resource of the URI that a text gives, and loads a document into it, as the lines `resource` and `load` do. The document may
+/// Makes a resource whose URI a text gives, and loads a document into the resource, as the lines `resource` and `load` do. The document may
 /// have any length, and newlines. Returns the reply of the load.
 ///
 /// Refused as `create_resource` is, or else as `load` is. If the load is refused, the resource was made, and is empty.

@@ -1,4 +1,4 @@
-//! A script is run without output options; its answers are written in blocks.
+//! Runs scripts without output options, and writes their answers in blocks.
 ghost use Rattle.std.specs.Prelude.{◌≡◌, ◌≤◌, [], IfErr, IfOk, OnErr, OnOk, length};
 ghost use Rattle.std.specs.Io.KnownBytes.{Appends};
 ghost use Rattle.mm_types.specs.declared.limits.TheConstants.{INPUT_BYTES};

@@ -1,4 +1,4 @@
-//! The lines of a journal are run again.
+//! Runs the lines of a journal again.
 ghost use Rattle.std.specs.Prelude.{◌≡◌, ◌≢◌, ◌∷◌, ℕ, List, Some, IfErr, OnOk};
 ghost use Rattle.journal.specs.Lines.{recovered_lines};
 ghost use Rattle.mm_types.specs.Resolved.{Metamodel};

@@ -1,4 +1,4 @@
-//! A script is run.
+//! Runs scripts.
 ghost use Rattle.std.specs.Prelude.{◌≡◌, ◌≤◌, ◌<◌, ◌⊎◌, IfErr, IfOk, IfSome, IsErrOf, OnErr, OnOk, length};
 ghost use Rattle.std.specs.Io.KnownBytes.{IsAtEnd, Keeps};
 ghost use Rattle.script_lines.specs.Source.{bytes_of};
@@ -36,7 +36,8 @@ fn tell<L: LinkStore, A: Adapter, H: Listener>(
     }
 }
 
-/// Runs a line of a script, writes its output by the output options, and calls the listener; `output` is a buffer for the output of lines.
+/// Runs a line of a script, writes its output as the output options say, and calls the listener; `output` is a buffer for the output of
+/// lines.
 ///
 /// Fails with `Memory` if memory is refused to the run itself, and with `Write` if a write fails or takes no byte.
 pub(crate) fn answer_line<W: Write, L: LinkStore, A: Adapter, H: Listener>(
@@ -66,7 +67,7 @@ pub(crate) fn answer_line<W: Write, L: LinkStore, A: Adapter, H: Listener>(
     Ok(turn)
 }
 
-/// Runs the lines of a script in turn, and writes the output of each, by the output options.
+/// Runs the lines of a script in turn, and writes the output of each, as the output options say.
 fn run_lines<W: Write, L: LinkStore, A: Adapter, H: Listener>(
     alloc: Global,
     writer: &mut W,
@@ -107,7 +108,7 @@ fn run_lines<W: Write, L: LinkStore, A: Adapter, H: Listener>(
     Ok(summary)
 }
 
-/// Runs a script over a repository, and writes the output of each line, by the output options.
+/// Runs a script over a repository, and writes the output of each line, as the output options say.
 fn run_input<W: Write, L: LinkStore, A: Adapter, H: Listener>(
     alloc: Global,
     writer: &mut W,
@@ -131,7 +132,7 @@ fn run_input<W: Write, L: LinkStore, A: Adapter, H: Listener>(
     run_lines(alloc, writer, repository, &mut pool, listener, dress, input)
 }
 
-/// Runs a script as `run_dressed` does, over a repository that its caller lends. The listener is called with each line.
+/// Runs a script as `run_dressed` does, over a repository that the caller lends. The listener is called with each line.
 ///
 /// Fails as `run` does. The script is read to its end before its first line is run, even if the run ends earlier.
 pub fn run_over<R: Read, W: Write, L: LinkStore, A: Adapter, H: Listener>(
@@ -143,7 +144,7 @@ pub fn run_over<R: Read, W: Write, L: LinkStore, A: Adapter, H: Listener>(
     listener: &mut H,
     dress: Dress,
 ) -> Result<Summary, RunFault>
-    // All the input was read, the output of its lines was written, by the output options, and the repository is as the lines left it.
+    // All the input was read, the output of its lines was written, as the output options say, and the repository is as the lines left it.
     ensures ok { IfOk result (PrintsInputDressed dress (R.remaining reader.old) (session_with A.heard repository.old boxes.items) (EndsIn repository.new) (W.contents writer.old) (W.contents writer.new)) }
     ensures end { OnOk result (IsAtEnd (R.remaining reader.new)) }
     // If a write fails or the run is out of memory, a prefix of the output of the first lines was written, and the repository is as these
@@ -171,8 +172,8 @@ pub fn run_over<R: Read, W: Write, L: LinkStore, A: Adapter, H: Listener>(
     }
 }
 
-/// Runs a script as `run` does, and writes the output of its lines, by the output options. With the option `stop`, the run ends after the
-/// first line that is refused or bad.
+/// Runs a script as `run` does, and writes the output of its lines, as the output options say. With the option `stop`, the run ends after
+/// the first line that is refused or bad.
 ///
 /// Fails as `run` does. The script is read to its end before its first line is run, even if the run ends earlier.
 pub fn run_dressed<R: Read, W: Write, L: LinkStore, A: Adapter>(
@@ -183,7 +184,7 @@ pub fn run_dressed<R: Read, W: Write, L: LinkStore, A: Adapter>(
     boxes: Vec<A>,
     dress: Dress,
 ) -> Result<Summary, RunFault>
-    // All the input was read, and the output of its lines was written, by the output options.
+    // All the input was read, and the output of its lines was written, as the output options say.
     ensures ok { IfOk result (PrintsInputDressed dress (R.remaining reader.old) (first_session A.heard meta boxes.items) EndsAnywhere (W.contents writer.old) (W.contents writer.new)) }
     ensures end { OnOk result (IsAtEnd (R.remaining reader.new)) }
     // If a write fails or the run is out of memory, a prefix of the output of the first lines was written.

@@ -1,4 +1,4 @@
-//! A line is read for a caller that does something before each wait.
+//! Reads a line for a caller that does something before each wait.
 ghost use Rattle.std.specs.Prelude.{◌≡◌, ◌≤◌, ◌⊎◌, IfErr, IfOk, OnOk, length};
 ghost use Rattle.std.specs.Io.Buffered.{reader_inner, reader_remaining};
 ghost use Rattle.script_streams.specs.Line.{ReadsLine, ReadsPiece};

@@ -27,7 +27,7 @@ impl<T> Model for Piece<T> {
 }
 
 impl<T: Drop> Piece<T> {
-    /// No values, and capacity for all. Fails only if memory is refused.
+    /// A piece without values, with capacity for `PLACES` values. Fails only if memory is refused.
     pub fn new(alloc: Global) -> Result<Self, AllocError>
         ensures { IfOk result (λ c. c ≡ []) }
     {

@@ -1,4 +1,4 @@
-//! A long list, in pieces that are full except the last.
+//! A long list in pieces. Each piece is full, except the last piece that holds values.
 ghost use Rattle.std.specs.Prelude.{◌≡◌, ◌+◌, ◌<◌, ◌≤◌, [], ◌++◌, length, Some, slice_get, position, IsOk, OnOk, OnErr, vec_len};
 ghost use Rattle.std.specs.List.{insert, remove};
 ghost use Rattle.slot_lists.specs.Moved.{list_after_move};

@@ -1,4 +1,4 @@
-//! Lists of which most have one value.
+//! Lists that mostly have one value.
 ghost use Rattle.std.specs.Prelude.{◌≡◌, ◌+◌, ◌<◌, ◌≤◌, [], length, slice_get, position, option_copied, IfOk, OnOk};
 ghost use Rattle.std.specs.List.{insert, remove};
 ghost use Rattle.slot_lists.specs.Moved.{list_after_move};

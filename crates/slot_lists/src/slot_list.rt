@@ -211,7 +211,8 @@ impl<T: Drop> SlotList<T> {
     }
 }
 
-/// Reserves capacity in the block of a short list. If the block grows, it grows by at least a half, even if it has no values yet.
+/// Reserves capacity in the block of a short list. If the block grows, its capacity grows by at least a half, but not above `PLACES`
+/// values, even if it has no values yet.
 fn reserve_in_block<T: Drop>(values: &mut Vec<T>, additional: usize) -> Result<(), AllocError>
     requires { vec_len values.old + additional ≤ 1024 }
     ensures items { values.new.items ≡ values.old.items }

@@ -19,7 +19,7 @@ use Rattle.node_slots.specs.declared.slot.SlotEdit.TheVariants.{Insert, Push, Re
 use Rattle.node_slots.specs.declared.row.RowEdit.TheVariants.{Change, Hold, Enter, Leave}
 use Rattle.node_slots.specs.Cells.{Cells, Room, cell_edit}
 
--- e's node and the link's far end, which contains this node, if the opposite g is the containing feature h
+-- if the opposite g is the containing feature h: e's node, and the far end of the link, which contains this node; else none
 abbrev pub held_far : End → ObjectNo → Option FeatureNo → FeatureNo → Option (Node × End)
 held_far e o None h = None
 held_far e o (Some g) h = if same_feature g h then Some (e.node, far_end o g) else None

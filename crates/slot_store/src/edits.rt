@@ -278,8 +278,8 @@ fn shift(rows: &mut NodeSlots, end: End, to: u32, from: u32)
     rows.edit(end.node, RowEdit::Change(end.feature, edit));
 }
 
-/// Makes one edit, for which there is capacity. If it takes an end out of the ends that hold an object, that end is looked for at `guess`
-/// first. Takes no memory.
+/// Makes one edit, for which there is capacity. If the edit takes an end out of the ends with no opposite that hold an object, that end is
+/// first looked for at the index `guess`. Takes no memory.
 pub(crate) fn edit_rows(rows: &mut NodeSlots, edit: Edit, guess: usize)
     requires object { PutsObject edit }
     requires room { HasRoom (room rows.old) (edit ∷ []) }

@@ -3,7 +3,7 @@
 //! Most lists are made in the order of their objects' numbers. So the guess of a position assumes that order; the last and the first
 //! position are tried first. A long list in another order has labels, from which the position is guessed. The list is searched only if the
 //! guess is wrong. The ends that hold an object may be in any order. If an end that is cut is not at its guessed position, these ends are
-//! put in the order of their ranks, so that the next guesses are right.
+//! sorted by their ranks, so that the next guesses are right.
 ghost use Rattle.std.specs.Prelude.{◌≡◌, position};
 ghost use Rattle.mm_types.specs.Same.{same_end};
 ghost use Rattle.mm_types.specs.declared.numbers.Node.TheVariants as node;
@@ -35,7 +35,7 @@ pub(crate) fn found(rows: &NodeSlots, end: End, value: &Value) -> Option<usize>
     rows.position(end, value)
 }
 
-/// A guess at the position of an end among the ends with no opposite that hold an object. If these ends are in order, the guess is the
+/// A guess at the position of an end among the ends with no opposite that hold an object. If these ends are sorted, the guess is the
 /// position of the end; otherwise it may be any position.
 fn entry_guess(rows: &NodeSlots, object: ObjectNo, end: End) -> usize {
     let node = Node::Object(object);
@@ -72,8 +72,8 @@ pub(crate) fn entry_found(rows: &NodeSlots, object: ObjectNo, end: End) -> Optio
 }
 
 /// A guess at the position of an end among the ends with no opposite that hold an object. If the end is not at the first guess, these ends
-/// are put in order, and the position is guessed again. Putting them in order moves each end once, so many cuts together take no longer
-/// than a sort. Takes no memory.
+/// are sorted, and the position is guessed again. Sorting moves each end at most once, so many cuts together take no longer than a sort.
+/// Takes no memory.
 pub(crate) fn ordered_guess(rows: &mut NodeSlots, object: ObjectNo, end: End) -> usize
     ensures cells { AreReordered (cells rows.old) (cells rows.new) }
     ensures room { room rows.new ≡ room rows.old }

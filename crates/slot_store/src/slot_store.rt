@@ -110,8 +110,8 @@ fn far_lacks(rows: &NodeSlots, end: End, object: ObjectNo) -> bool
     }
 }
 
-/// If an edit takes an end out of the ends that hold an object, a guess at the position of that end among them; otherwise 0. The ends that
-/// hold the object may be put in order to make the guess.
+/// If an edit takes an end out of the ends with no opposite that hold an object, a guess at the position of that end among them; otherwise
+/// 0. Making the guess may sort these ends.
 fn make_guess(rows: &mut NodeSlots, edit: &Edit) -> usize
     requires kept { ∥ IsStore rows.old ∥₁ }
     ensures kept { ∥ IsStore rows.new ∥₁ }

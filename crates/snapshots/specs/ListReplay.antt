@@ -6,7 +6,7 @@ use Rattle.notice_chain.specs.declared.kind.NoticeKind.{NoticeKind}
 use Rattle.notice_chain.specs.declared.kind.NoticeKind.TheVariants as kind
 use Rattle.notice_chain.specs.declared.notice.Notice.{Notice}
 
--- a position as an index below n; none if it is no such index
+-- a position as an index below n; none if the position is negative or is not below n
 abbrev pub index_within : ℤ → ℕ → Option ℕ
 index_within (pos k) n = if nat_lt k n then Some k else None
 index_within (negsuc k) n = None

@@ -1,4 +1,4 @@
--- The snapshot of a node, read off a model.
+-- The snapshot of a node, as it is read from a model.
 use Rattle.std.specs.Prelude.{◌≡◌, ◌<◌, ℕ, ◌&&◌, Bool, List, [], ◌∷◌, ◌++◌, filter, length, map, Option, Some, None, if◌then◌else◌}
 use Rattle.std.specs.List.{list_any, range_with_len}
 use Rattle.mm_types.specs.Same.{same_object}

@@ -9,7 +9,7 @@ use crate::replaying::state_index;
 use mm_types::{ClassNo, FeatureNo, Node, Seq, Value};
 use std::marker::Model;
 
-/// What a node has under a feature: its values (one null, if a single reference is empty), and the set flag, if the feature is unsettable.
+/// The state of a feature of a node: its values (one null, if a single reference is empty), and the set flag, if the feature is unsettable.
 #[derive(Debug, PartialEq, Drop)]
 pub struct FeatureState {
     pub feature: FeatureNo,
@@ -17,7 +17,7 @@ pub struct FeatureState {
     pub flag: Option<bool>,
 }
 
-/// What a node has: its class, which is `None` for a resource, and the state of each of its features.
+/// The state of a node: its class, which is `None` for a resource, and the state of each of its features.
 #[derive(Debug, PartialEq, Drop)]
 pub struct NodeState {
     pub node: Node,
@@ -68,7 +68,7 @@ impl Snapshot {
         self.nodes.as_slice()
     }
 
-    /// What a node had; `None` if the node is not in the snapshot. Takes no memory.
+    /// The state of a node in the snapshot; `None` if the node is not in the snapshot. Takes no memory.
     pub fn state(&self, node: Node) -> Option<&NodeState>
         ensures { option_copied result ≡ state_at node self.now }
     {
@@ -94,7 +94,7 @@ impl PartialEq for Snapshot {
 }
 
 impl NodeState {
-    /// What the node had under a feature; `None` if the node does not have the feature. Takes no memory.
+    /// The state of a feature of the node; `None` if the node does not have the feature. Takes no memory.
     pub fn under(&self, feature: FeatureNo) -> Option<&FeatureState>
         ensures { option_copied result ≡ find (λ x. same_feature x.feature feature) self.now.features }
     {

@@ -14,8 +14,8 @@ use models::{ModelRef, copied_list};
 use std::alloc::{AllocError, Global};
 
 impl Snapshot {
-    /// The snapshot of a node: its state, and the state of each node below it. The snapshot of a node that is not there is empty. Takes
-    /// time in proportion to the size of the snapshot, and sorts the objects. Fails only if memory is refused.
+    /// The snapshot of a node: its state, and the state of each node below it. The snapshot of a node that does not exist is empty. Takes
+    /// time in proportion to the size of the snapshot, apart from sorting the objects. Fails only if memory is refused.
     pub fn of<L: LinkStore>(
         alloc: Global,
         model: &ModelRef<L>,
@@ -120,7 +120,7 @@ fn class_at<L: LinkStore>(model: &ModelRef<L>, node: Node) -> Option<ClassNo>
     }
 }
 
-/// What a node has under each of its features.
+/// The state of each feature of a node.
 fn feature_states<L: LinkStore>(
     alloc: Global,
     model: &ModelRef<L>,
@@ -137,7 +137,7 @@ fn feature_states<L: LinkStore>(
     Ok(out)
 }
 
-/// What a node has under a feature.
+/// The state of a feature of a node.
 fn feature_state<L: LinkStore>(
     alloc: Global,
     model: &ModelRef<L>,
@@ -170,7 +170,7 @@ fn shown_values<L: LinkStore>(
     Ok(values)
 }
 
-/// The set flag of an unsettable feature.
+/// The set flag of an unsettable feature; `None` for any other feature.
 fn flag_at<L: LinkStore>(model: &ModelRef<L>, end: End) -> Option<bool>
     ensures { result ≡ snapshots.flag_of (shape model.now.metamodel end.feature).is_unsettable ((reading model.now).flag end) }
 {

@@ -1,4 +1,4 @@
-//! How many values of a list have each hash, and the label by which one of them is found.
+//! How many values of a list have each hash, and the label by which a value with that hash is found.
 ghost use Rattle.std.specs.Prelude.{◌≡◌, ℕ, ◌+◌, ◌-◌, ◌^◌, ◌<◌, ◌≤◌, fold, nat_eq, nat_lt, IfOk, OnOk, if◌then◌else◌};
 ghost use Rattle.std.specs.Hash.DefaultHasher as sip;
 ghost use Rattle.indexmap.specs.IndexMap.{spare};
@@ -9,7 +9,7 @@ use mm_types::Value;
 use std::alloc::{AllocError, Global};
 use std::hash::{DefaultHasher, Hash, Hasher};
 
-/// How many values have a hash, and the label of the value among them that got its label last.
+/// How many values have a hash, and the label that was given last for this hash. The value with that label may have left the list since.
 #[derive(Clone, Copy)]
 pub(crate) struct Counted {
     pub count: usize,
@@ -42,7 +42,7 @@ impl HashCounts {
         })
     }
 
-    /// How many values have a hash, with a label; `None` if no value has the hash.
+    /// How many values have a hash, and the label that was given last for the hash; `None` if no value has the hash.
     pub fn get(&self, hash: u64) -> Option<Counted>
         ensures { count_of result ≡ count_in self.now hash }
     {

@@ -266,7 +266,7 @@ fn layout_of(mut values: Vec<Value>) -> Layout
     }
 }
 
-/// Replaces the values of a list by one value; the list keeps its block if the block has capacity for more values.
+/// Replaces the values of a list by one value; the list keeps its block only if the block has capacity for at least two more values.
 fn layout_of_one(alloc: Global, mut list: SlotList<Value>, value: Value) -> Layout
     ensures items { (places_of result).items ≡ value ∷ [] }
     ensures spare { list.spare ≤ (places_of result).spare + 1 }

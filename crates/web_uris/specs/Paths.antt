@@ -25,7 +25,7 @@ abbrev pub index_text : Option ℕ → List ℕ
 index_text None = []
 index_text (Some i) = 46 ∷ decimal i
 
--- as `/@books.0`, or `/@cover`
+-- the text of a step, such as `/@books.0` or `/@cover`
 abbrev pub step_text : Step → List ℕ
 step_text s = 47 ∷ 64 ∷ (s.name ++ index_text s.index)
 
@@ -41,7 +41,7 @@ is_slash c = c == 47
 abbrev pub is_dot : ℕ → Bool
 is_dot c = c == 46
 
--- `0`, or a digit 1 to 9 and at most six further digits
+-- the index that a text writes as `0`, or as a digit 1 to 9 and at most six further digits; none for any other text
 abbrev pub index_of : List ℕ → Option ℕ
 index_of w = if is_decimal w && nat_le (length w) 7 then Some (digits_value 10 w) else None
 
@@ -56,7 +56,7 @@ step_of_parts (name ∷ []) = if is_name name then Some (new_step name None) els
 step_of_parts (name ∷ digits ∷ []) = if is_name name then option_map (λ i. new_step name (Some i)) (index_of digits) else None
 step_of_parts _ = None
 
--- `@`, and then a name, or a name, a dot and an index
+-- the step that a segment writes as `@` and a name, or as `@`, a name, a dot and an index; none for any other segment
 abbrev pub step_of : List ℕ → Option Step
 step_of [] = None
 step_of (c ∷ cs) = if c == 64 then step_of_parts (slice_split is_dot cs) else None

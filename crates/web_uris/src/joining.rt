@@ -11,7 +11,8 @@ use url::{ParseError, ParseResult, Url};
 /// Why a reference and a URI give no URI.
 #[derive(Clone, Copy, Debug, PartialEq, Eq)]
 pub enum UriFault {
-    /// There is no such URI, it is no http or https URI, or it has a fragment.
+    /// Neither the reference nor the joined reference is a URI, or the scheme of the URI is neither http nor https, or the URI has a
+    /// fragment.
     Bad,
     /// Memory was refused, or the URI would be longer than URIs can be.
     Memory,

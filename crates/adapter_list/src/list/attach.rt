@@ -17,7 +17,7 @@ impl<A: Adapter> AdapterList<A> {
     /// Attaches an adapter last in attach order, and reserves capacity for its last notification (EMF: `eAdapters().add`).
     ///
     /// Refused, in this order, with Limit if there are 100,000 targets, AdapterTaken if the number is attached and AdapterFull if the
-    /// adapter can't count its last notification; or with Memory if memory is refused. Then the adapter is given back with its
+    /// adapter can't count its last notification; or with Memory if memory is refused. A refused adapter is given back with its
     /// notifications unchanged, and the list is unchanged too.
     pub fn attach(
         &mut self,

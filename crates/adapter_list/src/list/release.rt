@@ -18,9 +18,9 @@ use std::collections::VecDeque;
 use std::mem;
 
 impl<A: Adapter> AdapterList<A> {
-    /// Takes one target from an adapter. The adapter gets its last notification from that target, which it no longer has.
-    /// Returns the notification, and the adapter if it has no target left. If the node is no target of the adapter, the result is `None`,
-    /// and nothing changes, the capacity of the adapter included. Takes no memory (EMF: `eAdapters().remove`).
+    /// Takes one target from an adapter. The adapter loses the target, and gets its last notification from that target. Returns the
+    /// notification, and the adapter if it has no target left. If the node is no target of the adapter, the result is `None`, and nothing
+    /// changes, the capacity of the adapter included. Takes no memory (EMF: `eAdapters().remove`).
     pub fn detach(&mut self, no: AdapterNo, target: Node) -> Option<Detached<A>>
         ensures some { is_some result ≡ is_target no target self.old.0 }
         ensures none { result ≡ None → self.new ≡ self.old }

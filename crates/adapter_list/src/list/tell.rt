@@ -20,8 +20,8 @@ use notice_chain::{Chain, Notice};
 use std::alloc::AllocError;
 
 impl<A: Adapter> AdapterList<A> {
-    /// The numbers of the adapters that get a notification, in attach order. The containers that `store` has now decide which adapters
-    /// these are. Errs only if memory is refused.
+    /// The numbers of the adapters that get a notification, in attach order. The containers in `store` at the time of the call decide which
+    /// adapters these are. Fails only if memory is refused.
     pub fn audience<L: LinkStore>(
         &self,
         store: &L,
@@ -40,9 +40,9 @@ impl<A: Adapter> AdapterList<A> {
     }
 
     /// Reserves all that a chain needs: the copies of its notifications, and for each adapter capacity for its copies and for a last
-    /// notification from each of its targets. The containers that `store` has now decide which adapters get the notifications, so this
-    /// function is called before the change. Whether it succeeds or fails, no adapter is notified and no adapter loses capacity. So a round
-    /// that fitted the adapters still fits them.
+    /// notification from each of its targets. The containers in `store` at the time of the call decide which adapters get the
+    /// notifications, so this function is called before the change. Whether it succeeds or fails, no adapter is notified and no adapter
+    /// loses capacity. So a round that fitted the adapters still fits them.
     ///
     /// Refused with AdapterFull if an adapter can't count the notifications that it gets, or with Memory if memory is refused. The first
     /// adapter in attach order that refuses decides the refusal. If the refusal is AdapterFull, each adapter before this one has the
@@ -77,7 +77,7 @@ impl<A: Adapter> AdapterList<A> {
     }
 
     /// Delivers a round that fits the adapters: notifies each adapter of its own notifications in turn. Returns which adapter was notified
-    /// of what: the notifications in the order of the chain, each with its adapters in attach order. It takes no memory.
+    /// of what: the notifications in the order of the chain, each with its adapters in attach order. Takes no memory.
     ///
     /// A round fits the adapters for which it was reserved. A round names the adapters by number and by index in attach order, so it
     /// need not fit after an adapter was attached or detached.

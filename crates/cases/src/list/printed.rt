@@ -7,8 +7,8 @@ use repository::{Act, Command, EndRead, Failure, NodeRead, Read, Reply, Reposito
 use std::io;
 use std::io::Write;
 
-/// Prints the outcome of a command: its answer and how many notifications there were; or its refusal, and the notifications of the adapter
-/// that is given back.
+/// Prints the outcome of a command: its answer and how many notifications there were; or its refusal and, if an adapter is given back, how
+/// many notifications that adapter got.
 fn print_outcome<A: Adapter, W: Write>(
     writer: &mut W,
     outcome: &Result<Reply<A>, Failure<A>>,
@@ -40,7 +40,7 @@ pub(super) fn print_outcomes<A: Adapter, W: Write>(
     Ok(())
 }
 
-/// Prints a command that is given back, and the notifications of its adapter.
+/// Prints a command that is given back, and how many notifications its adapter got.
 fn print_command<A: Adapter, W: Write>(
     writer: &mut W,
     command: &Command<A>,

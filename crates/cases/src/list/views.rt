@@ -91,8 +91,8 @@ fn nodes_of<L: LinkStore, A: Adapter>(
     }
 }
 
-/// Names all books, adds the notifications of these changes, and replays the notifications over a snapshot from before the changes. Returns
-/// how many nodes the view has, if the view is the same as a new snapshot.
+/// Names all books, adds the notifications of these changes, and replays the notifications on a snapshot from before the changes. The
+/// result is the view. Returns how many nodes the view has, if the view is the same as a new snapshot.
 fn viewed<L: LinkStore, A: Adapter>(
     alloc: Global,
     repository: &mut Repository<L, A>,
@@ -105,7 +105,8 @@ fn viewed<L: LinkStore, A: Adapter>(
     Ok(nodes_of(repository, &view)?)
 }
 
-/// Names `count` books, and follows them by their notifications. Returns how many nodes the view has, if the view equals a new snapshot.
+/// Makes `count` books in a resource, names them, and replays their notifications on a snapshot from before they were named. The result is
+/// the view. Returns how many nodes the view has, if the view is the same as a new snapshot.
 pub(super) fn followed<L: LinkStore, A: Adapter>(
     alloc: Global,
     repository: &mut Repository<L, A>,

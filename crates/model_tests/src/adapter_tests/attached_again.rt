@@ -10,8 +10,8 @@ use std::cell::Cell;
 use std::rc::Rc;
 use std::test::Fail;
 
-/// A case in which an adapter can't be attached. It was at a book before, and got the notifications of a change and of its release. The
-/// number 6 is taken.
+/// A case in which an adapter can't be attached. The adapter was attached to a book before, and got the notifications of a change and of
+/// its release. The number 6 is taken.
 struct Again {
     kind: Kind,
     no: u32,
@@ -39,14 +39,14 @@ const AGAIN: [Again; 5] = [
         target: Node::Object(ObjectNo(0)),
         wanted: "refused 26, back, 2 told, SET -1, REMOVING_ADAPTER 0",
     },
-    // The adapter could get two more notifications.
+    // The adapter could get two notifications at first, and got both.
     Again {
         kind: Kind::NearlyFull,
         no: 5,
         target: Node::Object(ObjectNo(0)),
         wanted: "refused 27, back, 18446744073709551615 told",
     },
-    // The adapter found memory when it was first attached, and for the change.
+    // The first two reserves of the adapter succeeded: when it was first attached, and for the change.
     Again {
         kind: Kind::PoorRecorder,
         no: 5,

@@ -42,8 +42,8 @@ fn detached<A: Adapter>(alloc: Global, repository: &mut RowRepository<A>) -> Res
     given(alloc, repository.detach(NO))
 }
 
-/// What the calls give when an adapter is attached to a book, the book is named and unnamed, and the adapter is counted and
-/// detached.
+/// What the calls give when an adapter is attached to a book, the book is named and unnamed, the notifications of the
+/// adapter are counted, and the adapter is detached.
 fn calls<A: Adapter>(
     alloc: Global,
     repository: &mut RowRepository<A>,
@@ -73,7 +73,7 @@ fn an_adapter_is_attached_counted_and_detached(rt: HostRuntime) -> Result<(), Fa
     Ok(())
 }
 
-/// What the calls for one target of an adapter give; the adapter is at a book and gets a second one.
+/// What the calls for one target of an adapter give; the adapter is at a book and gets a second book as a target.
 fn calls_of_targets<A: Adapter>(
     alloc: Global,
     repository: &mut RowRepository<A>,
@@ -119,7 +119,7 @@ fn attach_command<A>(no: u32, target: Node, adapter: A) -> Command<A> {
     }
 }
 
-/// The commands that do the same as the calls of `calls`.
+/// Commands that do what the calls of `calls` do, except that the target is flat and the name of the book is not unset.
 fn commands<A: Adapter>(alloc: Global, adapter: A) -> Result<Vec<Command<A>>, AllocError> {
     let mut commands = Vec::new(alloc);
     commands.push(attach_command(5, object(0), adapter))?;
@@ -159,7 +159,7 @@ fn executed<A: Adapter>(
     Ok(text)
 }
 
-/// What the same calls give if they are made as commands.
+/// What these commands give in a new repository of one book.
 fn called_by_commands<A: Adapter>(alloc: Global, adapter: A) -> Result<String, Fail> {
     let mut repository = one_book(alloc)?;
     let commands = commands(alloc, adapter)?;

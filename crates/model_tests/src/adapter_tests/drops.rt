@@ -1,5 +1,5 @@
 //! Each adapter is dropped once: after it was detached, after its target was destroyed, after its owner was closed, or with its owner. The
-//! owner is a list or a repository.
+//! owner is a list or a repository. Each adapter has a part, and the drops of these parts are counted.
 use crate::fixtures::books::{object, watched};
 use crate::fixtures::counted::{Counted, Drops, NO_DROPS, counted_box};
 use crate::fixtures::telling::{Kind, three};

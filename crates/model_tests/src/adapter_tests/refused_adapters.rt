@@ -16,7 +16,7 @@ fn counts<A: Adapter>(repository: &RowRepository<A>, no: u32) -> Result<(u64, u6
     Ok((told, repository.adapter_kept(AdapterNo(no))?))
 }
 
-/// What three adapters were notified of, and the name of the book.
+/// How many notifications each of three adapters got and keeps, and the name of the book.
 fn state<A: Adapter>(alloc: Global, repository: &RowRepository<A>) -> Result<String, AllocError> {
     let counts = (
         counts(repository, 5),
@@ -37,10 +37,10 @@ const TOLD: &str =
 /// Three adapters of a book, in attach order. One of them is refused memory when the book is named.
 struct Watched {
     kinds: [Kind; 3],
-    /// What the adapters were notified of, and the book's name, after the second call. The adapter that was refused memory keeps no
-    /// notification.
+    /// How many notifications each adapter got and keeps, and the book's name, after the second call. The adapter that was refused memory
+    /// keeps no notification.
     after: &'static str,
-    /// What the adapters were notified of when the repository is closed.
+    /// The adapters that are given back when the repository is closed, with their notifications.
     closed: &'static str,
 }
 
@@ -87,7 +87,7 @@ fn named_twice<A: Adapter>(
     Ok([refused, told, after])
 }
 
-/// What `named_twice` shows in a new repository of one book, and what the adapters were notified of when the repository is closed.
+/// What `named_twice` shows in a new repository of one book, and the adapters that are given back when the repository is closed.
 fn twice_at_a_book<A: Adapter>(
     alloc: Global,
     first: A,
@@ -100,7 +100,7 @@ fn twice_at_a_book<A: Adapter>(
     Ok((found, closed))
 }
 
-/// What `twice_at_a_book` shows with three adapters in a `Box` each, whose parts are counted.
+/// What `twice_at_a_book` shows with three adapters, each in a `Box` and with a part whose drop is counted.
 fn twice_by(
     alloc: Global,
     drops: &Rc<Cell<Drops>>,

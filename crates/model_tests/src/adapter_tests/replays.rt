@@ -1,4 +1,4 @@
-//! Scripts whose views replay their notifications.
+//! Lists of steps that change a model, with views that replay the notifications of these steps.
 use crate::fixtures::books::{empty, metamodel};
 use crate::fixtures::library::{
     A_BOOK, A_FOLDER, A_LIBRARY, A_PERSON, BOOKS, FAVOURITE, LIBRARY, LIKES, NEXT, NOTE, PAGES,

@@ -31,7 +31,7 @@ fn watch_both<A: Adapter>(
     made(repository.watch(AdapterNo(no), object(1), false))
 }
 
-/// What the three adapters were notified of, and the name of the second book.
+/// How many notifications each of the three adapters got, and the name of the second book.
 fn state<A: Adapter>(alloc: Global, repository: &RowRepository<A>) -> Result<String, AllocError> {
     let told = [5, 6, 7].map(|no| repository.adapter_told(AdapterNo(no)));
     let name = repository.e_get(object(1), NAME);
@@ -182,7 +182,8 @@ fn the_first_adapter_that_refuses_decides(rt: HostRuntime) -> Result<(), Fail> {
     Ok(())
 }
 
-/// What taking a target from the second adapter of a list gives, as `REMOVING_ADAPTER 1`, with `, back` if it was its last one.
+/// What taking a target from the second adapter of a list gives, as `REMOVING_ADAPTER 1`, with `, back` if this target was the adapter's
+/// last one.
 fn detached<A: Adapter>(
     alloc: Global,
     list: &mut AdapterList<A>,
@@ -202,7 +203,8 @@ fn detached<A: Adapter>(
     }
 }
 
-/// What `detached` shows for an object that is no target, and for each of two targets; and how many adapters are left.
+/// What `detached` shows for an object that is no target, and for each of two targets; then how many adapters are left, and how many
+/// notifications adapter 6 got if it is left.
 fn detached_in_turn<A: Adapter>(
     alloc: Global,
     first: A,

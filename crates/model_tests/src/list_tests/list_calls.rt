@@ -1,4 +1,4 @@
-//! Values that no script can name are put into no list, and a list is not a single value.
+//! Values that no script can name are refused for lists, and a list can't be read or set as a single value.
 use crate::fixtures::books::{RowRepository, object, text};
 use crate::fixtures::boxes::{LIKES, MARKS, PARTS, boxes};
 use crate::fixtures::replies::made;
@@ -24,7 +24,7 @@ fn proxy(alloc: Global) -> Result<Value, AllocError> {
     Ok(Value::Proxy(Text::from_str(alloc, "a.xmi#/")?))
 }
 
-/// Why a proxy, a literal and a truth are refused for the lists of a box.
+/// Why a proxy, a literal and a Boolean are refused for the lists of a box.
 fn refusals_of_type<A: Adapter>(
     alloc: Global,
     repository: &mut RowRepository<A>,

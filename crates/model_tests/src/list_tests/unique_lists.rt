@@ -13,7 +13,7 @@ const FEATURE: FeatureNo = FeatureNo(3);
 /// lengths.
 const LENGTHS: [u32; 5] = [10, 64, 65, 200, 10_000];
 
-/// Puts a value into a list that is looked up by value.
+/// Puts a value into a unique list, in which values are looked up.
 fn insert(index: u32, value: Value) -> ValueEdit {
     ValueEdit::InsertValue {
         object: OBJECT,
@@ -46,7 +46,7 @@ fn fill(values: &mut Values, count: u32) -> Result<(), AllocError> {
     Ok(())
 }
 
-/// No object; if memory is refused, tries once more.
+/// Values without an object; if memory is refused, tries once more.
 fn no_values(alloc: Global) -> Result<Box<Values>, Fail> {
     match Box::new(alloc, Values::new(alloc)) {
         Ok(values) => Ok(values),
@@ -62,7 +62,7 @@ fn filled(alloc: Global, count: u32) -> Result<Box<Values>, Fail> {
     Ok(values)
 }
 
-/// Fails unless the list has the number `at` if `at` is at least `first` and below `before`, and lacks the number otherwise.
+/// Fails unless the list has the number `at` exactly if `at` is at least `first` and below `before`.
 fn check_number(values: &Values, at: u32, first: u32, before: u32) -> Result<(), Fail> {
     let has = values.has(OBJECT, FEATURE, &number(at));
     if has == Some(first <= at && at < before) {

@@ -61,7 +61,7 @@ fn attach<L: LinkStore>(
     made_attached(repository.attach(AdapterNo(no), target, deep, Counter::new()))
 }
 
-/// Loads the documents, and adds the first item of the second one to a list.
+/// Loads the documents, adds the first item of the second document to a list, and attaches the adapters.
 fn fill<L: LinkStore>(
     alloc: Global,
     repository: &mut Network<L>,

@@ -101,7 +101,7 @@ fn with_room(room: u64) -> u64 {
     u64::MAX - room
 }
 
-/// Attaches two deep counters: one to the second resource, and one to the first resource, which can count `room` more notifications.
+/// Attaches a deep counter to each of the first two resources. The counter at the first resource can count `room` more notifications.
 fn attach_two<L: LinkStore>(repository: &mut Network<L>, room: u64) -> Result<(), Refused> {
     attach(repository, 1, resource(1), true, Counter::new())?;
     let counter = Counter::starting_at(with_room(room));

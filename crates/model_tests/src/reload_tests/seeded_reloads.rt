@@ -131,7 +131,8 @@ fn check_at_once<L: LinkStore>(
     check_saved(repository, texts, order)
 }
 
-/// Whether the proxy at a location is resolved. A proxy is gone already if it was the other end of a link that was resolved before.
+/// Resolves the proxy at a location, and returns whether there was one. There is none if the proxy at the other end of the same link was
+/// resolved before.
 fn is_resolved<L: LinkStore>(repository: &mut Network<L>, site: Site) -> Result<bool, Refused> {
     match made(repository.resolve(site.object, site.feature, site.index)) {
         Ok(()) => Ok(true),
@@ -173,7 +174,7 @@ fn check_one_by_one<L: LinkStore>(
     check_saved(repository, texts, order)
 }
 
-/// How many items a model has. Over the store of scanned rows, models have fewer.
+/// How many items a model over `SlotStore` has. A model over `RowStore`, which scans its rows, has `FEW`.
 const MANY: u32 = 300;
 
 const FEW: u32 = 60;

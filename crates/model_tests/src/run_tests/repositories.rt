@@ -1,4 +1,4 @@
-//! A repository by its calls.
+//! A list of commands that a repository runs by one call.
 use crate::fixtures::books::{BOOK, NAME, RowRepository, object, repository, text};
 use crate::fixtures::replies::outcomes_text;
 use adapters::Adapter;

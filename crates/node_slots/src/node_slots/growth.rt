@@ -92,8 +92,9 @@ impl NodeSlots {
         }
     }
 
-    /// Takes back the capacity that is reserved at each end to which an edit adds something. If `is_done`, the capacity at the edit's own
-    /// end was taken back before. An end from which a cut takes a value may get labels, so that the cut finds the value.
+    /// Takes back the capacity that is reserved at each end to which an edit adds something. If `is_done`, the edit before it is at the
+    /// same end, and the capacity at this end is not taken back here. An end from which a cut takes a value may get labels, so that the cut
+    /// finds the value.
     fn forget_edit(&mut self, edit: &Edit, is_done: bool)
         ensures { cells self.new ≡ cells self.old }
     {

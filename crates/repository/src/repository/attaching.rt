@@ -51,7 +51,7 @@ impl<L: LinkStore, A: Adapter> Repository<L, A> {
 
     /// Gives an adapter one more target, flat or deep (EMF: Notifier.eAdapters().add of an adapter that is attached elsewhere). The adapter
     /// gets a notification once, even if the change is at several of its targets or below them. If the node is a target of the adapter
-    /// already, the call returns false and nothing changes: a flat target stays flat, and a deep one deep.
+    /// already, the call returns false and nothing changes: a flat target stays flat, and a deep target stays deep.
     ///
     /// Refused, the first that applies: `NoObject`, `NoResource`, `Limit` if there are 100,000 targets, `NoAdapter` if the number is not
     /// attached, `AdapterFull` if the adapter can't count a last notification from each target, `Memory`. If the node is a target of the
@@ -71,7 +71,7 @@ impl<L: LinkStore, A: Adapter> Repository<L, A> {
     }
 
     /// Takes one target from an adapter. The adapter is notified of REMOVING_ADAPTER, its last notification from that target, and is given
-    /// back if that was its last target (EMF: Notifier.eAdapters().remove). If the node is no target of the adapter, returns false and
+    /// back if it has no other target (EMF: Notifier.eAdapters().remove). If the node is no target of the adapter, returns false and
     /// notifies no adapter.
     ///
     /// Refused, the first that applies: `NoObject`, `NoResource`, `NoAdapter` if the number is not attached, `Memory`.

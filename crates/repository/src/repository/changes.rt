@@ -38,10 +38,10 @@ impl<L: LinkStore, A: Adapter> Repository<L, A> {
         replied_object(self.alloc, self.create_object(class))
     }
 
-    /// Sets a single feature of an object (EMF: EObject.eSet). A reference's opposite follows. Links that the new link displaces are cut at
-    /// both ends, and an object that is put into a container leaves its former container. Notifies the adapters at each end that changes,
-    /// and the deep adapters above that end: of the losses of displaced links, of the gain at the opposite end, and of SET at the feature
-    /// itself. They are notified of SET even if the feature had the value already.
+    /// Sets a single feature of an object (EMF: EObject.eSet). If the feature has an opposite, the opposite ends change too. Links that the
+    /// new link displaces are cut at both ends, and an object that is put into a container leaves its former container. Notifies the
+    /// adapters at each end that changes, and the deep adapters above that end: of the losses of displaced links, of the gain at the
+    /// opposite end, and of SET at the feature itself. They are notified of SET even if the feature had the value already.
     ///
     /// Refused, the first that applies: `NoObject` if the node or the value is an object that does not live, `NoResource`, `NoFeature`,
     /// `NotSingle` if the feature is many-valued, `WrongType`, `TextLength` above 65,535 bytes, `Bound` if the opposite list has as many
@@ -63,9 +63,9 @@ impl<L: LinkStore, A: Adapter> Repository<L, A> {
     }
 
     /// Unsets a feature of an object (EMF: EObject.eUnset): a single attribute gets its default, a single reference becomes null, a list
-    /// becomes empty, and the opposites follow. Notifies the adapters at each opposite end, and then the adapters at the feature. If the
-    /// feature is single, they are notified of UNSET, whether it was set or not. If the feature is a list, they are notified of one REMOVE
-    /// for each value, from the last value to the first.
+    /// becomes empty, and the opposite ends change too. Notifies the adapters at each opposite end, and then the adapters at the feature.
+    /// If the feature is single, they are notified of UNSET, whether it was set or not. If the feature is a list, they are notified of one
+    /// REMOVE for each value, from the last value to the first.
     ///
     /// Refused, the first that applies: `NoObject`, `NoResource`, `NoFeature`, `AdapterFull`, `Memory`.
     pub fn e_unset(&mut self, node: Node, feature: FeatureNo) -> Result<Reply<A>, Refused>
@@ -75,10 +75,10 @@ impl<L: LinkStore, A: Adapter> Repository<L, A> {
     }
 
     /// Destroys an object and all objects below it, and takes them out of every end that holds them (EMF: EcoreUtil.delete, recursively).
-    /// No other object ever gets their numbers. If an end of another node loses a value, the adapters at that end are notified: by feature
-    /// number, then by node, then by position, and last at the end that contained the object. Then the destroyed targets are taken away.
-    /// The adapter of each such target is notified of that, and is given back if it has no other target. Returns how many objects were
-    /// destroyed.
+    /// No other object ever gets their numbers. If ends of other nodes lose values, the adapters at these ends are notified: in the order
+    /// of feature numbers, then of nodes, then of positions, and last at the end that contained the object. Then each adapter loses its
+    /// targets that were destroyed. It is notified of REMOVING_ADAPTER from each of these targets, and is given back if it has no other
+    /// target. Returns how many objects were destroyed.
     ///
     /// Refused, the first that applies: `NoObject`, `AdapterFull`, `Memory`.
     pub fn delete(&mut self, object: ObjectNo) -> Result<Reply<A>, Refused>
@@ -87,7 +87,8 @@ impl<L: LinkStore, A: Adapter> Repository<L, A> {
         self.change(Change::Delete(object))
     }
 
-    /// Carries out a change without a document, unless a condition that is checked without memory refuses it.
+    /// Carries out a change that loads no document. First checks the conditions that need no memory, and returns the refusal if one
+    /// applies.
     pub(super) fn change(&mut self, change: Change) -> Result<Reply<A>, Refused>
         requires proper { IsProper (reads self.old) [] change }
         ensures { Executed self.old (command_of [] change) (change_outcome (changed_view A.heard result)) self.new }
@@ -104,7 +105,8 @@ impl<L: LinkStore, A: Adapter> Repository<L, A> {
         self.carry_out(change)
     }
 
-    /// A change that edits only values. If it notifies no adapter, no notification is made, and the edits are made as their memory is taken.
+    /// Makes a change that edits only values. If the change notifies no adapter, no notification is made, and the memory for the edits is
+    /// taken while they are made.
     #[inline(never)]
     fn change_values(&mut self, change: Change) -> Result<Reply<A>, Refused>
         requires proper { IsProper (reads self.old) [] change }
@@ -127,7 +129,7 @@ impl<L: LinkStore, A: Adapter> Repository<L, A> {
         Ok(reply(self.alloc, answer))
     }
 
-    /// A change that edits only values and may notify an adapter.
+    /// Makes a change that edits only values and may notify an adapter.
     #[inline(never)]
     fn change_heard_values(&mut self, change: Change) -> Result<Reply<A>, Refused>
         requires proper { IsProper (reads self.old) [] change }
@@ -171,8 +173,8 @@ impl<L: LinkStore, A: Adapter> Repository<L, A> {
         }
     }
 
-    /// A change that edits only links: it changes a reference of one node. It destroys nothing, so no target is taken away. If no adapter
-    /// is attached, no notification is made.
+    /// Makes a change that edits only links: a change of one reference of one node. This change destroys nothing, so no target is taken
+    /// away. If no adapter is attached, no notification is made.
     #[inline(never)]
     pub(super) fn change_links(&mut self, change: Change) -> Result<Reply<A>, Refused>
         requires proper { IsProper (reads self.old) [] change }
@@ -191,7 +193,7 @@ impl<L: LinkStore, A: Adapter> Repository<L, A> {
         self.tell_links(answer, edits, Chain::new(self.alloc))
     }
 
-    /// A change that edits only links and may notify an adapter.
+    /// Makes a change that edits only links and may notify an adapter.
     #[inline(never)]
     fn change_heard_links(&mut self, change: Change) -> Result<Reply<A>, Refused>
         requires proper { IsProper (reads self.old) [] change }
@@ -208,7 +210,7 @@ impl<L: LinkStore, A: Adapter> Repository<L, A> {
         self.tell_links(prepared.answer, prepared.edits, prepared.chain)
     }
 
-    /// Plans a change, and makes it. A change that loads a document has the effect that `load` has for each text that is read as this
+    /// Plans a change, and makes it. If the change loads a document, its effect is that of `load` for any text that is read as this
     /// document. This function is never inlined into `change`: else `change` would zero a large stack frame for each change of attributes.
     #[inline(never)]
     pub(super) fn carry_out(&mut self, change: Change) -> Result<Reply<A>, Refused>

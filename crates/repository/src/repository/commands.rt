@@ -26,8 +26,8 @@ impl<L: LinkStore, A: Adapter> Repository<L, A> {
         }
     }
 
-    /// `execute` of a command of any kind. It is a function of its own, since its stack frame has a part for each kind of command, and is
-    /// zeroed at each call.
+    /// Does what `execute` does, for a command of any kind. This is a function of its own, so that the stack frame of `execute` stays
+    /// small: the frame here has a part for each kind of command, and is zeroed at each call.
     #[inline(never)]
     fn execute_other(&mut self, command: Command<A>) -> Result<Reply<A>, Failure<A>>
         ensures { Executed self.old (command_view A.heard command) (outcome_view A.heard result) self.new }
@@ -67,7 +67,7 @@ impl<L: LinkStore, A: Adapter> Repository<L, A> {
         }
     }
 
-    /// Answers a read, as the call for it does: `e_get`, `e_is_set`, `e_class`, `e_container`, `e_resource`, `validate`, `fragment`,
+    /// Answers a read, as the call for the read does: `e_get`, `e_is_set`, `e_class`, `e_container`, `e_resource`, `validate`, `fragment`,
     /// `e_contents`, `snapshot`, `save`, `object_at`, `adapter_told` or `adapter_kept`. Refused as that call is.
     pub fn read(&self, read: Read) -> Result<Answer, Refused>
         ensures { Executed self.now (command.Read read) (answered_outcome result) self.now }

@@ -22,8 +22,8 @@ use std::alloc::AllocError;
 use web_uris::split_address;
 
 impl<L: LinkStore, A: Adapter> Repository<L, A> {
-    /// The fragment of an object in its resource (EMF: Resource.getURIFragment), as `//@books.0`: the path from a root to the object. The
-    /// root's position is left out if the resource has one root.
+    /// The fragment of an object in its resource (EMF: Resource.getURIFragment): the path from a root to the object, such as `//@books.0`.
+    /// The root's position is left out if the resource has one root.
     ///
     /// Refused, the first that applies: `NoObject` if no live object has the number, `Dangling` if the object is in no resource, `Memory`.
     #[tactic(auto, using(crate::proofs::DocumentLemmas::fragment_read))]
@@ -74,8 +74,8 @@ impl<L: LinkStore, A: Adapter> Repository<L, A> {
         Ok(reply(self.alloc, Answer::Fragment(fragment)))
     }
 
-    /// The object at an address, the URI of a resource, `#` and a fragment (EMF: ResourceSet.getEObject, without loading); `None` if no
-    /// resource has the URI, or no object is at that address.
+    /// The object at an address, which is the URI of a resource, `#` and a fragment (EMF: ResourceSet.getEObject, without loading); `None`
+    /// if no resource has the URI, or no object is at that address.
     ///
     /// Refused, the first that applies: `TextLength` above 65,535 bytes, `BadUri` if the text has no `#`, `Memory`.
     #[tactic(auto, using(crate::proofs::DocumentLemmas::object_found))]
@@ -93,7 +93,7 @@ impl<L: LinkStore, A: Adapter> Repository<L, A> {
     }
 
     /// The document of a resource (EMF: Resource.save), as JSON without spaces: the roots of the resource with all objects that they
-    /// contain. Each object has the features that are set, but no container reference.
+    /// contain. For each object the document has the features that are set, but no container reference.
     ///
     /// Refused, the first that applies: `NoResource`, `Dangling` if an object that is referred to is in no resource, `TooDeep` if objects
     /// are nested more than 40 deep, `Memory`.

@@ -64,8 +64,8 @@ impl<L: LinkStore, A: Adapter> Repository<L, A> {
         })
     }
 
-    /// Makes a change that edits values alone. First, capacity for its notifications is reserved at the adapters. Then the edits are made
-    /// as their memory is taken, which is the last step that can be refused.
+    /// Makes a change that edits values alone. First, capacity for its notifications is reserved at the adapters. Then the memory for the
+    /// edits is taken while they are made; this is the last step that can be refused.
     #[inline(always)]
     pub(super) fn tell_values(
         &mut self,

@@ -48,7 +48,7 @@ impl<L: LinkStore, A: Adapter> Repository<L, A> {
         }
     }
 
-    /// Why there is no list at an end: something that is named is not there, or the feature is single.
+    /// Why there is no list at an end: the node doesn't exist, it doesn't have the feature, or the feature is single.
     fn list_refusal(&self, end: End) -> Option<Refused>
         ensures { MatchOption result (l.list_at (reads self.now) end ≡ Ok ((reads self.now).values end)) (λ r. l.list_at (reads self.now) end ≡ Err r) }
     {

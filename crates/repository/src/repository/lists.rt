@@ -12,10 +12,10 @@ use links::LinkStore;
 use mm_types::{End, FeatureNo, Node, Refused, Value};
 
 impl<L: LinkStore, A: Adapter> Repository<L, A> {
-    /// Adds a value to a list, before the value at an index, or at the end (EMF: EList.add). A reference's opposite follows. Links that the
-    /// new link displaces are cut at both ends, and an object that is put into a container leaves its former container. Returns whether the
-    /// list changed: if a unique list has the value already, adding it at the end changes nothing and notifies no adapter. Notifies as
-    /// `e_set` does, at the feature itself with ADD.
+    /// Adds a value to a list, before the value at an index, or at the end (EMF: EList.add). If the feature has an opposite, the opposite
+    /// ends change too. Links that the new link displaces are cut at both ends, and an object that is put into a container leaves its
+    /// former container. Returns whether the list changed: if a unique list has the value already, adding it at the end changes nothing and
+    /// notifies no adapter. Notifies as `e_set` does, at the feature itself with ADD.
     ///
     /// Refused, the first that applies: `NoObject` if the node or the value is an object that does not live, `NoResource`, `NoFeature`,
     /// `NotMany` if the feature is single, `WrongType`, `TextLength` above 65,535 bytes, `Index` above the length, `Duplicate` if a unique

@@ -21,9 +21,10 @@ use resource_docs::{Doc, read_doc, read_doc_text};
 
 impl<L: LinkStore, A: Adapter> Repository<L, A> {
     /// Loads a document, `bytes` as JSON, into an empty resource (EMF: Resource.load): all objects of the document with their values, links
-    /// and proxies, or none. The objects get the next numbers, root by root. Each object comes before its contents, which come by feature,
-    /// in the order of all features of the object's class, and then by position. At both ends of a pair the links have the order that the
-    /// document gives. Returns how many objects were made. Notifies the adapters at the resource with one ADD on `contents` for each root.
+    /// and proxies, or none. The objects get the next numbers, root by root, each object before its contents. The contents of an object are
+    /// in the order of all features of its class, and then by position. At both ends of a pair of opposite references, the links have the
+    /// order that the document gives. Returns how many objects were made. Notifies the adapters at the resource with one ADD on `contents`
+    /// for each root.
     ///
     /// Refused, the first that applies: `NoResource`; `Limit` if the document has no fault and more objects than can be made; `NotEmpty` if
     /// the resource has roots; `Document` with the cause for which the document can't be read; `AdapterFull`, `Memory`.

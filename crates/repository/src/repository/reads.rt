@@ -63,8 +63,9 @@ impl<L: LinkStore, A: Adapter> Repository<L, A> {
         Ok(model.value_at(end))
     }
 
-    /// Whether a feature of an object is set (EMF: EObject.eIsSet). A list is set if it has values. An unsettable feature is set if `e_set`
-    /// was the last call that changed it. Any other feature is set if its value differs from its default. Takes no memory.
+    /// Whether a feature of an object is set (EMF: EObject.eIsSet). A list is set if it has values. A single feature that is unsettable is
+    /// set if `e_set` or a load was the last call that changed it. Any other single feature is set if its value differs from its default.
+    /// Takes no memory.
     ///
     /// Refused, the first that applies: `NoObject`, `NoResource`, `NoFeature`.
     #[tactic(auto, using(crate::proofs::QuietLemmas::is_set_done))]

@@ -19,8 +19,8 @@ impl<L: LinkStore, A: Adapter> Repository<L, A> {
     ///
     /// Refused, the first that applies: `NoObject`, `NoFeature`, `WrongType` if the feature is an attribute or doesn't take the object at
     /// the proxy's address, `Index` if there is no such value, `Duplicate` if the list has the object already, `NotProxy` if an object is
-    /// there, `Unloaded` if no resource has the URI in the proxy's text, `Unresolved` if no object is at its address, `Unmatched` if no
-    /// proxy at the opposite end has the address of the referring object, `AdapterFull`, `Memory`.
+    /// there, `Unloaded` if no resource has the URI in the proxy's text, `Unresolved` if no object is at the proxy's address, `Unmatched`
+    /// if no proxy at the opposite end has the address of the referring object, `AdapterFull`, `Memory`.
     pub fn resolve(
         &mut self,
         object: ObjectNo,

@@ -45,8 +45,8 @@ impl<L: LinkStore, A: Adapter> Repository<L, A> {
         Ok(object)
     }
 
-    /// Sets a single feature as `e_set` does. The outcome has a reply only if an adapter may be notified, or if the new link displaces
-    /// another.
+    /// Sets a single feature as `e_set` does. The outcome has a reply only if an adapter may be notified, or if a set of a reference does
+    /// anything other than putting one link.
     #[inline(always)]
     pub fn set_brief(&mut self, node: Node, feature: FeatureNo, value: Value) -> Brief<A>
         ensures { Executed self.old (commands.set node feature value) (brief_outcome A.heard answer.Done result) self.new }

@@ -1,4 +1,4 @@
-//! What is printed of adapters: their notifications, and the counts of these.
+//! What is printed of adapters: their notifications, and how many notifications they got and keep.
 ghost use Rattle.std.specs.Prelude.{◌≡◌, ◌++◌, ◌∷◌, [], OnOk};
 ghost use Rattle.script_lines.specs.declared.grammar.TheConstants.{NEWLINE};
 ghost use Rattle.script_output.specs.Notified.{change_text, counts_text, notice_text, end_text, released_text, report_text, seen_text, text_before, told_value_text, values_text};
@@ -73,8 +73,8 @@ impl Output {
         self.change(meta, notice)
     }
 
-    /// Adds the line of a notification of an adapter, with its newline: `told A1 SET #0.pages 100 1 -1`. The words are the adapter,
-    /// the kind, the notifier with the feature, if there is one, the old and the new value, and the position.
+    /// Adds the line of a notification of an adapter, with its newline: `told A1 SET #0.pages 100 1 -1`. The words are the adapter, the
+    /// kind, the notifier (with the feature, if there is a feature), the old value, the new value, and the position.
     pub fn notified(
         &mut self,
         meta: &Meta,
@@ -98,8 +98,8 @@ impl Output {
         self.natural(kept)
     }
 
-    /// Adds the line of a released adapter, with its newline: `released A1 told 1 kept 1`. The numbers are how many
-    /// notifications it got, and how many it keeps.
+    /// Adds the line of a released adapter, with its newline: `released A1 told 1 kept 1`. The numbers are how many notifications the
+    /// adapter got, and how many it keeps.
     pub fn released(&mut self, no: AdapterNo, told: u64, kept: u64) -> Result<(), AllocError>
         ensures ok { OnOk result (self.new ≡ self.old ++ released_text no told kept ++ NEWLINE ∷ []) }
     {

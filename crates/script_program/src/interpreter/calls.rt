@@ -1,4 +1,4 @@
-//! Calls that no line of a script makes: reads of lists that do not fetch the list, and loads of documents of any length.
+//! Calls that no line of a script makes: reads of the length or of one value of a list, and loads of documents of any length.
 ghost use Rattle.std.specs.Prelude.{◌≡◌, IfOk};
 ghost use Rattle.repository.specs.declared.command.Command.TheVariants.{Load};
 ghost use Rattle.script_program.specs.Lists.{list_len_printed, list_value_printed};

@@ -20,17 +20,8 @@ returns-in-AddAt-clause-ok g c = rw (ap (act_line c.args.object c.args.name) c.i
 pub returns-in-RemoveValue-clause-ok : goal.returns-in-RemoveValue-clause-ok
 returns-in-RemoveValue-clause-ok g c = rw (ap (act_line c.args.object c.args.name) c.in-RemoveValue.is) (rw (c.as_str-name.ensures, c.as_str-in-RemoveValue.ensures) at c.run_remove_value_line.ensures.ok)
 
-pub returns-in-Unset-clause-ok : goal.returns-in-Unset-clause-ok
-returns-in-Unset-clause-ok g c = rw (ap (act_line c.args.object c.args.name) c.in-Unset.is) (rw c.as_str-name.ensures at c.run_bare_act.ensures.ok)
-
-pub returns-in-Remove-clause-ok : goal.returns-in-Remove-clause-ok
-returns-in-Remove-clause-ok g c = rw (ap (act_line c.args.object c.args.name) c.in-Remove.is) (rw c.as_str-name.ensures at c.run_bare_act-in-Remove.ensures.ok)
-
-pub returns-in-Move-clause-ok : goal.returns-in-Move-clause-ok
-returns-in-Move-clause-ok g c = rw (ap (act_line c.args.object c.args.name) c.in-Move.is) (rw c.as_str-name.ensures at c.run_bare_act-in-Move.ensures.ok)
-
-pub returns-in-Resolve-clause-ok : goal.returns-in-Resolve-clause-ok
-returns-in-Resolve-clause-ok g c = rw (ap (act_line c.args.object c.args.name) c.in-Resolve.is) (rw c.as_str-name.ensures at c.run_bare_act-in-Resolve.ensures.ok)
+pub returns-in-Bare-clause-ok : goal.returns-in-Bare-clause-ok
+returns-in-Bare-clause-ok g c = rw (ap (act_line c.args.object c.args.name) c.in-Bare.is) (rw c.as_str-name.ensures at c.run_bare_act.ensures.ok)
 
 -- ---- what is left if the answer could not be added
 
@@ -52,14 +43,5 @@ returns-in-AddAt-clause-left g c = rw (ap (act_line c.args.object c.args.name) c
 pub returns-in-RemoveValue-clause-left : goal.returns-in-RemoveValue-clause-left
 returns-in-RemoveValue-clause-left g c = rw (ap (act_line c.args.object c.args.name) c.in-RemoveValue.is) (rw (c.as_str-name.ensures, c.as_str-in-RemoveValue.ensures) at c.run_remove_value_line.ensures.left)
 
-pub returns-in-Unset-clause-left : goal.returns-in-Unset-clause-left
-returns-in-Unset-clause-left g c = rw (ap (act_line c.args.object c.args.name) c.in-Unset.is) (rw c.as_str-name.ensures at c.run_bare_act.ensures.left)
-
-pub returns-in-Remove-clause-left : goal.returns-in-Remove-clause-left
-returns-in-Remove-clause-left g c = rw (ap (act_line c.args.object c.args.name) c.in-Remove.is) (rw c.as_str-name.ensures at c.run_bare_act-in-Remove.ensures.left)
-
-pub returns-in-Move-clause-left : goal.returns-in-Move-clause-left
-returns-in-Move-clause-left g c = rw (ap (act_line c.args.object c.args.name) c.in-Move.is) (rw c.as_str-name.ensures at c.run_bare_act-in-Move.ensures.left)
-
-pub returns-in-Resolve-clause-left : goal.returns-in-Resolve-clause-left
-returns-in-Resolve-clause-left g c = rw (ap (act_line c.args.object c.args.name) c.in-Resolve.is) (rw c.as_str-name.ensures at c.run_bare_act-in-Resolve.ensures.left)
+pub returns-in-Bare-clause-left : goal.returns-in-Bare-clause-left
+returns-in-Bare-clause-left g c = rw (ap (act_line c.args.object c.args.name) c.in-Bare.is) (rw c.as_str-name.ensures at c.run_bare_act.ensures.left)

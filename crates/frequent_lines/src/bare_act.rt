@@ -1,0 +1,14 @@
+//! What a frequent line does to a feature without a value.
+
+/// What a frequent line does to a feature of an object without a value. Indexes are counted from 0.
+#[derive(Clone, Copy)]
+pub enum BareAct {
+    /// `unset OBJ NAME`
+    Unset,
+    /// `remove OBJ NAME N`
+    Remove(u32),
+    /// `move OBJ NAME N N`: first the index `to`, then the index `from`.
+    Move { to: u32, from: u32 },
+    /// `resolve OBJ NAME N`
+    Resolve(u32),
+}
