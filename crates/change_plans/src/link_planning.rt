@@ -156,6 +156,7 @@ fn adds_no_link<L: LinkStore>(
 }
 
 /// The new link that puts an object at a position of an end.
+#[inline(always)]
 pub(crate) fn put_at<L: LinkStore>(
     model: &ModelRef<L>,
     end: End,

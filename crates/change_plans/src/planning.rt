@@ -237,6 +237,7 @@ pub(crate) fn set_late_refusal<L: LinkStore>(
 }
 
 /// What `set_late_refusal` returns for a value that the end does not have yet.
+#[inline(always)]
 pub(crate) fn new_set_refusal<L: LinkStore>(
     model: &ModelRef<L>,
     end: End,
@@ -255,6 +256,7 @@ pub(crate) fn new_set_refusal<L: LinkStore>(
 }
 
 /// What `late_refusal` returns for an addition. In `repeats` the caller passes whether the end is a unique list that already has the value.
+#[inline(always)]
 pub(crate) fn add_late_refusal<L: LinkStore>(
     model: &ModelRef<L>,
     end: End,
