@@ -240,10 +240,11 @@ class BrowserTest(EditorTest):
         ''')
 
     def until(self, code, *words, seconds=10):
-        """Waits until a JavaScript expression is true, and returns its value. Fails after some seconds."""
+        """Waits until a JavaScript expression is true and the next frame is drawn, and returns its value. Fails after some seconds."""
+        drawn = 'await new Promise((done) => requestAnimationFrame(() => done()))'
         end = time.monotonic() + seconds
         while True:
-            found = self.js(f'return {code};', *words)
+            found = self.js(f'const found = {code}; if (found) {{ {drawn}; }} return found;', *words)
             if found:
                 return found
             if time.monotonic() > end:
