@@ -16,3 +16,4 @@ pub mod AttachLemmas
 pub mod SplitLemmas
 pub mod SomeLemmas
 pub mod WatchLemmas
+pub mod LeavingLemmas

@@ -10,7 +10,8 @@ use Rattle.adapter_list.specs.Targets.{targets_at}
 abbrev pub copies_len : List (ℕ × Notice) → ℕ → ℕ
 copies_len cs k = length (copies_for k cs)
 
--- the number of counted copies and the number of the rest add up to the number of all copies; if no copy was counted, the count is None
+-- a count of copies, and the number of the copies that are not counted yet, add up to the number of all copies; the count is None if no
+-- copy is counted yet
 abbrev pub IsCounted : Option ℕ → ℕ → ℕ → Type 0
 IsCounted None rest all = rest ≡ all
 IsCounted (Some n) rest all = (0 < n) × (n + rest ≡ all)
@@ -25,12 +26,12 @@ pub record HasGrown (old new : List Listed × List ℕ) : Type 0 where
   pub as_many : length new.1 ≡ length old.1
   pub no_fewer : (k : ℕ) → slice_index old.1 k ≤ slice_index new.1 k
 
--- the adapter at index k has capacity for n notifications and one more for each of its targets, and can count them all
+-- the adapter at index k has capacity for n notifications and one more for each of its targets; if n is above 0, it can also count them all
 pub record IsReadyFor (rs : List Listed) (ps : List ℕ) (k n : ℕ) : Type 0 where
   pub places : k < length ps → n + targets_at rs k ≤ slice_index ps k
   pub countable : 0 < n → told_at_ordinal rs k + (n + targets_at rs k) < 2 ^ 64
 
--- the adapter at index k can't count the copies that it gets
+-- the adapter at index k gets copies, and can't count these copies together with a last notification from each of its targets
 pub record IsFullFor (rs : List Listed) (cs : List (ℕ × Notice)) (k : ℕ) : Type 0 where
   pub within : k < length rs
   pub some : 0 < copies_len cs k

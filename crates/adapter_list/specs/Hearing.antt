@@ -1,4 +1,5 @@
--- The adapters that get the notifications of a node, by their indexes in attach order, and the copies that they get.
+-- Which adapters get the notifications whose notifier is a given node: the indexes of these adapters in attach order, and the copies for
+-- them.
 use Rattle.std.specs.Prelude.{◌≡◌, ℕ, suc, Bool, false, List, [], ◌∷◌, map, IfSome, if◌then◌else◌}
 use Rattle.std.specs.List.{AllByRecursion, list_any}
 use Rattle.mm_types.specs.declared.numbers.Node.{Node}

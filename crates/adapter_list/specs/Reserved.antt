@@ -8,7 +8,9 @@ use Rattle.adapter_list.specs.Counts.{IsFirstFull}
 use Rattle.adapter_list.specs.Refusals.{IsChainRefusal}
 use Rattle.adapter_list.specs.Rounds.{RoundFits, RoundView, round_copies, round_of}
 
--- the outcome of reserving a chain: the adapters and their capacities before and after it, and the round or the refusal
+-- what reserving a chain does to the adapters and their capacities (`old` before, `new` after), and what it returns. The views stay the
+-- same, and no adapter loses capacity, so a round that fitted the adapters still fits them. The result is the round of the chain, which
+-- fits the adapters, or the refusal.
 pub record IsReserved (up : Above) (chain : List Notice) (old new : List Listed × List ℕ) (result : Result RoundView Refused) : Type 0 where
   pub kept : new.0 ≡ old.0
   pub round : IfOk result (λ r. r ≡ round_of up chain old.0)

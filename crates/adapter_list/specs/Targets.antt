@@ -1,5 +1,5 @@
--- For each node, the adapters that have the node as a target: the entries that the table has, and the entries that it must have by the list
--- of adapters.
+-- For each node, the adapters that have the node as a target: the entries that the table has, and the entries that the table must have
+-- according to the list of adapters.
 use Rattle.std.specs.Prelude.{◌≡◌, ℕ, ◌<◌, ◌&&◌, ◌||◌, not, Bool, true, false, List, [], ◌∷◌, get_or, slice_get, length, map, nat_eq, slice_index, Option, option_map, IfSome, ⊤, if◌then◌else◌}
 use Rattle.std.specs.List.{IsDistinct, filter_map, find}
 use Rattle.std.specs.Option.{option_map_or}
@@ -39,11 +39,11 @@ HasNoEmpty t = (q : NodeKey) → IfSome (get same_key t.lists q) (λ v. 0 < leng
 abbrev pub entry_of : Node → Listed → Option Entry
 entry_of x r = option_map (λ t. record { no = r.no; deep = t.deep }) (find (is_at x) r.targets)
 
--- the adapters that have a node as a target, in attach order
+-- the entries of the adapters that have a node as a target, in attach order
 abbrev pub entries : Node → List Listed → List Entry
 entries x rs = filter_map (entry_of x) rs
 
--- a table has the adapters of each node in attach order, and no others
+-- for each node, a table has the entries of exactly the adapters that have the node as a target, in attach order
 abbrev pub AreTied : TargetLists → List Listed → Type 0
 AreTied t rs = (x : Node) → entries_in t x ≡ entries x rs
 
@@ -53,7 +53,7 @@ abbrev pub is_any : List Entry → Bool
 is_any [] = false
 is_any (e ∷ es) = true
 
--- an object is marked exactly if it has adapters
+-- an object is marked exactly if a table has adapters for it
 abbrev pub AreMarked : List Bool → TargetLists → Type 0
 AreMarked bs t = (o : ObjectNo) → get_or bs o.0 false ≡ is_any (entries_in t (node.Object o))
 

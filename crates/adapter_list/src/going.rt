@@ -82,8 +82,8 @@ impl<A: Adapter> Going<A> {
         }
     }
 
-    /// Releases one target: takes the target from its adapter, and notifies the adapter. Returns the notification, and whether the adapter
-    /// has no target left. If the node is no target of the adapter, the result is `None`, and nothing changes.
+    /// Takes one target from an adapter, and notifies the adapter of this. Returns the notification, and whether the adapter has no target
+    /// left. If the adapter is not attached, or the node is no target of the adapter, the result is `None`, and nothing changes.
     fn let_go(&mut self, no: AdapterNo, node: Node) -> Option<(Notice, bool)>
         ensures others { self.new ≡ adapters_without_target (no, node) self.old }
         ensures told { last_told no result ≡ told_of_leaving (no, node) self.old }
@@ -102,7 +102,7 @@ impl<A: Adapter> Going<A> {
         Some((last_notice(no, node, index), is_bare))
     }
 
-    /// The index of an adapter in attach order.
+    /// The index, in attach order, of the adapter with the number `no`; `None` if no adapter has this number.
     fn ordinal_of(&self, no: AdapterNo) -> Option<usize>
         ensures ordinal { result ≡ position (has_no no) self.now }
         ensures within { IfSome result (λ i. i < length self.now) }
@@ -110,7 +110,7 @@ impl<A: Adapter> Going<A> {
         self.numbers.get_index_of(&no)
     }
 
-    /// Moves the adapters that have no targets to `released`.
+    /// Moves the adapters that have no targets to the end of `released`, in attach order.
     fn hand_out(&mut self, released: &mut Vec<(AdapterNo, A)>)
         requires released_room { vec_len released.old + length (leaving_adapters self.old) ≤ vec_capacity released.old }
         ensures others { self.new ≡ staying_adapters self.old }
@@ -161,7 +161,8 @@ impl<A: Adapter> Going<A> {
         Some(Detached { notice, adapter })
     }
 
-    /// Releases targets, one after another, and then gives back the adapters that have no target left.
+    /// Takes targets from adapters, one after another, and then gives back the adapters that have no target left. Adds to `told` which
+    /// adapter was notified of what, and adds the adapters that are given back to `released`.
     pub(crate) fn release(
         &mut self,
         spots: &[(AdapterNo, Node)],
@@ -209,8 +210,8 @@ fn index_among(targets: &VecDeque<Target>, node: Node) -> Option<usize>
     targets.iter().position(|target| target.node == node)
 }
 
-/// Takes the adapters that have no targets out of a list, in their order, and returns the others. The list is rotated once in its own
-/// memory.
+/// Moves the adapters that have no targets from a list to the end of `released`, in their order, and returns the list of the other
+/// adapters. The list is rotated once in its own memory.
 fn split<A: Adapter>(
     attached: Vec<Attached<A>>,
     released: &mut Vec<(AdapterNo, A)>,

@@ -42,7 +42,8 @@ pub struct AdapterList<A: Adapter> {
     pub(crate) marks: Vec<bool>,
     /// How many targets there are.
     pub(crate) targets_len: usize,
-    /// Empty between calls. `close` fills this list, and takes no memory for that.
+    /// Empty between calls, with capacity for all adapters. So `close` and `detach`, which give adapters back through this list, take no
+    /// memory.
     pub(crate) released: Vec<(AdapterNo, A)>,
 }
 
@@ -102,7 +103,7 @@ impl<A: Adapter> AdapterList<A> {
         }
     }
 
-    /// How many notifications the adapter got; None if it is not attached. Takes no memory.
+    /// How many notifications the adapter with the number `no` got; None if no adapter has this number. Takes no memory.
     pub fn told(&self, no: AdapterNo) -> Option<u64>
         ensures { result ≡ option_map (λ r. r.view.told) (adapter no self.now.0) }
     {
@@ -112,7 +113,7 @@ impl<A: Adapter> AdapterList<A> {
         }
     }
 
-    /// How many notifications the adapter keeps; None if it is not attached. Takes no memory.
+    /// How many notifications the adapter with the number `no` keeps; None if no adapter has this number. Takes no memory.
     pub fn kept_len(&self, no: AdapterNo) -> Option<u64>
         ensures { result ≡ option_map (λ r. length r.view.kept) (adapter no self.now.0) }
     {
@@ -137,7 +138,7 @@ impl<A: Adapter> AdapterList<A> {
         let _ = &self.alloc;
     }
 
-    /// The adapter of a number.
+    /// The adapter with the number `no`; None if no adapter has this number.
     fn find(&self, no: AdapterNo) -> Option<&Attached<A>>
         ensures { option_map (λ a. listed_one A.heard a.now) result ≡ adapter no self.now.0 }
     {
@@ -147,7 +148,7 @@ impl<A: Adapter> AdapterList<A> {
         }
     }
 
-    /// The index of an adapter in attach order.
+    /// The index, in attach order, of the adapter with the number `no`; None if no adapter has this number.
     fn ordinal_of(&self, no: AdapterNo) -> Option<usize>
         ensures ordinal { result ≡ position (has_no no) self.now.0 }
         ensures within { IfSome result (λ i. i < length self.now.0) }

@@ -27,7 +27,7 @@ fn is_marked_at(marks: &[bool], number: usize) -> bool
     false
 }
 
-/// Reserves capacity for the mark of a node. Fails only if memory is refused; no mark changes.
+/// Reserves capacity for the mark of a node. No mark changes. Fails only if memory is refused.
 pub(crate) fn reserve_mark(marks: &mut Vec<bool>, node: Node) -> Result<(), AllocError>
     ensures same { AreSameMarks marks.old.items marks.new.items }
     ensures room { OnOk result (HasMarkRoom marks.new.items node) }
@@ -38,7 +38,7 @@ pub(crate) fn reserve_mark(marks: &mut Vec<bool>, node: Node) -> Result<(), Allo
     }
 }
 
-/// Adds marks until there are at least `len`.
+/// If there are fewer than `len` marks, adds marks that are off until there are `len`.
 fn lengthen(marks: &mut Vec<bool>, len: usize) -> Result<(), AllocError>
     ensures same { AreSameMarks marks.old.items marks.new.items }
     ensures room { OnOk result (len ≤ length marks.new.items) }

@@ -7,9 +7,9 @@ use notice_chain::Notice;
 use std::alloc::{AllocError, Global};
 use std::marker::Model;
 
-/// Some targets, each by its adapter's number and its node, in the order in which they are to be taken away. A `Release` is made before
-/// anything changes, with capacity for the last notifications from these targets and for the adapters that are given back. So the release
-/// of the targets takes no memory.
+/// Some targets, each given by the number of its adapter and by its node, in the order in which they are to be taken away. A `Release` is
+/// made before anything changes, with capacity for the last notifications from these targets and for the adapters that are given back. So
+/// taking the targets away takes no memory.
 #[derive(Drop)]
 pub struct Release<A> {
     spots: Vec<(AdapterNo, Node)>,
@@ -30,7 +30,7 @@ impl<A> Model for Release<A> {
 }
 
 impl<A> Release<A> {
-    /// Reserves capacity for releasing some targets. Fails only if memory is refused.
+    /// Reserves capacity for taking some targets away. Fails only if memory is refused.
     pub fn new(alloc: Global, spots: Vec<(AdapterNo, Node)>) -> Result<Self, AllocError>
         ensures { IfOk result (λ r. r ≡ spots.items) }
     {

@@ -1,4 +1,4 @@
-//! The adapters of each node, so that they are found without a look at other adapters.
+//! For each node, the adapters that have the node as a target, so that these are found without a look at other adapters.
 ghost use Rattle.std.specs.Prelude.{◌≡◌, ◌≤◌, ◌<◌, [], length, insert, remove, position, OnOk, OnErr, if◌then◌else◌};
 ghost use Rattle.mm_types.specs.Same.{same_node};
 ghost use Rattle.mm_types.specs.declared.numbers.Node.{Node};
@@ -20,12 +20,12 @@ pub(crate) struct NodeKey {
 #[derive(Clone, Copy, Debug, PartialEq, Eq)]
 pub(crate) struct Entry {
     pub no: AdapterNo,
-    /// Whether the adapter is deep.
+    /// Whether the node is a deep target of the adapter.
     pub deep: bool,
 }
 
-/// The adapters of each node that has any. The list that owns the adapters keeps the entries of a node in attach order. An entry has the
-/// number of its adapter and not its index, so it stays the same if another adapter leaves.
+/// The adapters of each node that has adapters. The owner of this table keeps the entries of a node in attach order. An entry has the
+/// number of its adapter, and not the adapter's index, so the entry stays the same if a different adapter leaves.
 #[derive(Drop)]
 pub(crate) struct TargetLists {
     alloc: Global,
@@ -77,7 +77,7 @@ impl TargetLists {
         !self.at(node).is_empty()
     }
 
-    /// The index of the adapter with the number `no` among the adapters of a node. Takes no memory.
+    /// The index of the adapter with the number `no` among the adapters of a node; `None` if it is not among them. Takes no memory.
     pub fn index_of(&self, node: Node, no: AdapterNo) -> Option<usize>
         ensures { result ≡ position (λ e. same_no no e.no) (entries_in self.now node) }
     {

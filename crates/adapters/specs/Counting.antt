@@ -3,7 +3,7 @@ use Rattle.std.specs.Prelude.{◌≡◌, ◌↔◌, ℕ, ◌+◌, ◌-◌, ◌^�
 use Rattle.adapters.specs.declared.adapter.NoRoom.{NoRoom}
 use Rattle.adapters.specs.declared.adapter.NoRoom.TheVariants.{Full, Memory}
 
--- how many notifications an adapter can still count, after it got `told`
+-- how many more notifications an adapter can count, after it counted `told` notifications
 abbrev pub places_left : ℕ → ℕ
 places_left told = 2 ^ 64 - (told + 1)
 

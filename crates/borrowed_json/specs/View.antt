@@ -1,4 +1,4 @@
--- The data that a value stands for, as `serde_json` has it.
+-- By these definitions contracts see a JSON value of this crate as a value of `serde_json`.
 use Rattle.std.specs.Prelude.{ℕ, List, fold, map}
 use Rattle.std.specs.Borrow.{Bor}
 use Rattle.serde_json.specs.Data.{Num, unsigned, negative, float, Data, null, boolean, number, string, array, object, Items, Members, no_members, put}

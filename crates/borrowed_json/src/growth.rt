@@ -1,4 +1,4 @@
-//! A member is added to an object that is read.
+//! Adds a member to an object while the object is read.
 ghost use Rattle.std.specs.Prelude.{◌≡◌, ◌<◌, ◌≤◌, ◌+◌, IfSome, OnOk, drop, length, not, take, true};
 ghost use Rattle.std.specs.List.{list_all};
 ghost use Rattle.std.specs.Str.{bytes_eq};
@@ -8,11 +8,11 @@ ghost use Rattle.borrowed_json.specs.View.{members_view, view};
 use crate::value::{Json, Members};
 use std::alloc::AllocError;
 
-/// How many of the last members are searched for a key before the key is added. An object with at most this number of keys has each key
-/// once, however often the key is written.
+/// How many of the last members are searched for a key before the key is added. An object with at most this number of different keys has
+/// each key once, however often the key is written.
 const SEARCHED: usize = 256;
 
-/// The last index of a key among the last `SEARCHED` members.
+/// The index of the last member that has a key; `None` if this member is not among the last `SEARCHED` members.
 fn last_of(members: Members, key: &str) -> Option<usize>
     ensures { IfSome result (λ i. (i < length members.now) × (list_all (λ m. not (bytes_eq m.0.now key.now)) (drop (i + 1) members.now) ≡ true)) }
 {
@@ -28,7 +28,7 @@ fn last_of(members: Members, key: &str) -> Option<usize>
 }
 
 /// Puts a value at a key of an object. The members of the object are the members from the index `base` on. If the key is among the last
-/// members, the value replaces the value there.
+/// `SEARCHED` members of the object, the new value replaces the value there; otherwise the key and the value are added as the last member.
 #[inline(always)]
 pub(crate) fn put<'t>(
     members: &mut Vec<(&'t str, Json<'t>)>,

@@ -1,7 +1,8 @@
 //! JSON values that borrow their texts from the text that they are read from.
 //!
-//! A value is what `serde_json` reads from the same text: each number has a value, arrays and objects nest at most 127 levels deep, and if
-//! a key comes twice, its last value counts. `specs/View.antt` says which value of `serde_json` a value here is.
+//! A value is what `serde_json` reads from the same text. So a number that is too large for a float is refused, arrays and objects nest at
+//! most 127 levels deep, and if a key comes twice, its last value counts. `specs/View.antt` says which value of `serde_json` a value of
+//! this crate is.
 #![tactic(auto)]
 
 mod fault;

@@ -58,7 +58,7 @@ impl Number {
         Number::nearest(true, numeral)
     }
 
-    /// The number that a token of JSON writes, unless it is too large.
+    /// The number that a token of JSON writes; `None` if the number is too large for a finite float.
     pub(crate) fn parse(text: &str) -> Option<Number>
         ensures { option_map number_view result ≡ number_of text.now }
     {

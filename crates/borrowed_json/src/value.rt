@@ -16,7 +16,8 @@ pub enum Json<'t> {
     Object(Members<'t>),
 }
 
-/// The members of an object as they are written. If a key comes twice, its last value counts.
+/// The members of an object, in the order in which they are written, except that a repeated key takes the place of the earlier member with
+/// that key if this member is among the last 256 so far. If a key still comes twice, its last value counts.
 pub type Members<'t> = &'t [(&'t str, Json<'t>)];
 
 impl<'t> Json<'t> {

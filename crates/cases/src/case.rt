@@ -19,10 +19,10 @@ pub struct Case<'a> {
 }
 
 impl<'a> Case<'a> {
-    /// Reads a case: a line with its name, and then lines up to an empty one.
+    /// Reads a case: a line with its name, and then the lines up to the first empty line, or to the end of the text.
     ///
-    /// `metamodel NAME` names its metamodel's file, `document TEXT` is its metamodel, `> TEXT` is a line of the script, and any other line
-    /// must be printed.
+    /// `metamodel NAME` names the file of its metamodel, and `document TEXT` is a line of its metamodel. `> TEXT` is a line of its script,
+    /// and `>` is an empty line of the script. Any other line is a line that must be printed.
     pub(crate) fn parse(alloc: Global, text: &'a str) -> Result<Case<'a>, Fault> {
         let mut lines = text.lines();
         let mut case = Case {
@@ -49,7 +49,7 @@ impl<'a> Case<'a> {
         script.strip_suffix(b"\n".as_slice()).unwrap_or(script)
     }
 
-    /// Adds a line.
+    /// Adds a line to the part of the case for which it is: the beginning of the line says which part that is.
     fn push(&mut self, line: &'a str) -> Result<(), Fault> {
         if let Some(name) = line.strip_prefix("metamodel ") {
             self.metamodel = Some(name);

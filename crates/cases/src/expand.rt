@@ -1,8 +1,8 @@
 //! Marks in a case's text, which write long or invisible text in a short way.
 //!
-//! `<<xFF>>` is a byte by its two hexadecimal digits. `<<3* ab%,>>` repeats a text three times. The repetitions are numbered from 0, and
-//! each `%` in the text is replaced by the number of the repetition: `ab0,ab1,ab2,`. A `^` is replaced by this number plus one, and a `|`
-//! by a newline.
+//! `<<xFF>>` is the byte with these two hexadecimal digits. `<<3* ab%,>>` repeats a text three times. The repetitions are numbered from 0,
+//! and each `%` in the text is replaced by the number of the repetition: `ab0,ab1,ab2,`. A `^` is replaced by this number plus one, and a
+//! `|` by a newline.
 use crate::fault::Fault;
 use std::io::Write;
 

@@ -1,4 +1,4 @@
-//! One call of a repository does a list of commands; no script makes this call. And a snapshot follows notifications.
+//! A list of commands, done by one call of a repository, which no script makes; and notifications that are replayed on a snapshot.
 mod commands;
 mod printed;
 mod views;
@@ -19,7 +19,8 @@ use views::followed;
 const BOOKS: &str =
     r#"{"classes":[{"name":"Book","features":[{"name":"name","kind":"attribute","type":"EString"}]}]}"#;
 
-/// Does commands, and prints the outcome of each command. If there is no memory for the outcomes, prints the commands, which come back.
+/// Does commands by one call of the repository, and prints the outcome of each command. If there is no memory for the outcomes, prints the
+/// commands, which come back.
 fn do_all<L: LinkStore, A: Adapter, W: Write>(
     writer: &mut W,
     repository: &mut Repository<L, A>,
@@ -44,8 +45,9 @@ fn do_list<L: LinkStore, A: Adapter, W: Write>(
     Ok(())
 }
 
-/// Makes a book, attaches the adapter `first` to it, and takes a snapshot of the book. Then does the list of commands, which attaches the
-/// adapter `second`. At the end prints the snapshot, on which the notification that the book gets its name was replayed.
+/// Makes a book, attaches the adapter `first` to the book, and takes a snapshot of the book. Replays on this snapshot the notification that
+/// the book is named. Then does the list of commands, which names the book and attaches the adapter `second`. At the end prints the
+/// snapshot.
 fn session<L: LinkStore, A: Adapter, W: Write>(
     alloc: Global,
     writer: &mut W,
@@ -61,7 +63,7 @@ fn session<L: LinkStore, A: Adapter, W: Write>(
     Ok(())
 }
 
-/// Does what `session` does, in a new repository.
+/// Makes a repository of books, does in it what `session` does, and closes the repository.
 fn run<L: LinkStore, A: Adapter, W: Write>(
     alloc: Global,
     writer: &mut W,
@@ -75,8 +77,8 @@ fn run<L: LinkStore, A: Adapter, W: Write>(
     outcome
 }
 
-/// Does the list of commands, and prints the outcome of each command; if there is no memory for the outcomes, prints the commands that come
-/// back. Then prints what the repository has, and a snapshot on which a notification was replayed.
+/// Does the list of commands, and prints the outcome of each command. If there is no memory for the outcomes, prints all the commands,
+/// which the repository gives back. Then prints what the repository has, and a snapshot on which a notification was replayed.
 pub(crate) fn run_list<W: Write>(alloc: Global, writer: &mut W) -> Result<(), Fault> {
     // A recorder takes memory when it is attached.
     let first: Box<dyn Adapter> = Box::new(alloc, Recorder::new(alloc))?;
@@ -84,8 +86,8 @@ pub(crate) fn run_list<W: Write>(alloc: Global, writer: &mut W) -> Result<(), Fa
     run::<SlotStore, _, W>(alloc, writer, first, second)
 }
 
-/// Makes and names `count` books, replays the notifications on a snapshot from before they were named, and prints how many nodes this
-/// snapshot then has; prints `None` if it differs from a new snapshot.
+/// Makes `count` books, takes a snapshot of them, and names the books. Replays the notifications on the snapshot. If the snapshot is then
+/// the same as a new snapshot, prints how many nodes it has, else `None`.
 pub(crate) fn follow<W: Write>(alloc: Global, writer: &mut W, count: u32) -> Result<(), Fault> {
     let meta = check_document(alloc, BOOKS.as_bytes())?;
     let mut repository: Repository<SlotStore, Counter> = Repository::new(alloc, meta);

@@ -1,16 +1,16 @@
-//! Runs cases and compares what each gives with what it expects.
+//! Runs cases, and compares what each case gives with what the case expects.
 //!
-//! `cases FILE..` reads files of cases and the metamodels that they name; CONTRIBUTING.md explains how a case is written.
-//! A script is run over each store of links. If a case does not give what it expects, the program prints the case with the
-//! store, what was expected and what was given, and exits with status 1. The last line counts the cases.
+//! `cases FILE..` reads files of cases, and the metamodels that the cases name; CONTRIBUTING.md explains how a case is written. A script is
+//! run over each store of links. If a case does not give what it expects, the program prints the name of the case, the store, what was
+//! expected and what was given; then the exit status is 1. The last line counts the cases.
 //!
-//! The word `commands` does a list of commands by one call of a repository, and prints the outcome of each command. If there is no memory
-//! for the outcomes, it prints the commands that come back. Then it prints what the repository has. `tests/run_refused_memory` runs the
-//! program with this word once for each of its allocations, and refuses that allocation. No script makes this call, and no test function
-//! can refuse memory.
+//! With the word `commands`, the program does a list of commands by one call of a repository, and prints the outcome of each command. If
+//! there is no memory for the outcomes, it prints the commands that come back. Then it prints what the repository has, and a snapshot on
+//! which a notification was replayed. `tests/run_refused_memory` runs the program with this word once for each allocation that the program
+//! makes, and refuses that allocation. No script makes this call, and no test function can refuse memory.
 //!
-//! With a number N as its word, the program takes a snapshot of N books, names each book, and replays the notifications on the snapshot.
-//! `bench/measure` runs the program with such a word.
+//! With a number N as its word, the program takes a snapshot of a resource with N books, names each book, and replays the notifications on
+//! the snapshot. `bench/measure` runs the program with such a word.
 #![tactic(auto)]
 
 mod case;
@@ -57,7 +57,8 @@ fn read_file(rt: &HostRuntime, path: &str) -> Result<Vec<u8>, Fault> {
     }
 }
 
-/// Whether a case gives what it expects. If not, writes the difference; `part` is the name of the store over which the script ran.
+/// Whether a case gives what it expects. If not, writes the difference; `part` is the name of the store over which the script ran, or `no
+/// store`.
 fn gives_expected<W: Write>(
     writer: &mut W,
     case: &Case<'_>,
@@ -105,7 +106,8 @@ fn passes_over<L: LinkStore, W: Write>(
     Ok(true)
 }
 
-/// Runs a case, and returns whether it gives what it expects. A script runs over each store, and must give the same over both.
+/// Runs a case, and returns whether it gives what it expects. A script runs over each store, and must give what the case expects over both.
+/// If the case has no script, the outcome of its metamodel must be what the case expects.
 fn passes<W: Write>(
     alloc: Global,
     writer: &mut W,
@@ -121,14 +123,14 @@ fn passes<W: Write>(
     Ok(slots && rows)
 }
 
-/// Parses a case and runs it.
+/// Parses a case and runs it. Returns whether the case gives what it expects.
 fn parse_and_run<W: Write>(rt: &HostRuntime, writer: &mut W, text: &str) -> Result<bool, Fault> {
     let case = Case::parse(rt.alloc(), text)?;
     let metamodel = metamodel_of(rt, &case)?;
     passes(rt.alloc(), writer, &case, metamodel.as_slice())
 }
 
-/// Runs a case; a case that can't be run is written and does not pass.
+/// Parses a case and runs it. If the case can't be run, writes its name and the fault; the case does not pass then.
 fn run_case<W: Write>(rt: &HostRuntime, writer: &mut W, text: &str) -> Result<bool, io::Error> {
     match parse_and_run(rt, writer, text) {
         Ok(passes) => Ok(passes),
@@ -140,7 +142,8 @@ fn run_case<W: Write>(rt: &HostRuntime, writer: &mut W, text: &str) -> Result<bo
     }
 }
 
-/// Runs the cases of a text: each begins with a line `== NAME`.
+/// Runs the cases of a text, and counts them in the tally. A case begins with a line `== NAME`, which is not the first line of the text.
+/// What is before the first case is skipped.
 fn run_cases<W: Write>(
     rt: &HostRuntime,
     writer: &mut W,
@@ -154,7 +157,7 @@ fn run_cases<W: Write>(
     Ok(tally)
 }
 
-/// Runs the cases of a file; a file that can't be read counts as a case that fails.
+/// Runs the cases of a file, and counts them in the tally. A file that can't be read, or is not UTF-8, counts as a case that fails.
 fn run_file<W: Write>(
     rt: &HostRuntime,
     writer: &mut W,
@@ -170,7 +173,7 @@ fn run_file<W: Write>(
     }
 }
 
-/// Does what a word asks for.
+/// Does what a word of the command line asks for: the list of commands, the snapshot of N books, or the cases of a file.
 fn run_word<W: Write>(
     rt: &HostRuntime,
     writer: &mut W,

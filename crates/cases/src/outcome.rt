@@ -19,7 +19,7 @@ fn line(alloc: Global, fault: MetaFault) -> Result<Vec<u8>, AllocError> {
     Vec::from_slice(alloc, line.as_bytes())
 }
 
-/// What a script prints, and the fault that stopped it.
+/// What a script prints, and then the fault that stopped the script, if a fault stopped it.
 fn printed<L: LinkStore, A: Adapter>(
     alloc: Global,
     meta: Meta,
@@ -35,7 +35,8 @@ fn printed<L: LinkStore, A: Adapter>(
     }
 }
 
-/// The outcome of a script with adapters: the fault of its metamodel, or what the script prints and the fault that stopped it.
+/// The outcome of a script with adapters: the fault of its metamodel; or what the script prints, and then the fault that stopped the
+/// script, if a fault stopped it.
 fn given<L: LinkStore, A: Adapter>(
     alloc: Global,
     metamodel: &[u8],
@@ -61,13 +62,13 @@ fn window(alloc: Global, room: u64) -> Result<Box<Window>, AllocError>
     Ok(Box::new(alloc, Window::new(alloc, room)?)?)
 }
 
-/// An adapter that counts its notifications, and begins at `told`.
+/// An adapter that counts its notifications and keeps none; its count begins at `told`.
 fn counter(alloc: Global, told: u64) -> Result<Box<Counter>, AllocError> {
     Ok(Box::new(alloc, Counter::starting_at(told))?)
 }
 
-/// The outcome of a script over a store of links, with the adapters of the program: the fault of its metamodel, or what the script prints
-/// and the fault that stopped it.
+/// The outcome of a script over a store of links, with adapters of the same kinds as A1 to A8 of a script: the fault of its metamodel; or
+/// what the script prints, and then the fault that stopped the script, if a fault stopped it.
 pub(crate) fn script_outcome<L: LinkStore>(
     alloc: Global,
     metamodel: &[u8],
@@ -87,7 +88,7 @@ pub(crate) fn script_outcome<L: LinkStore>(
     given::<L, _>(alloc, metamodel, boxes, script)
 }
 
-/// What a metamodel gives: its fault, or `accepted`. A script without lines prints nothing over a metamodel that is accepted.
+/// What a metamodel gives: its fault, or `accepted`. The metamodel is accepted if a script without lines has an empty outcome over it.
 pub(crate) fn document_outcome(alloc: Global, metamodel: &[u8]) -> Result<Vec<u8>, AllocError> {
     let given = script_outcome::<SlotStore>(alloc, metamodel, b"")?;
     if given.is_empty() {

@@ -33,7 +33,7 @@ use Rattle.proxies.specs.declared.resolved_proxy.ResolvedProxy.{ResolvedProxy}
 
 ---------------------------------------------------------------- what a proxy is resolved to
 
--- the counterpart of a proxy: the first proxy at the opposite end that leads back
+-- the counterpart of a proxy: the first proxy at the opposite end that has the referring object at its address
 abbrev pub counterpart_by : Reading → FirstLeads → ProxySite → ObjectNo → Option Counterpart
 counterpart_by r t p o =
     option_and_then (λ d. option_map (λ j. record { end = d; index = j }) (index_at t (reference_key o d.feature p.object.0))) (opposite_end r (end_of p) o)

@@ -22,8 +22,8 @@ use Rattle.change_plans.specs.declared.planned.Finding.TheVariants as finding
 use Rattle.change_plans.specs.declared.planned.Planned.{Planned}
 use Rattle.mm_types.specs.Conditions.{is_memory_refusal}
 
--- A change that is not refused, with the objects that the change deletes and the target of the proxy that the change resolves, if there is
--- one.
+-- The change c is not refused and does not resolve all proxies. x has the objects that c destroys, if there are any, and t is the target of
+-- the proxy that c resolves, if there is one.
 pub record IsAllowed (r : Reading) (c : Change) (x : Option Removal) (t : Option ResolvedProxy) : Type 0 where
   pub asked : early_refusal r c ≡ None
   pub allowed : late_refusal r c ≡ None
@@ -42,13 +42,13 @@ abbrev pub target_in : Finding → Option ResolvedProxy
 target_in (finding.Target x) = Some x
 target_in _ = None
 
--- how many of all proxies are resolved, among what planning finds
+-- for a resolve of all proxies, how many proxies are resolved and how many are left, among what planning finds
 abbrev pub resolved_in : Finding → Option Resolved
 resolved_in (finding.Counts n) = Some n
 resolved_in _ = None
 
--- the plan of a change that is not refused: the objects that the change destroys, the target of the proxy that it resolves, how many of all
--- proxies it resolves, the edits that make the change, and its notifications if an adapter may have to get them
+-- the plan of a change that is not refused: the objects that the change destroys, the target of the proxy that it resolves, how many
+-- proxies it resolves if it resolves all, the edits that make the change, and its notifications if an adapter may have to get them
 pub record IsPlanOf (is_heard : Bool) (s : Model) (c : Change) (p : Planned) : Type 0 where
   pub allowed : late_refusal (reading s) c ≡ None
   pub removed : IsRemovalOf (reading s) c (removal_in p.finding)

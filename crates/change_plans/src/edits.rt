@@ -28,7 +28,8 @@ use removal::{LinkEnd, Removal};
 use resource_docs::Doc;
 use std::alloc::{AllocError, Global};
 
-/// The edits of links that make a change, given the links that it cuts; `resolving_all` makes the edits that resolve all proxies.
+/// The edits of links that make a change, given the links that the change cuts. The change must not resolve all proxies: the module
+/// `resolving_all` makes the edits for that.
 pub(crate) fn link_edits<L: LinkStore>(
     alloc: Global,
     model: &ModelRef<L>,
@@ -73,8 +74,7 @@ fn push_made<L: LinkStore>(
     Ok(())
 }
 
-/// Adds the edits that put a link in place of its proxies. Adds no edit if no target was found, since no object is at the address of the
-/// proxy.
+/// Adds the edits that put a link in the place of a proxy and of its counterpart, after both are cut. Adds no edit without a target.
 pub(crate) fn push_joining<L: LinkStore>(
     model: &ModelRef<L>,
     end: End,
@@ -94,7 +94,7 @@ pub(crate) fn push_joining<L: LinkStore>(
     Ok(())
 }
 
-/// The edit that moves a new link, at the opposite end, from the last index to the index of the proxy that it replaces.
+/// The edit that moves a new link, at the opposite end, from the last index to the index of the proxy that the link replaces.
 fn back_edit<L: LinkStore>(model: &ModelRef<L>, other: Counterpart) -> Edit
     ensures { result ≡ e.back_edit (reading model.now) other }
 {
@@ -105,7 +105,7 @@ fn back_edit<L: LinkStore>(model: &ModelRef<L>, other: Counterpart) -> Edit
     }
 }
 
-/// The edit after the cuts, if there is one.
+/// The edit after the cuts of a set, an addition or a move at a reference, if there is one; `None` for any other change.
 fn made_edit<L: LinkStore>(model: &ModelRef<L>, change: &Change) -> Option<Edit>
     ensures { result ≡ e.made_edit (reading model.now) change.now }
 {
@@ -123,7 +123,7 @@ fn made_edit<L: LinkStore>(model: &ModelRef<L>, change: &Change) -> Option<Edit>
     }
 }
 
-/// The edit that sets a reference, if the link is not there already.
+/// The edit that sets a reference to an object. `None` if the end has the value already, if the value is no object, or for an attribute.
 fn set_put<L: LinkStore>(model: &ModelRef<L>, end: End, value: &Value) -> Option<Edit>
     ensures { result ≡ e.made_edit (reading model.now) (At end (Set value.now)) }
 {
@@ -134,7 +134,7 @@ fn set_put<L: LinkStore>(model: &ModelRef<L>, end: End, value: &Value) -> Option
     }
 }
 
-/// The edit that adds an object to a reference, if the list lacks the object.
+/// The edit that adds an object to a reference. `None` if the list has the value already, if the value is no object, or for an attribute.
 fn add_put<L: LinkStore>(
     model: &ModelRef<L>,
     end: End,
@@ -150,7 +150,7 @@ fn add_put<L: LinkStore>(
     }
 }
 
-/// The edit that puts an object at a position of an end; none if the value is no object.
+/// The edit that puts an object at a position of an end; `None` if the value is no object.
 fn new_put<L: LinkStore>(model: &ModelRef<L>, end: End, index: u32, value: &Value) -> Option<Edit>
     ensures { result ≡ e.new_put (reading model.now) end index value.now }
 {
@@ -177,7 +177,7 @@ pub(crate) fn value_edits<L: LinkStore>(
     }
 }
 
-/// The edits of values that a change makes, if the change destroys nothing.
+/// The edits of values that a change makes. The change must destroy nothing.
 fn other_edits<L: LinkStore>(
     alloc: Global,
     model: &ModelRef<L>,
@@ -333,7 +333,7 @@ pub(crate) fn set_edits<L: LinkStore>(
     put_list(alloc, end, NewValues::one(value), flag)
 }
 
-/// The edits that put a list at an end; none at the end of a resource, which has no attributes.
+/// The edit that replaces the values of an attribute by `list`, and its set flag by `flag`; none for a resource, which has no attributes.
 fn put_list(alloc: Global, end: End, list: NewValues, flag: bool) -> ValuePlan
     ensures { result ≡ put_values end list flag }
 {

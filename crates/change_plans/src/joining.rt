@@ -1,4 +1,4 @@
-//! The proxies of a model are resolved one after another, without a change of the model.
+//! Finds out which proxies of a model are resolved if all are to be, one after another, and to what. The model is not changed.
 ghost use Rattle.std.specs.Prelude.{◌≡◌, IfOk};
 ghost use Rattle.models.specs.Model.{reading};
 ghost use Rattle.change_plans.specs.Joining as spec;
@@ -20,8 +20,8 @@ pub(crate) struct Joint {
     pub target: ResolvedProxy,
 }
 
-/// What was resolved so far: the proxies in order, the locations of all proxies that are gone, and the objects that took the positions of
-/// these proxies.
+/// What was resolved so far. `joints` has the resolved proxies, in order; `gone` the locations of these proxies and of their counterparts;
+/// `linked` the objects that took these locations, each with its reference.
 #[derive(Drop)]
 pub(crate) struct Progress {
     pub joints: Vec<Joint>,
@@ -29,7 +29,7 @@ pub(crate) struct Progress {
     linked: Keys,
 }
 
-/// Resolves all proxies of a model. Fails only if memory is refused.
+/// Finds out how all proxies of a model are resolved; `leads` has them in order. Fails only if memory is refused.
 pub(crate) fn resolve_all<L: LinkStore>(
     alloc: Global,
     model: &ModelRef<L>,
@@ -52,7 +52,7 @@ impl Progress {
     ghost use Rattle.proxies.specs.Keys.{has};
     ghost use Rattle.models.specs.declared.reference_key.ReferenceKey.{ReferenceKey};
 
-    /// Nothing resolved yet. Takes no memory.
+    /// The progress before the first proxy: nothing is resolved yet. Takes no memory.
     fn new(alloc: Global) -> Self
         ensures { spec.IsNothing result }
     {
@@ -63,7 +63,7 @@ impl Progress {
         }
     }
 
-    /// Resolves a proxy, unless that is refused.
+    /// Adds a proxy to what was resolved, unless its resolve is refused or no object is at its address.
     fn resolve<L: LinkStore>(
         &mut self,
         model: &ModelRef<L>,
@@ -78,7 +78,8 @@ impl Progress {
         }
     }
 
-    /// The target to which a proxy is resolved; `None` if the proxy is refused. Takes no memory.
+    /// The target to which a proxy is resolved after the earlier proxies; `None` if its resolve is refused or no object is at its address.
+    /// Takes no memory.
     fn target<L: LinkStore>(
         &self,
         model: &ModelRef<L>,
@@ -99,7 +100,8 @@ impl Progress {
         }
     }
 
-    /// Whether a proxy can't be resolved to the target that it finds. Takes no memory.
+    /// Whether the resolve of a proxy to its target is refused after the earlier proxies: the proxy is gone, the object at its address is
+    /// of a wrong type or is at the end already, or the proxy has no counterpart and needs one. Takes no memory.
     fn is_refused<L: LinkStore>(
         &self,
         model: &ModelRef<L>,
@@ -116,7 +118,7 @@ impl Progress {
             || is_unmatched(model, end, target)
     }
 
-    /// Adds a proxy that is resolved.
+    /// Adds a proxy that is resolved, and its counterpart, if it has one.
     fn add(&mut self, site: ProxySite, target: ResolvedProxy) -> Result<(), AllocError>
         ensures { OnOk result (spec.Adds self.old self.new site target) }
     {
@@ -148,7 +150,8 @@ impl Progress {
     }
 }
 
-/// The proxy of the same link at the opposite end, if there is one. Takes no memory.
+/// The proxy of the same link at the opposite end, if there is one: the first proxy there that has the referring object at its address.
+/// Takes no memory.
 fn counterpart<L: LinkStore>(
     model: &ModelRef<L>,
     first: &FirstLeads,

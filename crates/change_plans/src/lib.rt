@@ -15,9 +15,7 @@ mod resolved_proxy;
 mod resolving_all;
 mod value_planning;
 
-pub use link_planning::{lone_add, lone_set, plan_link_edits, plan_links};
+pub use link_planning::{lone_add, lone_set, plan_links};
 pub use planned::{Finding, Planned};
 pub use planning::plan;
-pub use value_planning::{
-    attribute_refusal, create_refusal, plan_set, plan_value_edits, plan_values,
-};
+pub use value_planning::{attribute_refusal, create_refusal, plan_set, plan_values};

@@ -12,9 +12,7 @@ ghost use Rattle.handshake.specs.declared.act.Act.TheVariants.{Add, Set};
 ghost use Rattle.handshake.specs.declared.change.Change.TheVariants.{At};
 ghost use Rattle.mm_types.specs.Conditions.{is_memory_refusal};
 
-use crate::planning::{
-    self, add_late_refusal, links_and_notices, new_set_refusal, unheard_link_edits,
-};
+use crate::planning::{self, add_late_refusal, links_and_notices, new_set_refusal};
 use handshake::{Change, displaces, is_plain_add};
 use links::{LinkStore, NewLink, Plan};
 use mm_types::{End, ObjectNo, Refused, Value};
@@ -22,48 +20,29 @@ use models::ModelRef;
 use notice_chain::Chain;
 use std::alloc::Global;
 
-/// The edits of links that a change makes, or the first refusal that planning finds. This is `plan` for a change that edits only links and
-/// notifies no adapter.
-pub fn plan_link_edits<L: LinkStore>(
-    alloc: Global,
-    model: &ModelRef<L>,
-    change: &Change,
-) -> Result<Plan, Refused>
-    requires asked { early_refusal (reading model.now) change.now ≡ None }
-    requires links { edits_links_alone model.now.metamodel change.now ≡ true }
-    ensures planned { IfOk result (λ p. IsPlanOf false model.now change.now (of_links p [])) }
-    ensures refused { IfErr result (λ r. late_refusal (reading model.now) change.now ≡ (if is_memory_refusal r then None else Some r)) }
-{
-    model.lemma_is_legal();
-    if let Some(refused) = planning::late_refusal(model, change, None) {
-        return Err(refused);
-    }
-    let edits = unheard_link_edits(alloc, model, change, &None, None)?;
-    Ok(edits)
-}
-
-/// The edits of links that a change makes, and its notifications; or the first refusal that planning finds. This is `plan` for a change
-/// that edits only links.
+/// The edits of links that a change makes, or the first refusal that planning finds. The notifications are made only if an adapter may have
+/// to get them. This is `plan` for a change that edits only links.
 pub fn plan_links<L: LinkStore>(
     alloc: Global,
     model: &ModelRef<L>,
     change: &Change,
+    is_heard: bool,
 ) -> Result<(Plan, Chain), Refused>
     requires asked { early_refusal (reading model.now) change.now ≡ None }
     requires links { edits_links_alone model.now.metamodel change.now ≡ true }
-    ensures planned { IfOk result (λ p. IsPlanOf true model.now change.now (of_links p.0 p.1)) }
+    ensures planned { IfOk result (λ p. IsPlanOf is_heard model.now change.now (of_links p.0 p.1)) }
     ensures refused { IfErr result (λ r. late_refusal (reading model.now) change.now ≡ (if is_memory_refusal r then None else Some r)) }
 {
     model.lemma_is_legal();
     if let Some(refused) = planning::late_refusal(model, change, None) {
         return Err(refused);
     }
-    let (edits, chain) = links_and_notices(alloc, model, change, &None, None, true)?;
+    let (edits, chain) = links_and_notices(alloc, model, change, &None, None, is_heard)?;
     Ok((edits, chain))
 }
 
-/// The link that a set of an object puts, if the plan puts this link and does nothing else: the set is not refused, and displaces no link.
-/// Takes no memory.
+/// The link that a set puts, if the plan puts this link and does nothing else: a reference is set to an object, and the set is not refused
+/// and displaces no link. Takes no memory.
 #[inline(always)]
 pub fn lone_set<L: LinkStore>(model: &ModelRef<L>, end: End, value: &Value) -> Option<NewLink>
     requires asked { early_refusal (reading model.now) (At end (Set value.now)) ≡ None }
@@ -74,7 +53,8 @@ pub fn lone_set<L: LinkStore>(model: &ModelRef<L>, end: End, value: &Value) -> O
     put_of_set(model, end, value)
 }
 
-/// The link that an addition of an object puts, if the plan puts this link and does nothing else. Takes no memory.
+/// The link that an addition puts, if the plan puts this link and does nothing else: an object is added to a reference whose list lacks the
+/// object, and the addition is not refused and displaces no link. Takes no memory.
 #[inline(always)]
 pub fn lone_add<L: LinkStore>(
     model: &ModelRef<L>,

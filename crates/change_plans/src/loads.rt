@@ -52,7 +52,7 @@ pub(crate) fn root_notices(
     Ok(chain)
 }
 
-/// The notification that an end gains a root of a document at a position. The earlier roots of the document are at the end already.
+/// The notification that an end gains a root of a document at a position. The end has the earlier roots of the document already.
 fn root_notice(next: usize, end: End, position: u32, root: ObjectNo) -> Notice
     requires fits { IsNumbered next root }
     ensures { result ≡ root_notice_of next end (position, root) }

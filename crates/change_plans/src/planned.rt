@@ -12,9 +12,10 @@ pub enum Finding {
     Nothing,
     /// The objects that a deletion destroys.
     Removal(Removal),
-    /// The object that a proxy finds, and the proxy at the opposite end.
+    /// The target of a proxy that is resolved: the object at the proxy's address, and the proxy of the same link at the opposite end, if
+    /// there is one.
     Target(ResolvedProxy),
-    /// How many of all proxies are resolved, and how many are left.
+    /// For a resolve of all proxies: how many proxies are resolved, and how many are left.
     Counts(Resolved),
 }
 

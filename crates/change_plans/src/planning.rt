@@ -34,18 +34,19 @@ use proxies::{ResolvedProxy, resolve_refusal};
 use removal::{LinkEnd, Removal};
 use std::alloc::{AllocError, Global};
 
-/// The plan of a change whose class, nodes and features are there, or the first refusal that planning finds. The notifications are made
-/// only if an adapter may have to get them.
+/// The plan of a change that is not refused early (`early_refusal`), or the first refusal that planning finds. The notifications are made
+/// only if `is_heard`, that is, if an adapter may have to get them.
 ///
 /// `WrongType` if the value is not of the feature's type. `TextLength` if a text has more than 65,535 bytes. `Index` if no value is at an
 /// index, or if there would be a gap before a value that is put in. `Duplicate` if a unique list has the value that is added at an index.
 /// `Bound` if an end that has to gain a value is full. `Recursive` if an object would become a part of itself. `Limit` if 1,000,000 objects
-/// or 100,000 resources were made, or an end has 1,000,000 values. `ResourceExists` if a resource has the URI. For a proxy to be resolved:
-/// `WrongType` if the feature is an attribute, or the object at the address of the proxy is not of the feature's type, `Duplicate` if this
-/// object is at the end already, `NotProxy` if another value is at the index, `Unloaded` if no resource has its URI, `Unresolved` if no
-/// object is at its address, `Unmatched` if the reference has an opposite and no proxy there has the address of the referring object. For a
-/// document: `Limit` if more than 1,000,000 objects would then have been made in all, `NotEmpty` if the resource has roots. `Memory` only
-/// if none of these applies; but since the target of a proxy is looked for first, `Memory` may come before the refusals of a proxy.
+/// or 100,000 resources were made, or if an end that has to gain a value has 1,000,000 values. `ResourceExists` if a resource has the URI.
+/// For a proxy to be resolved: `WrongType` if the feature is an attribute, or the object at the address of the proxy is not of the
+/// feature's type, `Duplicate` if the end has this object already, `NotProxy` if the value at the index is no proxy, `Unloaded` if no
+/// resource has the URI of the proxy, `Unresolved` if no object is at the proxy's address, `Unmatched` if the reference has an opposite and
+/// no proxy at the opposite end has the referring object at its address. For a document: `Limit` if more than 1,000,000 objects would then
+/// have been made in all, `NotEmpty` if the resource has roots. `Memory` only if none of these applies. A resolve of one proxy is
+/// different: its target is looked for first, so `Memory` may be returned though another refusal applies.
 pub fn plan<L: LinkStore>(
     alloc: Global,
     model: &ModelRef<L>,
@@ -153,21 +154,6 @@ pub(crate) fn links_and_notices<L: LinkStore>(
     Ok((edits, chain))
 }
 
-/// The edits of links that make a change of which no adapter is notified.
-pub(crate) fn unheard_link_edits<L: LinkStore>(
-    alloc: Global,
-    model: &ModelRef<L>,
-    change: &Change,
-    removal: &Option<Removal>,
-    target: Option<ResolvedProxy>,
-) -> Result<Plan, AllocError>
-    requires { IsAllowed (reading model.now) change.now removal.now target }
-    ensures { IfOk result (λ p. p ≡ e.link_edits (reading model.now) change.now) }
-{
-    let link_ends = cut_link_ends(alloc, model, change, removal, target)?;
-    link_edits(alloc, model, link_ends, change, target)
-}
-
 /// The first refusal that planning finds. Takes no memory.
 pub(crate) fn late_refusal<L: LinkStore>(
     model: &ModelRef<L>,
@@ -186,7 +172,7 @@ pub(crate) fn late_refusal<L: LinkStore>(
     }
 }
 
-/// What `late_refusal` returns for a change that does an act at an end.
+/// The first refusal that planning finds for an act at an end. Takes no memory.
 fn act_late_refusal<L: LinkStore>(
     model: &ModelRef<L>,
     end: End,
@@ -236,7 +222,8 @@ pub(crate) fn set_late_refusal<L: LinkStore>(
     set_refusal(model, end, value)
 }
 
-/// What `set_late_refusal` returns for a value that the end does not have yet.
+/// The first refusal that planning finds for a set to a value that the end does not have yet: `WrongType`, `TextLength`, `Bound`,
+/// `Recursive` or `Limit`.
 #[inline(always)]
 pub(crate) fn new_set_refusal<L: LinkStore>(
     model: &ModelRef<L>,
@@ -255,7 +242,8 @@ pub(crate) fn new_set_refusal<L: LinkStore>(
     }
 }
 
-/// What `late_refusal` returns for an addition. In `repeats` the caller passes whether the end is a unique list that already has the value.
+/// The first refusal that planning finds for an addition: `WrongType`, `TextLength`, `Index`, `Duplicate`, `Bound`, `Recursive` or `Limit`.
+/// The caller passes in `repeats` whether the values of the end are unique and the end already has the value.
 #[inline(always)]
 pub(crate) fn add_late_refusal<L: LinkStore>(
     model: &ModelRef<L>,
@@ -332,7 +320,8 @@ fn index_refusal(is_there: bool) -> Option<Refused>
     if is_there { None } else { Some(Refused::Index) }
 }
 
-/// Why a single end can't be set to a value of its type.
+/// Why a single end can't be set to a value that is of the feature's type: `Bound`, `Recursive` or `Limit`. A set to the value that the end
+/// has already is not refused.
 #[inline(always)]
 fn set_refusal<L: LinkStore>(model: &ModelRef<L>, end: End, value: &Value) -> Option<Refused>
     requires taken { takes (reading model.now) end.feature value.now ≡ true }

@@ -10,7 +10,8 @@ use models::ModelRef;
 use proxies::{ResolvedProxy, target_at};
 use std::alloc::{AllocError, Global};
 
-/// The target of the proxy that a change resolves, if it resolves one. Fails only for such a change, and only if memory is refused.
+/// The target of the proxy that a change resolves. `None` if the change is no resolve of one proxy, or if the proxy has no target. Fails
+/// only for a resolve of one proxy, and only if memory is refused.
 pub(crate) fn target_of<L: LinkStore>(
     alloc: Global,
     model: &ModelRef<L>,

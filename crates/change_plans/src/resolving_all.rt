@@ -110,7 +110,7 @@ fn joint_notices<L: LinkStore>(
     notices(alloc, model, feature_changes)
 }
 
-/// The changes of features that happen when proxies are resolved.
+/// The feature changes of proxies that are resolved.
 fn feature_changes(alloc: Global, joints: &[Joint]) -> Result<Vec<FeatureChange>, AllocError>
     ensures { IfOk result (λ ts. ts.items ≡ flat_map spec.told_by joints.now) }
 {
@@ -121,7 +121,7 @@ fn feature_changes(alloc: Global, joints: &[Joint]) -> Result<Vec<FeatureChange>
     Ok(out)
 }
 
-/// Adds the changes of features that happen when a proxy is resolved.
+/// Adds the feature changes of a proxy that is resolved.
 fn push_told(joint: Joint, out: &mut Vec<FeatureChange>) -> Result<(), AllocError>
     ensures { OnOk result (out.new.items ≡ out.old.items ++ spec.told_by joint) }
 {
@@ -129,7 +129,7 @@ fn push_told(joint: Joint, out: &mut Vec<FeatureChange>) -> Result<(), AllocErro
     push_resolved(end, joint.site.index, Some(joint.target), out)
 }
 
-/// How many proxies are left: `gone` does not have their locations.
+/// How many proxies are left: those of `leads` whose locations are not in `gone`.
 fn left(leads: &[Lead], gone: &Keys) -> usize
     ensures { result ≡ length (filter (λ x. not (has gone.now (key_of x.site))) leads.now) }
 {

@@ -21,48 +21,29 @@ use models::{ModelRef, class_refusal};
 use notice_chain::Chain;
 use std::alloc::{AllocError, Global};
 
-/// The edits of values that a change makes, or the first refusal that planning finds. This is `plan` for a change that edits no link and
-/// notifies no adapter.
-pub fn plan_value_edits<L: LinkStore>(
-    alloc: Global,
-    model: &ModelRef<L>,
-    change: Change,
-) -> Result<ValuePlan, Refused>
-    requires asked { refusals.early_refusal (reading model.now) change ≡ None }
-    requires values { edits_values_alone model.now.metamodel change ≡ true }
-    ensures values { IfOk result (λ p. p ≡ value_edits_of (reading model.now) change) }
-    ensures allowed { OnOk result (refusals.late_refusal (reading model.now) change ≡ None) }
-    ensures refused { IfErr result (λ r. refusals.late_refusal (reading model.now) change ≡ (if is_memory_refusal r then None else Some r)) }
-{
-    if let Some(refused) = late_refusal(model, &change, None) {
-        return Err(refused);
-    }
-    Ok(value_edits(alloc, model, change, &None)?)
-}
-
-/// The edits of values that a change makes, and its notifications; or the first refusal that planning finds. This is `plan` for a change
-/// that edits no link.
+/// The edits of values that a change makes, or the first refusal that planning finds. The notifications are made only if an adapter may have
+/// to get them. This is `plan` for a change that edits no link.
 pub fn plan_values<L: LinkStore>(
     alloc: Global,
     model: &ModelRef<L>,
     change: Change,
+    is_heard: bool,
 ) -> Result<(ValuePlan, Chain), Refused>
     requires asked { refusals.early_refusal (reading model.now) change ≡ None }
     requires values { edits_values_alone model.now.metamodel change ≡ true }
-    ensures values { IfOk result (λ p. p.0 ≡ value_edits_of (reading model.now) change) }
-    ensures chain { IfOk result (λ p. p.1 ≡ chain (reading model.now) change) }
-    ensures allowed { OnOk result (refusals.late_refusal (reading model.now) change ≡ None) }
+    ensures planned { IfOk result (λ p. IsPlanOf is_heard model.now change (of_values p.0 p.1)) }
     ensures refused { IfErr result (λ r. refusals.late_refusal (reading model.now) change ≡ (if is_memory_refusal r then None else Some r)) }
 {
+    model.lemma_is_legal();
     if let Some(refused) = late_refusal(model, &change, None) {
         return Err(refused);
     }
-    let chain = heard_chain(alloc, model, &change, &None, None, &[], true)?;
+    let chain = heard_chain(alloc, model, &change, &None, None, &[], is_heard)?;
     let values = value_edits(alloc, model, change, &None)?;
     Ok((values, chain))
 }
 
-/// The edit that sets an attribute, and its notification, if the set is not refused. Errs only if memory is refused.
+/// The edit that sets an attribute, and its notification. The set must not be refused. Fails only if memory is refused.
 pub fn plan_set<L: LinkStore>(
     alloc: Global,
     model: &ModelRef<L>,
@@ -86,7 +67,8 @@ pub fn plan_set<L: LinkStore>(
     ))
 }
 
-/// The first refusal of a set of an attribute, other than `Memory`. Takes no memory.
+/// The first refusal of a set, other than `Memory`. The refusals of `early_refusal` come first, and then the refusals that planning finds.
+/// Takes no memory.
 #[inline(always)]
 pub fn attribute_refusal<L: LinkStore>(
     model: &ModelRef<L>,

@@ -33,7 +33,7 @@ abbrev pub options : List Rule
 options = meta ∷ file (codes "script") ∷ each (codes "load") ∷ each (codes "save") ∷ flag (codes "echo") ∷ flag (codes "number") ∷ flag (codes "stop") ∷ flag (codes "strict")
     ∷ flag (codes "live") ∷ file (codes "journal") ∷ flag (codes "explain") ∷ []
 
--- `--version` is an option that clap adds
+-- a command line with `--version`, an option that clap adds
 abbrev pub with_version : App → App
 with_version a = on_top (λ s. record s { has_version = true }) a
 
@@ -47,7 +47,7 @@ texts = map (λ s. s.now)
 abbrev pub is_set : Text → List Row → Bool
 is_set name rows = option_map_or (λ value. bytes_eq value (codes "true")) (first_of name rows) false
 
--- the values that the words give an option, in their order
+-- the values that the words give an option, in the order of the words
 abbrev pub values : Text → List Row → List Text
 values name rows = unwrap_or (all_of name rows) []
 

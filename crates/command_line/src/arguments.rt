@@ -25,11 +25,12 @@ pub struct Options<'a> {
     pub save: Vec<&'a str>,
     /// The output options: `--echo`, `--number` and `--stop`.
     pub dress: Dress,
-    /// Whether a refused or bad line gives an exit status of its own (`--strict`).
+    /// Whether the exit status is 4 if a line was refused or bad (`--strict`).
     pub strict: bool,
-    /// Whether each line is answered before the next is read (`--live`).
+    /// Whether the program holds a dialogue (`--live`): it answers each line before it reads the next line, or with a journal at the latest
+    /// before it waits for input.
     pub live: bool,
-    /// The file that keeps the lines that change the model (`--journal`).
+    /// The file that keeps the lines that change the model (`--journal`); `None` if no file keeps them.
     pub journal: Option<&'a str>,
     /// Whether the program says on standard error what to fix (`--explain`).
     pub explain: bool,
@@ -139,7 +140,7 @@ pub fn usage_of(alloc: Global) -> Result<String, AllocError> {
 pub fn options_of<'a>(alloc: Global, words: &'a [&'a str]) -> Result<Options<'a>, Error>
     // The options have what the words give.
     ensures value { IfOk result (λ o. AreGiven o (matches_of program (texts words.entry.now))) }
-    // Words that fit the command line are refused only if memory is.
+    // Words that fit the command line are refused only if memory is refused.
     ensures passes { IfErr result (λ e. takes program (texts words.entry.now) ≡ true → kind_of e ≡ ErrorKind.OutOfMemory) }
 {
     let matches = command(alloc)?.try_get_matches_from(words)?;
@@ -168,7 +169,7 @@ pub fn options_of<'a>(alloc: Global, words: &'a [&'a str]) -> Result<Options<'a>
 pub fn meta_file<'a>(alloc: Global, words: &'a [&'a str]) -> Result<&'a str, Error>
     // The file is the first value that the words give `--meta`.
     ensures value { IfOk result (λ file. first_of (codes "meta") (matches_of program (texts words.entry.now)) ≡ Some file.now) }
-    // Words that fit the command line are refused only if memory is.
+    // Words that fit the command line are refused only if memory is refused.
     ensures passes { IfErr result (λ e. takes program (texts words.entry.now) ≡ true → kind_of e ≡ ErrorKind.OutOfMemory) }
 {
     Ok(options_of(alloc, words)?.meta)

@@ -39,8 +39,8 @@ abbrev pub tree : Reading → ℕ → ObjectNo → List ObjectNo
 tree r zero o = []
 tree r (suc k) o = o ∷ flat_map (tree r k) (contents r (node.Object o))
 
--- an object and all objects below it; no tree has more levels than the number of objects that were made. If no object has the number of o,
--- the list has only o
+-- an object and all objects below it; no tree has more levels than objects were made, so `suc r.next` levels are enough. If no object has
+-- the number of o, the list has only o
 abbrev pub subtree : Reading → ObjectNo → List ObjectNo
 subtree r o = tree r (suc r.next) o
 

@@ -54,7 +54,7 @@ pub fn holder_resource<L: LinkStore>(store: &L, object: ObjectNo) -> Option<Reso
     }
 }
 
-/// The node that contains a node; nothing contains a resource. Takes no memory.
+/// The node that contains a node; `None` if nothing contains it, and for a resource. Takes no memory.
 pub fn parent_of<L: LinkStore>(store: &L, node: Node) -> Option<Node>
     requires legal { IsLegalSet (L.links store.now) }
     ensures { result ≡ option_map (λ e. e.node) (holder_of (L.links store.now) node) }

@@ -15,10 +15,11 @@ use links::LinkStore;
 use mm_types::{End, FeatureNo, Node, ObjectNo};
 use models::ModelRef;
 
-/// How many objects can wait on the way down. If more objects would have to wait, only the search upwards goes on.
+/// The greatest number of objects at which the search downwards can still have to look. If there would be more, that search stops, and only
+/// the search upwards goes on.
 const MOST_WAITING: usize = 32;
 
-/// The numbers of objects that are still to be looked at. The objects below each of these objects are still to be looked at too.
+/// The numbers of the objects at which the search downwards still has to look. It then has to look at the objects below each of them too.
 type Waiting = ArrayVec<u32, MOST_WAITING>;
 
 /// Whether an object is above a node. The search looks alternately at a node above the node and at an object below the object. So if the
@@ -71,7 +72,7 @@ fn add_contents<L: LinkStore>(model: &ModelRef<L>, object: ObjectNo, waiting: &m
     true
 }
 
-/// Adds the objects that a node contains by one feature, and returns whether there was capacity for all of them.
+/// Adds the objects that a node contains under one feature, and returns whether there was capacity for all of them.
 fn add_parts<L: LinkStore>(
     model: &ModelRef<L>,
     node: Node,

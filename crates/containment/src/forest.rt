@@ -21,7 +21,7 @@ pub fn container<L: LinkStore>(model: &ModelRef<L>, object: ObjectNo) -> Option<
     }
 }
 
-/// Whether a feature of a node may be a containment. Takes no memory.
+/// Whether some feature of a node may be a containment; if the result is false, no feature of the node is one. Takes no memory.
 pub(crate) fn may_contain<L: LinkStore>(model: &ModelRef<L>, node: Node) -> bool
     ensures { result ≡ false → list_any (is_containment model.now.metamodel) (all_features_of (reading model.now) node) ≡ false }
 {
@@ -55,7 +55,7 @@ pub fn contents<L: LinkStore>(
     Ok(out)
 }
 
-/// Adds the objects that a node contains by one feature.
+/// Adds the objects that a node contains under one feature.
 fn push_parts<L: LinkStore>(
     model: &ModelRef<L>,
     node: Node,

@@ -66,7 +66,7 @@ fn all_below<L: LinkStore>(
     Ok(found)
 }
 
-/// Whether `node` is `above`, or is below it. Takes no memory, and few steps if `above` has few objects below it.
+/// Whether `node` is `above`, or is below it. Takes no memory, and few steps if `above` is an object with few objects below it.
 pub fn is_within<L: LinkStore>(model: &ModelRef<L>, above: Node, node: Node) -> bool
     ensures { result ≡ r.is_within (reading model.now) above node }
 {
@@ -74,8 +74,8 @@ pub fn is_within<L: LinkStore>(model: &ModelRef<L>, above: Node, node: Node) -> 
 }
 
 /// Whether a node is below another one. A node that nothing contains is below no node, and no node is below an object that contains
-/// nothing. If an object has few objects below it, few steps show that a node is not below this object. So a chain that grows at its lower
-/// end is not climbed to its top for each new object.
+/// nothing. If an object has few objects below it, few steps show that a node is not below this object. So if a chain of objects grows at
+/// its bottom, the chain is not climbed to its top for each new object, which has few objects below it.
 fn is_below<L: LinkStore>(model: &ModelRef<L>, above: Node, node: Node) -> bool
     requires apart { same_node above node ≡ false }
     ensures { result ≡ list_any (same_node above) ((reading model.now).above node) }

@@ -1,4 +1,4 @@
--- Documents whose objects get numbers within the limit.
+-- Documents within the limits: their objects get numbers below OBJECTS, and no list has more than LIST_VALUES values.
 use Rattle.std.specs.Prelude.{ℕ, ◌+◌, ◌<◌, ◌≤◌, length}
 use Rattle.std.specs.List.{All}
 use Rattle.mm_types.specs.declared.limits.TheConstants.{LIST_VALUES, OBJECTS}
@@ -9,7 +9,7 @@ use Rattle.resource_docs.specs.declared.doc.Content.{Content}
 use Rattle.resource_docs.specs.declared.doc.Doc.{Doc}
 use Rattle.resource_docs.specs.declared.doc.DocObject.{DocObject}
 
--- an object of the document gets a number within the limit, if the first object gets n
+-- an object of the document gets a number below OBJECTS, if the first object gets n
 abbrev pub IsNumbered : ℕ → ObjectNo → Type 0
 IsNumbered n o = n + o.0 < OBJECTS
 
@@ -30,7 +30,8 @@ IsShort c = length c.values ≤ LIST_VALUES
 abbrev pub IsShortObject : DocObject → Type 0
 IsShortObject o = All IsShort o.contents
 
--- all objects of a document, and all objects that it names, get numbers within the limit; and no list is longer than the limit
+-- all objects of a document, and all objects that the document names, get numbers below OBJECTS; and no list has more than LIST_VALUES
+-- values
 pub record IsFitting (n : ℕ) (doc : Doc) : Type 0 where
   pub room : n + length doc.objects ≤ OBJECTS
   pub objects : All (IsFittingObject n) doc.objects

@@ -1,4 +1,4 @@
--- The index of each object in the lists of a document.
+-- The indexes of objects in the lists of a document. Only the lists of the lower features of pairs are needed.
 use Rattle.std.specs.Prelude.{ℕ, List, [], ◌∷◌, flat_map, Option, Some, None, unwrap_or, if◌then◌else◌}
 use Rattle.std.specs.List.{enumerate_from}
 use Rattle.std.specs.Option.{option_or}
@@ -17,16 +17,17 @@ use Rattle.doc_loader.specs.Pairs.{is_lower}
 use Rattle.models.specs.declared.reference_key.ReferenceKey.{ReferenceKey}
 use Rattle.doc_loader.specs.declared.indexes.ListIndexes.{ListIndexes}
 
--- the key by which an object names another under a feature
+-- the key for the object b in the list of the object o under the feature f
 abbrev pub object_key : ObjectNo → FeatureNo → ObjectNo → ReferenceKey
 object_key o f b = reference_key o f b.0
 
--- the key and the index of an object at a position; nothing for a value that is no object
+-- the key for the value at an index, and the index, if the value is an object; else nothing
 abbrev pub key_and_index : ObjectNo → FeatureNo → ℕ × Value → List (ReferenceKey × ℕ)
 key_and_index o f (i, value.Object b) = (object_key o f b, i) ∷ []
 key_and_index o f (i, v) = []
 
--- the keys and indexes of a content; they are needed only for the lower feature of a pair
+-- the keys and indexes of the objects in a content, if the content's feature is the lower feature of a pair; else nothing, since no other
+-- indexes are needed
 abbrev pub content_indexes : Metamodel → ObjectNo → Content → List (ReferenceKey × ℕ)
 content_indexes m o c =
     if is_lower (shape m c.feature) c.feature then flat_map (key_and_index o c.feature) (enumerate_from 0 c.values) else []

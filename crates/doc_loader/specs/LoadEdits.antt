@@ -1,10 +1,11 @@
 -- The edits that make a document's links and proxies, in an order in which each link and proxy gets the position that the document says. If
--- two features are opposites and neither is a containment, one of them has the lower number. The roots come first. The lists of all
--- references follow, except those of the higher feature of each pair: each value is put last, so each list gets the order of the document.
--- These links also give objects to the ends of the higher features, in the order of the numbers of these objects. If the document has
--- another order at such an end, the links of the end are cut and put again in the order of the document; each link keeps the position that
--- it had at its lower end. The proxies at the ends of the higher features come last, each at its position: the objects are in their order
--- by then.
+-- two features are opposites and neither is a containment, the one with the lower number is called the lower feature of the pair, and its
+-- opposite the higher feature. First come the edits that put the roots. Then come the edits that put the values of all references except
+-- the higher features: each value is put last into its list, so each list gets the order of the document. These edits also put objects into
+-- the ends of the higher features, in the order of the numbers of these objects. If the document has a different order at such an end, the
+-- links of the end are cut and put again in the order of the document; each link keeps the position that it had at its lower end. The
+-- proxies at the ends of the higher features come last. The objects of these ends are in the order of the document by then, so each proxy
+-- can be put at its position.
 use Rattle.std.specs.Prelude.{ℕ, suc, ◌&&◌, Bool, true, not, List, [], ◌∷◌, ◌++◌, flat_map, map, nat_le, is_some, if◌then◌else◌}
 use Rattle.std.specs.List.{enumerate_from}
 use Rattle.std.specs.Option.{option_map_or}
@@ -29,14 +30,14 @@ use Rattle.models.specs.declared.reference_key.ReferenceKey.{ReferenceKey}
 use Rattle.models.specs.Reading.{contents_end}
 use Rattle.links.specs.Plans.{put_of}
 
--- the edit that puts an object of the document at a position
+-- the edit that puts an object of the document at a position of an end
 abbrev pub put_at : Metamodel → ℕ → End → ℕ → ObjectNo → Edit
 put_at m n e i b = put_of e i (loaded_number n b) (shape m e.feature).opposite (shape m e.feature).containing
 
 abbrev pub root_puts : Metamodel → ℕ → ResourceNo → Doc → List Edit
 root_puts m n k doc = map (λ x. put_at m n (contents_end m k) x.0 x.1) (enumerate_from 0 doc.roots)
 
----------------------------------------------------------------- references that are put from their own ends
+---------------------------------------------------------------- references whose links are put by edits that name their own ends
 
 -- the edit that puts a value at a position; none if the value is no object and no proxy
 abbrev pub value_puts : Metamodel → ℕ → End → ℕ × Value → List Edit
@@ -50,14 +51,14 @@ near_edits m n o c =
 
 ---------------------------------------------------------------- the higher feature of each pair
 
--- whether the objects among values are in the order of their numbers, from k on
+-- whether the numbers of the objects among some values go up, and none is below k
 abbrev pub is_ascending_from : ℕ → List Value → Bool
 is_ascending_from k [] = true
 is_ascending_from k (value.Object a ∷ vs) = nat_le k a.0 && is_ascending_from (suc a.0) vs
 is_ascending_from k (v ∷ vs) = is_ascending_from k vs
 
--- the edits that cut the link from the object a to the object b, and put the link again: b gets its index in the list of a, and a becomes
--- the last value at the opposite end of b
+-- the edits that cut the link between the object a and the object b, and put the link again: in the list of a under f, b gets the index
+-- that `index_of` gives; at the opposite end, which belongs to b, a becomes the last value. No edits if the value is no object.
 abbrev pub puts_again : Metamodel → ℕ → (ReferenceKey → ℕ) → ObjectNo → FeatureNo → Value → List Edit
 puts_again m n index_of b f (value.Object a) =
     let e = object_end n a f in
@@ -67,11 +68,11 @@ puts_again m n index_of b f v = []
 abbrev pub in_order : Metamodel → ℕ → (ReferenceKey → ℕ) → ObjectNo → List Value → FeatureNo → List Edit
 in_order m n index_of b vs f = if is_ascending_from 0 vs then [] else flat_map (puts_again m n index_of b f) vs
 
--- whether a content is under the higher feature of a pair
+-- whether the feature of a content is the higher feature of a pair
 abbrev pub is_higher : Metamodel → Content → Bool
 is_higher m c = is_some (lower_of (shape m c.feature) c.feature)
 
--- whether a content is under the higher feature of a pair, and its objects are not in the order of their numbers
+-- whether the feature of a content is the higher feature of a pair, and the objects of the content are not in the order of their numbers
 abbrev pub is_unordered : Metamodel → Content → Bool
 is_unordered m c = is_some (lower_of (shape m c.feature) c.feature) && not (is_ascending_from 0 c.values)
 
@@ -89,7 +90,7 @@ proxy_edits m n o c =
 
 ---------------------------------------------------------------- all
 
--- the edits of a pass over the contents
+-- the edits that a pass makes for one content
 abbrev pub pass_edits : Pass → Metamodel → ℕ → ObjectNo → Content → List Edit
 pass_edits Near = near_edits
 pass_edits Proxies = proxy_edits

@@ -1,5 +1,5 @@
--- What the load of a document makes: the objects of the document, with numbers from the next number on; their values; and their links and
--- proxies. At each end a link has the position that the document says.
+-- What the load of a document makes: the objects of the document, whose numbers go up from n; their values; and their links and proxies. At
+-- each end a link has the position that the document says.
 use Rattle.std.specs.Prelude.{ℕ, ◌+◌, ◌&&◌, Bool, List, [], ◌∷◌, ◌++◌, filter_map, flat_map, fold, map, position, Option, Some, None, unwrap_or, if◌then◌else◌}
 use Rattle.std.specs.List.{enumerate_from}
 use Rattle.std.specs.FinSet as set
@@ -36,17 +36,19 @@ loaded_value n v = v
 abbrev pub roots_loaded : ℕ → Doc → List Value
 roots_loaded n doc = map (λ o. value.Object (loaded_number n o)) doc.roots
 
--- the results of `make` for each content of an object, which has a number in its document
+-- the results of `make` for all contents of an object, in one list; x is the object with its number in the document
 abbrev pub of_object : {X : Type 0} → (ObjectNo → Content → List X) → ℕ × DocObject → List X
 of_object make x = flat_map (make (record { 0 = x.0 })) x.1.contents
 
--- the results of `make` for all contents of all objects of a document; `make` gets the number of the object in the document
+-- the results of `make` for all contents of all objects of a document; `make` gets each content together with the number that the content's
+-- object has in the document
 abbrev pub of_contents : {X : Type 0} → (ObjectNo → Content → List X) → Doc → List X
 of_contents make doc = flat_map (of_object make) (enumerate_from 0 doc.objects)
 
 ---------------------------------------------------------------- values
 
--- the edit that puts the values of an attribute; a single unsettable attribute that the document writes becomes set
+-- the edit that puts the values of a content, if the feature of the content is an attribute; a single unsettable attribute that the
+-- document writes becomes set
 abbrev pub attribute_edits : Metamodel → ℕ → ObjectNo → Content → List ValueEdit
 attribute_edits m n o c =
     let a = shape m c.feature in
@@ -57,25 +59,28 @@ loaded_values m n doc = map (λ o. NewObject o.class) doc.objects ++ of_contents
 
 ---------------------------------------------------------------- links
 
--- the end of an object of the document
+-- the end of the feature f at the object o of the document; the end names o by the number that o gets
 abbrev pub object_end : ℕ → ObjectNo → FeatureNo → End
 object_end n o f = at_end (node.Object (loaded_number n o)) f
 
 abbrev pub is_empty_resource : Reading → ResourceNo → Bool
 is_empty_resource r k = is_nil (r.values (contents_end r.metamodel k))
 
--- the position of an object at the other end of a link: 0 for the container of a part, which is the only value there; else the object's
--- position in the document
+-- If the document gives b as a value of o under f, and g is the opposite of f: the position of o at the end of b under g. If f is a
+-- containment, this is 0, since the container is the only value there; else it is the index of o in the list of b under g in the document
+-- (0 if that list lacks o). a is the shape of f.
 abbrev pub far_index : Shape → Doc → ObjectNo → FeatureNo → ObjectNo → FeatureNo → ℕ
 far_index a doc o f b g = if is_feature f a.containing then 0 else unwrap_or (position (same_value (value.Object o)) (values_in doc b g)) 0
 
--- the link from the object o, at index i of the feature f, to the object b; o and b are numbered as in the document
+-- the link from the object o to the object b, which is at index i under the feature f of o; o and b are the numbers that the objects have
+-- in the document
 abbrev pub link_to : Metamodel → ℕ → Doc → ObjectNo → FeatureNo → ℕ → ObjectNo → Option FeatureNo → Link
 link_to m n doc o f i b None = record { end = object_end n o f; index = i; far = Alone (loaded_number n b); container = (shape m f).containing }
 link_to m n doc o f i b (Some g) =
     joined_link (object_end n o f) i (far_end (loaded_number n b) g) (far_index (shape m f) doc o f b g) (shape m f).containing
 
--- the link, or the proxy, of a value at a position; both ends of a pair give the same link
+-- the link or the proxy for the value at the index i under the feature f of the object o; none if the value is no object and no proxy. If f
+-- has an opposite, the values at both ends of a link give the same link.
 abbrev pub link_of : Metamodel → ℕ → Doc → ObjectNo → FeatureNo → ℕ × Value → Option Link
 link_of m n doc o f (i, value.Object b) = Some (link_to m n doc o f i b (shape m f).opposite)
 link_of m n doc o f (i, value.Proxy t) = Some (record { end = object_end n o f; index = i; far = Proxy t; container = None })
@@ -92,6 +97,6 @@ root_link m n k x =
 abbrev pub loaded_links : Metamodel → ℕ → ResourceNo → Doc → List Link
 loaded_links m n k doc = map (root_link m n k) (enumerate_from 0 doc.roots) ++ of_contents (content_links m n doc) doc
 
--- the set with some links added, each at its own positions
+-- the set s with the links ls added; no position changes, neither in the links of s nor in the links ls
 unfoldable pub with_links : Links → List Link → Links
 with_links s ls = fold (λ t l. set.insert t l) s ls

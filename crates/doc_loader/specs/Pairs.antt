@@ -1,4 +1,5 @@
--- Pairs of opposite features, neither of which is a containment: their links are put from the end of the feature with the lower number.
+-- Pairs of opposite features, neither of which is a containment. Each edit that puts a link between two objects names the end whose feature
+-- has the lower number of the pair.
 use Rattle.std.specs.Prelude.{◌&&◌, Bool, false, not, nat_lt, Option, Some, None, is_some, option_and_then, if◌then◌else◌}
 use Rattle.std.specs.Option.{option_map_or}
 use Rattle.mm_types.specs.Shapes.{Shape}
@@ -10,7 +11,7 @@ is_below f g = nat_lt f.0 g.0
 abbrev pub if_below : FeatureNo → FeatureNo → Option FeatureNo
 if_below g f = if is_below f g then Some f else None
 
--- the opposite of a feature, if the opposite is the lower of the two and neither is a containment
+-- the opposite of a feature, if the opposite has the lower number of the two and neither of them is a containment; else none
 abbrev pub lower_of : Shape → FeatureNo → Option FeatureNo
 lower_of a g = if is_some a.containing then None else option_and_then (if_below g) a.opposite
 
@@ -18,6 +19,7 @@ lower_of a g = if is_some a.containing then None else option_and_then (if_below 
 abbrev pub is_lower : Shape → FeatureNo → Bool
 is_lower a f = not (is_some a.containing) && option_map_or (is_below f) a.opposite false
 
--- whether a feature is a reference whose values are put from its own end
+-- whether a feature is a reference whose links are put by edits that name its own ends: whether it is a reference, and not the higher
+-- feature of a pair
 abbrev pub is_near : Shape → FeatureNo → Bool
 is_near a f = a.is_reference && not (is_some (lower_of a f))

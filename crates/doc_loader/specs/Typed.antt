@@ -1,4 +1,5 @@
--- Documents that keep to their metamodel: each object has the features that it is written with, and each feature takes its values.
+-- Documents that agree with their metamodel: the class of each object has the features under which the object has values, and each value is
+-- one that its feature accepts.
 use Rattle.std.specs.Prelude.{◌≡◌, ◌<◌, false, true, length, Option, option_map, slice_get}
 use Rattle.std.specs.List.{All}
 use Rattle.mm_types.specs.Lookups as lookups
@@ -19,15 +20,15 @@ use Rattle.resource_docs.specs.declared.doc.DocObject.{DocObject}
 abbrev pub class_in : Doc → ObjectNo → Option ClassNo
 class_in doc o = option_map (λ x. x.class) (slice_get doc.objects o.0)
 
--- a feature takes a value: an object whose class conforms to the feature's target, a proxy if the feature may have proxies, or a legal
+-- a feature accepts a value: an object whose class conforms to the feature's target, a proxy if the feature may have proxies, or a legal
 -- value of an attribute
 abbrev pub IsTypedValue : Metamodel → Doc → FeatureNo → Value → Type 0
 IsTypedValue m doc f (value.Object b) = lookups.takes m (class_in doc) f (value.Object b) ≡ true
 IsTypedValue m doc f (value.Proxy t) = takes_proxies (shape m f) ≡ true
 IsTypedValue m doc f v = is_legal_value m f v ≡ true
 
--- a content of an object of a class: the class has the feature; there are values, each of the feature's type, not too many, and none twice
--- if the feature is unique
+-- a content of an object of a class: the class has the feature; there is at least one value, and no more values than the upper bound
+-- allows; the feature accepts each value; and if the feature is unique, no value is there twice
 pub record IsTypedContent (m : Metamodel) (doc : Doc) (class : ClassNo) (c : Content) : Type 0 where
   pub has : lookups.has_feature m class c.feature ≡ true
   pub takes : All (IsTypedValue m doc c.feature) c.values
@@ -39,8 +40,8 @@ pub record IsTypedObject (m : Metamodel) (doc : Doc) (o : DocObject) : Type 0 wh
   pub concrete : lookups.is_concrete m o.class ≡ true
   pub contents : All (IsTypedContent m doc o.class) o.contents
 
--- Each object is of a concrete class, and its contents have the types of their features. The roots are objects of the document, and a
--- resource may have that many roots.
+-- Each object is of a concrete class, and each of its contents agrees with this class and with the content's feature (`IsTypedContent`).
+-- The roots are objects of the document, and a resource may have that many roots.
 pub record IsTyped (m : Metamodel) (doc : Doc) : Type 0 where
   pub objects : All (IsTypedObject m doc) doc.objects
   pub roots : All (λ (o : ObjectNo). o.0 < length doc.objects) doc.roots

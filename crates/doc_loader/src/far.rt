@@ -1,4 +1,4 @@
-//! The edits for the higher feature of each pair of opposites: they put the values of this feature in the order of the document.
+//! The edits for the higher features of pairs of opposites: they bring the values of these features into the order of the document.
 ghost use Rattle.std.specs.Prelude.{◌≡◌, ◌≤◌, ◌+◌, ◌++◌, ℕ, OnOk, flat_map, length, unwrap_or};
 ghost use Rattle.std.specs.List.{All, enumerate_from, list_any};
 ghost use Rattle.mm_types.specs.declared.limits.TheConstants.{OBJECTS};
@@ -27,7 +27,7 @@ struct LoadContext<'r> {
     indexes: &'r ListIndexes,
 }
 
-/// Whether the objects among values are in the order of their numbers.
+/// Whether the objects among `values` are in the order of their numbers, and none is there twice.
 fn is_ascending(values: &[Value]) -> bool
     ensures { result ≡ e.is_ascending_from 0 values.now }
 {
@@ -43,7 +43,7 @@ fn is_ascending(values: &[Value]) -> bool
     true
 }
 
-/// Whether a content is under the higher feature of a pair, and its objects are not in the order of their numbers.
+/// Whether the feature of a content is the higher feature of a pair, and the objects of the content are not in the order of their numbers.
 fn is_unordered(meta: &Meta, content: &Content) -> bool
     ensures { result ≡ e.is_unordered meta.now content.now }
 {
@@ -64,7 +64,7 @@ fn has_any_unordered(meta: &Meta, objects: &[DocObject]) -> bool
         .any(|object| has_unordered(meta, object.contents.as_slice()))
 }
 
-/// Whether a content is under the higher feature of a pair.
+/// Whether the feature of a content is the higher feature of a pair.
 fn is_higher(meta: &Meta, content: &Content) -> bool
     ensures { result ≡ e.is_higher meta.now content.now }
 {
@@ -77,7 +77,7 @@ fn has_any_higher(meta: &Meta, contents: &[Content]) -> bool
     contents.iter().any(|content| is_higher(meta, content))
 }
 
-/// Whether some object has a content under the higher feature of a pair. Takes no memory.
+/// Whether some object has a content whose feature is the higher feature of a pair. Takes no memory.
 pub(crate) fn has_higher(meta: &Meta, objects: &[DocObject]) -> bool
     ensures { result ≡ list_any (λ o. list_any (e.is_higher meta.now) o.contents) objects.now }
 {
@@ -86,8 +86,8 @@ pub(crate) fn has_higher(meta: &Meta, objects: &[DocObject]) -> bool
         .any(|object| has_any_higher(meta, object.contents.as_slice()))
 }
 
-/// Adds the edits that bring the values under the higher features of pairs into the order of the document. Takes no memory if all of them
-/// are in this order already.
+/// Adds the edits that bring the values under the higher features of pairs into the order of the document. Takes no memory if all these
+/// values are in this order already.
 pub(crate) fn push_in_order(
     alloc: Global,
     meta: &Meta,
@@ -111,7 +111,8 @@ pub(crate) fn push_in_order(
     push_objects(&source, objects, edits)
 }
 
-/// Adds the edits of `push_in_order` for some objects.
+/// Adds the edits that bring the values of the document's objects under the higher features of pairs into the order of the document. The
+/// number of an object in the document is its index in `objects`.
 fn push_objects(
     source: &LoadContext,
     objects: &[DocObject],
@@ -128,7 +129,7 @@ fn push_objects(
     Ok(())
 }
 
-/// Adds the edits of `push_in_order` for one object.
+/// Adds the edits that bring the values of one object under the higher features of pairs into the order of the document.
 fn push_object(
     source: &LoadContext,
     object: ObjectNo,
@@ -167,8 +168,8 @@ fn push_content(
     push_values(source, object, lower, values, edits)
 }
 
-/// For each object among `values`, adds the edits that take `object` out of the feature `lower` of the other object, and put `object` in
-/// there again.
+/// Adds edits for each object b among `values`: they cut the link between b and `object`, and put this link again, at the index that
+/// `object` has in the list of b under `lower`.
 fn push_values(
     source: &LoadContext,
     object: ObjectNo,
@@ -186,7 +187,8 @@ fn push_values(
     Ok(())
 }
 
-/// If `value` is an object, adds the edits that take `object` out of the feature `lower` of `value`, and put `object` in there again.
+/// If `value` is an object, adds the edits that cut the link between `value` and `object`, and put this link again, at the index that
+/// `object` has in the list of `value` under `lower`.
 fn push_again(
     source: &LoadContext,
     object: ObjectNo,

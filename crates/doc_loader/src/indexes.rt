@@ -1,4 +1,4 @@
-//! The indexes of each object in the lists of a document.
+//! The indexes of objects in the lists of a document. Only the lists of the lower features of pairs are needed.
 ghost use Rattle.std.specs.Prelude.{◌≡◌};
 
 use crate::pairs::is_lower;
@@ -9,7 +9,7 @@ use models::ReferenceKey;
 use resource_docs::{Content, DocObject};
 use std::alloc::{AllocError, Global};
 
-/// The indexes of each object in the lists of a document.
+/// The indexes of objects in the lists that a document has under the lower features of pairs.
 #[derive(Drop)]
 pub(crate) struct ListIndexes {
     indexes: IndexMap<ReferenceKey, u32>,
@@ -34,7 +34,8 @@ impl ListIndexes {
         }
     }
 
-    /// The index of each object in the lists of a document. Fails only if memory is refused.
+    /// The indexes of the objects in the lists that a document has under the lower features of pairs; `objects` are all objects of the
+    /// document. Fails only if memory is refused.
     pub fn of(alloc: Global, meta: &Meta, objects: &[DocObject]) -> Result<Self, AllocError>
         requires room { length objects.now ≤ OBJECTS }
         requires short { All IsShortObject objects.now }
@@ -47,7 +48,7 @@ impl ListIndexes {
         Ok(indexes)
     }
 
-    /// Adds the indexes of the objects that an object of the document names.
+    /// Adds the indexes of the objects that an object of the document names under the lower features of pairs.
     fn add_object(
         &mut self,
         meta: &Meta,
@@ -80,7 +81,7 @@ impl ListIndexes {
         self.add_values(object, content.feature, content.values.as_slice())
     }
 
-    /// Adds the indexes of the values under a feature of an object.
+    /// Adds the indexes of the objects among the values under a feature of an object.
     fn add_values(
         &mut self,
         object: ObjectNo,
@@ -96,7 +97,7 @@ impl ListIndexes {
         Ok(())
     }
 
-    /// Adds the index of one value, if it is an object.
+    /// Adds the index of one value, if the value is an object.
     fn add_value(
         &mut self,
         object: ObjectNo,

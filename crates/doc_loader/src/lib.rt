@@ -1,4 +1,4 @@
-//! Loading: the edits that make the objects of a document, with their values, and its links.
+//! Loading: the edits that make the objects of a document, the values of these objects, and the links of the document.
 //!
 //! `specs/Loading.antt` says what loading a document makes, `specs/LoadEdits.antt` in which order its links are put.
 #![tactic(auto)]

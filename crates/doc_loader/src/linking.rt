@@ -16,7 +16,7 @@ use resource_docs::Doc;
 use std::alloc::{AllocError, Global};
 
 /// The edits that put the roots of a document into a resource, and put the links and proxies of the document. The objects of the document
-/// are made before; the first object got the number `next`. Fails only if memory is refused.
+/// have to be made before these edits are made; the first object gets the number `next`. Fails only if memory is refused.
 pub fn link_edits(
     alloc: Global,
     meta: &Meta,
@@ -28,12 +28,12 @@ pub fn link_edits(
     ensures { IfOk result (λ es. es.items ≡ e.load_edits meta.now next resource doc.now) }
 {
     let objects = doc.objects.as_slice();
-    // Most objects are put once, where they are contained.
+    // Most objects are put by one edit: the edit that puts them into their container.
     let mut edits = Vec::with_capacity(alloc, objects.len())?;
     let roots = contents_end(meta, resource);
     push_roots(meta, next, roots, doc.roots.as_slice(), &mut edits)?;
     push_objects(meta, next, Pass::Near, objects, &mut edits)?;
-    // In most documents no more is left to put.
+    // Most documents have no content under the higher feature of a pair, so all their links are put by now.
     if !far::has_higher(meta, objects) {
         return Ok(edits);
     }
@@ -42,7 +42,7 @@ pub fn link_edits(
     Ok(edits)
 }
 
-/// Adds the edits that put the roots of a document into an end, in their order.
+/// Adds the edits that put the roots of a document into an end, in the order of `roots`.
 fn push_roots(
     meta: &Meta,
     next: usize,

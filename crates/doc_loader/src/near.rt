@@ -1,4 +1,4 @@
-//! The edits that put values from the end that has them, not from the opposite end.
+//! The edits that put values by naming the end that has the values, not the opposite end.
 ghost use Rattle.std.specs.Prelude.{◌≡◌, ◌≤◌, ◌++◌, OnOk, flat_map, length};
 ghost use Rattle.std.specs.List.{All, enumerate_from};
 ghost use Rattle.mm_types.specs.declared.limits.TheConstants.{LIST_VALUES};
@@ -11,7 +11,7 @@ use mm_meta::Meta;
 use mm_types::{End, ObjectNo, Value};
 use std::alloc::AllocError;
 
-/// The edit that puts an object of the document at a position.
+/// The edit that puts an object of the document at a position of an end.
 pub(crate) fn put_at(meta: &Meta, next: usize, end: End, index: u32, object: ObjectNo) -> Edit
     requires fits { IsNumbered next object }
     ensures { result ≡ e.put_at meta.now next end index object }
@@ -25,7 +25,7 @@ pub(crate) fn put_at(meta: &Meta, next: usize, end: End, index: u32, object: Obj
     })
 }
 
-/// Adds the edits that put values into an end, in their order.
+/// Adds the edits that put values into an end, in the order of `values`.
 pub(crate) fn push_values(
     meta: &Meta,
     next: usize,
@@ -43,7 +43,7 @@ pub(crate) fn push_values(
     Ok(())
 }
 
-/// Adds the edit that puts a value at a position, if it is an object or a proxy.
+/// Adds the edit that puts a value at a position of an end, if the value is an object or a proxy.
 fn push_value(
     meta: &Meta,
     next: usize,

@@ -13,7 +13,7 @@ pub fn loaded(next: usize, object: ObjectNo) -> ObjectNo
     ObjectNo((next + object.0 as usize) as u32)
 }
 
-/// The end of an object of a document.
+/// The end of a feature at an object of a document; the end names the object by the number that it gets, if the first object gets `next`.
 pub(crate) fn object_end(next: usize, object: ObjectNo, feature: FeatureNo) -> End
     requires fits { IsNumbered next object }
     ensures { result ≡ l.object_end next object feature }

@@ -1,4 +1,5 @@
-//! Pairs of opposite features, neither of which is a containment: their links are put from the end of the feature with the lower number.
+//! Pairs of opposite features, neither of which is a containment. Each edit that puts a link between two objects names the end whose
+//! feature has the lower number of the pair.
 ghost use Rattle.std.specs.Prelude.{◌≡◌};
 ghost use Rattle.mm_types.specs.Shapes.{shape};
 ghost use Rattle.doc_loader.specs.Pairs as p;
@@ -6,7 +7,8 @@ ghost use Rattle.doc_loader.specs.Pairs as p;
 use mm_meta::Meta;
 use mm_types::FeatureNo;
 
-/// The opposite of a feature, if the opposite is the lower of the two and neither is a containment. Takes no memory.
+/// The opposite of a feature, if the opposite has the lower number of the two and neither of them is a containment; else `None`. Takes no
+/// memory.
 pub(crate) fn lower_of(meta: &Meta, feature: FeatureNo) -> Option<FeatureNo>
     ensures { result ≡ p.lower_of (shape meta.now feature) feature }
 {
@@ -29,7 +31,8 @@ pub(crate) fn is_lower(meta: &Meta, feature: FeatureNo) -> bool
     }
 }
 
-/// Whether the values of a feature are put from its own end. Takes no memory.
+/// Whether a feature is a reference whose links are put by edits that name its own ends: whether it is a reference, and not the higher
+/// feature of a pair. Takes no memory.
 pub(crate) fn is_near(meta: &Meta, feature: FeatureNo) -> bool
     ensures { result ≡ p.is_near (shape meta.now feature) feature }
 {

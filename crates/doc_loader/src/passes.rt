@@ -1,4 +1,4 @@
-//! The two passes over all contents of a document, each in the order of its objects.
+//! The two passes over all contents of a document. Each pass goes through the objects in the order of the document.
 ghost use Rattle.std.specs.Prelude.{◌≡◌, ◌≤◌, ◌+◌, ◌++◌, OnOk, flat_map, length};
 ghost use Rattle.std.specs.List.{All, enumerate_from};
 ghost use Rattle.mm_types.specs.declared.limits.TheConstants.{OBJECTS};
@@ -24,7 +24,7 @@ pub(crate) enum Pass {
     Proxies,
 }
 
-/// Adds the edits of a pass over objects.
+/// Adds the edits of a pass over the objects of a document; the number of an object in the document is its index in `objects`.
 pub(crate) fn push_objects(
     meta: &Meta,
     next: usize,
@@ -62,7 +62,7 @@ fn push_object(
     Ok(())
 }
 
-/// Adds the edits of a pass at one feature of an object.
+/// Adds the edits that a pass makes for one content of an object.
 fn push_content(
     meta: &Meta,
     next: usize,

@@ -8,7 +8,7 @@ use links::Edit;
 use mm_types::{End, Value};
 use std::alloc::AllocError;
 
-/// Adds the edits that put the proxies among values into an end, each at its position.
+/// Adds the edits that put the proxies among `values` into an end, each proxy at its index in `values`.
 pub(crate) fn push_values(
     end: End,
     values: &[Value],
@@ -23,7 +23,7 @@ pub(crate) fn push_values(
     Ok(())
 }
 
-/// Adds the edit that puts a value at a position, if it is a proxy.
+/// Adds the edit that puts a value at a position of an end, if the value is a proxy.
 fn push_value(end: End, index: u32, value: &Value, edits: &mut Vec<Edit>) -> Result<(), AllocError>
     ensures { OnOk result (edits.new.items ≡ edits.old.items ++ e.proxy_puts end (index, value.now)) }
 {

@@ -31,7 +31,7 @@ pub fn value_edits(
     Ok(edits)
 }
 
-/// The greatest number of edits that objects take. The sum saturates.
+/// The greatest number of edits that objects can take: one for each object, and one for each of its contents. The sum saturates.
 fn capacity_for(objects: &[DocObject]) -> usize {
     let mut count = objects.len();
     'objects: for object in objects {
@@ -50,7 +50,7 @@ fn push_objects(objects: &[DocObject], edits: &mut Vec<ValueEdit>) -> Result<(),
     Ok(())
 }
 
-/// Adds the edits that set the attributes of the objects of a document. The number of an object in the document is its position there.
+/// Adds the edits that set the attributes of the objects of a document. The number of an object in the document is its index in `objects`.
 fn push_lists(
     meta: &Meta,
     next: usize,
@@ -89,7 +89,7 @@ fn push_object(
     }
 }
 
-/// Adds the edit for a content, if there is one.
+/// If there is a content, and its feature is an attribute, adds the edit that puts its values.
 fn push_some(
     meta: &Meta,
     next: usize,
@@ -106,7 +106,7 @@ fn push_some(
     }
 }
 
-/// Adds the edits for a list of contents.
+/// Adds the edits that put the values of a list of contents; a content whose feature is no attribute has no edit.
 fn push_many(
     meta: &Meta,
     next: usize,
@@ -123,7 +123,7 @@ fn push_many(
     Ok(())
 }
 
-/// Values of a document, as an edit puts them. Takes no memory.
+/// Values of a document, in the type in which an edit has them. Takes no memory.
 fn new_values(alloc: Global, values: DocValues) -> NewValues
     ensures { result ≡ values }
 {
@@ -133,7 +133,7 @@ fn new_values(alloc: Global, values: DocValues) -> NewValues
     }
 }
 
-/// Adds the edit that gives an object of a document its values under a feature, if that is an attribute.
+/// Adds the edit that puts the values of a content of an object, if the feature of the content is an attribute.
 fn push_list(
     meta: &Meta,
     next: usize,

@@ -23,7 +23,7 @@ is_short t = nat_le (length t) TEXT_BYTES
 
 ---------------------------------------------------------------- attributes
 
--- the value that data gives a text attribute: a text, or null if the attribute is single
+-- the value that data gives a text attribute: a text of at most TEXT_BYTES bytes, or null if the attribute is single
 abbrev pub text_value : Bool → Data → Option Value
 text_value single d =
     option_or (if single then option_map (λ x. value.Null) (as_null d) else None) (option_map value.Text (as_str d such_that is_short))

@@ -19,12 +19,14 @@ use Rattle.doc_parts.specs.declared.found.FoundParts.{FoundParts}
 use Rattle.doc_parts.specs.declared.found.Numbers.{Numbers}
 use Rattle.doc_parts.specs.declared.found.FoundPart.{FoundPart}
 
--- each path leads to the first part that has it, and no key is below a part that is not found yet
+-- by the numbers at the keys, each path leads to the number of the first part that has the path; and under a part that is not found yet no
+-- key has a number
 pub record Finds (t : Numbers) (ps : List Part) : Type 0 where
   pub ways : (q : Path) → way_of (number_at t) q ≡ number_of ps q
   pub below : (n : ℕ) (w : List ℕ) (i : Option ℕ) → length ps ≤ n → number_at t (UnderKey n w i) ≡ None
 
--- the key of a path among parts
+-- the key belongs to the path: the key of a root belongs to the path of that root, and a key under part n belongs to the path of part n
+-- with one more step
 abbrev pub IsPlaced : List Part → Key → Path → Type 0
 IsPlaced ps (RootKey i) path = path ≡ new_path i []
 IsPlaced ps (UnderKey n w i) path = (above : Path) × (number_of ps above ≡ Some n) × (path ≡ with_step above (new_step w i))
@@ -70,7 +72,7 @@ conforms_seen m target s = option_map_or (λ k. lookups.conforms m k.0 target) s
 
 ---------------------------------------------------------------- what is below a part
 
--- the parts under a name of the part that has a path
+-- the parts that the data ds give under the part at `path`: ds are the values of that part's feature with the name `name`
 abbrev pub parts_under : Path → List ℕ → Bool → List Data → List Part
 parts_under path name single ds =
     map (λ v. record { path = with_step path (new_step name (if single then None else Some v.0)); json = v.1 }) (enumerate_from 0 ds)
@@ -78,12 +80,13 @@ parts_under path name single ds =
 abbrev pub parts_at : Metamodel → Path → Members → FeatureNo → List Part
 parts_at m path ms f = option_map_or (λ d. parts_in m path (new_entry f d)) (content_at m ms f) []
 
--- the part with the number `number` was found before; the parts that `more` gives for its path were found after it
+-- if part p, with the number `number`, was among the parts that were found before, and `level` is one more than the level of p, then the
+-- parts that `more` gives for the path of p are found after these parts
 abbrev pub FindsBelow : Metamodel → FoundParts → FoundParts → ℕ → ℕ → (Path → List Part) → Type 0
 FindsBelow m old new number level more =
     (ps : List Part) (p : Part) → Knows m old ps → number_of ps p.path ≡ Some number → level ≡ suc (level_of p) → Knows m new (ps ++ more p.path)
 
--- the part at a key was found, and the parts below it, down to a number of levels
+-- after the parts that were found before, the part p at the key k is found, and the parts below p, at most n levels in all
 abbrev pub Walks : Metamodel → ℕ → FoundParts → FoundParts → Key → ℕ → Data → Type 0
 Walks m n old new k level d =
     (ps : List Part) (p : Part) → Knows m old ps → IsPlaced ps k p.path → level ≡ level_of p → d ≡ p.json → Knows m new (ps ++ parts_from m n p)

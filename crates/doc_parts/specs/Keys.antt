@@ -9,7 +9,8 @@ use Rattle.doc_parts.specs.declared.found.PartKey.{PartKey}
 use Rattle.doc_parts.specs.declared.found.PartKey.TheVariants.{Root, Under}
 use Rattle.doc_parts.specs.declared.found.Numbers.{Numbers}
 
--- the key of a part: for a root, its position; for any other part, the number of the part above it, and the step from that part to it
+-- the key of a part: for a root, the root's position; for any other part p, the number of the part above p, and the step from that part to
+-- p
 pub data Key : Type 0 where
   RootKey : ℕ → Key
   UnderKey : ℕ → List ℕ → Option ℕ → Key

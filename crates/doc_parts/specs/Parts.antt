@@ -34,7 +34,7 @@ pub record Entry : Type 0 where
 abbrev pub new_entry : FeatureNo → Data → Entry
 new_entry f d = record { feature = f; content = d }
 
--- the content that is written under a feature; none for a container reference
+-- the content that is written under a feature; none if nothing is, and for a container reference
 abbrev pub content_at : Metamodel → Members → FeatureNo → Option Data
 content_at m ms f = if lookups.is_container m f then None else get_member (lookups.feature_name m f) ms
 
@@ -52,7 +52,8 @@ class_and_members m d = written_object d >>= (λ w. option_map (λ c. (c, w.feat
 abbrev pub entries : Metamodel → Data → List Entry
 entries m d = option_map_or (λ k. entries_in m k.0 k.1) (class_and_members m d) []
 
--- the values of a content: for a many-valued feature the items of the array, and none if the content is no array
+-- the values of a content: for a single feature, the content itself; for a many-valued feature, the items of the array, and none if the
+-- content is no array
 abbrev pub values_of : Metamodel → Entry → List Data
 values_of m e =
     if (shape m e.feature).is_single then e.content ∷ [] else option_map_or list_of (as_array e.content) []
@@ -78,7 +79,7 @@ parts_in m p e =
     then map (λ v. record { path = with_step p (step_to m e.feature v.0); json = v.1 }) (enumerate_from 0 (values_of m e))
     else []
 
--- a part and the parts in it, down to a number of levels; each part comes before the parts in it
+-- a part and the parts in it, at most a given number of levels in all; each part comes before the parts in it
 abbrev pub parts_from : Metamodel → ℕ → Part → List Part
 parts_from m zero p = []
 parts_from m (suc n) p = p ∷ flat_map (parts_from m n) (flat_map (parts_in m p.path) (entries m p.json))
@@ -87,10 +88,11 @@ abbrev pub root_parts : Data → List Part
 root_parts d =
     option_map_or (λ t. map (λ v. record { path = new_path v.0 []; json = v.1 }) (enumerate_from 0 (list_of t.roots))) (top d) []
 
--- all parts of a document, in loading order; no part is deeper than the document
+-- all parts of a document, in loading order; no part is at a deeper level than the JSON values of the document nest, so `depth d` levels
+-- are enough
 unfoldable pub parts : Metamodel → Data → List Part
 parts m d = flat_map (parts_from m (depth d)) (root_parts d)
 
--- the number of the part that has a path
+-- the number of the first part that has a path
 abbrev pub number_of : List Part → Path → Option ℕ
 number_of ps p = position (λ q. same_path p q.path) ps

@@ -1,4 +1,4 @@
-//! The values of attributes are read.
+//! Reads the values of attributes.
 ghost use Rattle.std.specs.Prelude.{◌≡◌, IfOk, is_some, option_map};
 ghost use Rattle.json_fields.specs.Fields.{whole_number};
 ghost use Rattle.mm_types.specs.declared.value.Value.TheVariants as value;
@@ -33,8 +33,8 @@ fn int_value(json: &Json) -> Option<Value>
     }
 }
 
-/// The value of a data type that `json` writes, for a single or a many-valued attribute; `None` if `json` writes no value of that type.
-/// Fails only if memory is refused.
+/// The value that `json` gives an attribute of a data type, which may be single or many-valued; `None` if `json` gives no value of that
+/// type. A text has at most 65,535 bytes, and null is a value only of a single EString attribute. Fails only if memory is refused.
 pub fn attribute_value(
     alloc: Global,
     meta: &Meta,
@@ -68,7 +68,7 @@ fn is_text(is_single: bool, json: &Json) -> bool
     }
 }
 
-/// Whether JSON writes a value of a data type, under a single or a many-valued attribute. Takes no memory.
+/// Whether `json` gives an attribute of a data type a value, by the rules of `attribute_value`. Takes no memory.
 pub(crate) fn is_attribute_value(
     meta: &Meta,
     is_single: bool,

@@ -44,28 +44,30 @@ fn is_any_deep(parts: &[FoundPart]) -> bool
     parts.iter().any(|part| part.level as usize > LEVELS)
 }
 
-/// Whether some part is no object although it should be one. Takes no memory.
+/// Whether some root does not have the layout of an object, or some JSON object below the roots does not have it. Other JSON values below
+/// the roots are not tested here. Takes no memory.
 pub fn has_misshapen(found: &FoundParts) -> bool
     ensures { (m : Metamodel) (ps : List Part) → Knows m found.now ps → result ≡ list_any is_misshapen ps }
 {
     is_any_misshapen(found.parts.as_slice())
 }
 
-/// Whether some object names no class, or an abstract one. Takes no memory.
+/// Whether some object names a class that the metamodel doesn't have, or an abstract class. Takes no memory.
 pub fn has_unknown_class(meta: &Meta, found: &FoundParts) -> bool
     ensures { (ps : List Part) → Knows meta.now found.now ps → result ≡ of_written (no_class meta.now) ps }
 {
     is_any_without_class(meta, found.parts.as_slice())
 }
 
-/// Whether some object has a key that is no feature of its class, or that is a container reference. Takes no memory.
+/// Whether some object of a known class has, under `features`, a key that names no feature of the class, or that names a container
+/// reference. Takes no memory.
 pub fn has_unknown_feature(meta: &Meta, found: &FoundParts) -> bool
     ensures { (ps : List Part) → Knows meta.now found.now ps → result ≡ of_written (other_key meta.now) ps }
 {
     is_any_with_other_key(meta, found.parts.as_slice())
 }
 
-/// Whether some part is below the last level. Takes no memory.
+/// Whether some part is at a level deeper than `LEVELS`, the deepest level that is accepted. Takes no memory.
 pub fn has_deep(found: &FoundParts) -> bool
     ensures { (m : Metamodel) (ps : List Part) → Knows m found.now ps → result ≡ list_any is_deep ps }
 {

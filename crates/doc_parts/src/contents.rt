@@ -16,7 +16,7 @@ use borrowed_json::Json;
 use mm_meta::Meta;
 use mm_types::{ClassNo, FeatureNo, Kind, limits};
 
-/// Whether an object is written with the name of a class. No name is looked up.
+/// Whether an object names the class with the number `class`. The two names are compared, and no name is looked up.
 fn names_class(meta: &Meta, class: ClassNo, json: &Json) -> bool
     ensures class { result ≡ true → class_meant meta.now (view json.now) ≡ Some class }
     ensures conforms { result ≡ true → conforms meta.now class class ≡ true }
@@ -29,7 +29,7 @@ fn names_class(meta: &Meta, class: ClassNo, json: &Json) -> bool
 }
 
 /// Whether a JSON value may be under a containment with the class `target`: it is a JSON object, and if it names a class of the metamodel,
-/// this class conforms to `target`. Most objects have exactly the class of their containment.
+/// this class conforms to `target`. Most objects have exactly the class of their containment, so this class is tried first.
 fn may_stand(meta: &Meta, target: ClassNo, json: &Json) -> bool
     ensures { result ≡ may_be meta.now target (view json.now) }
 {

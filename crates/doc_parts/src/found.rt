@@ -1,4 +1,4 @@
-//! The parts of a document that are looked at, as they are found.
+//! The parts of a document that were found, and their numbers.
 ghost use Rattle.std.specs.Prelude.{◌≡◌, ◌++◌, ◌∷◌, ◌≤◌, ◌^◌, [], IfErr, IfOk, List, None, OnOk, Some, if◌then◌else◌, length, option_map};
 
 use borrowed_json::{Json, Members};
@@ -7,8 +7,8 @@ use mm_types::ClassNo;
 use std::alloc::{AllocError, Global};
 use web_uris::{Path, Step};
 
-/// The key of a part. For a root, the key is the position of the root. For any other part, the key has the step to the part from the part
-/// above it, and the number of the first part that has the path of the part above it.
+/// The key of a part. For a root, the key is the position of the root. For any other part p, the key has the number of the part above p,
+/// and the step from that part to p. A part has the number of the first part that has the same path.
 #[derive(Clone, Copy, PartialEq, Eq, Hash)]
 pub enum PartKey<'m> {
     Root(u32),
@@ -87,14 +87,15 @@ impl<'m> Numbers<'m> {
         self.numbers.reserve(count)
     }
 
-    /// The number of the part at a key. Takes no memory.
+    /// The number of the part at a key; `None` if no part has the key. Takes no memory.
     pub fn at(&self, key: PartKey) -> Option<u32>
         ensures { result ≡ number_at self.now (key_of key.entry) }
     {
         self.numbers.get(&key).copied()
     }
 
-    /// The number of the part at a key. The number `likely` is tried first. Takes no memory.
+    /// The number of the part at a key; `None` if no part has the key. Keys are kept in the order in which they were added; the key at the
+    /// index `likely` is tried first. Takes no memory.
     pub fn at_likely(&self, key: PartKey, likely: u32) -> Option<u32>
         ensures { result ≡ number_at self.now (key_of key.entry) }
     {
@@ -104,7 +105,7 @@ impl<'m> Numbers<'m> {
         }
     }
 
-    /// The number of the part to which steps lead from a part.
+    /// The number of the part to which steps lead from the part with the number `from`; `None` if they lead to no part.
     fn descend(&self, from: u32, steps: &[Step]) -> Option<u32>
         ensures { result ≡ descend (number_at self.now) (Some from) steps.now }
     {
@@ -123,7 +124,7 @@ impl<'m> Numbers<'m> {
         Some(part)
     }
 
-    /// The number of the part to which a path leads, step by step. Takes no memory.
+    /// The number of the part to which a path leads, step by step; `None` if it leads to no part. Takes no memory.
     pub fn of_path(&self, path: &Path) -> Option<u32>
         ensures { result ≡ way_of (number_at self.now) path.now }
     {

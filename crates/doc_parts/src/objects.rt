@@ -12,7 +12,7 @@ use borrowed_json::Members;
 use mm_meta::Meta;
 use mm_types::ClassNo;
 
-/// Whether an object names no class, or an abstract one. Takes no memory.
+/// Whether an object names a class that the metamodel doesn't have, or an abstract class. Takes no memory.
 pub(crate) fn has_no_class(meta: &Meta, part: &FoundPart) -> bool
     ensures { result ≡ lacks_class meta.now (part_seen part.now) }
 {
@@ -46,7 +46,8 @@ fn has_only_features(meta: &Meta, class: ClassNo, members: Members) -> bool
     are_readable(meta, class, members)
 }
 
-/// Whether an object has a key that is no feature of its class, or that is a container reference. Takes no memory.
+/// Whether an object of a known class has, under `features`, a key that names no feature of the class, or that names a container reference.
+/// Takes no memory.
 pub(crate) fn has_other_key(meta: &Meta, part: &FoundPart) -> bool
     ensures { result ≡ has_other_member meta.now (part_seen part.now) }
 {

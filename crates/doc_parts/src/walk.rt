@@ -1,4 +1,4 @@
-//! The parts of a document are found, each before the parts in it.
+//! Finds the parts of a document, each before the parts in it.
 ghost use Rattle.std.specs.Prelude.{◌≡◌, ◌++◌, IfOk, List, None, OnOk, Some, flat_map, if◌then◌else◌, map};
 ghost use Rattle.borrowed_json.specs.View.{members_view, view};
 ghost use Rattle.doc_parts.specs.FoundParts.{FindsBelow, Knows, Walks, parts_at, parts_under, roots_from};
@@ -12,14 +12,14 @@ use mm_meta::Meta;
 use mm_types::FeatureNo;
 use std::alloc::{AllocError, Global};
 
-/// The location of the parts below a part: the number of the part above them, and their level.
+/// What the parts directly below one part have in common: the number of the part above them, and their level.
 #[derive(Clone, Copy)]
 struct Below {
     part: u32,
     level: u32,
 }
 
-/// Finds the part at a key and the parts below it, down to `levels` levels.
+/// Finds the part at a key and the parts below this part, at most `levels` levels in all.
 #[cycle(walk)]
 pub(crate) fn walk<'t, 'm>(
     found: &mut FoundParts<'t, 'm>,
@@ -158,7 +158,8 @@ fn walk_roots<'t, 'm>(
     Ok(())
 }
 
-/// Finds the parts of the roots of a document in loading order, down to `levels` levels.
+/// Finds the roots of a document and the parts below them, at most `levels` levels in all. The parts are in loading order: each comes
+/// before the parts in it.
 pub fn find_parts<'t, 'm>(
     alloc: Global,
     meta: &'m Meta,

@@ -24,13 +24,13 @@ use Rattle.fragment_paths.specs.Finding.{roots}
 use Rattle.fragment_paths.specs.Fragments.{reference}
 use Rattle.doc_writer.specs.Written.{written_features}
 
--- the text of a reference from resource k to an object
+-- the text by which resource k refers to an object; empty if the object is in no resource
 abbrev pub reference_text : Reading → ResourceNo → ObjectNo → List ℕ
 reference_text r k o = unwrap_or (reference r k o) []
 
 ---------------------------------------------------------------- values
 
--- the members `old` with the members ms put among them; serde_json keeps members in the order of their keys
+-- the members `old`, into which the members ms are put one after another; serde_json keeps members in the order of their keys
 abbrev pub members_with : Members → List (List ℕ × Data) → Members
 members_with old ms = fold (λ found m. put m.0 m.1 found) old ms
 
@@ -40,7 +40,7 @@ members = members_with no_members
 abbrev pub two_members : List ℕ → Data → List ℕ → Data → Data
 two_members k d l e = object (members ((k, d) ∷ (l, e) ∷ []))
 
--- the JSON value of a value that is no object
+-- the JSON value of a value that is no object; for an object null, which is not used (see `value_data`)
 abbrev pub plain_data : Metamodel → FeatureNo → Value → Data
 plain_data m f value.Null = null
 plain_data m f (value.Bool b) = boolean b
@@ -50,7 +50,7 @@ plain_data m f (value.Literal i) = string (lookups.literal_text m f i)
 plain_data m f (value.Object o) = null
 plain_data m f (value.Proxy t) = string t
 
--- the JSON value of an object under a feature: a part is written by a given function, any other object as a reference
+-- the JSON value of an object under a feature: the result of `part` if the feature is a containment, else the text of a reference
 abbrev pub object_under : Reading → ResourceNo → (ObjectNo → Data) → FeatureNo → ObjectNo → Data
 object_under r k part f o = if is_containment r.metamodel f then part o else string (reference_text r k o)
 
@@ -58,7 +58,7 @@ abbrev pub value_data : Reading → ResourceNo → (ObjectNo → Data) → Featu
 value_data r k part f (value.Object o) = object_under r k part f o
 value_data r k part f v = plain_data r.metamodel f v
 
--- the content of a feature: an array if the feature is many-valued, else its one value
+-- the JSON value of a feature of an object: an array of its values if the feature is many-valued, else its one value (null if it has none)
 abbrev pub content_data : Reading → ResourceNo → (ObjectNo → Data) → ObjectNo → FeatureNo → Data
 content_data r k part o f =
     let e = at_end (node.Object o) f in
@@ -74,19 +74,20 @@ feature_member r k part o f = (lookups.feature_name r.metamodel f, content_data 
 abbrev pub class_name : Reading → ObjectNo → List ℕ
 class_name r o = option_map_or (λ c. c.name) (option_and_then (lookups.class r.metamodel) (r.class o)) []
 
--- the JSON value of an object with all that it contains, down to a number of levels
+-- the JSON value of an object with all that the object contains, down to a number of levels; null for the objects below these levels
 abbrev pub object_data : Reading → ResourceNo → ℕ → ObjectNo → Data
 object_data r k zero o = null
 object_data r k (suc n) o =
     two_members (codes "class") (string (class_name r o))
     (codes "features") (object (members (map (feature_member r k (object_data r k n) o) (written_features r o))))
 
--- the document of a resource; no tree has more levels than the number of objects that were made
+-- the document of a resource. `r.next` is the number of objects that were made, and no tree has more levels than that, so the document has
+-- all objects of the resource.
 unfoldable pub document : Reading → ResourceNo → Data
 document r k =
     two_members (codes "format") (number (unsigned DOCUMENT_FORMAT))
     (codes "roots") (array (items_of (map (object_data r k r.next) (roots r k))))
 
--- the text that is saved: serde_json's compact text
+-- the text that is saved: serde_json's compact text of the document
 abbrev pub saved_text : Reading → ResourceNo → List ℕ
 saved_text r k = compact_text (document r k)

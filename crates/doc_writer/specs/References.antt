@@ -1,4 +1,4 @@
--- The features by which objects refer to others.
+-- The features by which objects refer to other objects.
 use Rattle.std.specs.Prelude.{◌≡◌, ◌&&◌, Bool, filter, not, Option, option_and_then, unwrap_or, []}
 use Rattle.mm_types.specs.Lookups as lookups
 use Rattle.mm_types.specs.Resolved.{Metamodel}
@@ -8,14 +8,14 @@ use Rattle.mm_types.specs.declared.numbers.FeatureNo.{FeatureNo}
 use Rattle.doc_writer.specs.Written.{is_writable}
 use Rattle.doc_writer.specs.declared.class_references.ClassReferences.{ClassReferences}
 
--- whether objects may refer to others by a feature: a reference that is neither a containment nor a container reference
+-- whether objects may refer to other objects by a feature: whether it is a reference, but neither a containment nor a container reference
 abbrev pub may_refer : Metamodel → FeatureNo → Bool
 may_refer m f = (shape m f).is_reference && (not (is_containment m f) && is_writable m f)
 
--- the features are made for the class c, if there is one, and are the features of c by which objects may refer to others
+-- r is made for the class c, and has the features of c by which objects may refer to other objects; without a class, r has no features
 abbrev pub IsReferencesOf : Metamodel → Option ClassNo → ClassReferences → Type 0
 IsReferencesOf m c r = (r.class ≡ c) × (r.features.items ≡ filter (may_refer m) (unwrap_or (option_and_then (lookups.features m) c) []))
 
--- the features are right for the class that they were made for, if there is one
+-- r has the features of the class that it was made for (`IsReferencesOf`)
 abbrev pub IsReferences : Metamodel → ClassReferences → Type 0
 IsReferences m r = IsReferencesOf m r.class r

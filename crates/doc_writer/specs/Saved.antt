@@ -18,7 +18,8 @@ use Rattle.containment.specs.Above.{resource_of}
 use Rattle.doc_writer.specs.Document.{document, saved_text}
 use Rattle.doc_writer.specs.Written.{is_written, level, objects_in, written_features}
 
--- the features by which an object refers to others
+-- the features of an object that are written and are no containments: the references by which the object refers to others, and attributes,
+-- whose values are no objects
 abbrev pub reference_features : Reading → ObjectNo → List FeatureNo
 reference_features r o = filter (λ f. not (is_containment r.metamodel f)) (written_features r o)
 
@@ -29,7 +30,7 @@ targets_under r o f = objects_of (r.values (at_end (node.Object o) f))
 abbrev pub is_dangling : Reading → ObjectNo → Bool
 is_dangling r o = not (is_some (resource_of r.above o))
 
--- whether an object refers by a feature to an object that is in no resource
+-- whether a feature of an object is written and is no containment, and one of its values is an object that is in no resource
 abbrev pub dangles_by : Reading → ObjectNo → FeatureNo → Bool
 dangles_by r o f = is_written r o f && (not (is_containment r.metamodel f) && list_any (is_dangling r) (targets_under r o f))
 
@@ -45,7 +46,7 @@ save_refusal r k =
     Dangling where_so list_any (has_dangling r) (objects_in r k) else_by
     TooDeep where_so list_any (is_too_deep r) (objects_in r k)
 
--- if the document of a resource is not too deep to be read as JSON, a text is read as that document
+-- if the document of a resource is not too deep for the reader of JSON, a text is read as that document
 abbrev pub IsReadAs : Reading → ResourceNo → List ℕ → Type 0
 IsReadAs r k text = depth (document r k) ≤ max_depth → read text ≡ Some (document r k)
 

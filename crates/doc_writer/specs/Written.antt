@@ -1,4 +1,5 @@
--- Which parts of a resource are written: its objects in loading order, and the features of each object that are set.
+-- Which parts of a resource are written: its objects in loading order, and of each object the features that are set and are no container
+-- references.
 use Rattle.std.specs.Prelude.{ℕ, ◌&&◌, Bool, not, List, filter, flat_map, length}
 use Rattle.mm_types.specs.Lookups as lookups
 use Rattle.mm_types.specs.Resolved.{Metamodel}
@@ -10,8 +11,8 @@ use Rattle.models.specs.Reading.{Reading, all_features_of, at_end, is_set}
 use Rattle.containment.specs.Forest.{subtree}
 use Rattle.fragment_paths.specs.Finding.{roots}
 
--- the objects of a resource, root by root; each object comes before the objects that it contains. The contained objects come by feature in
--- the order of all features, then by position
+-- the objects of a resource, root by root; each object comes before the objects that it contains. The objects that one object contains are
+-- in the order of all features of its class; under one feature they are in the order of their positions.
 abbrev pub objects_in : Reading → ResourceNo → List ObjectNo
 objects_in r k = flat_map (subtree r) (roots r k)
 
@@ -26,6 +27,6 @@ is_written r o f = is_set r (at_end (node.Object o) f) && not (lookups.is_contai
 abbrev pub written_features : Reading → ObjectNo → List FeatureNo
 written_features r o = filter (is_written r o) (all_features_of r (node.Object o))
 
--- a root is on level 1
+-- the level of an object: the number of nodes above it, the resource included; so a root is at level 1
 abbrev pub level : Reading → ObjectNo → ℕ
 level r o = length (r.above (node.Object o))

@@ -1,4 +1,4 @@
-//! The features by which the objects of a class refer to others.
+//! The features by which the objects of a class refer to other objects.
 ghost use Rattle.std.specs.Prelude.{◌≡◌, ◌∷◌, ◌++◌, [], IsTrue, OnOk, filter};
 ghost use Rattle.doc_writer.specs.References.{may_refer};
 
@@ -6,14 +6,15 @@ use mm_meta::Meta;
 use mm_types::{ClassNo, FeatureNo};
 use std::alloc::{AllocError, Global};
 
-/// Whether objects may refer to others by a feature: a reference that is neither a containment nor a container reference. Takes no memory.
+/// Whether objects may refer to other objects by a feature: whether it is a reference, but neither a containment nor a container reference.
+/// Takes no memory.
 fn is_referring(meta: &Meta, feature: FeatureNo) -> bool
     ensures { result ≡ may_refer meta.now feature }
 {
     meta.is_reference(feature) && !meta.is_containment(feature) && !meta.is_container(feature)
 }
 
-/// Adds a feature, if objects may refer to others by it.
+/// Adds a feature, if objects may refer to other objects by it.
 fn push_referring(
     meta: &Meta,
     feature: FeatureNo,
@@ -27,7 +28,7 @@ fn push_referring(
     Ok(())
 }
 
-/// Adds the features of a list by which objects may refer to others.
+/// Adds those of `features` by which objects may refer to other objects to `found`.
 fn push_all_referring(
     meta: &Meta,
     features: &[FeatureNo],
@@ -41,8 +42,8 @@ fn push_all_referring(
     Ok(())
 }
 
-/// The features by which the objects of a class may refer to others. Objects that are asked for one after another mostly have the same
-/// class, so the features of a class are not looked through for each object.
+/// The features by which the objects of a class may refer to other objects. Objects that are asked for one after another mostly have the
+/// same class, so the list is made only if the class changes, and not for each object.
 #[derive(Drop)]
 pub(crate) struct ClassReferences {
     class: Option<ClassNo>,
@@ -53,7 +54,7 @@ impl ClassReferences {
     ghost use Rattle.mm_types.specs.Resolved.{Metamodel};
     ghost use Rattle.doc_writer.specs.References.{IsReferences, IsReferencesOf};
 
-    /// No class. Takes no memory.
+    /// The features of no class: an empty list. Takes no memory.
     pub fn none(alloc: Global) -> Self
         ensures { (m : Metamodel) → IsReferences m result }
     {
@@ -63,7 +64,7 @@ impl ClassReferences {
         }
     }
 
-    /// Replaces the features by those of a class, unless they are the features of this class already. Fails only if memory is refused.
+    /// If the features are not those of `class` already, replaces them by the features of `class`. Fails only if memory is refused.
     #[inline(always)]
     pub fn turn_to(&mut self, meta: &Meta, class: Option<ClassNo>) -> Result<(), AllocError>
         requires { IsReferences meta.now self.old }

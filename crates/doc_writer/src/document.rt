@@ -20,8 +20,8 @@ use links::LinkStore;
 use mm_types::{ObjectNo, ResourceNo, limits};
 use std::alloc::{AllocError, Global};
 
-/// Writes the roots of a resource and all objects in them. The features of the first root's class are sorted by name, for use with all
-/// roots.
+/// Writes the roots of a resource, with all objects below them, as an array. The features of the first root's class are sorted by name;
+/// this order is used for all roots of that class.
 fn write_roots<L: LinkStore>(
     source: &WriteContext<L>,
     roots: &[ObjectNo],
@@ -37,7 +37,8 @@ fn write_roots<L: LinkStore>(
     write_list(source, &order, roots, out)
 }
 
-/// Writes objects as an array. `order` has the features of some class, sorted by name.
+/// Writes objects, with all objects below them, as an array. `order` has the features of some class, sorted by name, and is used for the
+/// objects of that class.
 fn write_list<L: LinkStore>(
     source: &WriteContext<L>,
     order: &ClassOrder,
@@ -54,7 +55,7 @@ fn write_list<L: LinkStore>(
     out.end_array()
 }
 
-/// Writes the format of documents as a member.
+/// Writes the member `format`, the number of the format in which documents are saved.
 fn write_format(out: &mut Writer) -> Result<(), AllocError>
     ensures { OnOk result (AddsMember (codes "format") (number (unsigned DOCUMENT_FORMAT)) out.old out.new) }
 {
@@ -62,7 +63,7 @@ fn write_format(out: &mut Writer) -> Result<(), AllocError>
     out.u64(u64::from(limits::DOCUMENT_FORMAT))
 }
 
-/// Writes the document of a resource that has these roots.
+/// Writes the document of the resource of `source`; `roots` are the roots of this resource.
 fn write_document<L: LinkStore>(
     source: &WriteContext<L>,
     roots: &[ObjectNo],
@@ -78,7 +79,7 @@ fn write_document<L: LinkStore>(
     out.end_object()
 }
 
-/// The text of a writer that began with no text.
+/// The text that a writer has written; the writer began with no text.
 fn text_of(out: Writer) -> String
     requires alone { out.before ≡ [] }
     ensures text { string_bytes result ≡ print out.tokens }
@@ -90,7 +91,7 @@ fn text_of(out: Writer) -> String
     }
 }
 
-/// The text of the document of a resource that has these roots. Fails only if memory is refused.
+/// The text of the document of `resource`; `roots` are the roots of this resource. Fails only if memory is refused.
 pub(crate) fn document_text<L: LinkStore>(
     alloc: Global,
     positions: &Positions<L>,

@@ -1,4 +1,4 @@
-//! JSON values that have no parts are written.
+//! Writes JSON values that have no parts.
 ghost use Rattle.std.specs.Prelude.{◌≡◌, OnOk};
 ghost use Rattle.serde_json.specs.Data.{boolean, null, number as number_of, string};
 ghost use Rattle.serde_json.specs.Find.{of_integer};
@@ -38,7 +38,7 @@ pub(crate) fn write_text(text: &str, out: &mut Writer) -> Result<(), AllocError>
     out.string(text)
 }
 
-/// Writes a reference to an object.
+/// Writes the text by which the resource refers to an object; an empty text if the object is in no resource.
 pub(crate) fn write_reference<L: LinkStore>(
     source: &WriteContext<L>,
     object: ObjectNo,
@@ -52,7 +52,7 @@ pub(crate) fn write_reference<L: LinkStore>(
     }
 }
 
-/// Writes a value that is no object.
+/// Writes a value that is no object. For an object it writes null; the callers write objects by other functions.
 pub(crate) fn write_plain(
     meta: &Meta,
     feature: FeatureNo,

@@ -1,8 +1,8 @@
-//! Resources are saved: the text of a resource's document, or the reason why it can't be written (EMF: XMLResource.save, as JSON).
+//! Resources are saved: the text of a resource's document, or the reason why the resource can't be saved (EMF: XMLResource.save, as JSON).
 //!
 //! `specs/Written.antt` says which objects and features are written, `specs/Document.antt` which JSON value they make, and
-//! `specs/Saved.antt` which resources can't be saved. The JSON value is written while it is read from the model: `specs/Added.antt` says
-//! what each step writes.
+//! `specs/Saved.antt` which resources can't be saved. The code never makes this JSON value: it writes the tokens of the value while it
+//! reads the model. `specs/Added.antt` says which tokens each step writes.
 #![tactic(auto)]
 
 mod class_references;

@@ -7,7 +7,7 @@ use links::LinkStore;
 use mm_types::ObjectNo;
 use models::ModelRef;
 
-/// The name of an object's class.
+/// The name of an object's class; empty if there is no such object.
 pub(crate) fn class_name<'a, L: LinkStore>(model: &ModelRef<'a, L>, object: ObjectNo) -> &'a str
     ensures { result.now ≡ spec.class_name (reading model.now) object }
 {

@@ -12,8 +12,9 @@ use links::LinkStore;
 use mm_types::{ObjectNo, Refused};
 use std::alloc::{AllocError, Global};
 
-/// The first reason why a resource of these objects can't be saved: an object that is referred to is in no resource, or an object is too
-/// deep. If there is no reason, the ways to all objects that are referred to are noted. Fails only if memory is refused.
+/// The first reason why a resource with these objects can't be saved: one of the objects refers to an object that is in no resource, or one
+/// of the objects is too deep. If there is no reason, the ways to all objects to which these objects refer are noted (`note_ways`). Fails
+/// only if memory is refused.
 pub(crate) fn refusal<L: LinkStore>(
     alloc: Global,
     positions: &mut Positions<L>,

@@ -1,4 +1,4 @@
-//! Objects and their values are written as JSON.
+//! Writes objects and their values as JSON.
 ghost use Rattle.std.specs.Prelude.{◌≡◌, OnOk, codes, map};
 ghost use Rattle.mm_types.specs.Ends.{value_in};
 ghost use Rattle.mm_types.specs.Lookups as lookups;
@@ -42,7 +42,7 @@ fn write_under<L: LinkStore>(
     }
 }
 
-/// Writes a value of an end.
+/// Writes a value that an end of `feature` has.
 #[cycle(object)]
 fn write_found<L: LinkStore>(
     source: &WriteContext<L>,
@@ -65,7 +65,7 @@ fn write_found<L: LinkStore>(
     }
 }
 
-/// Writes the value at a position of an end, or null past the last.
+/// Writes the value at a position of an end; null if the end has no value there.
 #[cycle(object)]
 fn write_item<L: LinkStore>(
     source: &WriteContext<L>,
@@ -84,7 +84,7 @@ fn write_item<L: LinkStore>(
     }
 }
 
-/// The class of the first object that an end contains. If the end contains no object, the class of `order`.
+/// The class of the first object at an end, if the feature of the end is a containment and there is an object; else the class of `order`.
 fn first_class<L: LinkStore>(
     source: &WriteContext<L>,
     order: &ClassOrder,
@@ -100,8 +100,8 @@ fn first_class<L: LinkStore>(
     }
 }
 
-/// Writes all values of an end. If the values are contained objects, the features of the first object's class are sorted by name, for use
-/// with all of these objects, unless `order` has them already.
+/// Writes all values of an end as an array. If the values are contained objects, and `order` is not of the class of the first of them, the
+/// features of that class are sorted by name; this order is used for all contained objects of that class.
 #[cycle(object)]
 fn write_items<L: LinkStore>(
     source: &WriteContext<L>,
@@ -121,7 +121,7 @@ fn write_items<L: LinkStore>(
     write_list(source, levels, &own, end, out)
 }
 
-/// Writes all values of an end.
+/// Writes all values of an end as an array. `order` is used for the contained objects of its class.
 #[cycle(object)]
 fn write_list<L: LinkStore>(
     source: &WriteContext<L>,
@@ -140,7 +140,7 @@ fn write_list<L: LinkStore>(
     out.end_array()
 }
 
-/// Writes the content of a feature of an object.
+/// Writes the values of a feature of an object: as an array if the feature is many-valued, else the one value.
 #[cycle(object)]
 fn write_content<L: LinkStore>(
     source: &WriteContext<L>,
@@ -162,7 +162,7 @@ fn write_content<L: LinkStore>(
     }
 }
 
-/// Writes the name of a feature of an object, and its content.
+/// Writes a feature of an object as a member: the name of the feature, and its values.
 #[cycle(object)]
 fn write_feature<L: LinkStore>(
     source: &WriteContext<L>,
@@ -179,7 +179,7 @@ fn write_feature<L: LinkStore>(
     write_content(source, levels, order, object, feature, out)
 }
 
-/// Writes the name of a feature of an object, and its content, if the feature is set.
+/// If a feature of an object is set, writes it as a member: the name of the feature, and its values.
 #[cycle(object)]
 fn write_if_set<L: LinkStore>(
     source: &WriteContext<L>,
@@ -199,7 +199,8 @@ fn write_if_set<L: LinkStore>(
     write_feature(source, levels, order, object, feature, out)
 }
 
-/// Writes the contents of an object, by the names of the features of its class.
+/// Writes the features of an object that are set as a JSON object, in the order of their names. `order` has the features of the object's
+/// class.
 #[cycle(object)]
 fn write_features<L: LinkStore>(
     source: &WriteContext<L>,
@@ -221,7 +222,7 @@ fn write_features<L: LinkStore>(
     out.end_object()
 }
 
-/// Writes the class of an object as a member.
+/// Writes the member `class` of an object: the name of its class.
 fn write_class<L: LinkStore>(
     source: &WriteContext<L>,
     object: ObjectNo,
@@ -233,7 +234,7 @@ fn write_class<L: LinkStore>(
     write_text(class_name(source.positions.model(), object), out)
 }
 
-/// Writes the features of an object as a member. The class of `order` may be different from the object's class.
+/// Writes the member `features` of an object. If `order` is not of the object's class, the features of the object's class are sorted first.
 #[cycle(object)]
 fn write_members<L: LinkStore>(
     source: &WriteContext<L>,
@@ -254,7 +255,8 @@ fn write_members<L: LinkStore>(
     write_features(source, levels, &own, object, out)
 }
 
-/// Writes an object with all that it contains, down to `levels` levels. Fails only if memory is refused; then a part of it may be written.
+/// Writes an object with all that the object contains, down to `levels` levels, and null for the objects below these levels. Fails only if
+/// memory is refused; then a part of the text may be written.
 #[cycle(object)]
 pub(crate) fn write_object<L: LinkStore>(
     source: &WriteContext<L>,

@@ -1,5 +1,6 @@
-//! The ways to the objects that a resource refers to are looked up, so that each end on these ways is gone through once. This also finds
-//! objects that are in no resource.
+//! Notes the ways to the objects to which a resource refers: the positions of these objects, and of the objects above them, in the ends
+//! that hold them (`Positions::note_way`). All positions of an end are noted together, so each of these ends is gone through once, and not
+//! once for each reference. The same functions find out whether the resource refers to objects that are in no resource.
 ghost use Rattle.std.specs.Prelude.{◌≡◌, IfOk, OnOk, false, slice_get, true};
 ghost use Rattle.std.specs.List.{All, list_any};
 ghost use Rattle.std.specs.Option.{option_and_then, option_map_or};
@@ -23,7 +24,7 @@ fn is_dangling<L: LinkStore>(model: &ModelRef<L>, object: ObjectNo) -> bool
     holder_resource(model.store(), object).is_none()
 }
 
-/// Notes the way to an object. Returns whether the object is in no resource; then there is no way to it.
+/// If an object is in no resource, returns true. Else notes the way to the object, and returns false.
 fn note_target<L: LinkStore>(
     positions: &mut Positions<L>,
     object: ObjectNo,
@@ -38,7 +39,8 @@ fn note_target<L: LinkStore>(
     Ok(false)
 }
 
-/// Notes the way to the object at a position of an end. Returns whether there is an object and it is in no resource.
+/// Returns whether the value at a position of an end is an object that is in no resource. If the value is an object in a resource, notes
+/// the way to this object.
 fn note_at<L: LinkStore>(
     positions: &mut Positions<L>,
     end: End,
@@ -56,7 +58,7 @@ fn note_at<L: LinkStore>(
     }
 }
 
-/// Notes the ways to the objects at an end, up to the first that is in no resource. Returns whether there is such an object.
+/// Notes the ways to the objects at an end, and stops at the first object that is in no resource. Returns whether there is such an object.
 fn note_end<L: LinkStore>(positions: &mut Positions<L>, end: End) -> Result<bool, AllocError>
     ensures same { positions.new ≡ positions.old }
     ensures dangling { IfOk result (λ b. b ≡ list_any (saved.is_dangling (reading positions.old)) (r.objects_of ((reading positions.old).values end))) }
@@ -69,8 +71,8 @@ fn note_end<L: LinkStore>(positions: &mut Positions<L>, end: End) -> Result<bool
     Ok(false)
 }
 
-/// Notes the ways to the objects that an object refers to by a feature, up to the first that is in no resource. Returns whether there is
-/// such an object.
+/// Notes the ways to the objects to which an object refers by a feature. Stops at the first of these targets that is in no resource, and
+/// returns whether there is such a target.
 fn note_feature<L: LinkStore>(
     positions: &mut Positions<L>,
     object: ObjectNo,
@@ -88,8 +90,8 @@ fn note_feature<L: LinkStore>(
     note_end(positions, end)
 }
 
-/// Notes the ways to the objects that an object refers to by any of some features, up to the first that is in no resource. Returns whether
-/// there is such an object.
+/// Notes the ways to the objects to which an object refers by some features. Stops at the first of these targets that is in no resource,
+/// and returns whether there is such a target.
 fn note_features<L: LinkStore>(
     positions: &mut Positions<L>,
     object: ObjectNo,
@@ -107,8 +109,8 @@ fn note_features<L: LinkStore>(
     Ok(false)
 }
 
-/// Notes the ways to the objects that an object refers to, up to the first that is in no resource. Returns whether there is such an object.
-/// If `by_class` has the features of a different class, they are replaced by those of the object's class.
+/// Notes the ways to the objects to which an object refers. Stops at the first of these targets that is in no resource, and returns whether
+/// there is such a target. If `by_class` has the features of a different class, they are replaced by those of the object's class.
 fn note_object<L: LinkStore>(
     positions: &mut Positions<L>,
     by_class: &mut ClassReferences,
@@ -125,8 +127,8 @@ fn note_object<L: LinkStore>(
     note_features(positions, object, by_class.as_slice())
 }
 
-/// Notes the ways to the objects to which some objects refer, up to the first that is in no resource. Returns whether there is such an
-/// object. Fails only if memory is refused.
+/// Notes the ways to the objects to which some objects refer. Stops at the first of these targets that is in no resource, and returns
+/// whether there is such a target. Fails only if memory is refused.
 pub(crate) fn note_ways<L: LinkStore>(
     alloc: Global,
     positions: &mut Positions<L>,

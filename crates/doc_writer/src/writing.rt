@@ -1,4 +1,4 @@
-//! A resource is saved.
+//! Saves a resource.
 ghost use Rattle.std.specs.Prelude.{◌≡◌, IfOk, string_bytes, true};
 ghost use Rattle.std.specs.List.{list_all};
 ghost use Rattle.fragment_paths.specs.Finding.{roots as roots_of};
@@ -16,7 +16,8 @@ use mm_types::{ObjectNo, Refused, ResourceNo};
 use models::ModelRef;
 use std::alloc::Global;
 
-/// The text of a resource that has these roots and objects, or why it can't be saved.
+/// The text of the document of `resource`, or why the resource can't be saved. `roots` are the roots of the resource, `objects` all its
+/// objects.
 fn text_by<L: LinkStore>(
     alloc: Global,
     positions: &mut Positions<L>,
@@ -36,7 +37,7 @@ fn text_by<L: LinkStore>(
     Ok(text)
 }
 
-/// The text of a resource that has these roots, or why it can't be saved.
+/// The text of the document of `resource`, or why the resource can't be saved. `roots` are the roots of the resource.
 fn written_below<L: LinkStore>(
     alloc: Global,
     model: &ModelRef<L>,
@@ -53,13 +54,13 @@ fn written_below<L: LinkStore>(
     text_by(alloc, &mut positions, resource, roots, objects.as_slice())
 }
 
-/// The text of a resource (EMF: XMLResource.save): `serde_json`'s compact text of its document. The features that are set are written, but
-/// no container references. A reference inside the resource is written as a fragment, a reference into another resource as URI, `#` and
-/// fragment. If a reference has an opposite, the opposite end is written in the resource of the object that has this end. A resource that
-/// does not exist has no roots.
+/// The text of a resource (EMF: XMLResource.save): `serde_json`'s compact text of its document. The features that are set are written,
+/// except container references. A reference inside the resource is written as a fragment, a reference into another resource as URI, `#` and
+/// fragment. If a reference that is no containment has an opposite, each of the two objects is written with its own end, in the document of
+/// its own resource. A resource that does not exist has no roots.
 ///
 /// The whole resource is checked before anything is written. Fails with `Dangling` if an object of the resource refers to an object that is
-/// in no resource; else with `TooDeep` if an object is below level 40; and with `Memory` if memory is refused.
+/// in no resource; else with `TooDeep` if an object of the resource is at a deeper level than 40. Fails with `Memory` if memory is refused.
 pub fn write_doc<L: LinkStore>(
     alloc: Global,
     model: &ModelRef<L>,

@@ -1,4 +1,4 @@
-//! Documents with a byte replaced, and documents that are cut: each is read or refused for a cause.
+//! Documents with a byte replaced are read, or refused with a cause; documents that are cut are refused with the cause SYNTAX.
 use crate::resource::{library, refusal};
 use mm_meta::Meta;
 use mm_types::{DocFault, Refused};
@@ -21,7 +21,8 @@ fn is_answered(refusal: Option<Refused>) -> bool {
     }
 }
 
-/// Whether each document with the byte at a position replaced is read or refused for a cause.
+/// Replaces the byte at a position of a document by each of `BYTES` in turn. Returns whether each document that this gives is read, or
+/// refused with a cause.
 fn are_answered(
     alloc: Global,
     meta: &Meta,

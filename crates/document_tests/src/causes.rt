@@ -1,4 +1,4 @@
-//! Why documents are refused: for each cause but DEPTH, documents to which no cause with a lower number applies.
+//! Why documents are refused: for each cause except DEPTH, documents to which this cause applies and no cause with a lower number.
 use crate::resource::{library, of_new_roots, of_roots, told};
 use std::test::Fail;
 
@@ -204,7 +204,7 @@ const ROOTS: [(&str, &str); 44] = [
         r#"{"class":"Book","features":{"next":"/1"}},{"class":"Book","features":{"prev":"/1"}}"#,
         "18 DOCUMENT 10 ONE_SIDED",
     ),
-    // A proxy at the other end names no object of the document.
+    // A proxy at the opposite end leads to no object of the document, so this end does not lead back.
     (
         r#"{"class":"Library","features":{"staff":["/1"]}},{"class":"Person","features":{"job":"b#/"}}"#,
         "18 DOCUMENT 10 ONE_SIDED",

@@ -12,7 +12,7 @@ fn add_times(text: &mut String, piece: &str, times: usize) -> Result<(), AllocEr
     Ok(())
 }
 
-/// A book with a name of `bytes` bytes.
+/// A document with one book, whose name has `bytes` bytes.
 fn with_name(alloc: Global, bytes: usize) -> Result<String, AllocError> {
     let mut root = String::from_str(alloc, r#"{"class":"Book","features":{"name":""#)?;
     add_times(&mut root, "a", bytes)?;
@@ -20,7 +20,7 @@ fn with_name(alloc: Global, bytes: usize) -> Result<String, AllocError> {
     of_roots(alloc, root.as_str())
 }
 
-/// A person who likes a book of another resource, by a text of `bytes` bytes.
+/// A document with one person, who likes a book of another resource; the text of this reference has `bytes` bytes.
 fn with_reference(alloc: Global, bytes: usize) -> Result<String, AllocError> {
     let mut root = String::from_str(alloc, r#"{"class":"Person","features":{"likes":[""#)?;
     add_times(&mut root, "b", bytes.saturating_sub(2))?;

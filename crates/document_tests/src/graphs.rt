@@ -1,4 +1,5 @@
-//! Small graphs whose answers were worked out by hand, and a ladder with more paths than can be walked one by one.
+//! Tests with small graphs, whose expected results were worked out by hand, and with a ladder, which has more paths than can be walked one
+//! by one.
 ghost use Rattle.std.specs.Prelude.{◌≡◌, ◌<◌, ◌↔◌, IsTrue, length};
 ghost use Rattle.std.specs.List.{All};
 ghost use Rattle.mm_graph.specs.Order.{InRange, IsOrder};
@@ -28,7 +29,7 @@ fn is_below(numbers: &[usize], count: usize) -> bool
     numbers.iter().all(|n| *n < count)
 }
 
-/// Whether every supertype is a class.
+/// Whether every number of a supertype is the number of a class of the graph.
 fn is_in_range(graph: &[Seq<usize>]) -> bool
     ensures { IsTrue result ↔ InRange graph.now }
 {
@@ -38,7 +39,7 @@ fn is_in_range(graph: &[Seq<usize>]) -> bool
         .all(|supers| is_below(supers.as_slice(), count))
 }
 
-/// Class 0 inherits the features of class 3 by two paths; classes 1 and 2 are not related.
+/// A graph in which class 0 inherits the features of class 3 by two paths. Of the classes 1 and 2, neither conforms to the other.
 fn diamond(alloc: Global) -> Result<Vec<Seq<usize>>, AllocError> {
     rows_of(alloc, &[&[2, 1], &[3], &[3], &[]])
 }
@@ -64,7 +65,7 @@ fn ladder(alloc: Global, count: usize) -> Result<Vec<Seq<usize>>, AllocError> {
     Ok(graph)
 }
 
-/// Rows, each between brackets.
+/// The numbers of some rows, each row between brackets.
 fn shown<T: Debug>(alloc: Global, rows: &[Seq<T>]) -> Result<String, AllocError> {
     let mut shown = String::new(alloc);
     for numbers in rows {
@@ -74,7 +75,7 @@ fn shown<T: Debug>(alloc: Global, rows: &[Seq<T>]) -> Result<String, AllocError>
     Ok(shown)
 }
 
-/// An order of the classes, and all features of each class; `own` has the features that each class declares.
+/// The given order of the classes, and all features of each class; `own` has the features that each class declares.
 fn inherited_by(
     alloc: Global,
     graph: &[Seq<usize>],
@@ -92,7 +93,7 @@ fn inherited_by(
     format!(in alloc; "{order:?} {rows}")
 }
 
-/// An order of the classes in which each comes after its supertypes, and all features of each class.
+/// An order in which each class comes after its supertypes, and all features of each class.
 fn inherited(alloc: Global, graph: &[Seq<usize>], own: &[Seq<u32>]) -> Result<String, Fail> {
     if !is_in_range(graph) || own.len() != graph.len() {
         return Err(Fail::new("these are no classes"));
@@ -114,7 +115,8 @@ fn features_are_inherited_through_a_diamond_in_order(rt: HostRuntime) -> Result<
     Ok(())
 }
 
-/// For each class the classes that it conforms to; then, for one class, the classes that it conforms to and the classes that it reaches.
+/// For each class, whether it conforms to each class. Then, for the class `class` alone, whether it conforms to each class, and whether it
+/// reaches each class by one or more steps from a class to a direct supertype.
 fn conformance(alloc: Global, graph: &[Seq<usize>], class: usize) -> Result<String, Fail> {
     if !is_in_range(graph) || class >= graph.len() {
         return Err(Fail::new("these are no classes"));
@@ -127,7 +129,7 @@ fn conformance(alloc: Global, graph: &[Seq<usize>], class: usize) -> Result<Stri
     Ok(format!(in alloc; "{rows} {conforming:?} {reached:?}")?)
 }
 
-/// The conformance of the diamond, and what class 1 conforms to and reaches.
+/// The result of `conformance` for the diamond and its class 1.
 const CONFORMANCE: &str =
     "[true, true, true, true][false, true, false, true][false, false, true, true][false, false, false, true] [false, true, false, true] [false, false, false, true]";
 
@@ -139,7 +141,7 @@ fn classes_conform_through_two_steps_and_not_sideways(rt: HostRuntime) -> Result
     Ok(())
 }
 
-/// The first class on a cycle, whether there is an order of the classes, and what class 0 reaches.
+/// The first class on a cycle, whether there is an order of the classes, and whether class 0 reaches each class.
 fn cycle_of(alloc: Global, graph: &[Seq<usize>]) -> Result<String, Fail> {
     if !is_in_range(graph) || graph.is_empty() {
         return Err(Fail::new("these are no classes"));
@@ -200,7 +202,7 @@ fn names_clash_across_a_diamond(rt: HostRuntime) -> Result<(), Fail> {
     Ok(())
 }
 
-/// One own feature for each class, with the number of the class.
+/// For each class one feature that it declares; the feature has the same number as the class.
 fn one_each(alloc: Global, count: u32) -> Result<Vec<Seq<u32>>, AllocError> {
     let mut own = Vec::new(alloc);
     for c in 0..count {
@@ -211,7 +213,7 @@ fn one_each(alloc: Global, count: u32) -> Result<Vec<Seq<u32>>, AllocError> {
     Ok(own)
 }
 
-/// How many features the last class has.
+/// How many features the last class has; `None` if there is no class.
 fn last_features(
     alloc: Global,
     graph: &[Seq<usize>],
@@ -226,7 +228,7 @@ fn last_features(
     Ok(table.last().map(|features| features.len()))
 }
 
-/// Whether the last class conforms to every class.
+/// Whether the last class conforms to every class; `None` if there is no class.
 fn last_conforms(alloc: Global, graph: &[Seq<usize>]) -> Result<Option<bool>, AllocError>
     requires graph { InRange graph.now }
 {

@@ -1,8 +1,8 @@
-//! A metamodel and two of its documents are cut after each byte, or one byte is replaced by a byte 0, by a byte 255 or by a quote. Each
-//! text is read or refused, and the answers are counted.
+//! The text of a metamodel, and two documents of objects of this metamodel. Each of the three texts is cut at each byte, or has one byte
+//! replaced by a byte 0, by a byte 255 or by a quote. The text that this gives is read or refused, and the answers are counted.
 //!
-//! The expected counts follow from the grammar of JSON. None of the texts has a backslash. A text that is cut before its last brace is no
-//! JSON. Neither is a text with a byte 0, which JSON never has, with a byte 255, which is not UTF-8, or with an odd number of quotes.
+//! The expected counts follow from the grammar of JSON. None of the three texts has a backslash. A text that is cut before its last brace
+//! is no JSON. Neither is a text with a byte 0, which JSON never has, with a byte 255, which is not UTF-8, or with an odd number of quotes.
 use crate::library::{LIBRARY, library};
 use crate::resource::refusal;
 use mm_check::check_document;
@@ -44,7 +44,7 @@ const INPUTS: [Input; 3] = [
         quotes: 34,
         behind: 0,
     },
-    // Two proxies.
+    // A person with two proxies.
     Input {
         read_as: ReadAs::Document,
         text: r#"{"format":1,"roots":[{"class":"Person","features":{"likes":["b#/","b#/0"]}}]}"#,
@@ -71,7 +71,7 @@ fn fault_of(alloc: Global, bytes: &[u8]) -> Option<MetaFault> {
     check_document(alloc, bytes).err()
 }
 
-/// The number of a metamodel's fault, or 0 if it is accepted; `None` if memory was refused.
+/// The number of a metamodel's fault, or 0 if the metamodel is accepted; `None` if memory was refused.
 fn metamodel_answer(alloc: Global, bytes: &[u8]) -> Option<u32> {
     match fault_of(alloc, bytes) {
         Some(fault) => fault.number(),
@@ -79,7 +79,7 @@ fn metamodel_answer(alloc: Global, bytes: &[u8]) -> Option<u32> {
     }
 }
 
-/// The number of a document's cause, or 0 if it is read; `None` if it is refused for anything else.
+/// The number of the cause for which a document is refused, or 0 if the document is read; `None` if the refusal has no cause.
 fn document_answer(alloc: Global, meta: &Meta, bytes: &[u8]) -> Option<u32> {
     match refusal(alloc, meta, bytes) {
         Some(Refused::Document(cause)) => Some(cause.number()),
@@ -88,7 +88,7 @@ fn document_answer(alloc: Global, meta: &Meta, bytes: &[u8]) -> Option<u32> {
     }
 }
 
-/// Reads a text, and counts the answer.
+/// Reads a text, and counts the answer. Fails if the answer has no number.
 fn count(
     alloc: Global,
     meta: &Meta,

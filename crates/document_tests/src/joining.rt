@@ -13,13 +13,14 @@ const JOINED: [(&str, &str, &str); 8] = [
         "HTTPS://N.example:443/x y",
         "https://n.example/x%20y",
     ),
-    // A reference that is a whole URI is not joined.
+    // A reference that is a URI by itself is not joined with the base.
     ("http://m.example/a", "http:b", "http://b/"),
     ("nonsense", "http://m.example/a", "http://m.example/a"),
     ("http://m.example/a", "//n.example", "http://n.example/"),
 ];
 
-/// Bases and references that give no URI: a base that is no URI, schemes other than http and https, and fragments.
+/// Bases and references that give no URI: a base that is no URI, schemes other than http and https, a reference with a fragment, and a port
+/// that is too great.
 const BAD: [(&str, &str); 6] = [
     ("nonsense", "b"),
     ("http://m.example/a", "ftp://m.example/"),

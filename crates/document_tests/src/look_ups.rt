@@ -1,12 +1,12 @@
-//! The look-ups of the library's metamodel, with every number and the number past the last.
+//! The look-ups in the library's metamodel: by each number of a feature or a class, by the number past the last, and by names.
 use crate::library::library;
 use mm_meta::Meta;
 use mm_types::{ClassNo, FeatureNo};
 use std::alloc::{AllocError, Global};
 use std::test::Fail;
 
-/// For each feature, and for the number past the last: its name, its default, its opposite, and whether it is a
-/// container reference.
+/// For each feature, and for the number past the last, which is the number of `contents`: the name, the default and the opposite of the
+/// feature, and whether the feature is a container reference.
 const FEATURES: &str = "name Some(Null) None false
 books Some(Null) Some(FeatureNo(9)) false
 members Some(Null) None false
@@ -56,7 +56,8 @@ fn features_are_found_by_number(rt: HostRuntime) -> Result<(), Fail> {
     Ok(())
 }
 
-/// For each class, and for the number past the last: its name, the number of the class of that name, and all its features.
+/// For each class: its name, the number that is found by this name, and all its features. For the number past the last, the name is
+/// `Resource`, and nothing is found.
 const CLASSES: &str = "Named Some(ClassNo(0)) Some([FeatureNo(0)])
 Library Some(ClassNo(1)) Some([FeatureNo(0), FeatureNo(1), FeatureNo(2), FeatureNo(3)])
 Book Some(ClassNo(2)) Some([FeatureNo(0), FeatureNo(4), FeatureNo(5), FeatureNo(6), FeatureNo(7), FeatureNo(8), FeatureNo(9), FeatureNo(10), FeatureNo(11)])
@@ -92,7 +93,8 @@ fn classes_are_found_by_number_and_by_name(rt: HostRuntime) -> Result<(), Fail> 
     Ok(())
 }
 
-/// For each class, and for the number past the last: the classes that it conforms to, and its features.
+/// For each class: its number, the numbers of the classes that it conforms to, and the numbers of its features. For the number past the
+/// last, there are none.
 const INHERITED: &str = "0: 0, 0
 1: 0 1, 0 1 2 3
 2: 0 2, 0 4 5 6 7 8 9 10 11
@@ -101,7 +103,7 @@ const INHERITED: &str = "0: 0, 0
 5:,
 ";
 
-/// The classes that a class conforms to.
+/// The numbers of the classes that a class conforms to.
 fn conforming(alloc: Global, meta: &Meta, sub: ClassNo) -> Result<String, AllocError> {
     let mut found = String::new(alloc);
     for sup in 0..6u32 {
@@ -113,7 +115,7 @@ fn conforming(alloc: Global, meta: &Meta, sub: ClassNo) -> Result<String, AllocE
     Ok(found)
 }
 
-/// The features that a class has.
+/// The numbers of the features that a class has.
 fn had(alloc: Global, meta: &Meta, class: ClassNo) -> Result<String, AllocError> {
     let mut found = String::new(alloc);
     for feature in 0..18u32 {

@@ -1,4 +1,4 @@
-//! What is read of a document, key by key.
+//! What is read from a metamodel document, key by key.
 use crate::library::{LIBRARY, loaded};
 use mm_types::{RawClass, RawFeature, RawKind, RawMeta, Text};
 use std::alloc::{AllocError, Global};
@@ -27,7 +27,7 @@ fn kind_text(alloc: Global, kind: &RawKind) -> Result<String, AllocError> {
     }
 }
 
-/// A feature's name, type and bounds, and the keys of its kind.
+/// A feature's name, type and bounds, and then the values of the keys of its kind, as `kind_text` gives them.
 fn feature_line(alloc: Global, feature: &RawFeature) -> Result<String, AllocError> {
     let (name, type_name) = (feature.name.as_str(), feature.type_name.as_str());
     let (lower, upper) = (feature.lower, feature.upper);
@@ -47,7 +47,7 @@ fn class_lines(alloc: Global, class: &RawClass) -> Result<String, AllocError> {
     Ok(lines)
 }
 
-/// Each enumeration and each class of a metamodel.
+/// A line for each enumeration of a metamodel, and the lines of each class.
 fn lines_of(alloc: Global, raw: &RawMeta) -> Result<String, AllocError> {
     let mut lines = String::new(alloc);
     for one in raw.enums() {
@@ -88,7 +88,7 @@ Folder false []
   parent Folder 0..1 false subs
 "#;
 
-/// A document with the keys in a different order, one key twice, and most keys left out.
+/// A document with its keys in a different order than `LIBRARY`, with one key twice, and with most keys left out.
 const BOOK_AND_SHELF: &str = r#"{"classes":[{"features":[
         {"default":"-1","type":"EInt","kind":"attribute","name":"pages"},
         {"name":"t\u00e9","kind":"attribute","type":"EString"}

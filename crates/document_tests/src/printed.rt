@@ -99,7 +99,7 @@ const FAULTS: [(MetaFault, &str); 13] = [
     (MetaFault::Memory, "MEMORY"),
 ];
 
-/// Whether a refusal is printed as a text, which begins with its number and its name.
+/// Whether a refusal is printed as `text`, and `text` begins with the number and the name of the refusal.
 fn is_refusal(alloc: Global, refused: Refused, text: &str) -> Result<bool, AllocError> {
     let printed = format!(in alloc; "{refused}")?;
     let begins = format!(in alloc; "{} {}", refused.number(), refused.name())?;
@@ -119,7 +119,7 @@ fn refusals_are_printed(rt: HostRuntime) -> Result<(), Fail> {
     check_refusals(&rt, rt.alloc(), LAST_REFUSALS.as_slice())
 }
 
-/// Whether a cause is printed as a text, which is its number and its name.
+/// Whether a cause is printed as `text`, and `text` is the number and the name of the cause.
 fn is_cause(alloc: Global, cause: DocFault, text: &str) -> Result<bool, AllocError> {
     let printed = format!(in alloc; "{cause}")?;
     let parts = format!(in alloc; "{} {}", cause.number(), cause.name())?;
@@ -134,7 +134,8 @@ fn causes_are_printed(rt: HostRuntime) -> Result<(), Fail> {
     Ok(())
 }
 
-/// A fault by its number, its name and its place, each read by a call of its own.
+/// A text of the number, the name and the place of a fault, as far as the fault has them. The text is made from these parts, and not by
+/// printing the fault.
 fn by_parts(alloc: Global, fault: MetaFault) -> Result<String, AllocError> {
     let name = fault.name();
     match (fault.number(), fault) {
@@ -144,7 +145,7 @@ fn by_parts(alloc: Global, fault: MetaFault) -> Result<String, AllocError> {
     }
 }
 
-/// Whether a fault is printed as a text: its number, its name and its place.
+/// Whether a fault is printed as `text`, and `text` is the number, the name and the place of the fault, as far as the fault has them.
 fn is_fault(alloc: Global, fault: MetaFault, text: &str) -> Result<bool, AllocError> {
     let printed = format!(in alloc; "{fault}")?;
     let parts = by_parts(alloc, fault)?;

@@ -9,7 +9,7 @@ const BOOKS: &str =
     r#"{"enums":[{"name":"Genre","literals":["NOVEL"]},{"name":"Size","literals":["SMALL"]}],
 "classes":[{"name":"Book"}]}"#;
 
-/// A metamodel that is made again of its parts.
+/// A metamodel, taken apart and made again from its parts.
 fn made_again(alloc: Global, raw: Box<RawMeta>) -> Result<Box<RawMeta>, Fail> {
     let (enums, classes) = Box::into_inner(raw).into_parts();
     if !RawMeta::is_within_limits(enums.as_slice(), classes.as_slice()) {

@@ -1,4 +1,4 @@
-//! What documents are read as. The readings are written by hand.
+//! What documents are read as. The expected texts are written by hand, and not taken from a run.
 use crate::resource::{library, of_roots, told};
 use std::test::Fail;
 

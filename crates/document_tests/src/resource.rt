@@ -1,4 +1,4 @@
-//! The metamodel of a library, and what documents of it are read as, in short texts.
+//! The metamodel of a library, and short texts that show what a document of this metamodel is read as.
 use crate::library::checked;
 use mm_meta::Meta;
 use mm_types::{ObjectNo, Refused, Value};
@@ -37,7 +37,7 @@ const LIBRARY: &str = r#"{"enums": [{"name": "Genre", "literals": ["NOVEL", "POE
     {"name": "friends", "kind": "reference", "type": "Folder", "upper": -1, "opposite": "friends_of"},
     {"name": "friends_of", "kind": "reference", "type": "Folder", "upper": -1, "opposite": "friends"}]}]}"#;
 
-/// The URI of the resource whose documents are read.
+/// The URI of the resource that each document describes.
 pub(crate) const URI: &str = "http://m.example/a";
 
 /// The metamodel, checked.
@@ -86,8 +86,8 @@ fn doc_text(alloc: Global, doc: &Doc) -> Result<String, AllocError> {
     Ok(text)
 }
 
-/// What a document of the library is read as: each object with its class and the content of each feature, and then the
-/// roots; or the refusal, as it is printed.
+/// What a document of the library is read as: each object with the number of its class, and with the numbers and the values of those of its
+/// features to which the document gives values; and then the roots. Or the refusal, as it is printed.
 pub(crate) fn told(alloc: Global, meta: &Meta, bytes: &[u8]) -> Result<String, AllocError> {
     match read_doc(alloc, meta, URI, bytes) {
         Ok(doc) => doc_text(alloc, &doc),
@@ -103,12 +103,12 @@ pub(crate) fn refusal(alloc: Global, meta: &Meta, bytes: &[u8]) -> Option<Refuse
     }
 }
 
-/// The document of these roots, in format 1.
+/// The document that has these roots, in format 1.
 pub(crate) fn of_roots(alloc: Global, roots: &str) -> Result<String, AllocError> {
     format!(in alloc; "{{\"format\":1,\"roots\":[{roots}]}}")
 }
 
-/// The document of these roots, in format 2.
+/// The document that has these roots, in format 2.
 pub(crate) fn of_new_roots(alloc: Global, roots: &str) -> Result<String, AllocError> {
     format!(in alloc; "{{\"format\":2,\"roots\":[{roots}]}}")
 }

@@ -29,13 +29,13 @@ fn texts_keep_their_bytes(rt: HostRuntime) -> Result<(), Fail> {
     Ok(())
 }
 
-/// A value and a copy of it, as they are shown.
+/// A value and its copy, as `{:?}` shows them.
 fn shown_twice(alloc: Global, value: &Value) -> Result<String, AllocError> {
     let copy = value.clone()?;
     format!(in alloc; "{value:?} {copy:?}")
 }
 
-/// A value of each kind that holds no text.
+/// The value with the index `at` among six values without a text: one of each kind, and a second object.
 fn value(at: u32) -> Value {
     match at {
         0 => Value::Null,
@@ -47,7 +47,7 @@ fn value(at: u32) -> Value {
     }
 }
 
-/// These values, each beside its copy.
+/// What `shown_twice` gives for each of these six values.
 const VALUES: [&str; 6] = [
     "Null Null",
     "Bool(true) Bool(true)",
@@ -66,7 +66,7 @@ fn values_are_cloned(rt: HostRuntime) -> Result<(), Fail> {
     Ok(())
 }
 
-/// A text and a proxy, each beside its copy.
+/// What `shown_twice` gives for a text and for a proxy.
 fn texts_shown(alloc: Global) -> Result<String, AllocError> {
     let text = Value::Text(Text::from_str(alloc, "a")?);
     let text = shown_twice(alloc, &text)?;
@@ -83,7 +83,7 @@ fn values_of_text_are_cloned(rt: HostRuntime) -> Result<(), Fail> {
     Ok(())
 }
 
-/// How many items a sequence has, whether it has none, and its items by each call that gives them.
+/// How many items a sequence has, whether it has none, and its items: first as a slice, and then as a `Vec`.
 fn sequence(alloc: Global, numbers: Seq<usize>) -> Result<String, AllocError> {
     let (len, is_empty) = (numbers.len(), numbers.is_empty());
     let mut shown = format!(in alloc; "{len} {is_empty} {:?}", numbers.as_slice())?;

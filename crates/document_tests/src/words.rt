@@ -1,4 +1,4 @@
-//! Words that are numbers or names, and words that are not.
+//! Words that are numbers or names, and words that are neither.
 use mm_types::integers::{integer_of, natural_of};
 use mm_types::names::is_name;
 

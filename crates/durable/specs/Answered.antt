@@ -10,9 +10,10 @@ use Rattle.mm_types.specs.declared.limits.TheConstants.{INPUT_BYTES}
 use Rattle.journal.specs.Journal.{IsBeforeOrAfter, StandsFor}
 use Rattle.durable.specs.Printed.{Printed, Runs, RunsLines, answers, kept_lines}
 
--- The text that was written when a run stopped for a fault. The text has the answers to the first lines; the lines of `next` were run but
--- not answered. A read fails only when all lines that were run are answered. Only a failed write cuts the answers short; all lines that
--- were run are on the disk in that case.
+-- What was written when a run stopped for a fault. `text` has the answers to the first lines; the lines of `next` were run but not
+-- answered. A read fails only when all lines that were run are answered, so `next` is empty. If a write fails, `next` is empty too, a
+-- prefix of `text` was written, and the lines to be kept among the lines that were run are on the disk. For any other fault all of `text`
+-- was written.
 abbrev pub WritesUntil : RunFault → List (List ℕ) → Option (List ℕ) → Option (List ℕ) → List ℕ → Type 0
 WritesUntil Read next old new text = (next ≡ []) × Appends old new text
 WritesUntil Write next old new text = (next ≡ []) × AppendsFront old new text
@@ -20,7 +21,7 @@ WritesUntil TooLong next old new text = Appends old new text
 WritesUntil Memory next old new text = Appends old new text
 WritesUntil Journal next old new text = Appends old new text
 
--- a line is longer than it may be, or there are as many lines as a run can count
+-- a line is longer than it may be, or there are 2^64 - 1 lines or more
 abbrev pub IsTooLong : List (List ℕ) → Type 0
 IsTooLong ls = (list_any (λ l. nat_lt INPUT_BYTES (length l)) ls ≡ true) ⊎ (2 ^ 64 - 1 ≤ length ls)
 
@@ -53,7 +54,7 @@ module _ {S : Type 0} (runs : Runs S) where
     pub written : WritesUntil fault next old new (answers printed)
     pub left : (c : List ℕ) → may_leave c → IsBeforeOrAfter (before ++ kept_lines first printed) (kept_lines next printed_next) c
 
-  -- A run came to its end: all lines were run and answered, and the lines to be kept are kept.
+  -- A run came to its end: all lines were run and answered, and the lines to be kept are on the disk.
   pub record Ends (s : S) (before : List (List ℕ)) (ls : List (List ℕ)) (old new : Option (List ℕ)) (kept_after : List (List ℕ)) (t : S) : Type 0 where
     pub printed : List Printed
     pub ran : RunsLines runs s ls printed t

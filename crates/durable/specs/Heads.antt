@@ -16,7 +16,7 @@ abbrev pub FindsLines : Option (Bor (List ℕ)) → List ℕ → List ℕ → Ty
 FindsLines None bytes head = recovered_lines bytes ≡ []
 FindsLines (Some rest) bytes head = recovered_lines bytes ≡ head ∷ recovered_lines rest.now
 
--- the lines that are recovered from a file are ls, or the lines of the journal that is begun with ls
+-- the lines that are recovered from a file are ls; if ls is empty, they may also be the head alone
 abbrev pub IsBegunOrNot : List ℕ → List (List ℕ) → List ℕ → Type 0
 IsBegunOrNot head ls file = StandsFor ls file ⊎ StandsFor (begun_lines head ls) file
 

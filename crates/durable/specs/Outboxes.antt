@@ -36,7 +36,7 @@ module _ {D W : Type 0} where
   abbrev pub kept_by : (D → List ℕ) → Outbox D W → List (List ℕ)
   kept_by seen outbox = journal_lines seen outbox.journal
 
-  -- the journal is at rest
+  -- the journal of the outbox is settled, as it is between two calls
   abbrev pub IsAtRest : (D → List ℕ) → (D → List ℕ → Type 0) → Outbox D W → Type 0
   IsAtRest seen may_leave outbox = IsSettled seen may_leave outbox.journal
 
@@ -55,7 +55,7 @@ pub record Gives {D W : Type 0} (contents : W → Option (List ℕ)) (seen : D �
   pub held : held_by new ≡ []
   pub written : Appends (contents (writer_of old)) (contents (writer_of new)) (held_by old)
 
--- the entries of the file have reached their greatest length
+-- the entries of the file have 2^62 bytes or more, so the file gets no more entries
 abbrev pub IsFull : {D W : Type 0} → (D → List ℕ) → Outbox D W → Type 0
 IsFull seen outbox = 2 ^ 62 ≤ length (entries (kept_by seen outbox))
 

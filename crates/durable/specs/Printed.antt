@@ -15,7 +15,7 @@ is_lost turned.Kept = false
 is_lost turned.Other = false
 is_lost turned.Lost = true
 
--- the output of a line, and how it ended
+-- the output of a line, and how the line ended
 pub record Printed : Type 0 where
   pub text : List ℕ
   pub turn : JournalTurn
@@ -56,12 +56,12 @@ module _ {S : Type 0} (runs : Runs S) where
   RunsLines s (l ∷ ls) [] t = ⊥
   RunsLines s (l ∷ ls) (p ∷ ps) t = (u : S) × runs s l p u × RunsLines u ls ps t
 
-  -- lines were run in turn, each was done and is kept, and this is the session after the last
+  -- lines were run in turn from the session s on, each was done and is kept, and t is the session after the last line
   abbrev pub RunsKept : S → List (List ℕ) → S → Type 0
   RunsKept s [] t = t ≡ s
   RunsKept s (l ∷ ls) t = (p : Printed) × (u : S) × runs s l p u × (is_kept p.turn ≡ true) × RunsKept u ls t
 
-  -- lines were run in turn until one was not done, for a reason other than memory
+  -- lines were run in turn and kept, until one was not kept for a reason other than lack of memory
   abbrev pub Refuses : S → List (List ℕ) → Type 0
   Refuses s [] = ⊥
   Refuses s (l ∷ ls) =

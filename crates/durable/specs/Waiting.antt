@@ -10,7 +10,7 @@ use Rattle.durable.specs.Outboxes.{FailsToGive, Gives, IsAtRest, LeavesBoth, dis
 use Rattle.durable.specs.declared.outbox.Outbox.{Outbox}
 use Rattle.script_streams.specs.declared.run_fault.RunFault.{RunFault}
 
--- no answer is held back, and no line is noted that is not on the disk
+-- no answer is held back, and no noted line waits for a commit
 pub record IsEmptied {D W : Type 0} (x : Outbox D W) : Type 0 where
   pub held : held_by x ≡ []
   pub noted : noted_by x ≡ []
@@ -40,7 +40,8 @@ module _ {D W : Type 0} (contents : W → Option (List ℕ)) (seen : D → List 
 
   -- ---- one call after another
 
-  -- P is true of each file that a crash leaves during some calls or during the calls after them
+  -- if P is true of each file that a crash leaves at a moment from x to y, and of each file that a crash leaves at a moment from y to z,
+  -- then P is true of each file that a crash leaves at a moment from x to z
   pub leaves_more : (x y z : D) (P Q : List ℕ → Type 0) → LeavesOnly moment left_since x y P → LeavesOnly moment left_since y z Q → ((c : List ℕ) → Q c → P c)
       → LeavesOnly moment left_since x z P
   leaves_more x y z P Q one two weaker = record {

@@ -14,7 +14,7 @@ use script_streams::{LineEnd, RunFault, read_line_waiting};
 use std::alloc::Global;
 use std::io::{BufReader, Read, Write};
 
-/// Whether no line was read: the input is at its end.
+/// Whether no line was read because the input has ended.
 fn is_over(end: LineEnd, line: &[u8]) -> bool
     ensures none { result ≡ true → length line.now ≡ 0 }
     ensures last { result ≡ true → end ≡ LineEnd.Input }
@@ -26,9 +26,9 @@ fn is_over(end: LineEnd, line: &[u8]) -> bool
     }
 }
 
-/// Runs the lines of an input in turn, and answers each with the text that it prints and an empty line. Before each read that may wait, the
-/// lines that are to be kept are put on the disk, and then the answers are written. So lines that come in together are put on the disk
-/// together.
+/// Runs the lines of an input in turn, and answers each with the text that it prints and an empty line. Answers are held back. Before each
+/// read that may wait, and when 65,536 bytes of answers or more are held back, the lines that are to be kept are put on the disk, and then
+/// the answers are written. So lines that come in together are put on the disk together, unless their answers are longer than that.
 ///
 /// Fails with `Read` if a read fails, with `TooLong` if a line has more than `INPUT_BYTES` bytes or the input more than
 /// `u64::MAX - 1` lines, with `Journal` if the disk fails or the file is full, with `Write` if a write or a flush fails or a write
@@ -47,15 +47,16 @@ pub fn run_dialogue<R: Read, S: Session, D: Disk, W: Write>(
         (W.contents (writer_of outbox.old)) (W.contents (writer_of outbox.new)) (kept_by D.seen outbox.new) session.new) }
     ensures end { OnOk result (OnSome (reader_remaining R.remaining reader.old) (IsAtEnd (reader_remaining R.remaining reader.new))) }
     ensures at_rest { OnOk result (IsAtRest D.seen D.may_leave outbox.new) }
-    // Whatever stops the run, each file that may be left has the lines that were answered. The same holds if calls fail because the machine
-    // stops.
+    // Whatever stops the run, each file that a crash may leave has the lines to be kept among the lines that were answered. The same holds
+    // if calls fail because the machine stops.
     ensures stopped { IfErr result (λ fault. StopsIn S.runs fault (reader_remaining R.remaining reader.old) session.old (kept_by D.seen outbox.old)
         (W.contents (writer_of outbox.old)) (W.contents (writer_of outbox.new)) (D.may_leave (disk_under outbox.new))) }
     // `TooLong` is returned only if a line is too long, or if there are too many lines, and `Journal` only if the disk failed or the file
     // is full.
     ensures long { IsErrOf result RunFault.TooLong → IfSome (reader_remaining R.remaining reader.old) (λ input. IsTooLong (lines input)) }
     ensures disk { IsErrOf result RunFault.Journal → (D.faults (disk_under outbox.old) < D.faults (disk_under outbox.new)) ⊎ IsFull D.seen outbox.new }
-    // A crash at any moment leaves the lines from before the run, followed by the lines to be kept among the first lines.
+    // A crash at any moment leaves the lines from before the run, followed by the lines to be kept among the first lines of the input,
+    // however many these are.
     ensures any_moment { LeavesOnly D.moment D.left_since (disk_under outbox.old) (disk_under outbox.new)
         (LeavesIn S.runs (reader_remaining R.remaining reader.old) session.old (kept_by D.seen outbox.old)) }
 {

@@ -14,7 +14,7 @@ const HEAD: &[u8] = b"mmrepo-journal 1 ";
 /// The byte that ends a line.
 const NEWLINE: u8 = b'\n';
 
-/// The first line of a journal, which has a digest of the metamodel's document. Fails only if memory is refused.
+/// The first line of a journal, which ends with a digest of the metamodel's document in hexadecimal. Fails only if memory is refused.
 pub fn head_of(alloc: Global, digest: &[u8]) -> Result<Vec<u8>, AllocError>
     ensures head { IfOk result (λ v. v.items ≡ codes "mmrepo-journal 1 " ++ encode_lower digest.now) }
     ensures line { IfOk result (λ v. IsLine v.items) }
@@ -26,14 +26,14 @@ pub fn head_of(alloc: Global, digest: &[u8]) -> Result<Vec<u8>, AllocError>
     Ok(head)
 }
 
-/// Whether a crash may have left a file of these bytes before the journal had this head, or while the head was written. The bytes stand for
-/// no line.
+/// Whether a crash may have left a file of these bytes before the journal had this head, or while the head was written. Called only for
+/// bytes that stand for no line.
 fn is_unbegun(bytes: &[u8], head: &[u8]) -> bool {
     match bytes {
         [] => true,
-        // The text after the newline was torn.
+        // The write of the text after the newline was interrupted.
         [NEWLINE, rest @ ..] => rest.len().saturating_sub(2) <= head.len(),
-        // The mark was torn, or the file was cut in part after it was written.
+        // The write of the first byte, a newline or a mark, was interrupted. A later cut of the file may have been interrupted too.
         [_, rest @ ..] => match rest.strip_prefix(head) {
             Some(more) => matches!(more, [] | [NEWLINE] | [NEWLINE, NEWLINE]),
             None => head.starts_with(rest),
@@ -43,7 +43,7 @@ fn is_unbegun(bytes: &[u8], head: &[u8]) -> bool {
 
 /// The bytes of a file after its head; `None` if the journal is still to be begun.
 ///
-/// Fails with `NoJournal` or `OtherMetamodel` if the file does not begin with the head.
+/// Fails with `OtherMetamodel` if the file begins with the head of a different metamodel, and with `NoJournal` if it begins with no head.
 pub fn behind_head<'a>(bytes: &'a [u8], head: &[u8]) -> Result<Option<&'a [u8]>, JournalFault>
     ensures found { IfOk result (λ found. FindsLines found bytes.now head.now) }
     ensures kind { IfErr result IsOfHead }

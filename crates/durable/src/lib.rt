@@ -1,4 +1,4 @@
-//! Runs lines, and answers a line when the lines that are to be kept are on the disk.
+//! Runs lines, and answers a line only when this line and the lines before it are on the disk, as far as they are to be kept.
 #![tactic(auto)]
 
 mod dialogue;

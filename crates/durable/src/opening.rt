@@ -56,7 +56,7 @@ fn begin<D: Disk + Drop>(
     }
 }
 
-/// Opens the journal in a file that has these bytes, and begins the journal with the head if it has no line.
+/// Opens the journal in a file whose bytes are `bytes`, and begins the journal with the head if the file has no line.
 ///
 /// Fails with `Failed` if the disk fails, and with `Memory` if memory is refused. An error returns the disk too.
 pub fn open_journal<D: Disk + Drop>(
@@ -71,7 +71,7 @@ pub fn open_journal<D: Disk + Drop>(
     ensures settled { IfOk result (λ journal. IsSettled D.seen D.may_leave journal) }
     ensures kept { IfOk result (λ journal. journal_lines D.seen journal ≡ begun_lines head.now (recovered_lines bytes.now)) }
     ensures noted { IfOk result (λ journal. noted_lines journal ≡ []) }
-    // A crash at any moment leaves the same lines; if there was no line, it may leave only the head.
+    // A crash at any moment leaves a file of the same lines. If the file had no line, the crash may also leave a file of the head alone.
     ensures any_moment { IfOk result (λ journal. LeavesOnly D.moment D.left_since disk (disk_of journal)
         (IsBegunOrNot head.now (recovered_lines bytes.now))) }
     ensures any_moment_err { IfErr result (λ e. LeavesOnly D.moment D.left_since disk e.1 (IsBegunOrNot head.now (recovered_lines bytes.now))) }

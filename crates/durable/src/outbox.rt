@@ -71,7 +71,7 @@ impl<D: Disk, W> Outbox<D, W> {
 impl<D: Disk, W: Write> Outbox<D, W> {
     /// Runs a line and holds its answer back. Notes the line if it is to be kept. Writes nothing.
     ///
-    /// Fails only with `Memory`. Then the answer may be held back in part.
+    /// Fails only with `Memory`. After a failure, a part of the answer may be held back.
     pub(crate) fn take<S: Session>(&mut self, session: &mut S, line: &[u8]) -> Result<(), RunFault>
         requires line { IsLine line.now }
         requires at_rest { IsAtRest D.seen D.may_leave self.old }
@@ -89,10 +89,10 @@ impl<D: Disk, W: Write> Outbox<D, W> {
         Ok(())
     }
 
-    /// Puts the lines that were noted on the disk, and then writes the answers that were held back.
+    /// Puts the noted lines on the disk, and then writes the answers that are held back.
     ///
-    /// Fails with `Journal` if the disk fails or the file is full, with `Write` if a write or the flush fails, and with `Memory` if
-    /// memory is refused.
+    /// Fails with `Journal` if the disk fails or the file is full, with `Write` if a write or the flush fails or a write takes no byte, and
+    /// with `Memory` if memory is refused.
     pub fn settle(&mut self) -> Result<(), RunFault>
         requires { IsAtRest D.seen D.may_leave self.old }
         ensures ok { OnOk result (Gives W.contents D.seen D.may_leave self.old self.new) }

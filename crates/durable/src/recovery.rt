@@ -13,7 +13,7 @@ use std::alloc::{AllocError, Global};
 pub enum ReplayFault {
     /// Memory was refused.
     Memory,
-    /// A line was not done, so no session of this kind kept these lines.
+    /// A line was not done, or is not to be kept. So no session of this kind has kept these lines.
     Refused,
 }
 
@@ -25,7 +25,8 @@ impl From<AllocError> for ReplayFault {
     }
 }
 
-/// Runs the lines that the bytes of a file stand for. Each line must be done, and must be a line that is to be kept.
+/// Runs the lines that the bytes of a file stand for. Fails with `Refused` at the first line that is not done, or that is not to be kept,
+/// and with `Memory` if memory is refused.
 pub fn replay<S: Session>(alloc: Global, session: &mut S, file: &[u8]) -> Result<(), ReplayFault>
     ensures ok { OnOk result (RunsKept S.runs session.old (recovered_lines file.now) session.new) }
     ensures refused { IsErrOf result ReplayFault.Refused → Refuses S.runs session.old (recovered_lines file.now) }

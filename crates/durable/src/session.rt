@@ -14,7 +14,7 @@ pub enum JournalTurn {
     Kept,
     /// The line is not to be kept: it was refused or is bad, it only reads, or it concerns only this session.
     Other,
-    /// The line was refused for memory.
+    /// The line was refused because memory was refused.
     Lost,
 }
 
@@ -57,10 +57,10 @@ pub trait Twin: Session {
     ghost kept: { (s t x y : Self) (l : List ℕ) (p q : Printed) → Self.Session.runs s l p t → is_kept_turn p.turn ≡ true → alike s x
         → Self.Session.runs x l q y → is_kept_turn q.turn ≡ true → alike t y };
 
-    /// A session that has nothing of its own refuses a line that was kept only if memory is refused.
+    /// If a line was kept, a twin that has nothing that concerns only the twin refuses this line only if memory is refused.
     ghost done: { (s t x y : Self) (l : List ℕ) (p q : Printed) → Self.Session.runs s l p t → is_kept_turn p.turn ≡ true → alike s x → is_alone x
         → Self.Session.runs x l q y → is_kept_turn q.turn ≡ false → is_lost_turn q.turn ≡ true };
 
-    /// If a session has nothing of its own, it has nothing of its own after a line that is kept.
+    /// If a session has nothing that concerns only this session, it still has nothing of this kind after a line that is kept.
     ghost alone: { (x y : Self) (l : List ℕ) (q : Printed) → is_alone x → Self.Session.runs x l q y → is_kept_turn q.turn ≡ true → is_alone y };
 }

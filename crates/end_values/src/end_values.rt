@@ -19,7 +19,8 @@ use std::marker::Model;
 use std::mem;
 
 /// The layout of the values of an end in memory. Most ends have only objects: four bytes each. If a removal in a long list finds that the
-/// guess for the removed object is wrong, so that the objects are in no order, the list is `Shuffled` until there is memory for labels.
+/// guess for the removed object is wrong, so that the objects are in no order, the list is `Shuffled` until `reserve` gives labels to the
+/// objects.
 #[derive(Drop)]
 enum Layout {
     Objects(ShortList<ObjectNo>),
@@ -77,7 +78,7 @@ impl EndValueList {
         }
     }
 
-    /// The object at an index; `None` past the end, and if no object is there.
+    /// The object at an index; `None` past the last value, and if no object is there.
     #[tactic(auto, using(crate::proofs::EndValueLemmas::object_of_objects))]
     pub fn object_at(&self, index: usize) -> Option<ObjectNo>
         ensures { result ≡ option_and_then object_of (slice_get self.now.items index) }
@@ -89,7 +90,7 @@ impl EndValueList {
         }
     }
 
-    /// The text of the proxy at an index; `None` past the end, and if no proxy is there.
+    /// The text of the proxy at an index; `None` past the last value, and if no proxy is there.
     #[tactic(auto, using(crate::proofs::EndValueLemmas::text_of_objects))]
     pub fn text_at(&self, index: usize) -> Option<&str>
         ensures { option_copied result ≡ option_and_then text_of (slice_get self.now.items index) }
@@ -135,8 +136,9 @@ impl EndValueList {
         }
     }
 
-    /// A guess at the index of a value. The guess is right if the numbers of the objects rise or fall along the list, or if the list has
-    /// labels that rise or fall along it. Otherwise the guess may be any index.
+    /// A guess at the index of a value. In a list with labels, the guess is right if each object has a label and the labels rise along the
+    /// list. In a list with neither labels nor proxies, the guess is right if the numbers of the objects rise or fall along the list. The
+    /// guess for a proxy is right if the proxy is the first one, and no object comes after it. Otherwise the guess may be any index.
     pub fn guess(&self, value: &Value) -> usize {
         match (&self.layout, value) {
             (Layout::Objects(list) | Layout::Shuffled(list), Value::Object(object)) => {
@@ -175,8 +177,8 @@ impl EndValueList {
         }
     }
 
-    /// Reserves capacity for more values, and gives labels to a list that a removal found in no order. Fails only if memory is refused for
-    /// the values, and then they stay and no capacity is lost.
+    /// Reserves capacity for more values. If a removal found that the objects are in no order, and there is memory for labels, gives labels
+    /// to the objects. Fails only if memory is refused for the values, and then the values stay and no capacity is lost.
     pub fn reserve(&mut self, alloc: Global, additional: usize) -> Result<(), AllocError>
         ensures items { self.new.items ≡ self.old.items }
         ensures spare { self.old.spare ≤ self.new.spare }
@@ -210,8 +212,8 @@ impl EndValueList {
         }
     }
 
-    /// Inserts a value before the value at an index or at the end. The list has capacity for the value. Takes no memory. A value that is no
-    /// object is inserted only after `mix`.
+    /// Inserts a value before the value at an index or after the last value. The list has capacity for the value. Takes no memory. A value
+    /// that is no object is inserted only after `mix`.
     #[tactic(auto, using(crate::proofs::EndValueLemmas::length_objects))]
     #[inline(always)]
     pub fn insert(&mut self, index: usize, value: Value)
@@ -247,7 +249,8 @@ impl EndValueList {
         }
     }
 
-    /// At some removals, checks whether the guess for the object at the index is right. If the guess is wrong, the list is to get labels.
+    /// If a removal at the index tests the guess there (`is_tried`), checks whether the guess for the object at the index is right. If the
+    /// guess is wrong, the list becomes `Shuffled`, so that `reserve` gives it labels.
     fn try_guess(&mut self, index: usize)
         ensures { self.new ≡ self.old }
     {
@@ -324,7 +327,7 @@ fn is_number(there: Option<&ObjectNo>, object: ObjectNo) -> bool
     }
 }
 
-/// Inserts an object before the value at an index or at the end. The list has capacity for the object.
+/// Inserts an object before the object at an index or after the last object. The list has capacity for the object.
 #[tactic(auto, using(crate::proofs::EndValueLemmas::insert_objects))]
 fn insert_object(list: &mut ShortList<ObjectNo>, index: usize, value: Value)
     requires room { 0 < list.old.spare }
@@ -339,7 +342,7 @@ fn insert_object(list: &mut ShortList<ObjectNo>, index: usize, value: Value)
     }
 }
 
-/// Inserts an object into a list that is to get labels, before the value at an index or at the end. The list has capacity for the object.
+/// Inserts an object into a `Shuffled` list, before the object at an index or after the last object. The list has capacity for the object.
 #[cold]
 fn insert_shuffled(list: &mut ShortList<ObjectNo>, index: usize, value: Value)
     requires room { 0 < list.old.spare }
@@ -351,7 +354,7 @@ fn insert_shuffled(list: &mut ShortList<ObjectNo>, index: usize, value: Value)
     insert_object(list, index, value);
 }
 
-/// Inserts an object into a list with labels, before the value at an index or at the end. The list has capacity for the object.
+/// Inserts an object into a list with labels, before the object at an index or after the last object. The list has capacity for the object.
 #[cold]
 #[tactic(auto, using(crate::proofs::EndValueLemmas::insert_objects))]
 fn insert_labelled(list: &mut LabelledObjects, index: usize, value: Value)
@@ -367,7 +370,7 @@ fn insert_labelled(list: &mut LabelledObjects, index: usize, value: Value)
     }
 }
 
-/// The index of a value among objects.
+/// The index of a value in a list of objects.
 fn position_in(list: &ShortList<ObjectNo>, value: &Value) -> Option<usize>
     ensures { result ≡ position (same_value value.now) (objects list.now.items) }
 {
@@ -377,7 +380,7 @@ fn position_in(list: &ShortList<ObjectNo>, value: &Value) -> Option<usize>
     }
 }
 
-/// Objects as values, in a list of the same capacity. Fails only if memory is refused.
+/// A list that has the objects as values, with at least the same capacity for more. Fails only if memory is refused.
 fn values_of(alloc: Global, list: &ShortList<ObjectNo>) -> Result<Box<MixedList>, AllocError>
     ensures items { IfOk result (λ b. b.value.items ≡ objects list.now.items) }
     ensures spare { IfOk result (λ b. list.now.spare ≤ b.value.spare) }
@@ -389,7 +392,7 @@ fn values_of(alloc: Global, list: &ShortList<ObjectNo>) -> Result<Box<MixedList>
     Ok(values)
 }
 
-/// Adds objects at the end of `values`, which has capacity for them.
+/// Puts objects into `values`, which is empty and has capacity for the objects.
 fn push_objects(values: &mut MixedList, list: &ShortList<ObjectNo>)
     requires room { length list.now.items ≤ values.old.spare }
     requires none { values.old.items ≡ [] }
@@ -401,7 +404,7 @@ fn push_objects(values: &mut MixedList, list: &ShortList<ObjectNo>)
     }
 }
 
-/// Adds an object at the end of `values`, if there is an object.
+/// Inserts an object after the last value of `values`, if there is an object.
 fn push_object(values: &mut MixedList, object: Option<&ObjectNo>)
     requires { 0 < values.old.spare }
     ensures items { values.new.items ≡ values.old.items ++ option_to_list (option_map object_value (option_copied object.entry)) }

@@ -5,7 +5,8 @@ use index_guesses::by_rank;
 use mm_types::{ObjectNo, Value};
 use slot_lists::ShortList;
 
-/// The index of an object, if the numbers of the objects rise or fall along the list. Otherwise any index.
+/// A guess at the index of an object. The guess is right if the object is the first or the last one, or if the numbers of the objects rise
+/// or fall along the list. Otherwise the guess may be any index.
 pub(crate) fn guess_object(list: &ShortList<ObjectNo>, object: ObjectNo) -> usize {
     by_rank(list.len(), u64::from(object.0), |index| {
         rank_of(list.get(index))
@@ -16,7 +17,7 @@ fn rank_of(object: Option<&ObjectNo>) -> Option<u64> {
     object.map(|object| u64::from(object.0))
 }
 
-/// Whether the guess for the object at an index is a different index.
+/// Whether the guess for the object at an index is a different index; false if no object is there.
 #[cold]
 pub(crate) fn is_out_of_order(list: &ShortList<ObjectNo>, index: usize) -> bool {
     match list.get(index) {
@@ -25,7 +26,9 @@ pub(crate) fn is_out_of_order(list: &ShortList<ObjectNo>, index: usize) -> bool 
     }
 }
 
-/// A guess at the index of a value. If proxies are resolved in the order of their list, the texts that are left come after the objects.
+/// A guess at the index of a value. For an object, the guess is made by the numbers of the objects. For a proxy, the guess is the index of
+/// the first proxy: if proxies are resolved in the order of their list, the proxies that are left come after the objects, and the first of
+/// them is resolved next.
 #[cold]
 pub(crate) fn guess_value(list: &MixedList, value: &Value) -> usize {
     match value {
@@ -43,7 +46,7 @@ fn value_rank(value: Option<&Value>) -> Option<u64> {
     }
 }
 
-/// The index of the first text, if the objects come before the texts. Otherwise any index.
+/// The index of the first proxy, if all objects come before all proxies. Otherwise any index, or the number of values.
 fn first_text(list: &MixedList) -> usize {
     let mut low = 0;
     let mut high = list.len();

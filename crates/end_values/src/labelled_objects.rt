@@ -1,4 +1,4 @@
-//! Objects in no order, which are found by labels.
+//! A list of objects whose numbers are in no order; the objects are found by labels.
 ghost use Rattle.std.specs.Prelude.{◌≡◌, ◌+◌, ◌<◌, ◌≤◌, length, slice_get, position, option_copied, IfOk, OnErr, OnOk};
 ghost use Rattle.std.specs.List.{insert, remove};
 ghost use Rattle.slot_lists.specs.Moved.{list_after_move};
@@ -50,7 +50,7 @@ impl LabelledObjects {
         Ok(boxed)
     }
 
-    /// Replaces the objects by the objects of `list`, and gives each object a label.
+    /// Replaces the objects by the objects of `list`, gives each object a label, and leaves `list` empty.
     fn take_list(&mut self, list: &mut ShortList<ObjectNo>)
         ensures { self.new ≡ list.old }
     {
@@ -80,7 +80,8 @@ impl LabelledObjects {
         &self.list
     }
 
-    /// The index of an object, if the labels of this object and of the others rise along the list. Otherwise any index.
+    /// A guess at the index of an object. The guess is right if each object of the list has a label and the labels rise along the list.
+    /// Otherwise the guess may be any index.
     #[cold]
     pub fn guess(&self, object: ObjectNo) -> usize {
         match self.labels.get(&object.0) {
@@ -91,7 +92,7 @@ impl LabelledObjects {
         }
     }
 
-    /// The label of the object at an index; 0 if there is none.
+    /// The label of the object at an index; 0 if no object is there, or if the object has no label.
     fn label_at(&self, index: usize) -> u64 {
         let Some(object) = self.list.get(index) else {
             return 0;
@@ -102,8 +103,8 @@ impl LabelledObjects {
         }
     }
 
-    /// A label between the label of the object before `index` and the label of the object at `next`. If one of the two objects is missing,
-    /// the label is before or after all other labels.
+    /// A label between the label of the object before `index` and the label of the object at `next`. If there is no object at `next`, the
+    /// label is after the last label. Otherwise, if there is no object before `index`, the label is before the first label.
     fn label_amid(&self, index: usize, next: usize) -> u64 {
         if next >= self.list.len() {
             return self.ends.after();
@@ -114,7 +115,7 @@ impl LabelledObjects {
         }
     }
 
-    /// Gives all objects new labels.
+    /// Gives new labels to all objects, as far as there is capacity for their labels.
     fn label_all(&mut self)
         ensures { self.new ≡ self.old }
     {
@@ -125,7 +126,8 @@ impl LabelledObjects {
         }
     }
 
-    /// Reserves capacity for more objects, and for their labels. Fails only if memory is refused for the objects; then the objects stay.
+    /// Reserves capacity for more objects, and for their labels. Fails only if memory is refused for the objects, and then the objects stay
+    /// and no capacity is lost. If memory is refused only for the labels, some objects may get no label.
     #[cold]
     pub fn reserve(&mut self, alloc: Global, additional: usize) -> Result<(), AllocError>
         ensures items { self.new.items ≡ self.old.items }
@@ -140,7 +142,7 @@ impl LabelledObjects {
         Ok(())
     }
 
-    /// Inserts an object before the object at an index or at the end. The list has capacity for the object. Takes no memory.
+    /// Inserts an object before the object at an index or after the last object. The list has capacity for the object. Takes no memory.
     #[cold]
     pub fn insert(&mut self, index: usize, object: ObjectNo)
         requires room { 0 < self.old.spare }
@@ -154,8 +156,8 @@ impl LabelledObjects {
         put_label(&mut self.labels, Some(&object), label);
     }
 
-    /// Takes out the object at an index. Some removals look whether the object is found by its label, and give all objects new labels if it
-    /// is not. Takes no memory.
+    /// Takes out the object at an index. Some removals (`is_tried`) first look whether the object is found by its label, and give all
+    /// objects new labels if the object is not found. Takes no memory.
     #[cold]
     pub fn remove(&mut self, index: usize)
         requires { index < length self.old.items }
@@ -172,7 +174,7 @@ impl LabelledObjects {
         self.ends.take(index, self.list.len());
     }
 
-    /// Whether the object at an index is found by its label.
+    /// Whether the object at an index is found by its label; true if no object is there.
     fn is_guessed(&self, index: usize) -> bool {
         match self.list.get(index) {
             Some(object) => self.guess(*object) == index,
@@ -180,7 +182,7 @@ impl LabelledObjects {
         }
     }
 
-    /// Moves the object at `from`, so that it is then at `to` (EMF: EList.move). Takes no memory.
+    /// Moves the object at `from`, so that it is then at `to` (EMF: EList.move), and gives it a new label. Takes no memory.
     #[cold]
     pub fn move_to(&mut self, to: usize, from: usize)
         requires to { to < length self.old.items }

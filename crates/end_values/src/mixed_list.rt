@@ -1,4 +1,4 @@
-//! Values of an end that may be texts of proxies.
+//! The values of an end that may have proxies.
 ghost use Rattle.std.specs.Prelude.{◌≡◌, ◌+◌, ◌<◌, ◌≤◌, false, List, [], length, slice_get, position, option_copied, OnOk};
 ghost use Rattle.std.specs.List.{insert, remove};
 ghost use Rattle.std.specs.Option.{option_map_or};
@@ -12,8 +12,8 @@ use slot_lists::SlotList;
 use std::alloc::{AllocError, Global};
 use std::marker::Model;
 
-/// A list of values, and an index before which there is no proxy. If proxies are resolved in the order of their list, that index is the
-/// index of the first proxy that is left, so a search for a proxy begins there.
+/// A list of values, and an index before which there is no proxy. A search for a proxy begins at this index. If no object is between the
+/// proxies, and they are resolved in the order of the list, this index is the index of the first proxy that is left.
 #[derive(Drop)]
 pub(crate) struct MixedList {
     values: SlotList<Value>,
@@ -58,7 +58,7 @@ impl MixedList {
         self.values.spare()
     }
 
-    /// The value at an index; `None` past the end.
+    /// The value at an index; `None` past the last value.
     pub fn get(&self, index: usize) -> Option<&Value>
         ensures { option_copied result ≡ slice_get self.now.items index }
     {
@@ -88,7 +88,7 @@ impl MixedList {
         self.values.reserve(additional)
     }
 
-    /// Inserts a value before the value at an index or at the end. The list has capacity for the value. Takes no memory.
+    /// Inserts a value before the value at an index or after the last value. The list has capacity for the value. Takes no memory.
     pub fn insert(&mut self, index: usize, value: Value)
         requires room { 0 < self.old.spare }
         requires in_range { index ≤ length self.old.items }

@@ -4,7 +4,7 @@ use crate::shown::{Listed, SHOWN_BYTES, front_of};
 use mm_types::{Enumeration, RawFeature, RawKind, RawMeta};
 use std::alloc::{AllocError, Global};
 
-/// Explains bounds that contradict one another.
+/// Explains bounds that are out of range, or a lower bound that is above the upper bound.
 pub(crate) fn explain_bounds(
     out: &mut String,
     at: Named<'_>,

@@ -59,7 +59,7 @@ fn explain_feature(
     }
 }
 
-/// Adds what is wrong at the place of a condition.
+/// Explains what is wrong at a place at which a condition applies.
 pub(crate) fn explain_condition(
     alloc: Global,
     out: &mut String,

@@ -1,4 +1,4 @@
-//! Names that occur twice, although they may occur only once.
+//! Names that occur twice, although they may occur only once, and names that are reserved.
 use crate::inherited::Ancestry;
 use crate::named::{Named, class_at, class_named, enum_at, enum_named, name_at};
 use crate::near::is_among;
@@ -39,7 +39,7 @@ fn features_of(alloc: Global, raw: &RawMeta, class: usize) -> Result<Vec<Place>,
     ancestry.features(alloc, raw)
 }
 
-/// The first two places at which one name occurs.
+/// Two places with the same name, the earlier place first. The later place is the first one whose name an earlier place has.
 fn clash_in(
     alloc: Global,
     raw: &RawMeta,
@@ -126,7 +126,7 @@ fn earlier(raw: &RawMeta, name: &str, place: Place) -> Option<Place> {
     }
 }
 
-/// Explains a name that occurs twice, although it may occur only once.
+/// Explains a name that occurs twice, although it may occur only once, or a name that is reserved.
 pub(crate) fn explain_duplicate(
     alloc: Global,
     out: &mut String,

@@ -1,4 +1,4 @@
-//! The keys of the objects of a metamodel document, as `docs/METAMODEL.md` has them, and keys that are written by mistake.
+//! The keys of the objects of a metamodel document, as `docs/METAMODEL.md` lists them, and keys that are written by mistake.
 use mm_types::limits;
 
 /// How the value of a key is written.
@@ -46,7 +46,7 @@ pub(crate) const ATTRIBUTE: [Field; 8] = [
 /// The keys of a reference.
 pub(crate) const REFERENCE: [Field; 7] = [NAME, KIND, TYPE, LOWER, UPPER, CONTAINMENT, OPPOSITE];
 
-/// The keys of a feature of either kind.
+/// The keys of attributes together with the keys of references, for a feature whose kind is neither of the two.
 pub(crate) const FEATURE: [Field; 10] = [
     NAME,
     KIND,
@@ -156,10 +156,11 @@ const OPPOSITE: Field = Field {
     is_required: false,
 };
 
-/// A word, and the text about it.
+/// A word, and the hint or the advice about this word.
 pub(crate) type Hint = (&'static str, &'static str);
 
-/// Hints for keys that their object may not have: keys of Ecore and of similar formats, and keys of other objects of a metamodel document.
+/// Hints for keys that are not allowed in the object that has them: keys of Ecore and of similar formats, and keys of other objects of a
+/// metamodel document.
 pub(crate) const MISPLACED: [Hint; 41] = [
     ("upperBound", "a feature has \"upper\""),
     ("lowerBound", "a feature has \"lower\""),
@@ -222,8 +223,8 @@ pub(crate) const MISPLACED: [Hint; 41] = [
     ("enums", "only the document has it"),
 ];
 
-/// For some keys, a text that is added to the explanation if the value of the key, or an item of its array, is not written as the field
-/// says.
+/// For some keys, a text that is added to the line about a value of the key, or about an item of its array, that is not written as the
+/// field says. The text is not added to a line about the number of items.
 pub(crate) const ADVICE: [Hint; 3] = [
     ("upper", "; -1 stands for any number"),
     (

@@ -1,11 +1,11 @@
-//! Faults of inheritance: a cycle of supertypes, and two features with the same name.
+//! The classes from which a class inherits, the features of these classes, and cycles of supertypes.
 use crate::named::{Named, class_at, class_named, name_at};
 use mm_types::{Place, RawMeta};
 use std::alloc::{AllocError, Global};
 use std::fmt;
 
 /// A class that was reached through supertypes. `before` is the position, among the reached classes, of a class of which `class` is a
-/// direct supertype. The class at which the search begins has 0 there.
+/// direct supertype. For the class at which the search begins, `before` is 0.
 #[derive(Drop)]
 struct Reached {
     class: usize,
@@ -33,7 +33,8 @@ impl Ancestry {
         Some(self.reached.get(position)?.class)
     }
 
-    /// Adds the direct supertypes of a class that was reached.
+    /// Adds the direct supertypes of a class that was reached, except classes that were reached already. `before` is the position of the
+    /// class among the reached classes.
     fn add_supers(&mut self, raw: &RawMeta, class: usize, before: usize) -> Result<(), AllocError> {
         let supers = match class_at(raw, class) {
             Some(class) => class.supers.as_slice(),

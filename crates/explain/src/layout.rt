@@ -81,7 +81,8 @@ fn explain_fields(
     Ok(())
 }
 
-/// Adds a line for each fault of an object, with hints for keys that are not among the fields.
+/// Adds a line for each fault of an object, with hints for keys that are not among the fields. If `out` already has more than 4,096 bytes,
+/// nothing is added.
 fn explain_listed(
     alloc: Global,
     out: &mut String,
@@ -107,8 +108,9 @@ fn explain_listed(
     }
 }
 
-/// Adds a line for each key of an object that is unknown or absent, and for each value that is not written as its field says. `out` is the
-/// explanation of one document; if `out` already has more than 4,096 bytes, nothing is added. Fails only if memory is refused.
+/// Adds a line for each key that an object has but no field names, for each required key that the object lacks, and for each value that is
+/// not written as its field says. A `json` that is no object gets one line. `out` is the explanation of one document; if `out` already has
+/// more than 4,096 bytes, nothing is added. Fails only if memory is refused.
 pub fn explain_object(
     alloc: Global,
     out: &mut String,
@@ -175,7 +177,7 @@ fn explain_feature(
     }
 }
 
-/// The name that an object has, if it can be read.
+/// The name that an object has, if the name is a text: at most its first 60 bytes, in whole characters.
 fn name_in(json: &Value) -> Option<&str> {
     match json.get("name") {
         Some(Value::String(name)) => Some(front_of(name.as_str(), SHOWN_BYTES)),
@@ -183,7 +185,7 @@ fn name_in(json: &Value) -> Option<&str> {
     }
 }
 
-/// The place of an object of the document, with the name of the object if the name can be read.
+/// The place of an enumeration or a class, with its name if the name can be read.
 fn place_of(
     alloc: Global,
     key: &str,
@@ -247,7 +249,8 @@ fn explain_enums(alloc: Global, out: &mut String, enums: &[Value]) -> Result<(),
     Ok(())
 }
 
-/// Adds a line for each fault of the layout of a document, and for each limit that is exceeded.
+/// Adds a line for each fault of the layout of a document, and for each limit that is exceeded. Once `out` has more than 4,096 bytes, no
+/// further object is looked at.
 pub(crate) fn explain_layout(
     alloc: Global,
     out: &mut String,

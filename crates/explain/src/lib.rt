@@ -1,6 +1,7 @@
 //! Explains to a reader what to fix in a metamodel for which `mm_load` or `mm_check` returned a fault.
 //!
-//! No contract determines a text. It is proved that the functions are safe and end; cases of the program show their texts.
+//! No contract determines the text of an explanation. It is proved that the functions are safe and terminate; the cases of the program show
+//! the texts.
 #![tactic(auto)]
 
 mod bounds;

@@ -26,7 +26,7 @@ fn explain_bytes(alloc: Global, out: &mut String, bytes: &[u8]) -> Result<(), Al
     }
 }
 
-/// Explains what is wrong at the place of a condition.
+/// Explains what is wrong at a place at which a condition applies. Adds nothing if `load_meta` returns a fault.
 fn explain_place(
     alloc: Global,
     out: &mut String,
@@ -40,12 +40,17 @@ fn explain_place(
     }
 }
 
-/// Explains what to fix in a document for which a fault was returned: a line, ended by a newline, for each place that is found.
+/// Explains what to fix in a document for which a fault was returned. The explanation is a text of lines, each ended by a newline.
 ///
-/// For `Syntax` the text names the line and the column of the place, counted from 1. For `Layout` and `Limit` the text has a line for each
-/// key and each value that is wrong; once the text has more than 4,096 bytes, no further object is looked at. These lines name an object by
-/// positions in arrays, as `classes[3].features[2]`. For an ill-formed metamodel the lines have the names of enumerations, classes and
-/// features. For `Memory` the text is empty. Fails only if memory is refused.
+/// For `Syntax` the text is one line. It names the line and the column, both counted from 1, from which on the bytes are no JSON. If the
+/// bytes end too early, the column is the number of bytes of the last line.
+///
+/// For `Layout` and `Limit` the text has a line for each key and each value that is wrong; once the text has more than 4,096 bytes, no
+/// further object is looked at. These lines name an object by its positions in arrays, as `classes[3].features[2]`, and by the names that
+/// can be read.
+///
+/// For an ill-formed metamodel the lines have the names of enumerations, classes and features. For `Memory` the text is empty. Fails only
+/// if memory is refused.
 pub fn explain_meta(alloc: Global, bytes: &[u8], fault: MetaFault) -> Result<String, AllocError> {
     let mut out = String::new(alloc);
     match fault {

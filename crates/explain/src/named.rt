@@ -1,8 +1,8 @@
-//! The classes, features and enumerations of a document, by their names and places.
+//! Finds the classes, features and enumerations of a document by name or by place, and prints places for a reader.
 use mm_types::{Enumeration, Place, RawClass, RawFeature, RawKind, RawMeta};
 use std::fmt;
 
-/// A place of a document in words for a reader, with the names at that place.
+/// A place of a document. It is printed for a reader by the names at the place, as `class Book, feature pages`.
 #[derive(Clone, Copy)]
 pub(crate) struct Named<'m> {
     pub(crate) raw: &'m RawMeta,
@@ -71,7 +71,7 @@ pub(crate) fn name_at(raw: &RawMeta, place: Place) -> &str {
     found_name(raw, place).unwrap_or("")
 }
 
-/// The position of the first enumeration of a name.
+/// The position of the first enumeration with a given name.
 pub(crate) fn enum_named(raw: &RawMeta, name: &str) -> Option<usize> {
     for (i, found) in raw.enums().iter().enumerate() {
         if found.name.as_str() == name {
@@ -81,7 +81,7 @@ pub(crate) fn enum_named(raw: &RawMeta, name: &str) -> Option<usize> {
     None
 }
 
-/// The position of the first class of a name.
+/// The position of the first class with a given name.
 pub(crate) fn class_named(raw: &RawMeta, name: &str) -> Option<usize> {
     for (i, found) in raw.classes().iter().enumerate() {
         if found.name.as_str() == name {
@@ -101,7 +101,7 @@ pub(crate) fn feature_named<'m>(class: &'m RawClass, name: &str) -> Option<&'m R
     None
 }
 
-/// The name of the opposite of a reference; an attribute has none.
+/// The name of the opposite of a reference; `None` for a reference without opposite, and for an attribute.
 pub(crate) fn opposite_of(feature: &RawFeature) -> Option<&str> {
     match &feature.kind {
         RawKind::Reference {

@@ -8,9 +8,9 @@ const LONGEST: usize = 64;
 /// The greatest number of edits between a word and a near word.
 const MOST_EDITS: usize = 2;
 
-/// The word of a list that is nearest to a given word by the number of edits, the first one if there are several. At most two edits are
-/// accepted, and fewer than the found word has bytes. A given word of more than 64 bytes has no nearest word. Fails only if memory is
-/// refused.
+/// The word of a list that is the fewest edits away from a given word; of several such words, the first. An edit inserts, deletes or
+/// replaces one character. A word of the list is returned only if it is at most two edits away, and fewer edits than it has bytes. A given
+/// word of more than 64 bytes has no nearest word. Fails only if memory is refused.
 pub fn nearest<'a>(
     alloc: Global,
     word: &str,

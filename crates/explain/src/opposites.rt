@@ -5,7 +5,8 @@ use crate::near::nearest;
 use mm_types::{Condition, Place, RawFeature, RawKind, RawMeta};
 use std::alloc::{AllocError, Global};
 
-/// The feature that the type of a reference itself declares under a name.
+/// The feature with a given name in the class that is the type of a reference. Only features that this class itself declares count, no
+/// inherited ones.
 fn declared_of<'m>(raw: &'m RawMeta, feature: &RawFeature, name: &str) -> Option<&'m RawFeature> {
     let class = class_named(raw, feature.type_name.as_str())?;
     feature_named(class_at(raw, class)?, name)
@@ -182,7 +183,7 @@ fn explain_none(
     }
 }
 
-/// Explains a condition on a reference and its opposite.
+/// Explains one of the conditions `Opposite`, `BothContain` and `ContainerBound`, which concern a reference and its opposite.
 pub(crate) fn explain_opposite(
     alloc: Global,
     out: &mut String,

@@ -8,8 +8,8 @@ pub(crate) const SHOWN_BYTES: usize = 60;
 /// The greatest number of bytes of a character.
 const CHARACTER_BYTES: usize = 4;
 
-/// A JSON value in words for a reader: a text, a number, `true`, `false` and `null` as they are written, but only the beginning of a
-/// long text.
+/// A JSON value in words for a reader. An array is printed as `an array`, and an object as `an object`. A text is printed as `{:?}` prints
+/// it, but only its first 60 bytes, in whole characters. Any other value is printed as `serde_json` prints it.
 #[derive(Drop)]
 pub struct Shown<'v>(pub &'v Value);
 

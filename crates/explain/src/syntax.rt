@@ -15,7 +15,7 @@ pub(crate) enum NoJson<'b> {
     EndsEarly,
     /// The bytes begin with a byte order mark.
     ByteOrderMark,
-    /// The first byte from the place on is not UTF-8.
+    /// The bytes from the place on do not begin with a character in UTF-8.
     NotUtf8,
     /// The bytes from the place on are no JSON; they begin with this text.
     Shown(&'b str),
@@ -50,7 +50,7 @@ fn start_of(bytes: &[u8], line: usize) -> usize {
     start
 }
 
-/// How many bytes come before a line and a column, both counted from 1.
+/// How many bytes come before the byte at a line and a column, both counted from 1.
 pub fn offset_of(bytes: &[u8], line: usize, column: usize) -> usize {
     start_of(bytes, line).saturating_add(column.saturating_sub(1))
 }
@@ -66,7 +66,8 @@ fn text_at(bytes: &[u8]) -> &str {
     }
 }
 
-/// Why bytes are no JSON from a place on. The line and the column of the place are counted from 1.
+/// Why bytes are no JSON from a place on, if they do not end too early. The line and the column of the place are counted from 1. If the
+/// bytes begin with a byte order mark, the mark is the reason, whatever the place.
 pub(crate) fn no_json_at(bytes: &[u8], line: usize, column: usize) -> NoJson<'_> {
     if bytes.starts_with(BYTE_ORDER_MARK) {
         return NoJson::ByteOrderMark;

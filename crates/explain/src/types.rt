@@ -97,7 +97,7 @@ pub(crate) fn explain_super(
     }
 }
 
-/// Explains a type that does not fit the kind of its feature.
+/// Explains the type of a feature: the type of an attribute is no data type and no enumeration, or the type of a reference is no class.
 pub(crate) fn explain_type(
     alloc: Global,
     out: &mut String,

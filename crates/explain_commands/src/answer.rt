@@ -87,7 +87,8 @@ fn refusal_named(name: &str) -> Option<Refused> {
     None
 }
 
-/// The refusal that a line prints after its first word. The last word is the name of the refusal, or of the document's cause.
+/// The refusal in the words that an answer has after the word `refused`. The last word is the name of the refusal, or of the cause in the
+/// document.
 fn refusal_in(words: &str) -> Option<Refused> {
     let (front, name) = words.rsplit_once(' ')?;
     if front.starts_with("18 ") {
@@ -97,7 +98,7 @@ fn refusal_in(words: &str) -> Option<Refused> {
     }
 }
 
-/// The meaning of a line that begins with a word and goes on with a number or a refusal.
+/// The meaning of an answer that begins with `refused` or `loaded`, followed by a refusal or a number; `None` for any other answer.
 fn worded(line: &str) -> Option<Printed> {
     let (word, rest) = line.split_once(' ')?;
     match word {
@@ -107,7 +108,7 @@ fn worded(line: &str) -> Option<Printed> {
     }
 }
 
-/// A line that is a mark and a number, as `#0`.
+/// The meaning of an answer that is a mark and a number, as `#0` or `r0`; `None` for any other answer.
 fn marked(line: &str) -> Option<Printed> {
     if let Some(number) = line.strip_prefix('#') {
         return Some(Printed::Object(natural_of(number)?));

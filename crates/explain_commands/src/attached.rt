@@ -15,7 +15,7 @@ fn adapter_in(form: &Form<'_>) -> Option<AdapterNo> {
 }
 
 impl<L: LinkStore, A: Adapter> Scene<'_, L, A> {
-    /// Explains an adapter that is not there, or not attached.
+    /// Explains an adapter that doesn't exist, or that is not attached.
     pub(crate) fn explain_no_adapter(&self, out: &mut String, form: &Form<'_>) -> Written {
         let prefix = self.prefix;
         let Some(AdapterNo(number)) = adapter_in(form) else {
@@ -46,7 +46,7 @@ impl<L: LinkStore, A: Adapter> Scene<'_, L, A> {
         }
     }
 
-    /// The attached adapter that got the most notifications, and how many it got.
+    /// The attached adapter that got the most notifications, and how many it got. Of several such adapters it is the last.
     fn fullest(&self) -> Option<(u32, u64)> {
         let mut found = None;
         let mut most = 0;
@@ -61,7 +61,8 @@ impl<L: LinkStore, A: Adapter> Scene<'_, L, A> {
         found
     }
 
-    /// Explains an adapter that can't count the notifications that it would get.
+    /// Explains that an adapter can't count the notifications that it would get. The attached adapter that got the most notifications is
+    /// named.
     pub(crate) fn explain_full(&self, out: &mut String) -> Written {
         let prefix = self.prefix;
         match self.fullest() {

@@ -28,7 +28,7 @@ impl<'s, L: LinkStore, A: Adapter> Scene<'s, L, A> {
 }
 
 impl<L: LinkStore, A: Adapter> Scene<'_, L, A> {
-    /// An object with its class and its name, as `#3 (Book "Emma")`.
+    /// An object with its class and its name, as `#3 (Book "Emma")`; only the number, as `#3`, if there is no such object.
     pub(crate) fn object_called(&self, object: ObjectNo) -> Result<String, AllocError> {
         let number = object.0;
         let Ok(class) = self.repository.e_class(object) else {
@@ -72,7 +72,7 @@ impl<L: LinkStore, A: Adapter> Scene<'_, L, A> {
         }
     }
 
-    /// A value as it is written in a line; an object is shown with its class and its name.
+    /// A value as it is written in a line, but only the first 60 bytes of a text. An object is shown with its class and its name.
     pub(crate) fn value_called(&self, value: &WrittenValue<'_>) -> Result<String, AllocError> {
         match value {
             WrittenValue::Null => format!(in self.alloc; "null"),

@@ -28,20 +28,21 @@ pub struct Commentary {
     talk: Talk,
     /// The number of the last adapter that a line can attach.
     adapters: u32,
-    /// The number of the last line that was run, from 1.
+    /// The number of the last line that was run, counted from 1; 0 before the first line.
     number: u64,
     /// How many objects were made.
     objects: u64,
-    /// The URIs of the resources.
+    /// The URIs of the resources, in the order of the resources' numbers.
     uris: Vec<String>,
     /// The comments that were not taken yet.
     said: String,
-    /// Whether memory was refused. Then the URIs are not known any more, and nothing is said.
+    /// Whether memory was refused for a URI or a comment. Then a URI may be missing, and no further line is commented on.
     is_lost: bool,
 }
 
 impl Commentary {
-    /// The comments on a script that can attach the adapters up to the number `adapters`. Takes no memory.
+    /// A commentary on a script of which no line was run. The script can attach the adapters with the numbers 1 to `adapters`. Takes no
+    /// memory.
     pub fn new(alloc: Global, talk: Talk, adapters: u32) -> Self {
         Commentary {
             alloc,
@@ -55,14 +56,14 @@ impl Commentary {
         }
     }
 
-    /// Notes that the lines of a script begin. The lines before, which a journal had kept, are not counted.
+    /// Notes that the next line is the first line of the script. Lines that were run before it, which a journal had kept, are not counted.
     pub fn begin(&mut self) {
         self.number = 0;
     }
 
     /// The resource whose URI a text gives; the text is normalised first.
     ///
-    /// Refused, the first that applies: `Memory`, also if memory was refused before for the URI of a resource; `BadUri`; `NoResource`.
+    /// Refused, the first that applies: `Memory`, also if memory was refused before for a URI or a comment; `BadUri`; `NoResource`.
     pub fn resource_named(&self, text: &str) -> Result<ResourceNo, Refused> {
         if self.is_lost {
             return Err(Refused::Memory);
@@ -97,7 +98,8 @@ impl Commentary {
         self.is_lost = noted.is_err();
     }
 
-    /// Notes that a resource was made and loaded, just as the lines `resource` and `load` are noted.
+    /// Notes the URI of a resource that was made, and how many objects were loaded into the resource. The same is noted after the lines
+    /// `resource` and `load`.
     pub fn resource_was_loaded(&mut self, uri: &str, objects: u64) {
         let noted = self.note_uri(uri);
         self.is_lost = self.is_lost || noted.is_err();
@@ -134,7 +136,7 @@ impl Commentary {
     fn note_uri(&mut self, text: &str) -> Result<(), AllocError> {
         match joined(self.alloc, "", text) {
             Ok(uri) => Ok(self.uris.push(uri)?),
-            // No resource was made of such a text.
+            // A text that gives no URI made no resource, so there is nothing to note.
             Err(UriFault::Bad) => Ok(()),
             Err(UriFault::Memory) => Err(AllocError),
         }
@@ -202,7 +204,7 @@ impl Commentary {
         Ok(text)
     }
 
-    /// Explains why the document of a line is refused.
+    /// Explains why the document of a `load` line is refused.
     fn explain_load<L: LinkStore, A: Adapter>(
         &self,
         out: &mut String,
@@ -224,7 +226,7 @@ impl Commentary {
     }
 }
 
-/// The URI of a resource.
+/// The URI of a resource; empty if the URI is not known.
 fn uri_of(uris: &[String], resource: ResourceNo) -> &str {
     match uris.get(resource.0 as usize) {
         Some(uri) => uri.as_str(),
@@ -232,7 +234,7 @@ fn uri_of(uris: &[String], resource: ResourceNo) -> &str {
     }
 }
 
-/// The line for a person who types a word that is no command.
+/// The advice for a person who types `help`, `quit` or `exit`, which are no commands; `None` for any other line.
 fn advice_for(line: &[u8]) -> Option<&'static str> {
     match line.trim_ascii() {
         b"help" => Some("mmrepo --help shows what can be typed; Ctrl-D ends the program"),

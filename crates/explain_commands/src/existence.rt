@@ -1,4 +1,4 @@
-//! Nodes that are not there.
+//! Objects and resources that don't exist.
 use crate::named::{Named, object_value};
 use crate::scene::{Scene, Written};
 use adapters::Adapter;
@@ -7,7 +7,8 @@ use mm_types::{Node, ObjectNo};
 use script_lines::Form;
 
 impl<L: LinkStore, A: Adapter> Scene<'_, L, A> {
-    /// The destroyed or missing object that a line names: the node, or else the value.
+    /// The object that a line names and that doesn't exist: the node, if it is an object that doesn't exist, and otherwise the object of
+    /// the value.
     fn lost_object(&self, form: &Form<'_>, node: Option<Node>) -> Option<ObjectNo> {
         match node {
             Some(Node::Object(object)) if self.repository.e_class(object).is_err() => Some(object),
@@ -15,7 +16,7 @@ impl<L: LinkStore, A: Adapter> Scene<'_, L, A> {
         }
     }
 
-    /// Explains an object that is not there.
+    /// Explains an object that doesn't exist: it was destroyed, or was never made.
     pub(crate) fn explain_no_object(
         &self,
         out: &mut String,
@@ -40,7 +41,7 @@ impl<L: LinkStore, A: Adapter> Scene<'_, L, A> {
         }
     }
 
-    /// Explains a resource that is not there.
+    /// Explains a resource that doesn't exist, since it was never made.
     pub(crate) fn explain_no_resource(&self, out: &mut String, named: &Named<'_>) -> Written {
         let prefix = self.prefix;
         let Some(Node::Resource(resource)) = named.node else {

@@ -1,4 +1,4 @@
-//! Lists that are too short for an index, are full, or have a value already.
+//! Lists that are too short for an index, are full, or have a value already; and limits that are reached.
 use crate::named::{Named, object_value, resolved_index, value_in};
 use crate::scene::{Scene, Written};
 use adapters::Adapter;
@@ -9,7 +9,7 @@ use script_lines::{FeatureForm, Form, WrittenValue};
 use script_output::literal_name;
 use std::alloc::{AllocError, Global};
 
-/// The first of a line's indexes that is too high, and the greatest index that the command accepts there. `last` is `None` if the command
+/// An index of a line that is too high, and the greatest index that the command accepts in its place. `last` is `None` if the command
 /// accepts no index.
 #[derive(Clone, Copy)]
 struct TooHigh {
@@ -28,7 +28,8 @@ fn above(index: u32, count: u32) -> Option<TooHigh> {
     })
 }
 
-/// The index that a line names, if it is too high for a list of `len` values.
+/// An index of a line that is too high for a list of `len` values. If both indexes of `move` are too high, it is the index from which the
+/// value is moved.
 fn too_high(form: &Form<'_>, len: u32) -> Option<TooHigh> {
     let Form::At { form, .. } = form else {
         return None;
@@ -41,7 +42,7 @@ fn too_high(form: &Form<'_>, len: u32) -> Option<TooHigh> {
     }
 }
 
-/// How many values there are, in words.
+/// A number of values in words, as `1 value` or `2 values`.
 fn values_called(alloc: Global, len: u32) -> Result<String, AllocError> {
     if len == 1 {
         format!(in alloc; "1 value")
@@ -51,7 +52,8 @@ fn values_called(alloc: Global, len: u32) -> Result<String, AllocError> {
 }
 
 impl<L: LinkStore, A: Adapter> Scene<'_, L, A> {
-    /// Explains an index that a line gives for a single feature. At a single feature, only a proxy has an index.
+    /// Explains an index that a line gives for a single feature. Of the commands that name an index, only `resolve` accepts a single
+    /// feature.
     fn explain_single(&self, out: &mut String, form: &Form<'_>, called: &str) -> Written {
         let prefix = self.prefix;
         match resolved_index(form) {
@@ -96,7 +98,7 @@ impl<L: LinkStore, A: Adapter> Scene<'_, L, A> {
         }
     }
 
-    /// Whether a value of a list is the value of a line.
+    /// Whether a value of a list is equal to a value that is written in a line.
     fn is_written(
         &self,
         feature: FeatureNo,
@@ -145,7 +147,8 @@ impl<L: LinkStore, A: Adapter> Scene<'_, L, A> {
         )
     }
 
-    /// Explains a value that a list has already: the value of the line, or the object to which a proxy leads that the line resolves.
+    /// Explains a value that a list has already: the value that the line adds, or the object at the address of the proxy that the line
+    /// resolves.
     pub(crate) fn explain_duplicate(&self, out: &mut String, form: &Form<'_>, end: End) -> Written {
         match (resolved_index(form), value_in(form)) {
             (_, Some(value)) => self.explain_repeated(out, end, value),
@@ -166,7 +169,8 @@ impl<L: LinkStore, A: Adapter> Scene<'_, L, A> {
         meta.is_full(end.feature, self.len(end))
     }
 
-    /// The full end among the two ends to which a line adds something: the end that the line names, and the opposite end.
+    /// The full end among the two ends to which a line adds a value: the end that the line names or, if that end is not full, the opposite
+    /// end.
     fn full_end(&self, form: &Form<'_>, end: End) -> Option<End> {
         if self.is_full(end) {
             return Some(end);
@@ -177,7 +181,7 @@ impl<L: LinkStore, A: Adapter> Scene<'_, L, A> {
         if self.is_full(far) { Some(far) } else { None }
     }
 
-    /// Explains a list that is full.
+    /// Explains a list that is full, at the end that the line names or at the opposite end.
     pub(crate) fn explain_bound(&self, out: &mut String, form: &Form<'_>, end: End) -> Written {
         let prefix = self.prefix;
         let Some(end) = self.full_end(form, end) else {
@@ -191,7 +195,7 @@ impl<L: LinkStore, A: Adapter> Scene<'_, L, A> {
         )
     }
 
-    /// Explains a limit: the number that is reached, and the greatest number that is allowed.
+    /// Explains which limit a line would exceed: the number of objects, of resources, of targets of adapters, or of values of a list.
     pub(crate) fn explain_limit(&self, out: &mut String, form: &Form<'_>) -> Written {
         let prefix = self.prefix;
         match form {

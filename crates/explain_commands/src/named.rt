@@ -10,7 +10,7 @@ pub(crate) struct Named<'a> {
     pub(crate) feature: Option<&'a str>,
 }
 
-/// The verb of a line.
+/// The verb of a line that names a feature; for any other line the words `the line`.
 fn verb_in(form: &Form<'_>) -> &'static str {
     let Form::At { form, .. } = form else {
         return "the line";
@@ -64,7 +64,7 @@ fn node_in(form: &Form<'_>) -> Option<Node> {
     }
 }
 
-/// The value that a feature is given, or loses.
+/// The value that a form names: to set it, to add it to a list, or to take it out of a list.
 fn given_value<'f, 'a>(form: &'f FeatureForm<'a>) -> Option<&'f WrittenValue<'a>> {
     match form {
         FeatureForm::Set(value)
@@ -86,7 +86,7 @@ pub(crate) fn resolved_index(form: &Form<'_>) -> Option<u32> {
     }
 }
 
-/// The value that a line gives a feature, or takes out of a feature.
+/// The value that a line names: to set it, to add it to a list, or to take it out of a list.
 pub(crate) fn value_in<'f, 'a>(form: &'f Form<'a>) -> Option<&'f WrittenValue<'a>> {
     match form {
         Form::At { form, .. } => given_value(form),
@@ -102,7 +102,7 @@ pub(crate) fn object_value(form: &Form<'_>) -> Option<ObjectNo> {
     }
 }
 
-/// What a line of a form names.
+/// What a line names; `form` is the form of the line.
 pub(crate) fn named_in<'a>(form: &Form<'a>) -> Named<'a> {
     Named {
         verb: verb_in(form),

@@ -36,7 +36,7 @@ impl<L: LinkStore, A: Adapter> Scene<'_, L, A> {
         }
     }
 
-    /// Explains a refusal of a line that names a feature which its node has.
+    /// Explains a refusal of a line that names a node and one of the features of the node's class.
     fn explain_end(
         &self,
         out: &mut String,
@@ -74,8 +74,8 @@ impl<L: LinkStore, A: Adapter> Scene<'_, L, A> {
         }
     }
 
-    /// Adds a line that says why a line of a script was refused; the repository has to be as it was when the line was refused. Nothing is
-    /// said of a refused document or of memory. Fails only if memory is refused.
+    /// Adds a line that says why a line of a script was refused; the repository has to be as it was when the line was refused. Adds nothing
+    /// for the refusals `Document` and `Memory`. Fails only if memory is refused.
     pub(crate) fn explain_refusal(
         &self,
         out: &mut String,

@@ -57,7 +57,7 @@ impl<L: LinkStore, A: Adapter> Scene<'_, L, A> {
         }
     }
 
-    /// Explains a text that is no URI, or no address.
+    /// Explains the text of a `resource` line that is no URI of a resource, or the text of an `at` line that is no address.
     pub(crate) fn explain_bad_uri(&self, out: &mut String, form: &Form<'_>) -> Written {
         let prefix = self.prefix;
         match form {

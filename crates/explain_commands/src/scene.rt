@@ -5,7 +5,7 @@ use mm_types::{End, FeatureNo, Node};
 use repository::Repository;
 use std::alloc::{AllocError, Global};
 
-/// The result of a function that writes an explanation. Fails only if memory is refused.
+/// The result of a function that writes an explanation: an error if memory is refused.
 pub(crate) type Written = Result<(), AllocError>;
 
 /// The data from which a refusal is explained, and the text with which the line of the explanation begins.
@@ -15,7 +15,7 @@ pub(crate) struct Scene<'s, L: LinkStore, A: Adapter> {
     /// The text with which the line of the explanation begins, as `line 12`.
     pub(crate) prefix: &'s str,
     pub(crate) repository: &'s Repository<L, A>,
-    /// The URIs of the resources.
+    /// The URIs of the resources, in the order of the resources' numbers.
     pub(crate) uris: &'s [String],
     /// How many objects were made.
     pub(crate) objects: u64,
@@ -24,7 +24,7 @@ pub(crate) struct Scene<'s, L: LinkStore, A: Adapter> {
 }
 
 impl<L: LinkStore, A: Adapter> Scene<'_, L, A> {
-    /// The feature of a name among all features of a node's class.
+    /// The feature with a given name among all features of a node's class; for a resource the only feature is `contents`.
     pub(crate) fn feature(&self, node: Node, name: &str) -> Option<FeatureNo> {
         let meta = self.repository.meta();
         match node {

@@ -1,4 +1,4 @@
-//! Objects that would be below themselves, that refer to an object in no resource, or that are too deep.
+//! Objects that would be below themselves, that are in no resource, that refer to an object in no resource, or that are too deep.
 use crate::named::object_value;
 use crate::scene::{Scene, Written};
 use adapters::Adapter;
@@ -53,7 +53,7 @@ impl<L: LinkStore, A: Adapter> Scene<'_, L, A> {
         matches!(self.repository.e_resource(object), Ok(None))
     }
 
-    /// The first object in no resource to which a feature of an object refers.
+    /// The first value of a feature of an object that is an object in no resource.
     fn outside_at(&self, end: End) -> Option<ObjectNo> {
         if let Ok(found) = self.repository.value(end.node, end.feature) {
             return match found {
@@ -73,7 +73,8 @@ impl<L: LinkStore, A: Adapter> Scene<'_, L, A> {
         None
     }
 
-    /// The first reference of an object that refers to an object in no resource, and the object in no resource.
+    /// The first reference of an object that has an object in no resource as a value, and the first value of this reference that is in no
+    /// resource.
     fn outside_of(&self, object: ObjectNo) -> Option<(End, ObjectNo)> {
         let meta = self.repository.meta();
         let node = Node::Object(object);
@@ -103,7 +104,7 @@ impl<L: LinkStore, A: Adapter> Scene<'_, L, A> {
         Ok(())
     }
 
-    /// Whether an object has the fault that is looked for. If it has, adds the line that explains the fault.
+    /// Whether an object has the fault that is looked for. If so, adds the line that explains the fault.
     fn is_found(
         &self,
         out: &mut String,
@@ -156,7 +157,8 @@ impl<L: LinkStore, A: Adapter> Scene<'_, L, A> {
         Ok(())
     }
 
-    /// Explains a reference to an object in no resource, or an object that is in no resource.
+    /// Explains the refusal `Dangling`. If the line names an object, the object is in no resource. If the line names a resource, the first
+    /// object of the resource that refers to an object in no resource is explained.
     pub(crate) fn explain_dangling(&self, out: &mut String, node: Node) -> Written {
         match node {
             Node::Object(object) => {
@@ -171,7 +173,7 @@ impl<L: LinkStore, A: Adapter> Scene<'_, L, A> {
         }
     }
 
-    /// Explains an object below the last level.
+    /// Explains the first object of a resource that is below the last level.
     pub(crate) fn explain_too_deep(&self, out: &mut String, node: Node) -> Written {
         self.explain_first(out, node, Sought::TooDeep)
     }

@@ -1,4 +1,4 @@
-//! Values that a feature does not take, and features that a command does not take.
+//! Values that a feature does not take, features that a command does not take, and texts that are too long.
 use crate::named::{Named, resolved_index, value_in};
 use crate::scene::{Scene, Written};
 use adapters::Adapter;
@@ -28,7 +28,7 @@ impl<L: LinkStore, A: Adapter> Scene<'_, L, A> {
         )
     }
 
-    /// The values that a data type takes, in words for a reader. Fails only if memory is refused.
+    /// The values of a data type, in words for a reader. Fails only if memory is refused.
     fn taken_by_type(&self, data_type: DataType) -> Result<String, AllocError> {
         match data_type {
             DataType::EString => {
@@ -63,7 +63,8 @@ impl<L: LinkStore, A: Adapter> Scene<'_, L, A> {
 }
 
 impl<'s, L: LinkStore, A: Adapter> Scene<'s, L, A> {
-    /// The literal of a feature's enumeration that is nearest to a written literal.
+    /// The literal of a feature's enumeration that is nearest to a written literal; `None` if no literal is near, or if the feature has no
+    /// enumeration as its type.
     fn meant_literal(
         &self,
         feature: FeatureNo,
@@ -77,7 +78,7 @@ impl<'s, L: LinkStore, A: Adapter> Scene<'s, L, A> {
         nearest(self.alloc, written, names.as_slice())
     }
 
-    /// The name of a literal near to a value, if the value is a text or a literal.
+    /// The literal of a feature's enumeration that is nearest to a text or a literal of a line; `None` for any other value.
     fn meant_value(
         &self,
         feature: FeatureNo,
@@ -126,7 +127,7 @@ impl<L: LinkStore, A: Adapter> Scene<'_, L, A> {
         )
     }
 
-    /// Explains a value that a feature does not take.
+    /// Explains the refusal `WrongType`, of a value that a line names or of a proxy that a line resolves.
     pub(crate) fn explain_type(&self, out: &mut String, form: &Form<'_>, end: End) -> Written {
         match (resolved_index(form), value_in(form)) {
             (_, Some(value)) => self.explain_value(out, end, value),
@@ -136,7 +137,7 @@ impl<L: LinkStore, A: Adapter> Scene<'_, L, A> {
     }
 }
 
-/// How many bytes the text of a line has.
+/// How many bytes the text of a line has; 0 if the line has no text.
 fn length_in(form: &Form<'_>) -> usize {
     match (form, value_in(form)) {
         (Form::Resource(text) | Form::Read(Read::ObjectAt(text)), _) => text.as_str().len(),
@@ -146,7 +147,7 @@ fn length_in(form: &Form<'_>) -> usize {
 }
 
 impl<L: LinkStore, A: Adapter> Scene<'_, L, A> {
-    /// Explains a text that is too long.
+    /// Explains a text that is too long, or a text that gives a URI which is too long.
     pub(crate) fn explain_length(&self, out: &mut String, form: &Form<'_>) -> Written {
         let prefix = self.prefix;
         let most = limits::TEXT_BYTES;

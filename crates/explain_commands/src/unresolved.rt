@@ -10,7 +10,7 @@ use std::alloc::AllocError;
 use web_uris::{Step, parse, split_address};
 
 impl<'s, L: LinkStore, A: Adapter> Scene<'s, L, A> {
-    /// The value of a reference at an index; the index of a single reference is 0.
+    /// The value of a reference at an index. For a single reference it is the value, whatever the index.
     fn found_at(&self, end: End, index: u32) -> Option<Found<'s>> {
         let repository = self.repository;
         if repository.meta().is_single(end.feature) {
@@ -57,7 +57,7 @@ impl<L: LinkStore, A: Adapter> Scene<'_, L, A> {
         }
     }
 
-    /// Explains a proxy whose resource is not there.
+    /// Explains a proxy whose URI no resource has.
     pub(crate) fn explain_unloaded(&self, out: &mut String, end: End, index: u32) -> Written {
         let prefix = self.prefix;
         let Some((uri, _)) = self.parts_at(end, index) else {
@@ -79,7 +79,7 @@ struct Way {
 }
 
 impl<L: LinkStore, A: Adapter> Scene<'_, L, A> {
-    /// Follows one step from an object.
+    /// The address and the object that one more step reaches; `None` if the step finds nothing.
     fn gone(&self, way: &Way, step: &Step) -> Result<Option<Way>, AllocError> {
         let name = step.name.as_str();
         let before = way.address.as_str();
@@ -122,7 +122,7 @@ impl<L: LinkStore, A: Adapter> Scene<'_, L, A> {
         Ok(())
     }
 
-    /// Explains an address without an object.
+    /// Explains why there is no object at an address of a resource that exists.
     fn explain_nowhere(&self, out: &mut String, uri: &str, fragment: &str) -> Written {
         let prefix = self.prefix;
         let Some(path) = parse(self.alloc, fragment)? else {
@@ -152,7 +152,7 @@ impl<L: LinkStore, A: Adapter> Scene<'_, L, A> {
         }
     }
 
-    /// Explains a proxy that leads to an object without a proxy that leads back.
+    /// Explains a proxy that leads to an object, if the opposite reference of that object has no proxy that leads back.
     pub(crate) fn explain_unmatched(&self, out: &mut String, end: End, index: u32) -> Written {
         let prefix = self.prefix;
         let opposite = self.repository.meta().opposite(end.feature);

@@ -5,7 +5,7 @@ use script_lines::words_of;
 use std::alloc::{AllocError, Global};
 use std::str;
 
-/// Says that a word is not of its kind.
+/// Adds a line if a word of a bad line is not of the kind that the word `sort` of the form asks for.
 fn explain_word(
     alloc: Global,
     out: &mut String,
@@ -65,7 +65,8 @@ fn explain_verb(
     }
 }
 
-/// Adds a line for each word that is wrong in a bad line of a script. Fails only if memory is refused.
+/// Explains a bad line of a script. One line is added if the bad line is not UTF-8, has an unknown verb, or has too few or too many words;
+/// otherwise a line for each word that is not of its kind. Fails only if memory is refused.
 pub fn explain_bad_line(
     alloc: Global,
     out: &mut String,

@@ -119,7 +119,7 @@ fn explain_entry(out: &mut String, meta: &Meta, entry: &Entry<'_>) -> Result<(),
     Ok(())
 }
 
-/// Explains values that are not of their feature's type.
+/// Explains values that are not of their feature's type, and contents of many-valued features that are no arrays.
 pub(crate) fn explain_values(
     out: &mut String,
     meta: &Meta,

@@ -25,7 +25,7 @@ pub struct RefusedDocument<'d> {
     pub cause: DocFault,
 }
 
-/// A text from the byte `start` on, cut after at most 20 bytes.
+/// A text from the byte `start` on, cut after at most 20 bytes; empty if no character of the text begins at that byte.
 fn shown_at(text: &str, start: usize) -> &str {
     front_of(text.get(start..).unwrap_or(""), SHOWN_BYTES)
 }
@@ -131,8 +131,9 @@ fn explain_json(
     }
 }
 
-/// A document is refused with a cause. Adds a line for each fault of the document that belongs to this cause. Fails only if memory is
-/// refused.
+/// Explains why a document is refused. Adds a line for each place of the document at which the cause of the refusal applies; for `Syntax`
+/// and for `Depth` only one line. For `Layout`, no further object is looked at once `out` has more than 4,096 bytes. Fails only if memory
+/// is refused.
 pub fn explain_document(
     alloc: Global,
     out: &mut String,

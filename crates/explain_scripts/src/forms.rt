@@ -2,7 +2,8 @@
 use script_lines::{Line, parse_line};
 use std::alloc::{AllocError, Global};
 
-/// The forms, as `docs/SCRIPT.md` has them and in its order.
+/// The forms, in the order of the table of commands in `docs/SCRIPT.md`. Two forms of the table that differ only in `flat` and `deep` are
+/// one form here, which ends with `flat|deep`.
 pub(crate) static FORMS: [&str; 28] = [
     "new NAME",
     "set NODE NAME VALUE",
@@ -34,10 +35,10 @@ pub(crate) static FORMS: [&str; 28] = [
     "seen AD",
 ];
 
-/// A word of a form that stands for other words.
+/// A word of a form that stands for any word of a kind, as `NAME` stands for any name.
 pub(crate) struct Sort {
     name: &'static str,
-    /// The beginning of a line. If one more word follows, the line fits a form of the language exactly if that word is of this kind.
+    /// The beginning of a line. This beginning with one more word has one of the forms exactly if the word is of this kind.
     before: &'static str,
     /// What a word of this kind is, in words for a reader.
     pub(crate) wanted: &'static str,

@@ -13,7 +13,8 @@ pub(crate) enum Led {
     Nowhere,
     /// The text leads to the part that has this number.
     Here(usize),
-    /// The text leads to another resource, namely to this address, which has the whole URI of that resource.
+    /// The text leads to this address in another resource. The address begins with the whole URI of that resource, even if the text does
+    /// not.
     Elsewhere(String),
 }
 
@@ -32,8 +33,8 @@ pub(crate) fn fragments_of<'p>(
     Ok(fragments)
 }
 
-/// The target of an address, if the address does not lead into the document itself. The address is given as the text before its `#` and the
-/// fragment after it.
+/// What an address leads to; `None` if the address leads into the document itself. The address is given by two parts: `part` is the text
+/// before its `#`, or empty, and `fragment` is the text after the `#`.
 fn led_elsewhere(
     alloc: Global,
     uri: &str,
@@ -51,7 +52,7 @@ fn led_elsewhere(
     }
 }
 
-/// What the text of a reference leads to, if a document of the resource with the URI `uri` has the reference. Fails only if memory is
+/// What the text of a reference leads to, if the reference is in the document of the resource with the URI `uri`. Fails only if memory is
 /// refused.
 pub(crate) fn led_by(
     alloc: Global,

@@ -1,7 +1,7 @@
 //! Explains what to fix in the texts of a script: which words of a bad line are wrong, and what is wrong in a refused document.
 //!
-//! The line or the document is read once more, with only the metamodel. No contract determines a text. It is proved that the functions are
-//! safe and end; cases of the program show their texts.
+//! The functions read the line or the document once more. They know the metamodel, and no repository. No contract determines the text of an
+//! explanation. It is proved that the functions are safe and terminate; the cases of the program show the texts.
 #![tactic(auto)]
 
 mod bad_line;

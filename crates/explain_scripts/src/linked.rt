@@ -1,4 +1,5 @@
-//! What is wrong with references: their targets, and whether the target names the referring object under the opposite.
+//! What is wrong with references: texts that lead to no object or to an object of a wrong class, references with an opposite that lead to a
+//! different resource, and references that only one end has.
 use crate::led::{Fragments, Led, fragments_of, led_by};
 use crate::parts::{At, Entry, Part};
 use crate::written::{class_of, conforms_to, values_of};
@@ -8,7 +9,7 @@ use serde_json::Value;
 use std::alloc::{AllocError, Global};
 use std::collections::BTreeSet;
 
-/// A reference that is written in a document.
+/// One value of a reference without containment in a document: its place, its text, and what the text leads to.
 #[derive(Drop)]
 pub(crate) struct Link<'e> {
     pub(crate) at: At<'e>,
@@ -102,7 +103,7 @@ pub(crate) fn links_of<'e>(
     links_in(&source, entries)
 }
 
-/// Explains a reference that leads nowhere, or to an object of a wrong class.
+/// Explains a reference whose text is badly written, leads nowhere, or leads to an object of a wrong class.
 fn explain_lost(
     out: &mut String,
     meta: &Meta,
@@ -147,7 +148,7 @@ fn explain_class(
     )
 }
 
-/// Explains references that lead nowhere, or to an object of a wrong class.
+/// Explains references whose texts are badly written, lead nowhere, or lead to an object of a wrong class.
 pub(crate) fn explain_references(
     out: &mut String,
     meta: &Meta,

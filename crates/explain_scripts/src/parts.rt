@@ -7,7 +7,7 @@ use std::alloc::{AllocError, Global};
 use std::collections::VecDeque;
 use std::fmt;
 
-/// A part of a document: the JSON of an object, and where it is.
+/// A part of a document: the JSON of an object, or of a value that should be an object, and the place of this JSON.
 #[derive(Drop)]
 pub(crate) struct Part<'v> {
     /// The path of the object in the JSON, as `line 7: roots[0].features.books[1]`.
@@ -27,11 +27,12 @@ pub(crate) struct Entry<'v> {
     pub(crate) part: usize,
     pub(crate) feature: FeatureNo,
     pub(crate) content: &'v Value,
-    /// Whether the content is one value, and not an array of values.
+    /// Whether the feature is single, so that its content has to be one value and not an array of values.
     pub(crate) is_single: bool,
 }
 
-/// A value of a feature's content: the only value, or the value at a position.
+/// The place of a value of a feature's content. It is printed as the path of the content, followed by the index of the value if the feature
+/// is many-valued.
 #[derive(Clone, Copy)]
 pub(crate) struct At<'e> {
     pub(crate) path: &'e str,

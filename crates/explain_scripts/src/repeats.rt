@@ -9,7 +9,7 @@ use serde_json::Value;
 use std::alloc::{AllocError, Global};
 use std::collections::BTreeMap;
 
-/// Explains values of an attribute that occur twice.
+/// Explains values that occur twice in a list of values of an attribute.
 fn explain_equal(
     alloc: Global,
     out: &mut String,
@@ -52,7 +52,7 @@ fn target_of<'l>(link: &'l Link<'_>) -> Option<LinkKey<'l>> {
     }
 }
 
-/// Explains references of one list that lead to the same object.
+/// Explains references of one list that lead to the same object, or to the same address in another resource.
 fn explain_links(alloc: Global, out: &mut String, links: &[Link<'_>]) -> Result<(), AllocError> {
     let mut seen: BTreeMap<LinkKey<'_>, usize> = BTreeMap::new(alloc);
     for link in links {
@@ -70,7 +70,7 @@ fn explain_links(alloc: Global, out: &mut String, links: &[Link<'_>]) -> Result<
     Ok(())
 }
 
-/// Explains values that occur twice.
+/// Explains values that occur twice in a unique list: first the values of attributes, then the references.
 pub(crate) fn explain_repeats(
     alloc: Global,
     out: &mut String,

@@ -1,4 +1,4 @@
-//! What is wrong with the shape of a document: its layout, its format, the classes and features that it names, and its depth.
+//! What is wrong with the shape of a document: its layout, the names of classes and features in it, and its depth.
 use crate::listed::{class_names, feature_names};
 use crate::parts::Part;
 use crate::written::known;
@@ -44,7 +44,8 @@ pub(crate) fn explain_top(
     explain_object(alloc, out, prefix, &DOCUMENT, json)
 }
 
-/// Explains the keys of each object. A value that is no object is a fault here only if it is a root; elsewhere it is a wrong value.
+/// Explains the keys of each object. A value that is no object is a fault of the layout only if it is a root; under a containment its cause
+/// is `Value`.
 pub(crate) fn explain_objects(
     alloc: Global,
     out: &mut String,

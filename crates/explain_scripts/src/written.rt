@@ -1,18 +1,19 @@
-//! The objects of a document, as they are written there. Here the document is read as an owned value. An owned value can be shown, and has
-//! the keys of each object in order.
+//! The objects of a document, as they are written in it. This crate reads the document as a `serde_json::Value`: such a value can be
+//! printed, and it has the keys of each object in the order of their bytes.
 use json_fields::{find, has_only_keys};
 use mm_meta::Meta;
 use mm_types::{ClassNo, DataType, FeatureNo, limits};
 use serde_json::{Map, Value};
 use std::slice;
 
-/// The class whose name an object has under `class`.
+/// The class of an object; `None` in the same cases as for `known`.
 pub(crate) fn class_of(meta: &Meta, json: &Value) -> Option<ClassNo> {
     let (class, _) = known(meta, json)?;
     Some(class)
 }
 
-/// The class and the members of an object whose class is known.
+/// The class of an object, and the members of its `features`. `None` if the JSON is no object, has other keys than `class` and `features`
+/// or lacks one of them, has no text as `class` or no object as `features`, or names a class that the metamodel lacks.
 pub(crate) fn known<'v>(meta: &Meta, json: &'v Value) -> Option<(ClassNo, &'v Map<String, Value>)> {
     let members = json.as_object()?;
     if !has_only_keys(members, &["class", "features"]) {
@@ -32,7 +33,7 @@ pub(crate) fn conforms_to(meta: &Meta, target: ClassNo, json: &Value) -> bool {
     }
 }
 
-/// The content of a feature; `None` for a container reference.
+/// What an object has under the name of a feature. `None` if the object does not have the name, or if the feature is a container reference.
 pub(crate) fn content_at<'v>(
     meta: &Meta,
     members: &'v Map<String, Value>,
@@ -44,7 +45,8 @@ pub(crate) fn content_at<'v>(
     find(members, meta.feature_name(feature))
 }
 
-/// The values of a feature's content: the items of the array if the feature is many-valued.
+/// The values of a feature's content: the content itself if the feature is single, and otherwise the items of the array. If the content of
+/// a many-valued feature is no array, there are no values.
 pub(crate) fn values_of<'v>(meta: &Meta, feature: FeatureNo, content: &'v Value) -> &'v [Value] {
     if meta.is_single(feature) {
         return slice::from_ref(content);
@@ -76,7 +78,8 @@ fn is_literal(meta: &Meta, enumeration: u32, json: &Value) -> bool {
     }
 }
 
-/// Whether a JSON value is written as a value of a data type, under a single-valued attribute (`is_single`) or under a many-valued one.
+/// Whether a JSON value may be written as a value of an attribute of a data type. The attribute is single if `is_single` is set, and
+/// otherwise many-valued.
 pub(crate) fn is_attribute_value(
     meta: &Meta,
     is_single: bool,

@@ -4,7 +4,7 @@ use Rattle.std.specs.Coded.{Coded, code_by, coded_bool, coded_list, coded_ℕ, c
 use Rattle.std.proofs.Common.{arith, inl, inr}
 use Rattle.journal.specs.Disk.{PartlyCut, Torn}
 
--- a call, with its arguments; the truth value says whether it succeeded
+-- a call, with its arguments; the truth value says whether the call succeeded
 pub data Event : Type 0 where
   opened : List ℕ → Event
   written : ℕ → List ℕ → Bool → Event

@@ -9,7 +9,7 @@ use Rattle.file_disk.specs.declared.file.FileDisk.{FileDisk}
 abbrev pub events_of : FileDisk → List Event
 events_of disk = disk.record.events
 
--- what a call returns
+-- what a call of a disk returns, by whether the call of the system succeeded
 abbrev pub outcome_of : Bool → Result (Unit {0}) DiskFault
 outcome_of true = Ok tt
 outcome_of false = Err Failed

@@ -1,6 +1,6 @@
 //! The calls of the system on a file.
 
-/// A call of the system on a file, and whether it succeeded.
+/// A call of the system on a file, with its arguments. The truth value says whether the call succeeded.
 #[derive(Clone, Copy)]
 pub enum Call<'a> {
     /// The file was synced and then read: it has these bytes.

@@ -1,4 +1,4 @@
-//! A file of the system as a disk. Each method makes the call of the system that it records, and no other.
+//! A file of the system as a disk. Each method of `Disk` makes the call of the system that it records, and no other call.
 ghost use Rattle.std.specs.Prelude.{◌≡◌, IfOk, length};
 ghost use Rattle.journal.specs.Disk.{IsDurable};
 ghost use Rattle.file_disk.specs.Events.{LeftSince, MayLeave, counts, failures, file_bytes, only};
@@ -24,7 +24,7 @@ pub struct FileDisk {
 pub enum OpenFault {
     /// A call of the system failed.
     Io(io::Error),
-    /// Another process has the file open.
+    /// The file is locked: it is open as a disk already, in another process or in this process.
     InUse,
 }
 

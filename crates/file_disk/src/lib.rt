@@ -1,4 +1,4 @@
-//! A file of the system as a disk, which one process has open at a time.
+//! A file of the operating system as the disk of a journal. Only one process at a time has the file open.
 #![tactic(auto)]
 
 mod call;

@@ -7,7 +7,8 @@ ghost use Rattle.file_disk.specs.Events.{Event, event_code};
 use crate::call::Call;
 use std::marker::Model;
 
-/// The calls that were made on a file, the newest first. Only clauses read them: a record has no bytes, and its methods do nothing.
+/// The calls that were made on a file, the newest first. Only the clauses of contracts read these calls: at run time a record has no
+/// content, and its methods do nothing.
 #[derive(Drop)]
 pub struct Record {
     pub ghost events: { List Event } by { coded_list event_code },

@@ -12,7 +12,7 @@ use Rattle.web_uris.specs.Paths.{parse}
 use Rattle.web_uris.specs.declared.path.Path.{Path}
 use Rattle.web_uris.specs.declared.path.Step.{Step}
 
--- the objects that a resource holds directly
+-- the objects that a resource contains directly
 abbrev pub roots : Reading → ResourceNo → List ObjectNo
 roots r k = objects_of (r.values (roots_end r k))
 
@@ -24,7 +24,7 @@ goes_by r s f = is_containment r.metamodel f && (if (shape r.metamodel f).is_sin
 abbrev pub if_goes_by : Reading → Step → FeatureNo → Option FeatureNo
 if_goes_by r s f = if goes_by r s f then Some f else None
 
--- the feature by which a step leaves an object
+-- the feature of an object through which a step leads: the feature that has the step's name, if the step leads through this feature
 abbrev pub feature_of : Reading → ObjectNo → Step → Option FeatureNo
 feature_of r o s =
     option_and_then (λ c. option_and_then (if_goes_by r s) (lookups.feature_by_name r.metamodel c s.name)) (r.class o)

@@ -16,7 +16,7 @@ use Rattle.web_uris.specs.Paths.{new_path, new_step, path_text, with_step}
 use Rattle.web_uris.specs.declared.path.Path.{Path}
 use Rattle.web_uris.specs.declared.path.Step.{Step}
 
--- the position of an object in the end that holds it
+-- the position of an object in an end; 0 if the object is not there
 abbrev pub position_in : Reading → End → ObjectNo → ℕ
 position_in r e o = unwrap_or (first_at r e (value.Object o)) 0
 
@@ -24,12 +24,13 @@ position_in r e o = unwrap_or (first_at r e (value.Object o)) 0
 abbrev pub end_name : Reading → End → List ℕ
 end_name r e = lookups.feature_name r.metamodel e.feature
 
--- the step that leads from an end into an object: the feature's name, and the position if the feature is many-valued
+-- the step that leads from the node of an end to an object that the end contains: the feature's name, and the object's position if the
+-- feature is many-valued
 abbrev pub step_into : Reading → End → ObjectNo → Step
 step_into r e o =
     new_step (end_name r e) (if (shape_at r e).is_single then None else Some (position_in r e o))
 
--- the path of an object, given the nodes above it, the nearest first; none if the topmost node is an object
+-- the path of an object, given the nodes above it, the nearest first; none if none of these nodes is a resource
 abbrev pub path_under : Reading → List Node → ObjectNo → Option Path
 path_under r [] o = None
 path_under r (node.Resource k ∷ ns) o = option_map (λ e. new_path (position_in r e o) []) (r.holder (node.Object o))
@@ -43,7 +44,7 @@ path_of r o = path_under r (r.above (node.Object o)) o
 abbrev pub has_one_root : Reading → ResourceNo → Bool
 has_one_root r k = nat_eq (length (r.values (roots_end r k))) 1
 
--- the fragment of an object; none if it is in no resource. The root's segment is empty if the resource has one root
+-- the fragment of an object; none if the object is in no resource. The root's segment is empty if the resource has one root
 abbrev pub fragment : Reading → ObjectNo → Option (List ℕ)
 fragment r o = option_and_then (λ k. option_map (path_text (has_one_root r k)) (path_of r o)) (resource_of r.above o)
 
@@ -58,6 +59,6 @@ address r o =
 abbrev pub is_in : Reading → ResourceNo → ObjectNo → Bool
 is_in r k o = option_map_or (λ j. nat_eq j.0 k.0) (resource_of r.above o) false
 
--- how a resource refers to an object: by its fragment if the object is in the resource too, and otherwise by its address
+-- how a resource refers to an object: by the object's fragment if the object is in the resource too, and otherwise by the object's address
 abbrev pub reference : Reading → ResourceNo → ObjectNo → Option (List ℕ)
 reference r k o = if is_in r k o then fragment r o else address r o

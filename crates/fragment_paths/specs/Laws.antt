@@ -1,5 +1,6 @@
 -- Laws on fragments in legal models: each object that is in a resource has a path, a fragment and an address, and each of the three leads
--- to that object. All three depend only on containment.
+-- to that object. The path and the fragment depend only on containment, and the address depends only on containment and on the URIs of the
+-- resources.
 use Rattle.std.specs.Prelude.{◌≡◌, ℕ, true, slice_get, Some, option_and_then}
 use Rattle.mm_types.specs.Lookups as lookups
 use Rattle.mm_types.specs.Resolved.{Metamodel}
@@ -41,13 +42,15 @@ pub record LeavesAddresses (m : Metamodel) (v w : ValuesState) (a b : Links) : T
   pub fragment : (o : ObjectNo) → fragments.fragment (reading (model_of m w b)) o ≡ fragments.fragment (reading (model_of m v a)) o
   pub address : w.uris ≡ v.uris → (o : ObjectNo) → fragments.address (reading (model_of m w b)) o ≡ fragments.address (reading (model_of m v a)) o
 
--- an object among the roots of resource k of the first model has the same position as its image among the roots of resource j of the second
+-- an object among the roots of resource k of the first model has the same position as its image has among the roots of resource j of the
+-- second model
 abbrev pub HasImagesOfRoots : Metamodel → ValuesState → ValuesState → Links → Links → ResourceNo → ResourceNo → (ObjectNo → ObjectNo) → Type 0
 HasImagesOfRoots m v w a b k j image =
     (i : ℕ) (c : ObjectNo) → slice_get (values_at (model_of m v a) (at_end (node.Resource k) (lookups.contents m))) i ≡ Some (value.Object c)
     → slice_get (values_at (model_of m w b) (at_end (node.Resource j) (lookups.contents m))) i ≡ Some (value.Object (image c))
 
--- if an object of resource k contains another object, its image contains the image of the other object, at the same position
+-- if an object of resource k contains another object, the image of the first object contains the image of the other object, at the same
+-- position
 abbrev pub HasImagesOfParts : Metamodel → ValuesState → ValuesState → Links → Links → ResourceNo → (ObjectNo → ObjectNo) → Type 0
 HasImagesOfParts m v w a b k image =
     (o : ObjectNo) (f : FeatureNo) (i : ℕ) (c : ObjectNo) → resource_of (above a) o ≡ Some k → is_containment m f ≡ true

@@ -11,7 +11,7 @@ use Rattle.web_uris.specs.declared.path.Step.{Step}
 use Rattle.fragment_paths.specs.Fragments.{has_one_root, path_of, position_in}
 use Rattle.fragment_paths.specs.declared.paths.Located.{Located}
 
--- the path from a root on; the steps are given from the last to the first
+-- the path from the root o on; e is the end that contains o, and the steps are given from the last to the first
 abbrev pub path_by : Reading → End → ObjectNo → List Step → Path
 path_by r e o steps = new_path (position_in r e o) (reverse steps)
 

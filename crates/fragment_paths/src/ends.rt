@@ -1,4 +1,4 @@
-//! The objects that ends hold.
+//! The objects at positions of containments.
 ghost use Rattle.std.specs.Prelude.{◌≡◌, true, slice_get};
 ghost use Rattle.mm_types.specs.Shapes.{is_containment};
 ghost use Rattle.models.specs.Model.{reading};
@@ -17,7 +17,7 @@ pub(crate) fn object_in<L: LinkStore>(model: &ModelRef<L>, end: End, index: u32)
     model.object_in(end, index)
 }
 
-/// The root of a resource at a position.
+/// The root of a resource at a position; `None` past the last.
 pub(crate) fn root_at<L: LinkStore>(
     model: &ModelRef<L>,
     resource: ResourceNo,

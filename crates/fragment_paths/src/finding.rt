@@ -19,7 +19,8 @@ fn goes_by<L: LinkStore>(model: &ModelRef<L>, step: &Step, feature: FeatureNo) -
     meta.is_containment(feature) && meta.is_single(feature) != step.index.is_some()
 }
 
-/// The feature by which a step leaves an object.
+/// The feature of an object through which a step leads: the feature that has the step's name. `None` if the object's class has no feature
+/// of that name, or if the step doesn't lead through this feature.
 fn feature_of<L: LinkStore>(model: &ModelRef<L>, object: ObjectNo, step: &Step) -> Option<FeatureNo>
     ensures { result ≡ finding.feature_of (reading model.now) object step.now }
 {
@@ -32,7 +33,7 @@ fn feature_of<L: LinkStore>(model: &ModelRef<L>, object: ObjectNo, step: &Step) 
     }
 }
 
-/// The object to which a step leads from another object.
+/// The object to which a step leads from `object`; `None` if the step leads to no object.
 fn stepped<L: LinkStore>(model: &ModelRef<L>, object: ObjectNo, step: &Step) -> Option<ObjectNo>
     ensures { result ≡ finding.object_after_step (reading model.now) object step.now }
 {
@@ -41,7 +42,7 @@ fn stepped<L: LinkStore>(model: &ModelRef<L>, object: ObjectNo, step: &Step) -> 
     object_in(model, End { node, feature }, step.index.unwrap_or(0))
 }
 
-/// The object to which steps lead from another object.
+/// The object to which steps lead from `object`, one step after the other; `None` if a step leads to no object.
 fn walked<L: LinkStore>(model: &ModelRef<L>, steps: &[Step], object: ObjectNo) -> Option<ObjectNo>
     ensures { result ≡ finding.object_after_steps (reading model.now) steps.now object }
 {
@@ -65,7 +66,7 @@ pub fn find<L: LinkStore>(
     walked(model, path.steps.as_slice(), root)
 }
 
-/// The object that a fragment leads to in a resource.
+/// The object that a fragment leads to in a resource; `None` if the text is no fragment, or leads to no object.
 fn found_by<L: LinkStore>(
     alloc: Global,
     model: &ModelRef<L>,

@@ -12,14 +12,14 @@ use models::{ModelRef, roots_end};
 use std::alloc::{AllocError, Global};
 use web_uris::address_of;
 
-/// Whether a resource has one root.
+/// Whether a resource has exactly one root.
 fn has_one_root<L: LinkStore>(model: &ModelRef<L>, resource: ResourceNo) -> bool
     ensures { result ≡ spec.has_one_root (reading model.now) resource }
 {
     model.len(roots_end(model, resource)) == 1
 }
 
-/// The text of a path as a fragment of its resource.
+/// The path of a located object as a text: the fragment of the object in its resource.
 fn text_of<L: LinkStore>(
     alloc: Global,
     model: &ModelRef<L>,
@@ -42,8 +42,9 @@ fn fragment_by<L: LinkStore>(
     Ok(Some(Text::from_string(alloc, text)?))
 }
 
-/// The fragment of an object in its resource (EMF: Resource.getURIFragment): the position of its root, which is left out if the resource
-/// has one root, and then a step for each object on the way. `None` if the object is in no resource. Fails only if memory is refused.
+/// The fragment of an object in its resource (EMF: Resource.getURIFragment): `/`, then the position of the root on the way to the object,
+/// which is left out if the resource has one root, and then a step for each further object on the way. `None` if the object is in no
+/// resource. Fails only if memory is refused.
 pub fn write<L: LinkStore>(
     alloc: Global,
     model: &ModelRef<L>,
@@ -91,7 +92,7 @@ pub fn address<L: LinkStore>(
 }
 
 /// How a resource refers to an object (EMF: XMLHelper.getHREF): by the object's fragment if the object is in that resource too, and
-/// otherwise by its address. `None` if the object is in no resource. Fails only if memory is refused.
+/// otherwise by the object's address. `None` if the object is in no resource. Fails only if memory is refused.
 pub fn reference<L: LinkStore>(
     alloc: Global,
     positions: &Positions<L>,

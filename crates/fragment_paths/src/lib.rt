@@ -1,4 +1,4 @@
-//! Fragments: the address of an object in its resource, and the object that an address leads to.
+//! The fragment of an object in its resource, the address of an object, and the object that a fragment or an address leads to.
 //!
 //! `specs/Fragments.antt` says what the fragment of an object is, `specs/Finding.antt` what a fragment and an address find, and
 //! `specs/Laws.antt` that each object is found at its own path, fragment and address.

@@ -52,8 +52,8 @@ impl PathCache {
         Some(text.as_str())
     }
 
-    /// Keeps the text of an object, in place of the text that was kept for it. If 1,024 texts of other objects are kept, all of them are
-    /// dropped first. If memory is refused, the text is not kept.
+    /// Keeps a text for an object, in place of any text that was kept for this object. If 1,024 texts of other objects are kept, all of
+    /// them are dropped first. If memory is refused, the text is not kept.
     pub fn keep(&mut self, object: ObjectNo, text: &str)
         ensures { kept.MayKeep self.old object text.now self.new }
     {

@@ -18,7 +18,7 @@ pub(crate) struct Located {
     pub path: Path,
 }
 
-/// The name of a feature.
+/// The name of an end's feature; empty if the metamodel has no feature with the number.
 fn name_of<L: LinkStore>(alloc: Global, model: &ModelRef<L>, end: End) -> Result<Text, AllocError>
     ensures { IfOk result (λ t. t ≡ fragments.end_name (reading model.now) end) }
 {
@@ -28,7 +28,8 @@ fn name_of<L: LinkStore>(alloc: Global, model: &ModelRef<L>, end: End) -> Result
     }
 }
 
-/// The step that leads from an end into an object.
+/// The step that leads from the node of an end to an object that the end contains: the feature's name, and the object's position if the
+/// feature is many-valued.
 fn step_into<L: LinkStore>(
     alloc: Global,
     positions: &Positions<L>,
@@ -47,7 +48,7 @@ fn step_into<L: LinkStore>(
     Ok(Step { name, index })
 }
 
-/// The path that leads to a root, and from the root on by `steps`. The steps are given in reverse order.
+/// The path that begins at a root and then takes `steps`, which are given in reverse order. `end` is the end that contains the root.
 fn path_by<L: LinkStore>(
     positions: &Positions<L>,
     end: End,
@@ -63,7 +64,7 @@ fn path_by<L: LinkStore>(
     }
 }
 
-/// The resource and the path of an object; `None` if it is in no resource. Fails only if memory is refused.
+/// The resource and the path of an object; `None` if the object is in no resource. Fails only if memory is refused.
 pub(crate) fn locate<L: LinkStore>(
     alloc: Global,
     positions: &Positions<L>,

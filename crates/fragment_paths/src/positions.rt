@@ -1,4 +1,4 @@
-//! The positions of objects in the ends that hold them. All positions of an end are looked up at once.
+//! The positions of objects in the ends that contain them. All positions of an end are looked up at once.
 ghost use Rattle.std.specs.Prelude.{◌≡◌, Some, slice_get, true};
 ghost use Rattle.mm_types.specs.Same.{same_end};
 ghost use Rattle.mm_types.specs.Shapes.{shape};
@@ -31,10 +31,11 @@ impl EndPosition {
     }
 }
 
-/// A model, and the positions of some of its objects in the ends that hold them. Contracts see it as the model.
+/// A model, and the positions of some of its objects in the ends that contain them. Contracts see a `Positions` as the model.
 ///
-/// If the position of an object is not known, its end is searched, one value after another. So a caller that writes many fragments first
-/// notes the ways to their objects. Then each end on these ways is gone through once, however many fragments lead through it.
+/// If the position of an object is not known, the end that contains the object may have to be searched, one value after another. So a
+/// caller that writes many fragments first calls `note_way` for their objects. Then each end on the ways to these objects is gone through
+/// once, however many fragments lead through the end.
 #[derive(Drop)]
 pub struct Positions<'m, 'a, L: LinkStore> {
     model: &'m ModelRef<'a, L>,
@@ -74,21 +75,22 @@ impl<'m, 'a, L: LinkStore> Positions<'m, 'a, L> {
         self.model
     }
 
-    /// Every model is legal. Code calls this function to make the fact known to a proof that has only the view of the model.
+    /// The model is always legal. Code calls this function so that a proof can use the fact, if it knows the model only as contracts see
+    /// it.
     pub(crate) fn lemma_is_legal(&self)
         ensures { IsLegal self.now }
     {
         self.model.lemma_is_legal();
     }
 
-    /// The end that holds an object.
+    /// The end that contains an object.
     pub(crate) fn holder(&self, object: ObjectNo) -> Option<End>
         ensures { result ≡ (reading self.now).holder (node.Object object) }
     {
         self.model.holder(Node::Object(object))
     }
 
-    /// The position of an object in the end that holds it.
+    /// The position of an object in an end; 0 if the object is not there.
     pub(crate) fn position_in(&self, end: End, object: ObjectNo) -> u32
         ensures { result ≡ fragments.position_in (reading self.now) end object }
     {
@@ -101,7 +103,8 @@ impl<'m, 'a, L: LinkStore> Positions<'m, 'a, L> {
         }
     }
 
-    /// Whether a position of an object is known. The known positions are no part of the model, so no contract speaks of them.
+    /// Whether a position of an object is known. The known positions are no part of the model that contracts see, so no contract speaks of
+    /// them.
     fn is_known(&self, object: ObjectNo) -> bool {
         self.known.contains_key(&object.0)
     }
@@ -117,7 +120,7 @@ impl<'m, 'a, L: LinkStore> Positions<'m, 'a, L> {
         Ok(())
     }
 
-    /// Notes the object at a position of a reference.
+    /// Notes the object at a position of a reference, if an object is there.
     fn note_at(&mut self, end: End, index: u32) -> Result<(), AllocError>
         requires reference { (shape self.old.metamodel end.feature).is_reference ≡ true }
         ensures { self.new ≡ self.old }
@@ -128,7 +131,7 @@ impl<'m, 'a, L: LinkStore> Positions<'m, 'a, L> {
         }
     }
 
-    /// Notes all objects of a reference.
+    /// Notes the position of each object at an end of a reference.
     fn note_end(&mut self, end: End) -> Result<(), AllocError>
         requires reference { (shape self.old.metamodel end.feature).is_reference ≡ true }
         ensures { self.new ≡ self.old }
@@ -139,9 +142,9 @@ impl<'m, 'a, L: LinkStore> Positions<'m, 'a, L> {
         Ok(())
     }
 
-    /// Notes the positions of an object, of the objects above it, and of all other objects in the ends that hold these objects. If the
-    /// position of the object is known, the other positions are known too, and the call takes no time. Fails only if memory is refused; the
-    /// model is the same in any case.
+    /// Notes the positions of an object, of the objects above it, and of all other objects in the ends that contain these objects. If the
+    /// position of the object is known already, this call does nothing: the call that noted this position also noted the others, unless
+    /// that call failed. Fails only if memory is refused; the model is the same in any case.
     pub fn note_way(&mut self, object: ObjectNo) -> Result<(), AllocError>
         ensures { self.new ≡ self.old }
     {

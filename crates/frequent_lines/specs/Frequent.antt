@@ -33,7 +33,7 @@ bare_form (bare.Remove k) = feature.Remove k
 bare_form (bare.Move to from) = feature.Move to from
 bare_form (bare.Resolve k) = feature.Resolve k
 
--- what an act on a feature of an object asks for; the line is bad if the word for its value is no value
+-- what an act on a feature of an object asks for; the line is bad if the act has a word for a value and this word is no value
 abbrev pub act_line : ObjectNo → List ℕ → FrequentAct → Line
 act_line o f act.Get = line.Form (asks.At (node.Object o) f (feature.Read Get))
 act_line o f act.IsSet = line.Form (asks.At (node.Object o) f (feature.Read IsSet))
@@ -56,7 +56,7 @@ abbrev pub alone : FrequentAct → List ℕ → Option FrequentAct
 alone a [] = Some a
 alone a (c ∷ cs) = None
 
--- a text that is one word
+-- the text as a word, if the text is one word
 abbrev pub word_in : List ℕ → Option (List ℕ)
 word_in text = if is_one_word text then Some text else None
 

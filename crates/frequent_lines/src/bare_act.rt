@@ -1,6 +1,6 @@
-//! What a frequent line does to a feature without a value.
+//! What a frequent line that has no value does to a feature.
 
-/// What a frequent line does to a feature of an object without a value. Indexes are counted from 0.
+/// What a frequent line that has no value does to a feature of an object. Indexes are counted from 0.
 #[derive(Clone, Copy)]
 pub enum BareAct {
     /// `unset OBJ NAME`

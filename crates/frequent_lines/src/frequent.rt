@@ -1,6 +1,6 @@
 //! The most frequent lines, which are read without a list of their words. Most lines of a script are of these forms, and cutting a line
-//! into a list of words takes longer than the change that the line asks for. The functions are inlined, so that the parts of a line that
-//! were read need not be stored in memory.
+//! into a list of words takes longer than the change that the line asks for. The other functions of this file are inlined into
+//! `frequent_of`, so that the parts of a line that were read need not be stored in memory.
 ghost use Rattle.std.specs.Prelude.{◌≡◌, IfSome, None, option_map};
 ghost use Rattle.std.specs.List.{after_first, before_first};
 ghost use Rattle.script_lines.specs.Forms.{text_line};
@@ -35,7 +35,8 @@ pub enum Frequent<'a> {
     At(ObjectNo, Name<'a>, FrequentAct<'a>),
 }
 
-/// The object before the first space of a text, and the rest of the text after this space. The rest is empty if there is no space.
+/// The object before the first space of a text, and the rest of the text after this space. The rest is empty if there is no space. `None`
+/// if the bytes before the space are no object.
 #[inline(always)]
 fn object_before_space(text: &str) -> Option<(ObjectNo, &str)>
     ensures object { option_map (λ p. p.0) result ≡ object_in (before_first is_space text.now) }
@@ -51,7 +52,8 @@ fn object_before_space(text: &str) -> Option<(ObjectNo, &str)>
     Some((ObjectNo(number), rest))
 }
 
-/// The object and the name of a feature with which a text begins, each followed by one space; and the rest of the text.
+/// The object and the name of a feature with which a text begins, with one space between them; and the text after the space that follows
+/// the name, which is empty if no space follows.
 #[inline(always)]
 fn object_feature_of(text: &str) -> Option<(ObjectNo, Name<'_>, &str)>
     ensures feature { option_map (λ p. (p.0, p.1)) result ≡ object_feature_in text.now }
@@ -182,7 +184,7 @@ fn fragment_of<'a>(object: &str) -> Option<Frequent<'a>>
     Some(Frequent::Fragment(object_of(object)?))
 }
 
-/// A line whose verb is longer than three letters.
+/// A line whose verb is not `new`, `get`, `set` or `add`; `None` if the line is not frequent.
 #[inline(always)]
 fn other_line_of(line: &str) -> Option<Frequent<'_>>
     requires { short_verb_in line.now ≡ None }
@@ -200,8 +202,8 @@ fn other_line_of(line: &str) -> Option<Frequent<'_>>
     None
 }
 
-/// A line of one of the most frequent forms, whose words have one space between them. `None` for any other line, even if it has such a form
-/// with more spaces. Takes no memory.
+/// A line of one of the most frequent forms, whose words have one space between them. `None` for a line of any other form, and for a line
+/// with further spaces, except that `get`, `isset` and `unset` may have one space at the end. Takes no memory.
 pub fn frequent_of(line: &str) -> Option<Frequent<'_>>
     ensures read { result ≡ frequent_in line.now }
     ensures line { IfSome result (λ f. text_line line.now ≡ frequent_line f) }

@@ -18,6 +18,6 @@ pub enum FrequentAct<'a> {
     AddAt(Word<'a>, u32),
     /// `removevalue OBJ NAME VALUE`
     RemoveValue(Word<'a>),
-    /// A line without a value: `unset`, `remove`, `move` or `resolve`.
+    /// A change without a value: `unset`, `remove`, `move` or `resolve`.
     Bare(BareAct),
 }

@@ -14,7 +14,7 @@ use Rattle.handshake.specs.declared.change.Change.{Change}
 use Rattle.handshake.specs.declared.change.Change.TheVariants.{At, Create, Load}
 use Rattle.handshake.specs.FeatureChanges.{destroyed_by, resolves_one}
 
--- a document was read from some JSON value, in a resource of some URI
+-- a document was read from some JSON value, in a resource with some URI
 pub record IsDocument (m : Metamodel) (doc : Doc) : Type 0 where
   pub uri : List ℕ
   pub read : IsRead m uri doc
@@ -29,26 +29,26 @@ abbrev pub HasFittingDocument : ℕ → Change → Type 0
 HasFittingDocument n (Load k doc) = IsFitting n doc
 HasFittingDocument n _ = Unit {0}
 
--- the removal of the object that a change destroys; none if the change destroys no object
+-- q is the removal of the object that a change deletes; q is none if the change deletes no object
 pub record IsRemovalOf (r : Reading) (c : Change) (q : Option Removal) : Type 0 where
   pub whose : option_map (λ (x : Removal). x.object) q ≡ destroyed_by c
   pub found : IfSome q (IsRemoval r)
 
--- whether a change edits only values or edits only links: such a change makes an object, or is an act at an end that resolves no proxy
+-- whether a change makes an object, or is an act at an end that resolves no proxy; if so, the change edits either only values or only links
 abbrev pub edits_one_kind : Change → Bool
 edits_one_kind (Create c) = true
 edits_one_kind (At e a) = not (resolves_one (At e a))
 edits_one_kind _ = false
 
--- whether a change is at an end of a reference
+-- whether a change is an act at an end whose feature is a reference
 abbrev pub is_at_reference : Metamodel → Change → Bool
 is_at_reference m (At e a) = (shape m e.feature).is_reference
 is_at_reference m _ = false
 
--- whether a change edits no link: it makes an object, or changes an attribute
+-- whether a change makes an object, or changes an attribute; if so, the change edits no link
 abbrev pub edits_values_alone : Metamodel → Change → Bool
 edits_values_alone m c = edits_one_kind c && not (is_at_reference m c)
 
--- whether a change edits only links: it changes a reference, and resolves no proxy
+-- whether a change changes a reference, and resolves no proxy; if so, the change edits only links
 abbrev pub edits_links_alone : Metamodel → Change → Bool
 edits_links_alone m c = edits_one_kind c && is_at_reference m c

@@ -1,5 +1,5 @@
--- Which links a change cuts: the links that a new link displaces (EMF: EObjectWithInverse.eInverseRemove, eBasicRemoveFromContainer), or
--- the links of the values that an end loses.
+-- Which links a change cuts: the links that a new link displaces (EMF: EObjectWithInverse.eInverseRemove, eBasicRemoveFromContainer), the
+-- links of the values that an end loses, or the links of the objects that a deletion destroys.
 use Rattle.std.specs.Prelude.{ℕ, ◌&&◌, ◌||◌, Bool, false, not, List, [], ◌∷◌, ◌++◌, length, map, nat_lt, Option, fold, Some, None, is_some, option_map, option_to_list, slice_get, if◌then◌else◌}
 use Rattle.std.specs.List.{list_any}
 use Rattle.std.specs.Option.{option_map_or}
@@ -56,16 +56,16 @@ link_ends_if_single r e = if (shape_at r e).is_single then link_ends_at r e else
 abbrev pub holding_link_end : Reading → Node → Option LinkEnd
 holding_link_end r n = option_map (λ d. link_end d (node_value n)) (r.holder n)
 
--- a list of links with one more link at its end, unless the list has that link already
+-- a list of links to which one more link is appended, unless the list has that link already
 abbrev pub with_link_end : Reading → List LinkEnd → LinkEnd → List LinkEnd
 with_link_end r ts t = if list_any (same_link r t) ts then ts else ts ++ t ∷ []
 
--- the list ts with each link once: if it has several names of one link, only the first name stays
+-- the list ts with each link once: if ts has several names of one link, only the first name stays
 abbrev pub each_link_once : Reading → List LinkEnd → List LinkEnd
 each_link_once r ts = fold (with_link_end r) [] ts
 
 -- the links that a new link may displace: the link of the value of the end, if the end is single; the link of the value of the opposite
--- end, if that is single; and the link that contains the node that becomes contained
+-- end, if the opposite end is single; and the link that contains the node that becomes contained
 abbrev pub in_the_way : Reading → End → ObjectNo → List LinkEnd
 in_the_way r e o =
     link_ends_if_single r e
@@ -89,7 +89,7 @@ displaced_link_ends r e o = each_link_once r (in_the_way r e o)
 
 ---------------------------------------------------------------- changes
 
--- whether a single end has the value already
+-- whether a single end has the value already; an empty end has the value null
 abbrev pub has_already : Reading → End → Value → Bool
 has_already r e v = same_value v (value_at r e)
 
@@ -105,8 +105,8 @@ abbrev pub cut_by_new : Reading → End → Value → List LinkEnd
 cut_by_new r e (value.Object o) = displaced_link_ends r e o
 cut_by_new r e v = []
 
--- the link of the counterpart of a proxy that is resolved, which is the proxy of the same link at the opposite end; none if the proxy has
--- no counterpart
+-- the link of the counterpart of a proxy that is resolved; none if the proxy has no counterpart. The counterpart is the proxy of the same
+-- link at the opposite end
 abbrev pub counter_link_end : Reading → ResolvedProxy → List LinkEnd
 counter_link_end r x = option_map_or (λ c. link_end_in r c.end c.index) x.counterpart []
 

@@ -32,7 +32,7 @@ use Rattle.proxies.specs.Resolving.{target_at}
 
 ---------------------------------------------------------------- values
 
--- the edit that puts new values of an attribute; none for a resource, which has no attributes
+-- the edit that gives an attribute new values; none for a resource, which has no attributes
 abbrev pub put_under : FeatureNo → List Value → Bool → Node → List ValueEdit
 put_under f vs flag (node.Object o) = PutList o f vs flag ∷ []
 put_under f vs flag (node.Resource k) = []
@@ -91,7 +91,8 @@ with_value s r e i v = s
 abbrev pub put_back : Links → ℕ → Counterpart → Links
 put_back s n c = shift s c.end c.index n
 
--- the links after a new link replaces its proxies, at the end e and at the opposite end
+-- the links after a new link is put in the place of a proxy at the end e, and of its counterpart at the opposite end; s has the links after
+-- both proxies are cut
 abbrev pub links_after_join : Links → Reading → End → ℕ → ResolvedProxy → Links
 links_after_join s r e i x =
     let t = with_value s r e (Some i) (value.Object x.object) in

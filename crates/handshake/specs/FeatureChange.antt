@@ -1,5 +1,5 @@
--- Changes of ends, described without positions, and the notifications that report these changes. Each notification is read in the ends as
--- the earlier notifications left them.
+-- Changes of ends, and the notifications that report these changes. A gain or a loss without an index gets its position in the
+-- notification. Each notification is computed from the ends as they are after the earlier notifications are replayed.
 use Rattle.std.specs.Prelude.{ℤ, pos, Bool, false, List, [], ◌∷◌, ◌++◌, length, Some, if◌then◌else◌}
 use Rattle.mm_types.specs.Resolved.{Metamodel}
 use Rattle.mm_types.specs.Same.{same_value}
@@ -24,7 +24,7 @@ feature_change e h = record { at = e; does = h }
 
 ---------------------------------------------------------------- the notification of a feature change
 
--- a notification at an end that holds h
+-- a notification at the end e, which holds h
 abbrev pub notice : Shape → End → Held → NoticeKind → Value → Value → ℤ → Notice
 notice a e h k old new p =
     record { notifier = e.node; feature = Some e.feature; kind = k; old_value = old; new_value = new; position = p; was_set = is_set a h }
@@ -42,7 +42,7 @@ notice_of a e Unsets h = notice a e h kind.Unset (value_in h.values 0) a.default
 notice_of a e (Moves to from) h = notice a e h kind.Move (value.Int (pos from)) (value_in h.values from) (pos to)
 notice_of a e (Resolves i v) h = notice a e h kind.Resolve (value_in h.values i) v (if a.is_single then no_index else pos i)
 
--- the notification of a feature change, read in a model
+-- the notification of a feature change, computed from what the ends of a model hold
 abbrev pub notice_at : Reading → FeatureChange → Notice
 notice_at r t = notice_of (shape_at r t.at) t.at t.does (held_at r t.at)
 
@@ -50,7 +50,7 @@ notice_at r t = notice_of (shape_at r t.at) t.at t.does (held_at r t.at)
 abbrev pub has_flag : Metamodel → FeatureNo → Bool
 has_flag m f = (shape m f).is_unsettable
 
--- the notifications of feature changes: each notification is read in the ends so far, and replaying it gives the ends for the next
+-- the notifications of feature changes: each notification is computed from the ends so far, and replaying it gives the ends for the next
 -- notification
 abbrev pub change_notices : Metamodel → Ends → List FeatureChange → List Notice
 change_notices m e [] = []

@@ -40,7 +40,7 @@ abbrev pub losses : Reading → LinkEnd → List FeatureChange
 losses r t =
     option_map_or (λ u. if is_containment r.metamodel u.end.feature then loss u ∷ loss t ∷ [] else loss t ∷ loss u ∷ []) (opposite_link_end r t) (loss t ∷ [])
 
--- the loss at the other end of a link; and `far_losses`, at the other ends of several links
+-- the loss at the far end of a link, if it has a far end; and `far_losses`, the losses at the far ends of several links
 abbrev pub far_loss : Reading → LinkEnd → List FeatureChange
 far_loss r t = option_map_or (λ u. loss u ∷ []) (opposite_link_end r t) []
 
@@ -72,7 +72,7 @@ abbrev pub before_gain : Reading → End → Value → List LinkEnd → List Fea
 before_gain r e (value.Object o) ts = flat_map (other_losses r e o) ts ++ far_gain r e o
 before_gain r e v ts = far_losses r ts
 
--- a gain at the end of a list, or at an index
+-- a gain of a list: after its last value, or at an index
 abbrev pub gain_at : Option ℕ → Value → ChangeKind
 gain_at None v = Gains v
 gain_at (Some i) v = GainsAt i v
@@ -95,7 +95,7 @@ changes_of_set r e v ts = (if is_plain_set r e v then [] else before_gain r e v 
 abbrev pub changes_of_add : Reading → End → Value → Option ℕ → List LinkEnd → List FeatureChange
 changes_of_add r e v i ts = if is_repeat r e v then [] else before_gain r e v ts ++ feature_change e (gain_at i v) ∷ []
 
--- the object that a change destroys, with all objects below it
+-- the object that a change deletes; the change destroys all objects below it too
 abbrev pub destroyed_by : Change → Option ObjectNo
 destroyed_by (Delete o) = Some o
 destroyed_by _ = None
@@ -124,7 +124,8 @@ resolves_all _ = false
 abbrev pub resolved_by : Reading → Change → Option Resolved
 resolved_by r c = if resolves_all c then Some (record { done = resolved_count r; left = unresolved_count r }) else None
 
--- the losses of an end of another node, in order, when an object and all objects below it are destroyed
+-- the losses of an end of another node, in order, when an object and all objects below it are destroyed; the end that contains the object
+-- itself loses it later, by `changes_of_delete`
 abbrev pub lost_with : Reading → ObjectNo → End → List FeatureChange
 lost_with r o d = map (λ v. feature_change d (Loses v)) (filter (is_lost r o d) (r.values d))
 

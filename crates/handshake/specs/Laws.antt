@@ -32,22 +32,22 @@ use Rattle.handshake.specs.FeatureChanges.{chain, destroyed_by, far_losses, feat
 abbrev pub OfAllowed : (Model → Change → Type 0) → Model → Change → Type 0
 OfAllowed Holds s c = IsLegal s → early_refusal (reading s) c ≡ None → late_refusal (reading s) c ≡ None → Holds s c
 
--- if a change brings a URI, the URI is a result of joining
+-- if a change makes a resource, its URI is a result of joining
 abbrev pub IsBrought : Change → Type 0
 IsBrought (NewResource u) = IsJoined u
 IsBrought _ = Unit {0}
 
--- a change leaves a legal model
+-- the model after a change is legal
 abbrev pub KeepsLegal : Model → Change → Type 0
 KeepsLegal = OfAllowed (λ s c. HasReadDocument s.metamodel c → IsBrought c → IsLegal (model_after s c))
 
--- the URI that a change brings, and the URIs of the proxies that it brings, are normalised
+-- the URIs that a change adds are normalised: the URI of a new resource, and the URIs of the proxies of a document
 abbrev pub BringsSteadyTexts : Change → Type 0
 BringsSteadyTexts (NewResource u) = IsWebUri u
 BringsSteadyTexts (Load k doc) = HasSteadyProxies doc
 BringsSteadyTexts _ = Unit {0}
 
--- if the URIs of a model and of a change are normalised, so are the URIs of the model after the change
+-- if the URIs of a model are normalised, and so are the URIs that a change adds, then the URIs of the model after the change are normalised
 abbrev pub KeepsSteady : Model → Change → Type 0
 KeepsSteady s c = HasSteadyTexts s → BringsSteadyTexts c → HasSteadyTexts (model_after s c)
 
@@ -69,7 +69,7 @@ comes_with r c n = is_some (loaded_by c) && is_object_from r.next n
 abbrev pub ChainReplays : Model → Change → Type 0
 ChainReplays = OfAllowed (λ s c. HasReadDocument s.metamodel c → (d : End) → goes_with (reading s) c d.node ≡ false → comes_with (reading s) c d.node ≡ false → ends_after_notices (has_flag s.metamodel) (held_at (reading s)) (chain (reading s) c) d ≡ held_at (reading (model_after s c)) d)
 
--- whether a change may take several values out of one list, or put several in
+-- whether a change may take several values out of one list, put several in, or replace several
 abbrev pub takes_many : Reading → Change → Bool
 takes_many r (At e Unset) = not (shape_at r e).is_single
 takes_many r c = is_some (destroyed_by c) || resolves_all c || is_some (loaded_by c)

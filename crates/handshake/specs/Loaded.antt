@@ -36,21 +36,22 @@ pub record HasObjectsOf (r : Reading) (doc : Doc) (t : Reading) : Type 0 where
   pub next : t.next ≡ r.next + length doc.objects
   -- each object has its class
   pub classes : (o : ObjectNo) → t.class (loaded_number r.next o) ≡ class_in doc o
-  -- an attribute has the values that are written, else its default
+  -- an attribute has the values that are written; a single attribute without a written value has its default
   pub attributes : (o : ObjectNo) (f : FeatureNo) → (shape r.metamodel f).is_reference ≡ false
       → t.values (object_end r.next o f) ≡ attribute_values (shape r.metamodel f) (values_in doc o f)
-  -- a single unsettable attribute has its set flag if the document writes a value for it; no other feature has a set flag
+  -- the set flag of a single unsettable attribute is on if the document writes a value for it; every other set flag of these objects is off
   pub flags : (o : ObjectNo) (f : FeatureNo)
       → t.flag (object_end r.next o f) ≡ ((shape r.metamodel f).is_unsettable && ((shape r.metamodel f).is_single && not (is_nil (values_in doc o f))))
   -- a reference that is no container reference has the values that are written, in that order: objects by their new numbers, and proxies
   pub references : (o : ObjectNo) (f : FeatureNo) → (shape r.metamodel f).is_reference ≡ true → lookups.is_container r.metamodel f ≡ false
       → t.values (object_end r.next o f) ≡ map (loaded_value r.next) (values_in doc o f)
-  -- the container reference of an object o has the object b, if o is written under a containment of b. It is empty if no object contains o
+  -- the container reference f of an object o has the object b, if o is written for the containment c of b. It is empty if o is written for
+  -- the containment c of no object
   pub containers : (o b : ObjectNo) (f c : FeatureNo) → IsContainer r.metamodel f c → IsWrittenWith doc b c o
       → t.values (object_end r.next o f) ≡ value.Object (loaded_number r.next b) ∷ []
   pub no_containers : (o : ObjectNo) (f c : FeatureNo) → IsContainer r.metamodel f c → ((b : ObjectNo) → IsWrittenWith doc b c o → ⊥)
       → t.values (object_end r.next o f) ≡ []
-  -- an object that is written under a containment is held there
+  -- an object that is written for a containment is held at that end
   pub holders : (o b : ObjectNo) (f : FeatureNo) → is_containment r.metamodel f ≡ true → IsWrittenWith doc o f b
       → t.holder (node.Object (loaded_number r.next b)) ≡ Some (object_end r.next o f)
 
@@ -61,7 +62,7 @@ pub record HasRootsOf (r : Reading) (k : ResourceNo) (doc : Doc) (t : Reading) :
   -- each root is held by the resource
   pub holders : (i : ℕ) (o : ObjectNo) → slice_get doc.roots i ≡ Some o → t.holder (node.Object (loaded_number r.next o)) ≡ Some (contents_end r.metamodel k)
 
--- all else is as before: the metamodel, the URIs, and each node without a new number, except the roots of the resource
+-- all else is as before: the metamodel, the URIs, and each node without a new number; but the resource has new roots
 pub record IsElseAsBefore (r : Reading) (k : ResourceNo) (doc : Doc) (t : Reading) : Type 0 where
   pub metamodel : t.metamodel ≡ r.metamodel
   pub uris : t.uris ≡ r.uris

@@ -1,5 +1,5 @@
--- Resolving all proxies does the same as resolving the proxies one after another, each in the model that the earlier resolves left; a proxy
--- that is refused is skipped.
+-- Resolving all proxies does the same as resolving the proxies one after another, each in the model as it is after the earlier resolves. A
+-- proxy whose resolve is refused is skipped.
 use Rattle.std.specs.Prelude.{◌≡◌, ℕ, zero, suc, Bool, List, [], ◌∷◌, ◌++◌, length, is_some, if◌then◌else◌}
 use Rattle.mm_types.specs.Conditions.{◌else_by◌}
 use Rattle.notice_chain.specs.declared.notice.Notice.{Notice}

@@ -1,5 +1,6 @@
--- Why a change is refused: something that the change names is not there; or the change is forbidden by the type or the length of a value,
--- an index, a repeated value, a full end, a cycle of containment, or a limit. All later refusals are found by the repository.
+-- Why a change is refused: something that the change names is not there; or the act doesn't fit the feature; or the change is forbidden by
+-- the type or the length of a value, an index, a repeated value, a proxy, a full end, a cycle of containment, a limit, a URI that a
+-- resource has already, or a resource that is not empty. All further refusals are found by the repository.
 use Rattle.std.specs.Prelude.{ℕ, ◌+◌, ◌&&◌, ◌||◌, Bool, false, not, List, length, nat_le, nat_lt, Option, None, Some, is_some, if◌then◌else◌}
 use Rattle.std.specs.Option.{option_map_or}
 use Rattle.mm_types.specs.Conditions.{◌unless◌, ◌where_so◌, ◌else_by◌}
@@ -103,7 +104,7 @@ single_refusal m f = NotSingle unless (shape m f).is_single
 abbrev pub many_refusal : Metamodel → FeatureNo → Option Refused
 many_refusal m f = NotMany where_so (shape m f).is_single
 
--- why an act doesn't fit a feature: the feature is single, or it is many-valued
+-- why an act doesn't fit a feature: a set needs a single feature, and an edit of a list a many-valued one
 abbrev pub kind_refusal : Metamodel → FeatureNo → Act → Option Refused
 kind_refusal m f (Set v) = single_refusal m f
 kind_refusal m f Unset = None
@@ -117,7 +118,7 @@ value_of (Add v i) = Some v
 value_of (RemoveValue v) = Some v
 value_of _ = None
 
--- why an act at an end is refused: something that the act names is not there
+-- why an act at an end is refused: the node, its feature, or the value of the act is not there
 abbrev pub named_refusal : Reading → End → Act → Option Refused
 named_refusal r e a = option_map_or (value_refusal r e) (value_of a) (end_refusal r e)
 

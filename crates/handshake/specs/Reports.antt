@@ -1,4 +1,4 @@
--- The notifications of reports, which say what happened at an end, and of losses.
+-- The notifications of reports and of losses. A report says what happened at an end.
 use Rattle.std.specs.Prelude.{ℕ, pos, nat_lt, Some, if◌then◌else◌}
 use Rattle.mm_types.specs.declared.end.End.{End}
 use Rattle.mm_types.specs.declared.numbers.ObjectNo.{ObjectNo}
@@ -12,11 +12,11 @@ use Rattle.doc_loader.specs.Loading.{loaded_number}
 use Rattle.handshake.specs.declared.chain.Report.{Report}
 use Rattle.handshake.specs.FeatureChange.{notice}
 
--- the notification of a report, read in a model
+-- the notification of a report; its `was_set` is whether the end is set in the model
 abbrev pub report_notice : Reading → End → Report → Notice
 report_notice r e p = notice (shape_at r e) e (held_at r e) p.kind p.old_value p.new_value p.position
 
--- the notification of a loss, read in a model in which the end still has the value: SET to null at a single end, else REMOVE at the
+-- the notification of a loss, computed in a model in which the end still has the value: SET to null at a single end, else REMOVE at the
 -- position of the loss
 abbrev pub lost_notice : Reading → Loss → Notice
 lost_notice r l =
@@ -24,7 +24,8 @@ lost_notice r l =
     then notice (shape_at r l.end) l.end (held_at r l.end) kind.Set l.value value.Null no_index
     else notice (shape_at r l.end) l.end (held_at r l.end) kind.Remove l.value value.Null (pos l.position)
 
--- the notification that an end gains a root of a document, after n values; the end was set if n is above 0
+-- the notification that an end gains a root of a document. x has the position of the root, and the root's number in the document; n is the
+-- number that the first object of the document gets. The end was set if the position is above 0
 abbrev pub root_notice : ℕ → End → ℕ × ObjectNo → Notice
 root_notice n e x =
     record {

@@ -8,16 +8,16 @@ pub enum Act {
     Set(Value),
     /// Takes a feature back to its default, or empties a list (EMF: EObject.eUnset; MOF 2.5.1: Reflection, Object.unset).
     Unset,
-    /// Adds a value to a list, at an index or at its end (EMF: EList.add; MOF 2.5.1: Reflection, ReflectiveSequence.add).
+    /// Adds a value to a list, at an index or after the last value (EMF: EList.add; MOF 2.5.1: Reflection, ReflectiveSequence.add).
     Add(Value, Option<u32>),
     /// Takes the value at an index out of a list (EMF: EList.remove; MOF 2.5.1: Reflection, ReflectiveSequence.remove).
     Remove(u32),
     /// Takes the first occurrence of a value out of a list, if there is one (EMF: EList.remove; MOF 2.5.1: Reflection,
     /// ReflectiveCollection.remove).
     RemoveValue(Value),
-    /// Moves the value at `from` of a list, so that it is then at `to` (EMF: EList.move).
+    /// Moves the value at the index `from` of a list, so that the value is then at the index `to` (EMF: EList.move).
     Move { to: u32, from: u32 },
-    /// Replaces the proxy at an index of a reference by the object at its address (EMF: EcoreUtil.resolve). If the reference has an
-    /// opposite, the referring object replaces the proxy at the other end.
+    /// Replaces the proxy at an index of a reference by the object at the proxy's address (EMF: EcoreUtil.resolve). If the reference has an
+    /// opposite, the referring object replaces the proxy of the same link at the opposite end.
     Resolve(u32),
 }

@@ -165,7 +165,7 @@ fn report_of<L: LinkStore>(
     }
 }
 
-/// The RESOLVE notification of the proxy at an index.
+/// The report of a resolve: RESOLVE from the proxy at an index to `value`. The position is the index, or -1 at a single end.
 fn resolved<L: LinkStore>(
     alloc: Global,
     model: &ModelRef<L>,
@@ -245,7 +245,7 @@ fn index_of<L: LinkStore>(model: &ModelRef<L>, at: End, value: &Value) -> u32
     }
 }
 
-/// The report of an UNSET: the old value is the value of a single end, and the new value is the default.
+/// The report of an unset of a single end: UNSET from the value of the end to the default of its feature.
 fn unset<L: LinkStore>(alloc: Global, model: &ModelRef<L>, at: End) -> Result<Report, AllocError>
     ensures { IfOk result (λ p. report_notice (reading model.now) at p ≡ notice_at (reading model.now) (feature_change at Unsets)) }
 {
@@ -257,7 +257,7 @@ fn unset<L: LinkStore>(alloc: Global, model: &ModelRef<L>, at: End) -> Result<Re
     })
 }
 
-/// The default of a feature: null for a reference.
+/// The default of a feature; it is null for a reference.
 fn default(meta: &Meta, feature: FeatureNo) -> Result<Value, AllocError>
     ensures { IfOk result (λ v. v ≡ (shape meta.now feature).default) }
 {

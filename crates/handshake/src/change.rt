@@ -13,12 +13,13 @@ pub enum Change {
     At(End, Act),
     /// Makes an object of a class (EMF: EFactory.create).
     Create(ClassNo),
-    /// Destroys an object and all objects below it, and takes them out of every end that holds them (EMF: EcoreUtil.delete, recursively).
+    /// Destroys an object and all objects below it, and takes each of them out of every end that has it as a value (EMF: EcoreUtil.delete,
+    /// recursively).
     Delete(ObjectNo),
-    /// Makes a resource of a URI, which is a result of joining (EMF: ResourceSet.createResource).
+    /// Makes a resource with a URI. The URI has to be a result of joining (EMF: ResourceSet.createResource).
     NewResource(Text),
-    /// Resolves all proxies one after another, by object number, by feature in the order of all features, and by index; a proxy that can't
-    /// be resolved in its turn is skipped (EMF: EcoreUtil.resolveAll).
+    /// Resolves all proxies one after another. They are ordered by the number of the referring object, then by feature in the order of all
+    /// features, then by index. A proxy that can't be resolved in its turn is skipped (EMF: EcoreUtil.resolveAll).
     ResolveAll,
     /// Makes the objects of a document, with their values and links, in an empty resource (EMF: Resource.load).
     Load(ResourceNo, Doc),
@@ -27,8 +28,8 @@ pub enum Change {
 impl Change {
     ghost use Rattle.handshake.specs.Changes.{edits_links_alone, edits_one_kind, edits_values_alone, is_at_reference};
 
-    /// Whether the change edits only values, or only links. This is true if the change makes an object, or if it does an act at an end,
-    /// other than an act that resolves a proxy.
+    /// Whether the change makes an object, or does an act at an end that resolves no proxy. If so, the change edits either only values or
+    /// only links.
     fn edits_one_kind(&self) -> bool
         ensures { result ≡ edits_one_kind self.now }
     {
@@ -40,7 +41,7 @@ impl Change {
         }
     }
 
-    /// Whether the change does something at an end of a reference.
+    /// Whether the change is an act at an end whose feature is a reference.
     fn is_at_reference(&self, meta: &Meta) -> bool
         ensures { result ≡ is_at_reference meta.now self.now }
     {
@@ -50,14 +51,14 @@ impl Change {
         }
     }
 
-    /// Whether the change edits only values, and no link: it makes an object, or changes an attribute. Takes no memory.
+    /// Whether the change makes an object, or changes an attribute. If so, the change edits only values, and no link. Takes no memory.
     pub fn edits_values_alone(&self, meta: &Meta) -> bool
         ensures { result ≡ edits_values_alone meta.now self.now }
     {
         self.edits_one_kind() && !self.is_at_reference(meta)
     }
 
-    /// Whether the change edits only links, and no value: it changes a reference, and resolves no proxy. Takes no memory.
+    /// Whether the change changes a reference, and resolves no proxy. If so, the change edits only links, and no value. Takes no memory.
     pub fn edits_links_alone(&self, meta: &Meta) -> bool
         ensures { result ≡ edits_links_alone meta.now self.now }
     {

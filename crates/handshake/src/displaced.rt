@@ -46,14 +46,14 @@ pub fn displaces<L: LinkStore>(model: &ModelRef<L>, end: End, object: ObjectNo) 
     }
 }
 
-/// Whether a single end has a link.
+/// Whether an end is single and has a link.
 fn is_taken<L: LinkStore>(model: &ModelRef<L>, end: End) -> bool
     ensures { result ≡ d.is_taken (reading model.now) end }
 {
     model.meta().is_single(end.feature) && model.len(end) > 0
 }
 
-/// The links that a new link from an end to an object displaces, each once.
+/// The links that a new link from an end to an object displaces; each link is named once.
 pub(crate) fn yields<L: LinkStore>(
     alloc: Global,
     model: &ModelRef<L>,
@@ -75,7 +75,7 @@ pub(crate) fn yields<L: LinkStore>(
     Ok(link_ends)
 }
 
-/// Adds the link of the value of a single end.
+/// If an end is single and has a value, adds the link of this value, unless the list has that link already.
 fn add_held<L: LinkStore>(
     alloc: Global,
     model: &ModelRef<L>,
@@ -98,7 +98,7 @@ fn add_held<L: LinkStore>(
     }
 }
 
-/// Adds the link that contains a node.
+/// If a node is contained, adds the link that contains it, unless the list has that link already.
 fn add_holding<L: LinkStore>(
     model: &ModelRef<L>,
     node: Node,
@@ -134,7 +134,8 @@ fn add<L: LinkStore>(
     Ok(())
 }
 
-/// The node that becomes contained when an object is put into an end.
+/// The node that becomes contained when an object is put into an end; `None` if neither the feature of the end nor its opposite is a
+/// containment.
 fn contained(meta: &Meta, end: End, object: ObjectNo) -> Option<Node>
     ensures { result ≡ h.node_contained end object (shape meta.now end.feature).containing }
 {
@@ -207,7 +208,7 @@ fn link_ends_resolved<L: LinkStore>(
     Ok(link_ends)
 }
 
-/// Adds the link of the proxy at the opposite end.
+/// Adds the link of the counterpart of `target`, the proxy at the opposite end. Adds nothing if there is no target or no counterpart.
 pub fn add_counterpart<L: LinkStore>(
     alloc: Global,
     model: &ModelRef<L>,
@@ -281,7 +282,7 @@ fn cut_by_add<L: LinkStore>(
     }
 }
 
-/// The links of a reference.
+/// The links of the values of an end, in the order of the values.
 fn link_ends_at<L: LinkStore>(
     alloc: Global,
     model: &ModelRef<L>,
@@ -297,7 +298,7 @@ fn link_ends_at<L: LinkStore>(
     Ok(link_ends)
 }
 
-/// The links of an end, the last one first; none for an attribute.
+/// The links of the values of an end, from the last value to the first; none for an attribute.
 fn link_ends_backwards<L: LinkStore>(
     alloc: Global,
     model: &ModelRef<L>,
@@ -315,7 +316,7 @@ fn link_ends_backwards<L: LinkStore>(
     Ok(link_ends)
 }
 
-/// The link at a position of an end, if a position is given; none for an attribute.
+/// The link of the value at an index of an end, if an index is given and a value is there; none for an attribute.
 fn link_end_in<L: LinkStore>(
     alloc: Global,
     model: &ModelRef<L>,
@@ -334,7 +335,7 @@ fn link_end_in<L: LinkStore>(
     Ok(link_ends)
 }
 
-/// Adds the link of the value that was found at an end.
+/// Adds the link of the value that was found at an end, if one was found.
 pub fn push_link_end(
     alloc: Global,
     end: End,

@@ -36,8 +36,8 @@ pub fn feature_changes<L: LinkStore>(
     ensures { IfOk result (λ ts. ts.items ≡ t.feature_changes_with (reading model.now) change.now link_ends.now) }
 {
     let mut out = Vec::new(alloc);
-    // `chain` makes the notifications of a delete, `loads` the notifications of a load, and `resolving_all` the notifications of a resolve
-    // of all proxies
+    // the other changes have no feature changes here: the module `chain` makes the notifications of a delete, and in `change_plans` the
+    // module `loads` makes those of a load, and `resolving_all` those of a resolve of all proxies
     if let Change::At(end, act) = change {
         push_act(model, *end, act, link_ends, target, &mut out)?;
     }
@@ -67,7 +67,7 @@ fn push_act<L: LinkStore>(
     }
 }
 
-/// Adds the feature changes of an unset: the losses at the far ends, and then the losses of the end itself.
+/// Adds the feature changes of an unset: the losses at the far ends, and then the changes of the end itself.
 fn push_unset<L: LinkStore>(
     model: &ModelRef<L>,
     end: End,
@@ -80,7 +80,8 @@ fn push_unset<L: LinkStore>(
     push_emptied(model, end, out)
 }
 
-/// Adds the feature changes of a proxy that is resolved; the opposite end comes first.
+/// Adds the feature changes of a proxy that is resolved: first at the opposite end, if the proxy has a counterpart there, and then at its
+/// own end. Adds nothing without a target.
 pub fn push_resolved(
     end: End,
     index: u32,
@@ -147,7 +148,8 @@ fn gain_at(index: Option<u32>, value: Value) -> ChangeKind
     }
 }
 
-/// Adds the feature changes of an act that takes a value out of a list and cuts its link.
+/// Adds the feature changes of an act that takes the value at an index out of a list: the losses at the far ends of the links that the act
+/// cuts, and then the loss at the list.
 fn push_taken_out<L: LinkStore>(
     model: &ModelRef<L>,
     end: End,
@@ -226,7 +228,7 @@ fn push_cuts<L: LinkStore>(
     }
 }
 
-/// Adds the losses at the other ends of links.
+/// Adds the losses at the far ends of links; a link end names the near end.
 fn push_far_losses<L: LinkStore>(
     model: &ModelRef<L>,
     link_ends: &[LinkEnd],
@@ -276,7 +278,7 @@ fn push_other_losses<L: LinkStore>(
 }
 
 /// Adds the losses at both ends of a displaced link, without the loss at an end whose value the new link replaces. If one of the ends is a
-/// containment, its loss comes first.
+/// containment, the loss at this end comes first.
 fn push_losses<L: LinkStore>(
     model: &ModelRef<L>,
     link: AddedLink,
@@ -325,7 +327,7 @@ fn push_other_loss<L: LinkStore>(
     push_loss(link_end, out)
 }
 
-/// Whether a new link replaces the value of another end.
+/// Whether a new link replaces the value of the end `other`: this end is single, and is an end of the new link.
 fn is_replaced<L: LinkStore>(model: &ModelRef<L>, link: AddedLink, other: End) -> bool
     ensures { result ≡ t.is_replaced (reading model.now) link.end link.object other }
 {

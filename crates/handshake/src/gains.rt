@@ -24,7 +24,7 @@ pub fn gain_refusal<L: LinkStore>(model: &ModelRef<L>, end: End, value: &Value) 
     }
 }
 
-/// Why an end can't gain a link to an object.
+/// Why an end can't gain a link to an object: `Bound`, `Recursive` or `Limit`.
 pub fn link_refusal<L: LinkStore>(
     model: &ModelRef<L>,
     end: End,
@@ -45,7 +45,7 @@ pub fn link_refusal<L: LinkStore>(
     None
 }
 
-/// Whether an end or the opposite end is full.
+/// Whether an end is full, or the opposite end `far` is, if there is one.
 fn is_either_full<L: LinkStore>(model: &ModelRef<L>, end: End, far: Option<End>) -> bool
     ensures { result ≡ (refusals.is_full_at (reading model.now) end || option_map_or (refusals.is_full_at (reading model.now)) far false) }
 {
@@ -58,7 +58,7 @@ fn is_either_full<L: LinkStore>(model: &ModelRef<L>, end: End, far: Option<End>)
     }
 }
 
-/// Whether an end or the opposite end has as many values as any list may have.
+/// Whether an end, or the opposite end `far`, if there is one, has as many values as any list may have.
 fn is_either_at_limit<L: LinkStore>(model: &ModelRef<L>, end: End, far: Option<End>) -> bool
     ensures { result ≡ (refusals.is_at_limit (reading model.now) end || option_map_or (refusals.is_at_limit (reading model.now)) far false) }
 {
@@ -75,7 +75,7 @@ fn is_either_at_limit<L: LinkStore>(model: &ModelRef<L>, end: End, far: Option<E
 fn is_full_at<L: LinkStore>(model: &ModelRef<L>, end: End) -> bool
     ensures { result ≡ refusals.is_full_at (reading model.now) end }
 {
-    // few features have such a bound, and without one the values need not be counted
+    // few features have such a bound, and the values of a feature without such a bound need not be counted
     has_bound(model.meta(), end.feature) && model.meta().is_full(end.feature, model.len(end))
 }
 

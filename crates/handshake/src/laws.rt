@@ -15,13 +15,14 @@ ghost use Rattle.handshake.specs.FeatureChange.{change_notices, ends_after_chang
 ghost use Rattle.handshake.specs.declared.change.Change.{Change};
 ghost use Rattle.handshake.specs.declared.change_kind.FeatureChange.{FeatureChange};
 
-/// A change of a legal model that is not refused leaves a legal model. The URI of a new resource must be a result of joining, and the
-/// document of a load must have been read.
+/// If a change of a legal model is not refused, the model after it is legal. It is required that the URI of a new resource is a result of
+/// joining, and that the document of a load was read.
 pub fn keeps_legal()
     ensures { (s : Model) (c : Change) → KeepsLegal s c }
 {}
 
-/// If the URIs of a model and the URIs that a change brings are normalised, so are the URIs after the change.
+/// If the URIs of a model are normalised, and so are the URIs that a change adds, then the URIs of the model after the change are
+/// normalised. A change adds the URI of a new resource, or the URIs of the proxies of a document.
 pub fn keeps_steady_texts()
     ensures { (s : Model) (c : Change) → KeepsSteady s c }
 {}
@@ -32,9 +33,9 @@ pub fn the_notices_of_feature_changes_replay_them()
     ensures { (m : Metamodel) (e : Ends) (ts : List FeatureChange) → ends_after_notices (has_flag m) e (change_notices m e ts) ≡ ends_after_changes m e ts }
 {}
 
-/// The chain of a change of a legal model that is not refused, replayed on the values of an end, gives the values of the end after the
-/// change. The ends of nodes that the change destroys, and of objects that a load makes, are excepted. The document of a load must have
-/// been read.
+/// If a change of a legal model is not refused, then replaying its chain on the values and the set flag of an end gives the values and the
+/// flag after the change. This holds for all ends but those of nodes that the change destroys, and of objects that a load makes. The
+/// document of a load must have been read.
 pub fn the_chain_of_a_change_replays_it()
     ensures { (s : Model) (c : Change) → ChainReplays s c }
 {}
@@ -53,18 +54,19 @@ pub fn a_change_cuts_no_link_twice()
     ensures { (s : Model) (c : Change) → CutsNoLinkTwice s c }
 {}
 
-/// After a load that is not refused, a legal model is as the document says, if the document was read. The objects of the document get the
-/// next numbers. Each object is read as the document has it: its class, its attributes and their flags, its references with both ends of
-/// each pair, its container reference, and the end that holds it. The resource holds the roots in their order. Nothing else has changed
-/// (EMF: XMLResource.load).
+/// If a document was read, and its load into a legal model is not refused, then the model after the load is as the document says. The
+/// objects of the document get the next numbers. Reading an object gives what the document says: its class, its attributes and their flags,
+/// its references with both ends of each pair, its container reference, and the end that holds it. The resource holds the roots in the
+/// order of the document. Nothing else has changed (EMF: XMLResource.load).
 pub fn a_load_reads_as_its_document()
     ensures { (s : Model) (k : ResourceNo) (doc : Doc) → LoadsEnds s k doc }
 {}
 
-/// Resolving all proxies of a legal model does the same as resolving the proxies one after another, by object number, by feature in the
-/// order of all features, and by index. Each proxy is resolved in the model that the earlier resolves left, and is skipped if it is refused
-/// there. The resolve of all proxies leaves the same model, has the same notifications in order, and counts the proxies that were resolved
-/// and the proxies that are left (EMF: EcoreUtil.resolveAll).
+/// Resolving all proxies of a legal model does the same as resolving the proxies one after another. They are ordered by the number of the
+/// referring object, then by feature in the order of all features, then by index. Each proxy is resolved in the model as it is after the
+/// earlier resolves, and is skipped if its resolve is refused there. The resolve of all proxies has the same model as its result, has the
+/// same notifications in the same order, and counts the proxies that were resolved and the proxies that are left (EMF:
+/// EcoreUtil.resolveAll).
 pub fn all_proxies_are_resolved_one_after_another()
     ensures { (s : Model) → IsLegal s → ResolvesEach s }
 {}

@@ -1,7 +1,7 @@
 //! Changes of a model: why a change is refused, which links it cuts, how it changes the model, and its notifications.
 //!
 //! `specs/Refusals.antt` says when a change is refused, `specs/Effects.antt` has the model after a change, `specs/FeatureChanges.antt` the
-//! feature changes at ends, and `specs/Displaced.antt` which links a new link displaces.
+//! feature changes at ends, and `specs/Displaced.antt` which links a change cuts.
 #![tactic(auto)]
 
 mod act;

@@ -12,11 +12,12 @@ use mm_meta::Meta;
 use mm_types::{End, FeatureNo, Node, Refused, Value};
 use models::{ModelRef, class_refusal, end_refusal, node_refusal, value_refusal};
 
-/// The first refusal of a change that is found without memory: something that the change names is not there, or the act needs a single
-/// feature and the feature is many-valued, or the other way round.
+/// Why a change is refused before it is planned: something that the change names is not there, or the act needs a single feature and the
+/// feature is many-valued, or the other way round.
 ///
-/// `NoObject` if the node, or the value, is an object that does not live; `NoResource`, `NoClass`, `Abstract`, `NoFeature`; `NotSingle` if
-/// a value is set under a many-valued feature, `NotMany` if a list is edited under a single feature.
+/// `NoObject` if the node, or the value, is an object that does not live; `NoResource` or `NoClass` if the resource or the class does not
+/// exist; `Abstract` if the class is abstract; `NoFeature` if the node does not have the feature; `NotSingle` if a value is set under a
+/// many-valued feature; `NotMany` if a list is edited under a single feature.
 pub fn early_refusal<L: LinkStore>(model: &ModelRef<L>, change: &Change) -> Option<Refused>
     ensures { result ≡ refusals.early_refusal (reading model.now) change.now }
 {
@@ -29,14 +30,14 @@ pub fn early_refusal<L: LinkStore>(model: &ModelRef<L>, change: &Change) -> Opti
     }
 }
 
-/// What `early_refusal` returns for a change that does an act at an end.
+/// Why an act at an end is refused before it is planned: the end or the value is not there, or the act doesn't fit the feature.
 fn act_early_refusal<L: LinkStore>(model: &ModelRef<L>, end: End, act: &Act) -> Option<Refused>
     ensures { result ≡ refusals.early_refusal (reading model.now) (At end act.now) }
 {
     named_refusal(model, end, act).or(kind_refusal(model.meta(), end.feature, act))
 }
 
-/// Why an act at an end is refused: something that the act names is not there.
+/// Why an act at an end is refused: the node, its feature, or the value of the act is not there.
 fn named_refusal<L: LinkStore>(model: &ModelRef<L>, end: End, act: &Act) -> Option<Refused>
     ensures { result ≡ refusals.named_refusal (reading model.now) end act.now }
 {
@@ -50,7 +51,8 @@ fn named_refusal<L: LinkStore>(model: &ModelRef<L>, end: End, act: &Act) -> Opti
     }
 }
 
-/// Why an act doesn't fit a feature: the feature is single, or it is many-valued.
+/// Why an act doesn't fit a feature: `NotSingle` for a set of a many-valued feature, `NotMany` for an edit of a list under a single
+/// feature. An unset and a resolve fit every feature.
 fn kind_refusal(meta: &Meta, feature: FeatureNo, act: &Act) -> Option<Refused>
     ensures { result ≡ refusals.kind_refusal meta.now feature act.now }
 {
@@ -63,7 +65,8 @@ fn kind_refusal(meta: &Meta, feature: FeatureNo, act: &Act) -> Option<Refused>
     }
 }
 
-/// What `early_refusal` returns for a set. The end and the value of the set are passed as arguments.
+/// Why a set of an end to a value is refused before it is planned: `NoObject`, `NoResource`, `NoFeature` or `NotSingle`. The caller needs
+/// no `Change` for this.
 #[inline(always)]
 pub fn set_early_refusal<L: LinkStore>(
     model: &ModelRef<L>,
@@ -75,7 +78,8 @@ pub fn set_early_refusal<L: LinkStore>(
     value_refusal(model, end, value).or(single_refusal(model.meta(), end.feature))
 }
 
-/// What `early_refusal` returns for an addition or a removal of a value. The end and the value are passed as arguments.
+/// Why an addition of a value at an end, or a removal of this value, is refused before it is planned: `NoObject`, `NoResource`, `NoFeature`
+/// or `NotMany`. The caller needs no `Change` for this.
 #[inline(always)]
 pub fn list_early_refusal<L: LinkStore>(
     model: &ModelRef<L>,

@@ -1,6 +1,8 @@
-//! Numbers along a list, by which a value is found without going through the list.
+//! Labels: numbers of the values of a list. They go up along the list, or nearly so. By its label a value is found without going through
+//! the list.
 //!
-//! A label is a hint: an index that was found by labels counts only if the value is there.
+//! A label is a hint: the caller looks whether the value is at the index that was found. When all values of a list get new labels, the
+//! label of the first value is `MIDDLE`, and each further label is greater by `GAP`.
 ghost use Rattle.std.specs.Prelude.{◌-◌, ◌<◌, ◌≤◌};
 
 /// The distance between the labels of two values that are put in at the end one after the other.
@@ -9,17 +11,20 @@ const GAP: u64 = 1 << 40;
 /// The label of the first value of a list whose labels are new.
 const MIDDLE: u64 = 1 << 63;
 
-/// How many steps of a search assume that the labels are evenly spread. Each further step halves the indexes that are left.
+/// A search begins with at most this many steps, which assume that the labels are evenly spread. Each further step halves the number of
+/// indexes that are left.
 const EVEN_STEPS: usize = 8;
 
-/// The labels of the first value and of the last value of a list. They are estimates after a value was taken out at an end.
+/// The labels of the first value and of the last value of a list, or estimates of these labels, for example after the first or the last
+/// value was taken out.
 #[derive(Clone, Copy)]
 pub struct Labels {
     first: u64,
     last: u64,
 }
 
-/// The indexes between which a label is searched, and the labels there.
+/// The indexes among which a label is searched, from `low` up to but not including `high`. `below` and `above` are the labels at the
+/// borders of these indexes, and `steps` is how many steps the search has taken.
 #[derive(Clone, Copy)]
 struct Span {
     low: usize,
@@ -34,7 +39,7 @@ pub fn new_label(index: usize) -> u64 {
     MIDDLE.saturating_add((index as u64).saturating_mul(GAP))
 }
 
-/// A label between two others, if there is one.
+/// A label between two others; `below`, if there is none between them.
 pub fn label_between(below: u64, above: u64) -> u64 {
     below.saturating_add(above.saturating_sub(below) / 2)
 }
@@ -58,13 +63,13 @@ impl Labels {
         self.last.saturating_add(GAP)
     }
 
-    /// A label for a value that is put in at an index, if the labels are evenly spread.
+    /// A label for a value that is put in at an index. It is computed as if the labels were `GAP` apart.
     pub fn near(self, index: usize) -> u64 {
         self.first
             .saturating_add((index as u64).saturating_mul(GAP))
     }
 
-    /// Notes that one of `len` values got a label.
+    /// Notes that a value got a label. `len` is the length of the list, this value included.
     pub fn put(&mut self, label: u64, len: usize) {
         if len <= 1 {
             self.first = label;
@@ -84,18 +89,21 @@ impl Labels {
         }
     }
 
-    /// The index of a label, counted from the front, if the labels before it are evenly spread.
+    /// A guess at the index of a label, by its distance from the first label. The guess is right if the labels from the first one up to
+    /// this one are `GAP` apart.
     pub fn from_front(self, label: u64) -> usize {
         (label.saturating_sub(self.first) / GAP) as usize
     }
 
-    /// The index of a label among `len` labels, counted from the end, if the labels after it are evenly spread.
+    /// A guess at the index of a label among `len` labels, by its distance from the last label. The guess is right if the labels from this
+    /// one up to the last one are `GAP` apart.
     pub fn from_end(self, label: u64, len: usize) -> usize {
         let after = (self.last.saturating_sub(label) / GAP) as usize;
         len.saturating_sub(after).saturating_sub(1)
     }
 
-    /// The index of a label among `len` labels, if the labels go up along the list. Otherwise the result may be any index.
+    /// The index of a label among the `len` labels that `label_at` gives, if the label is one of them and they go up along the list.
+    /// Otherwise the result may be any index, or `len`.
     pub fn search<F: Fn(usize) -> u64>(self, len: usize, label: u64, label_at: F) -> usize
         requires { F.IsAlwaysCallable label_at }
     {

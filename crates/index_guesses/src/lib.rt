@@ -1,6 +1,6 @@
 //! Guesses at the index of a value in a long list, so that the list need not be gone through.
 //!
-//! A guess may be wrong: its caller looks whether the value is there.
+//! A guess may be wrong, so the caller looks whether the value is at the guessed index.
 #![tactic(auto)]
 
 mod labels;
@@ -9,10 +9,12 @@ mod ranks;
 pub use labels::{Labels, label_between, new_label};
 pub use ranks::by_rank;
 
-/// The indexes are in groups of this many. Only a removal at the last index of a group tests the guess for the value there.
+/// The indexes of a list are divided into groups of this many. Only a removal at the last index of a group tests the guess for the value
+/// there.
 const TRIED: usize = 64;
 
-/// Whether a removal at an index tests the guess for the value there. A value near the front is found soon without a guess.
+/// Whether a removal at an index tests the guess for the value there. One index in `TRIED` is tested. The first of them is `TRIED - 1`,
+/// since a value near the front is found soon without a guess.
 pub fn is_tried(index: usize) -> bool {
     index % TRIED == TRIED - 1
 }

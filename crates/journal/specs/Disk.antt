@@ -8,15 +8,15 @@ use Rattle.journal.specs.declared.disk.DiskFault.TheVariants.{Failed, Full}
 abbrev pub Overwrites : ℕ → List ℕ → List ℕ → List ℕ → Type 0
 Overwrites at bytes old new = new ≡ take at old ++ bytes ++ drop (at + length bytes) old
 
--- A write of `n` bytes at an offset was cut short. Nothing is known of the bytes in that range; the file may have grown, up to the end of
--- the range.
+-- A write of `n` bytes from the offset `at` on was interrupted. Nothing is known of the bytes in this range; the file may have grown, at
+-- most up to the end of the range.
 pub record Torn (at n : ℕ) (old new : List ℕ) : Type 0 where
   pub front : take at new ≡ take at old
   pub back : drop (at + n) new ≡ drop (at + n) old
   pub at_least : length old ≤ length new
   pub at_most : length new ≤ max (length old) (at + n)
 
--- A cut of the file to a length was interrupted: the file may have lost some of the bytes that it was to lose.
+-- A cut of the file to the length `len` was interrupted: the file is a prefix of the old file and has at least `len` bytes.
 pub record PartlyCut (len : ℕ) (old new : List ℕ) : Type 0 where
   pub at_least : len ≤ length new
   pub front : take (length new) old ≡ new
@@ -29,25 +29,27 @@ Follows step old new = (c : List ℕ) → new c → (d : List ℕ) × old d × s
 abbrev pub IsDurable : List ℕ → (List ℕ → Type 0) → Type 0
 IsDurable bytes may_leave = (c : List ℕ) → may_leave c → c ≡ bytes
 
--- each file that a crash may leave now could be left before
+-- each file that a crash may leave now is a file that a crash could leave before
 abbrev pub LeavesNoOther : (List ℕ → Type 0) → (List ℕ → Type 0) → Type 0
 LeavesNoOther old new = (c : List ℕ) → new c → old c
 
--- The clock of a disk moved on from `before` to `now`. If a crash since an earlier moment t may have left a file, then a crash since t may
--- have left that file before the clock moved on, or a crash may leave it now.
+-- The clock of a disk moved on from the moment `before` to the moment `now`. For a moment t up to `before`, `past t` is true of the files
+-- that a crash from t to `before` may have left, and `since t` of the files that a crash from t to `now` may have left. Each file of
+-- `since t` is a file of `past t`, or a crash may leave it now. Each file of `past t` is a file of `since t`.
 pub record Elapses (before now : ℕ) (past since : ℕ → List ℕ → Type 0) (may_leave : List ℕ → Type 0) : Type 0 where
   pub later : before ≤ now
   pub no_other : (t : ℕ) (c : List ℕ) → t ≤ before → since t c → past t c ⊎ may_leave c
   pub kept : (t : ℕ) (c : List ℕ) → t ≤ before → past t c → since t c
 
--- P is true of each file that a crash can leave at a moment from `old` to `new`. For each moment t before `old`: if a crash since t can
--- have left a file, then a crash from t to `old` can have left that file, or P is true of the file.
+-- P is true of each file that a crash can leave at a moment from `old` to `new`. For each moment t up to `old`: if a crash since t can have
+-- left a file, then a crash from t to `old` can have left that file, or P is true of the file.
 pub record LeavesOnly {D : Type 0} (moment : D → ℕ) (left_since : D → ℕ → List ℕ → Type 0) (old new : D) (P : List ℕ → Type 0) : Type 0 where
   pub later : moment old ≤ moment new
   pub each : (c : List ℕ) → left_since new (moment old) c → P c
   pub before : (t : ℕ) (c : List ℕ) → t ≤ moment old → left_since new t c → left_since old t c ⊎ P c
 
--- `Failed` is returned only if the disk has failed, and `Full` never.
+-- `before` and `now` count the failed calls of a disk, before and after a call. The call returns `Failed` only if the count has grown, and
+-- never `Full`.
 pub record HasCause {T : Type 0} (before now : ℕ) (result : Result T DiskFault) : Type 0 where
   pub later : before ≤ now
   pub failed : IsErrOf result Failed → before < now

@@ -17,8 +17,8 @@ module _ {D : Type 0} (seen : D → List ℕ) where
   abbrev pub journal_lines : Journal D → List (List ℕ)
   journal_lines journal = recovered_lines (seen journal.disk)
 
-  -- The file is the entries of its lines and an empty line; a crash leaves exactly that file; and the journal knows how long the entries
-  -- are.
+  -- The file is the entries of its lines and an empty line; a crash leaves exactly that file; the journal knows how long the entries are;
+  -- and the bytes that wait for a commit are entries.
   pub record IsSettled (may_leave : D → List ℕ → Type 0) (journal : Journal D) : Type 0 where
     pub file : seen journal.disk ≡ at_rest (journal_lines journal)
     pub end : journal.end ≡ length (entries (journal_lines journal))

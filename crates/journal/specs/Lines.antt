@@ -14,20 +14,20 @@ abbrev pub ended_lines : List ℕ → List (List ℕ)
 ended_lines [] = []
 ended_lines (c ∷ cs) = if c == NEWLINE then [] ∷ ended_lines cs else with_byte c (ended_lines cs)
 
--- the lines that begin with a mark, up to the first line that does not; each line is given without its mark
+-- the lines before the first line that does not begin with a mark; each of these lines is given without its mark
 abbrev pub marked_lines : List (List ℕ) → List (List ℕ)
 marked_lines [] = []
 marked_lines ([] ∷ ls) = []
 marked_lines ((c ∷ l) ∷ ls) = if c == MARK then l ∷ marked_lines ls else []
 
--- the lines that are recovered from a file
+-- the lines that are recovered from a file: the lines of the entries at its front
 abbrev pub recovered_lines : List ℕ → List (List ℕ)
 recovered_lines file = marked_lines (ended_lines file)
 
 abbrev pub IsLine : List ℕ → Type 0
 IsLine l = All (λ c. c ≢ NEWLINE) l
 
--- a line as a file has it
+-- a line as a file has it: a mark, the line, and a newline
 abbrev pub entry : List ℕ → List ℕ
 entry l = MARK ∷ l ++ NEWLINE ∷ []
 

@@ -36,7 +36,7 @@ impl<T: Drop> From<AllocFailed<T>> for DiskFault {
 /// again.
 ///
 /// The clauses speak of a crash at any moment, between two calls or inside one. Until a sync, a crash may leave any bytes in the range of a
-/// write, and any length that is at least the length of a cut.
+/// write. After a cut to a length, a crash may leave any length from there up to the length that the file had before.
 pub trait Disk {
     /// The bytes of the file, as a program reads them now.
     ghost seen: { Self → List ℕ };
@@ -47,13 +47,13 @@ pub trait Disk {
     /// The current moment, as a number. It never falls.
     ghost moment: { Self → ℕ };
 
-    /// A crash at a given moment, or at a later one, might have left a file of these bytes.
+    /// A crash at a given moment, or at a later moment up to now, might have left a file of these bytes.
     ghost left_since: { Self → ℕ → List ℕ → Type 0 };
 
     /// How many calls of the disk failed.
     ghost faults: { Self → ℕ };
 
-    /// Writes bytes from an offset on, over the bytes of the file and beyond its end.
+    /// Writes bytes from an offset on, over the bytes of the file. A write that reaches beyond the end of the file makes the file longer.
     fn write_at(&mut self, at: usize, bytes: &[u8]) -> Result<(), DiskFault>
         requires { at ≤ length (seen self.old) }
         ensures written { OnOk result (Overwrites at bytes.now (seen self.old) (seen self.new)) }
@@ -69,7 +69,7 @@ pub trait Disk {
         ensures time { Elapses (moment self.old) (moment self.new) (left_since self.old) (left_since self.new) (may_leave self.new) }
         ensures cause { HasCause (faults self.old) (faults self.new) result };
 
-    /// Puts the file on the disk: from then on a crash leaves the file as it is.
+    /// Puts the file on the disk: from then on, until the next write or cut, a crash leaves the file as it is.
     fn sync(&mut self) -> Result<(), DiskFault>
         ensures durable { OnOk result (IsDurable (seen self.old) (may_leave self.new)) }
         ensures seen { seen self.new ≡ seen self.old }
@@ -80,6 +80,6 @@ pub trait Disk {
     /// A file that a crash may leave now counts as a file that a crash may have left since any moment up to now.
     ghost counts_now: { (file : Self) (t : ℕ) (c : List ℕ) → t ≤ moment file → may_leave file c → left_since file t c };
 
-    /// A crash may have left a file since the current moment only if it may leave the file now.
+    /// A crash may have left a file since the current moment only if a crash may leave this file now.
     ghost only_now: { (file : Self) (c : List ℕ) → left_since file (moment file) c → may_leave file c };
 }

@@ -5,13 +5,13 @@ ghost use Rattle.journal.specs.Lines.{CutsEntry, CutsLine, entries, entry, recov
 use memchr::memchr;
 use std::alloc::AllocError;
 
-/// The first byte of an entry. A line without this byte does not count.
+/// The first byte of an entry. A line of the file that begins with any other byte does not count, and neither do the lines after it.
 pub(crate) const MARK: u8 = b' ';
 
 /// The last byte of an entry.
 pub(crate) const NEWLINE: u8 = b'\n';
 
-/// The bytes before the first newline, and the bytes after it. Without a newline there is no line.
+/// The bytes before the first newline, and the bytes after that newline; `None` if there is no newline.
 fn cut_line(bytes: &[u8]) -> Option<(&[u8], &[u8])>
     ensures { CutsLine result bytes.now }
 {

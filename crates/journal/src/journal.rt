@@ -1,5 +1,5 @@
 //! Lines are noted, and then committed. A line is acknowledged when it is committed: from then on a crash at any moment leaves a file that
-//! has it.
+//! has the line.
 ghost use Rattle.std.specs.Prelude.{◌≡◌, ◌<◌, ◌≤◌, ◌^◌, ◌++◌, [], ◌∷◌, drop, length, true, IfErr, IfOk, IsErrOf, OnErr, OnOk};
 ghost use Rattle.journal.specs.Disk.{IsDurable, LeavesOnly};
 ghost use Rattle.journal.specs.Journal.{IsBeforeOrAfter, IsSettled, StandsFor, disk_of, journal_lines, noted_lines};
@@ -9,7 +9,7 @@ use crate::disk::{Disk, DiskFault};
 use crate::entries::{MARK, NEWLINE, entries_len, put_entry};
 use std::alloc::{AllocError, Global};
 
-/// If the entries of a file have this many bytes, the file gets no more entries.
+/// If the entries of a file have this many bytes or more, the file gets no more entries.
 const MAX_BYTES: usize = 1 << 62;
 
 /// A file of lines, and the lines that were noted since the last commit.
@@ -22,8 +22,8 @@ pub struct Journal<D: Disk> {
     pending: Vec<u8>,
 }
 
-/// Puts a text of entries after the entries of a file. First it writes all but the first mark of the text; when that is on the disk, it
-/// writes the mark.
+/// Puts new entries after the entries of a file; `text` is the new entries and an empty line. The function first writes the text without
+/// its first mark. When these bytes are on the disk, it writes the mark over the empty line with which the file ended.
 fn append<D: Disk>(disk: &mut D, end: usize, text: &[u8]) -> Result<(), DiskFault>
     requires file { D.seen disk.old ≡ at_rest (recovered_lines (D.seen disk.old)) }
     requires end { end ≡ length (entries (recovered_lines (D.seen disk.old))) }
@@ -40,8 +40,8 @@ fn append<D: Disk>(disk: &mut D, end: usize, text: &[u8]) -> Result<(), DiskFaul
     ensures full { IsErrOf result DiskFault.Full → ⊥ }
 {
     disk.write_at(end + 1, &text[1..])?;
-    // A torn write may leave whole lines that were never sent. So the mark that makes the lines count is written only when the text can't
-    // be torn any more.
+    // If a crash comes before this sync has ended, the file may have whole lines that were never noted. So the mark that makes the lines
+    // count is written only after the sync.
     disk.sync()?;
     disk.write_at(end, &[MARK])?;
     disk.sync()
@@ -60,7 +60,8 @@ fn repair<D: Disk>(disk: &mut D, end: usize) -> Result<(), DiskFault>
     ensures full { IsErrOf result DiskFault.Full → ⊥ }
 {
     disk.cut(end)?;
-    // If the newline were torn into a mark, the lines after it would count. So these lines have to be gone from the disk before.
+    // If a crash interrupts the write of the newline, it may leave a mark instead, and then the lines after it would count. So these lines
+    // have to be gone from the disk before the newline is written.
     disk.sync()?;
     disk.write_at(end, &[NEWLINE])?;
     disk.sync()
@@ -74,7 +75,7 @@ fn is_ended(bytes: &[u8], end: usize) -> bool
     bytes.len() - end == 1 && bytes[end] == NEWLINE
 }
 
-/// Repairs the end of a file that has these bytes. A file that needs no repair is not written.
+/// Repairs the end of a file whose bytes are `bytes`. A file that needs no repair is not written.
 fn settle<D: Disk>(disk: &mut D, bytes: &[u8], end: usize) -> Result<(), DiskFault>
     requires bytes { D.seen disk.old ≡ bytes.now }
     requires split { bytes.now ≡ entries (recovered_lines bytes.now) ++ drop end bytes.now }
@@ -93,10 +94,11 @@ fn settle<D: Disk>(disk: &mut D, bytes: &[u8], end: usize) -> Result<(), DiskFau
     repair(disk, end)
 }
 
-/// Opens the journal in a file whose bytes are `bytes`. They may be any bytes, also bytes that a crash left. The lines that are recovered
-/// from the file stay in it, and the bytes after their entries are cut off. No line is recovered from an empty file.
+/// Opens the journal in a file whose bytes are `bytes`. The file may have any bytes, also bytes that a crash left. The lines that are
+/// recovered from the file stay in it, and an empty line replaces the bytes after their entries. No line is recovered from an empty file.
 ///
-/// Fails with `Failed` if the disk fails. An error returns the disk too; a crash at any moment of the call leaves the same lines.
+/// Fails with `Failed` only if a call of the disk failed, and never with `Full`. An error returns the disk too. A crash at any moment of
+/// the call leaves a file from which the same lines are recovered.
 pub fn open<D: Disk>(alloc: Global, mut disk: D, bytes: &[u8]) -> Result<Journal<D>, (DiskFault, D)>
     requires bytes { D.seen disk ≡ bytes.now }
     // After a restart, the bytes that are read are the bytes on the disk.
@@ -140,10 +142,11 @@ impl<D: Disk> Journal<D> {
         }
     }
 
-    /// Puts the lines that were noted on the disk, all of them or none. `Ok` acknowledges them: from then on a crash leaves a file that has
+    /// Writes the noted lines to the disk, all of them or none. `Ok` acknowledges the lines: from then on a crash leaves a file that has
     /// them. After an error the file is to be opened again.
     ///
-    /// Fails with `Failed` if the disk fails, and with `Full` if the entries of the file have 2^62 bytes.
+    /// Fails with `Failed` only if a call of the disk failed, with `Full` if the entries of the file have 2^62 bytes or more, and with
+    /// `Memory` if memory is refused.
     pub fn commit(&mut self) -> Result<(), DiskFault>
         requires { IsSettled D.seen D.may_leave self.old }
         ensures settled { OnOk result (IsSettled D.seen D.may_leave self.new) }

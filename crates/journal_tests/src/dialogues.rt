@@ -1,4 +1,4 @@
-//! Dialogues over a disk that stops.
+//! Dialogues whose journal is on a disk that stops.
 ghost use Rattle.std.specs.Prelude.{⊤};
 
 use crate::journals::lines_of;
@@ -46,13 +46,13 @@ const INPUT: &[u8] = b"+a\n?c\n+b\n!d\n+e\n";
 /// The answers that are written for the input.
 const WRITTEN: &[u8] = b"ok\n\n1\n\nok\n\nno\n\nok\n\n";
 
-/// The file after the input.
+/// The file of the journal after the whole input was run.
 const FILE: &[u8] = b" +a\n +b\n +e\n\n";
 
-/// How many calls of the disk a new file takes.
+/// How many calls of the disk it takes to open a journal in a new file.
 const NEW: u64 = 4;
 
-/// The first `count` kept lines of the input.
+/// The first `count` kept lines of the input, each followed by a bar.
 fn lines_kept(count: u8) -> &'static [u8] {
     match count {
         0 => b"",
@@ -72,7 +72,8 @@ fn answered(written: usize) -> u8 {
     }
 }
 
-/// The state after a dialogue.
+/// What a dialogue leaves: the fault that stopped the dialogue, if a fault stopped it; the answers that were written; the file that a crash
+/// after the dialogue leaves; and how many more calls of the disk succeed.
 #[derive(Drop)]
 struct Left {
     fault: Option<RunFault>,
@@ -102,7 +103,8 @@ fn run(alloc: Global, size: usize, calls: u64, seed: u64) -> Result<Left, Fail> 
     })
 }
 
-/// How many lines of a file a new session runs; `None` if the session refuses a line.
+/// How many lines a new session counts if it replays a file; `None` if the replay fails, since a line is not kept again or memory is
+/// refused.
 fn replayed(alloc: Global, file: &[u8]) -> Option<u8> {
     let mut session = Counter { count: 0 };
     match replay(alloc, &mut session, file) {
@@ -132,8 +134,8 @@ fn lines_that_come_in_together_are_put_on_the_disk_together(rt: HostRuntime) -> 
     Ok(())
 }
 
-/// Stops a dialogue after `calls` calls of the disk, and checks that the answered lines are in the file and are replayed from the file. The
-/// file may also have the kept lines of the commit that failed; `more` is their number.
+/// Stops a dialogue after `calls` calls of the disk, and checks that the file has the kept lines that were answered, and that a replay of
+/// the file runs its lines. The file may also have the lines of the commit that failed; `more` is the number of kept lines of a commit.
 fn check(
     rt: &impl Abort,
     alloc: Global,
@@ -186,6 +188,6 @@ fn what_was_answered_comes_back(rt: HostRuntime) -> Result<(), Fail> {
 #[test]
 fn a_line_that_is_not_done_again_is_refused(rt: HostRuntime) {
     assert_eq!(rt; replayed(rt.alloc(), b" +a\n no\n +b\n\n"), None);
-    // A line that does not count is not run.
+    // A line after an empty line does not count, so it is not run.
     assert_eq!(rt; replayed(rt.alloc(), b" +a\n\n no\n"), Some(1));
 }

@@ -9,7 +9,7 @@ use std::alloc::{AllocError, Global};
 use std::process::Abort;
 use std::test::Fail;
 
-/// The lines that bytes stand for, each followed by a bar.
+/// The lines that are recovered from some bytes, each followed by a bar.
 pub(crate) fn lines_of(alloc: Global, bytes: &[u8]) -> Result<Vec<u8>, AllocError> {
     let mut lines = Vec::new(alloc);
     let mut rest = bytes;
@@ -27,7 +27,7 @@ fn is_line(line: &[u8]) -> bool
     line.iter().all(|c| *c != b'\n')
 }
 
-/// Notes a line.
+/// Notes a line for the next commit. A line with a newline in it is not noted.
 fn note(journal: &mut Journal<TornDisk>, line: &[u8]) -> Result<(), AllocError>
     requires { IsSettled (λ disk. disk.bytes.items) (λ _ _. ⊥) journal.old }
     ensures { IsSettled (λ disk. disk.bytes.items) (λ _ _. ⊥) journal.new }
@@ -39,7 +39,7 @@ fn note(journal: &mut Journal<TornDisk>, line: &[u8]) -> Result<(), AllocError>
     }
 }
 
-/// Commits three times, and returns how many commits succeeded.
+/// Notes lines and commits them, three times; ends at the first commit that fails. Returns how many commits succeeded.
 fn commits(journal: &mut Journal<TornDisk>) -> Result<usize, AllocError>
     requires { IsSettled (λ disk. disk.bytes.items) (λ _ _. ⊥) journal.old }
 {
@@ -59,10 +59,10 @@ fn commits(journal: &mut Journal<TornDisk>) -> Result<usize, AllocError>
     Ok(3)
 }
 
-/// The bytes of the file after the three commits; they are also a script.
+/// The bytes of the file after the three commits; these bytes are also a script.
 const WHOLE: &[u8] = b" new Book\n set #0 name \"Emma\"\n set #0 pages 100\n  unset #0 pages\n\n";
 
-/// The lines after `commits` commits.
+/// The lines of the file after `commits` commits, each followed by a bar.
 fn lines_after(commits: usize) -> &'static [u8] {
     match commits {
         0 => b"",
@@ -75,8 +75,8 @@ fn lines_after(commits: usize) -> &'static [u8] {
 /// How many calls of a disk a new file with three commits takes: four for the new file, and four for each commit.
 const CALLS: u64 = 16;
 
-/// Opens a new file on a disk that stops after `calls` calls, and commits. Returns how many commits succeeded, and the file that a crash
-/// leaves.
+/// Opens a new file on a disk that stops after `calls` calls, and makes the three commits. Returns how many commits succeeded, and the file
+/// that a crash leaves.
 fn run(alloc: Global, calls: u64, seed: u64) -> Result<(usize, Vec<u8>), AllocError> {
     let disk = TornDisk::new(alloc, b"", calls, seed)?;
     match open(alloc, disk, b"") {
@@ -105,7 +105,8 @@ fn a_journal_that_no_call_stops_is_a_script(rt: HostRuntime) -> Result<(), Fail>
     Ok(())
 }
 
-/// Crashes a recovery at each of its calls, and checks that the file keeps its lines.
+/// Opens the file `left` on disks that stop at each call of the recovery and after its last call. Checks that the file that a second crash
+/// leaves has the same lines.
 fn check_recovery(
     rt: &impl Abort,
     alloc: Global,
@@ -124,7 +125,9 @@ fn check_recovery(
     Ok(())
 }
 
-/// Crashes after `calls` calls, and returns whether the file has the lines of a commit that failed.
+/// Crashes after `calls` calls. Checks that the file has the lines of the commits that succeeded and, beyond these lines, either no line or
+/// all lines of the next commit; and that a crash during the recovery of the file keeps its lines. Returns whether the file has the lines
+/// of the next commit.
 fn has_more(rt: &impl Abort, alloc: Global, calls: u64, seed: u64) -> Result<bool, Fail> {
     let (done, left) = run(alloc, calls, seed)?;
     let lines = lines_of(alloc, left.as_slice())?;
@@ -153,7 +156,7 @@ fn no_crash_loses_a_line_that_was_acknowledged(rt: HostRuntime) -> Result<(), Fa
             }
         }
     }
-    // A crash in a commit may leave its lines, or not.
+    // A crash during a commit may leave the lines of the commit, or not.
     assert!(rt; with_more > 0);
     assert!(rt; without > 0);
     Ok(())

@@ -1,18 +1,18 @@
-//! A disk that stops, and the file that it leaves.
+//! A disk that stops, and the file that a crash leaves of it.
 ghost use Rattle.std.specs.Prelude.{◌≡◌, IfOk, if◌then◌else◌};
 ghost use Rattle.journal.specs.Disk.{HasCause};
 
 use journal::{Disk, DiskFault};
 use std::alloc::{AllocError, Global};
 
-/// A disk that makes a number of calls, and fails at all further ones. A call that fails may be done in part, and so may the calls since
-/// the last sync. Its clauses say nothing of a crash; a test looks at the file that is left.
+/// A disk on which a number of calls succeed, and all further calls fail. A crash may leave the call that failed, and the calls since the
+/// last sync, done only in part. The clauses of this disk say nothing of a crash: a test looks at the file that `left` returns.
 #[derive(Drop)]
 pub(crate) struct TornDisk {
     alloc: Global,
     bytes: Vec<u8>,
     synced: Vec<u8>,
-    /// The bytes from here to `to` were written since the last sync.
+    /// All bytes that were written since the last sync are from this offset on, and before the offset `to`.
     from: usize,
     to: usize,
     calls_left: u64,
@@ -20,7 +20,8 @@ pub(crate) struct TornDisk {
     random: u64,
 }
 
-/// A byte in the range of a torn write: the old byte, the new byte, a space, with which each entry of a journal begins, or a newline.
+/// A byte in the range of a torn write. It is, by `pick`, the old byte, the new byte, a space or a newline. Each entry of a journal begins
+/// with a space. If there is no old byte, a newline takes its place; if there is no new byte, a space.
 fn torn(old: Option<u8>, new: Option<u8>, pick: u64) -> u8 {
     match pick {
         0 => old.unwrap_or(b'\n'),
@@ -31,7 +32,7 @@ fn torn(old: Option<u8>, new: Option<u8>, pick: u64) -> u8 {
 }
 
 impl TornDisk {
-    /// A disk with the bytes, all of them synced, that stops after `calls` calls.
+    /// A disk that has the bytes, all of them synced, and that stops after `calls` calls. Its random choices depend on `seed`.
     pub(crate) fn new(
         alloc: Global,
         bytes: &[u8],
@@ -54,7 +55,7 @@ impl TornDisk {
         })
     }
 
-    /// How many more calls the disk makes before it stops.
+    /// How many more calls succeed before the disk stops.
     pub(crate) fn calls_left(&self) -> u64 {
         self.calls_left
     }
@@ -94,7 +95,7 @@ impl TornDisk {
         Ok(image)
     }
 
-    /// Makes a call, or fails.
+    /// Counts a call that succeeds. Once the disk has stopped, fails instead: the first time with `Failed`, and then with `Memory`.
     fn spend(&mut self) -> Result<(), DiskFault>
         ensures bytes { self.new.bytes ≡ self.old.bytes }
         ensures cause { HasCause (if self.old.has_failed then 1 else 0) (if self.new.has_failed then 1 else 0) result }

@@ -29,7 +29,7 @@ impl<'a> Read for Pieces<'a> {
     }
 }
 
-/// Counts how often a read may wait.
+/// Counts the calls of `before_wait`: how often a read may wait.
 #[derive(Drop)]
 struct Counted {
     waits: u64,

@@ -12,7 +12,7 @@ infixl 10 ◌>>=◌
 abbrev pub ◌>>=◌ : {A B : Type 0} → Option A → (A → Option B) → Option B
 o >>= f = option_and_then f o
 
--- A reader returns the value that a reading gives, `Layout` if the reading gives no value, or `Memory` in either case.
+-- A function that reads JSON returns the value in `reading`, `Layout` if `reading` is none, or `Memory` in either case.
 abbrev pub Gives : {X : Type 0} → Result X ReadFault → Option X → Type 0
 Gives (Ok x) reading = reading ≡ Some x
 Gives (Err Layout) reading = reading ≡ None
@@ -100,7 +100,7 @@ optional_field key reading absent = record { keys = key ∷ []; reading = option
 abbrev pub makes : {X : Type 0} → X → Fields X
 makes x = record { keys = []; reading = λ d. Some x }
 
--- one more field
+-- one more field: the function that `fields` read is applied to the value that `field` reads
 infixl 10 ◌also◌
 abbrev pub ◌also◌ : {A B : Type 0} → Fields (A → B) → Fields A → Fields B
 fields also field = record {

@@ -1,6 +1,7 @@
 //! JSON objects are read by their fields. A field describes a key: whether it is required, and how its value is read.
 //!
-//! `specs/Fields.antt` has the fields and the values; here are the functions on members that readers of objects share.
+//! `specs/Fields.antt` defines fields, and how values are read. The functions of this crate find and take the members of an object, for
+//! crates that read values of `serde_json`.
 #![tactic(auto)]
 
 mod members;

@@ -44,7 +44,7 @@ pub fn has_only_keys_of(members: &Map<String, Value>, names: &[&str], more: &[&s
     all_keys_among(members, names, more)
 }
 
-/// The members of an object. Takes no memory.
+/// The members of a JSON object; `None` if the value is no object. Takes no memory.
 pub fn members_of(value: Value) -> Option<Map<String, Value>>
     ensures { option_map (λ m. members_view m.entries) result ≡ as_object (view value) }
 {
@@ -54,7 +54,7 @@ pub fn members_of(value: Value) -> Option<Map<String, Value>>
     }
 }
 
-/// The members of an object whose keys are all among some names. Takes no memory.
+/// The members of a JSON object; `None` if the value is no object, or if a key of the object is not among `names`. Takes no memory.
 pub fn only_members_of(value: Value, names: &[&str]) -> Option<Map<String, Value>>
     ensures { option_map (λ m. object (members_view m.entries)) result
         ≡ (if has_only (map (λ n. n.now) names.now) (view value) then Some (view value) else None) }

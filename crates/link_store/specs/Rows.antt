@@ -1,4 +1,4 @@
--- Rows of links, as the store of rows keeps them: the links that a scan finds, and how a link is renumbered.
+-- The list of links of a `RowStore`, each of which is a row: the links that a scan of the list finds, and how a link is renumbered.
 use Rattle.std.specs.Prelude.{ℕ, ◌+◌, ◌<◌, ◌^◌, ⊤, ◌++◌, ◌==◌, Bool, true, false, List, [], ◌∷◌, fold, insert, Option, Some, None, MatchOption, option_and_then, if◌then◌else◌}
 use Rattle.std.specs.Option.{option_map, option_map_or}
 use Rattle.std.specs.List.{prefix_len}
@@ -24,7 +24,7 @@ changed_index (Raise i) k = raise i k
 changed_index (Lower i) k = lower i k
 changed_index (Shift to from) k = shifted_index to from k
 
--- the position that k becomes fits 32 bits
+-- k is so small that the position that k becomes fits 32 bits
 abbrev pub CanChange : Renumbering → ℕ → Type 0
 CanChange (Raise i) k = k + 1 < 2 ^ 32
 CanChange (Lower i) k = ⊤
@@ -50,7 +50,7 @@ is_index k p = option_map_or (λ q. q.0 == k) p false
 abbrev pub object_on : Option (ℕ × Value) → Option ObjectNo
 object_on p = option_and_then (λ (q : ℕ × Value). object_of q.1) p
 
--- the object of the first link that has position k in e
+-- the object that the first link with position k in e has there; none if there is no such link, or if that link has no object there
 abbrev pub first_object : List Link → End → ℕ → Option ObjectNo
 first_object [] e k = None
 first_object (l ∷ ls) e k = if is_index k (indexed_value l e) then object_on (indexed_value l e) else first_object ls e k
@@ -59,7 +59,8 @@ first_object (l ∷ ls) e k = if is_index k (indexed_value l e) then object_on (
 abbrev pub text_on : Option (ℕ × Value) → Option (List ℕ)
 text_on p = option_and_then (λ (q : ℕ × Value). text_of q.1) p
 
--- the text of the proxy that the first link with position k in e has there; none if that link has no proxy there
+-- the text of the proxy that the first link with position k in e has there; none if there is no such link, or if that link has no proxy
+-- there
 abbrev pub first_text : List Link → End → ℕ → Option (List ℕ)
 first_text [] e k = None
 first_text (l ∷ ls) e k = if is_index k (indexed_value l e) then text_on (indexed_value l e) else first_text ls e k
@@ -84,7 +85,7 @@ far_ends_to near (At d j) n = if_end (same_node near n) d
 far_ends_to near (Alone o) n = []
 far_ends_to near (Proxy t) n = []
 
--- the ends in which a link has n
+-- the ends in which a link has n as its value
 abbrev pub ends_to : Link → Node → List End
 ends_to l n = if_end (is_far_node l.far n) l.end ++ far_ends_to l.end.node l.far n
 
@@ -92,6 +93,6 @@ abbrev pub ends_with : List Link → Node → List End
 ends_with [] n = []
 ends_with (l ∷ ls) n = ends_to l n ++ ends_with ls n
 
--- the first position of v in each of the ends
+-- for each of the ends in which some link has the value v, the position there of the first of these links
 abbrev pub places_in : List Link → List End → Value → List Incoming
 places_in ls es v = entries_by (λ e. position_in ls e v) es

@@ -1,4 +1,4 @@
-//! The positions of an object.
+//! The positions of an object in the ends that have it.
 ghost use Rattle.std.specs.Prelude.{◌≡◌, ◌++◌, IfOk, OnOk};
 ghost use Rattle.link_store.specs.Rows.{places_in};
 ghost use Rattle.links.specs.Found.{entry_if};
@@ -21,7 +21,7 @@ fn push_place(position: Option<u32>, end: End, out: &mut Vec<Incoming>) -> Resul
     Ok(())
 }
 
-/// For each of the given ends that has the value, the first position of the value in the end.
+/// For each of `ends` in which some link has `value`: the position there of the first of these links.
 pub(crate) fn places_of(
     alloc: Global,
     rows: &[Link],

@@ -1,4 +1,4 @@
-//! The stores of links: `RowStore`, rows that are scanned, and `SlotStore`, lists at both ends of each link.
+//! The stores of links: `RowStore` keeps a list of links, which it scans, and `SlotStore` keeps a list at both ends of each link.
 #![tactic(auto)]
 
 mod incoming;

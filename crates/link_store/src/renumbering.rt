@@ -1,4 +1,4 @@
-//! How the positions of one end change.
+//! How the positions in one end change when a value comes in, is taken out or moves.
 ghost use Rattle.std.specs.Prelude.{◌≡◌, ◌+◌, ◌<◌, ◌^◌};
 ghost use Rattle.links.specs.Links.{lower, raise};
 
@@ -9,7 +9,7 @@ pub(crate) enum Renumbering {
     Raise(u32),
     /// The value at a position is taken out.
     Lower(u32),
-    /// The value at the second position moves to the first position.
+    /// `Shift(to, from)`: the value at the position `from` moves to the position `to`.
     Shift(u32, u32),
 }
 

@@ -1,4 +1,4 @@
-//! Edits of rows of links.
+//! Edits of the list of links of a `RowStore`. Each link of the list is a row.
 ghost use Rattle.std.specs.FinSet as set;
 ghost use Rattle.links.specs.declared.plan.Edit.TheVariants as edit;
 ghost use Rattle.std.specs.List.{All};
@@ -14,7 +14,7 @@ use crate::rows::{has, len_of, positions_of};
 use links::{Edit, Far, Link, NewLink};
 use mm_types::{End, FeatureNo, Node, ObjectNo, Text, Value};
 
-/// Changes the link's position in an end.
+/// Changes the position that a link has in an end. A link that is not in the end stays as it is.
 fn move_row(link: &mut Link, end: End, by: Renumbering)
     requires { CanMove by end link.old }
     ensures { link.new ≡ renumbered_link link.old end (changed_index by) }
@@ -28,7 +28,7 @@ fn move_row(link: &mut Link, end: End, by: Renumbering)
     }
 }
 
-/// Changes the positions of one end.
+/// Changes the position of each link that is in an end.
 fn renumber(rows: &mut Vec<Link>, end: End, by: Renumbering)
     requires { All (CanMove by end) rows.old.items }
     ensures rows { rows.new.items ≡ map (λ l. renumbered_link l end (changed_index by)) rows.old.items }
@@ -40,7 +40,7 @@ fn renumber(rows: &mut Vec<Link>, end: End, by: Renumbering)
     }
 }
 
-/// Takes out the rows that have a value in an end.
+/// Takes out the rows that have `value` in an end.
 fn take_out(rows: &mut Vec<Link>, end: End, value: &Value)
     ensures rows { rows.new.items ≡ filter (λ l. not (has_value end value.now l)) rows.old.items }
     ensures len { vec_len rows.new ≤ vec_len rows.old }
@@ -56,7 +56,8 @@ fn take_out(rows: &mut Vec<Link>, end: End, value: &Value)
     }
 }
 
-/// Cuts the link that has a value in an end.
+/// Cuts the link that has `value` in an end, if there is one: takes the link out, and lowers the later positions in each end that had the
+/// link.
 fn cut_row(rows: &mut Vec<Link>, end: End, value: &Value)
     requires placed { IsPlaced (set.from_list rows.old.items) }
     ensures cut { set.from_list rows.new.items ≡ cut_value (set.from_list rows.old.items) end value.now }
@@ -72,7 +73,8 @@ fn cut_row(rows: &mut Vec<Link>, end: End, value: &Value)
     }
 }
 
-/// A link between a position of one end and a position of another. The end with the lower feature number is the link's own end.
+/// The link between the position `i` of the end `x` and the position `j` of the end `y`. The end with the lower feature number is the
+/// link's own end.
 fn join(x: End, i: u32, y: End, j: u32, container: Option<FeatureNo>) -> Link
     ensures { result ≡ joined_link x i y j container }
 {
@@ -93,7 +95,7 @@ fn join(x: End, i: u32, y: End, j: u32, container: Option<FeatureNo>) -> Link
     }
 }
 
-/// The link that puts an object at a position of an end.
+/// The new link of a put. At the opposite end, if there is one, the link gets the position after the last value.
 fn new_row(rows: &[Link], link: NewLink) -> Link
     requires placed { IsPlaced (set.from_list rows.now) }
     ensures { result ≡ new_link (set.from_list rows.now) link.end link.index link.object link.opposite link.container }
@@ -122,7 +124,7 @@ fn new_row(rows: &[Link], link: NewLink) -> Link
     }
 }
 
-/// Puts a link in.
+/// Puts a link in. There is capacity for one more row.
 pub(crate) fn put_row(rows: &mut Vec<Link>, link: NewLink)
     requires placed { IsPlaced (set.from_list rows.old.items) }
     requires room { vec_len rows.old < vec_capacity rows.old }
@@ -153,7 +155,7 @@ fn put_proxy_row(rows: &mut Vec<Link>, end: End, index: u32, text: Text)
     rows.push_reserved(link);
 }
 
-/// Moves the value at a position of an end.
+/// Moves the value at the position `from` of an end to the position `to`.
 fn shift_rows(rows: &mut Vec<Link>, end: End, to: u32, from: u32)
     requires placed { IsPlaced (set.from_list rows.old.items) }
     ensures shifted { set.from_list rows.new.items ≡ shift (set.from_list rows.old.items) end to from }
@@ -163,7 +165,7 @@ fn shift_rows(rows: &mut Vec<Link>, end: End, to: u32, from: u32)
     renumber(rows, end, Renumbering::Shift(to, from));
 }
 
-/// Makes one edit.
+/// Makes one edit. There is capacity for one more row.
 pub(crate) fn edit_rows(rows: &mut Vec<Link>, edit: Edit)
     requires placed { IsPlaced (set.from_list rows.old.items) }
     requires room { vec_len rows.old < vec_capacity rows.old }

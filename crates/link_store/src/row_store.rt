@@ -1,4 +1,4 @@
-//! The store of rows: rows of links, scanned.
+//! The store that keeps its links in one list, and scans the list.
 ghost use Rattle.std.specs.Prelude.{◌≡◌, ◌+◌, ◌≤◌, length, vec_len, vec_capacity};
 ghost use Rattle.std.specs.FinSet as set;
 
@@ -9,7 +9,7 @@ use links::{Incoming, Link, LinkStore, NewLink, Plan, put_in_order};
 use mm_types::{End, Node, ObjectNo, Value};
 use std::alloc::{AllocError, Global};
 
-/// Links in a list. A link is found by a scan of the whole list.
+/// Links in a list, in which each link is a row. A link is found by a scan of the list from its first row.
 #[derive(Debug, Drop)]
 pub struct RowStore {
     rows: Vec<Link>,

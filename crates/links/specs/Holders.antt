@@ -32,37 +32,37 @@ held_through (Some h) l n =
     then (if is_far_node l.far n then Some l.end else None)
     else far_holding l.far h l.end.node n
 
--- the end through which a link contains n; none if the link does not contain n
+-- the end that contains n by the link l; none if l does not contain n
 abbrev pub holding_end : Link → Node → Option End
 holding_end l n = held_through l.container l n
 
--- the end through which the first link that contains n contains it; none if no link contains n
+-- the end that contains n by the first link that contains n; none if no link of the list contains n
 abbrev pub first_holding : List Link → Node → Option End
 first_holding [] n = None
 first_holding (l ∷ ls) n = option_or (holding_end l n) (first_holding ls n)
 
--- the end that contains n
+-- the end that contains n; none if no end does
 unfoldable pub holder : Links → Node → Option End
 holder s n = first_holding (set.items s) n
 
--- the node that becomes contained when an object is put into e; h is the containing feature of the pair
+-- the node that becomes contained when an object is put into e, if there is one; h is the containing feature: e's feature or its opposite
 abbrev pub node_contained : End → ObjectNo → Option FeatureNo → Option Node
 node_contained e o None = None
 node_contained e o (Some h) = Some (if same_feature h e.feature then node.Object o else e.node)
 
--- the end that contains a node when an object is put into e; h is the containing feature of the pair
+-- the end that contains this node after the put
 abbrev pub end_containing : End → ObjectNo → Option FeatureNo → Option End
 end_containing e o None = None
 end_containing e o (Some h) = Some (if same_feature h e.feature then e else far_end o h)
 
 ---------------------------------------------------------------- above
 
--- the nodes above n, the nearest first, at most a given number of them; `up` gives the end that holds a node
+-- the nodes above n, the nearest first, at most a given number of them; `up` gives the end that contains a node
 abbrev pub nearest_nodes_above : (Node → Option End) → ℕ → Node → List Node
 nearest_nodes_above up zero n = []
 nearest_nodes_above up (suc k) n = option_map_or (λ (e : End). e.node ∷ nearest_nodes_above up k e.node) (up n) []
 
--- the nodes above n, the nearest first; no chain of holders is longer than the number of links
+-- the nodes above n, the nearest first; as many steps as there are links are enough, since no chain of holders is longer
 unfoldable pub above : Links → Node → List Node
 above s n = nearest_nodes_above (holder s) (set.len s) n
 

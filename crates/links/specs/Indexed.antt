@@ -9,7 +9,7 @@ use Rattle.links.specs.declared.link.Far.{Far}
 use Rattle.links.specs.declared.link.Far.TheVariants.{At, Alone, Proxy}
 use Rattle.links.specs.declared.link.Link.{Link}
 
--- the value that a link has in its own end, which is the value of the far side
+-- the value that a link has in its near end: the node, the object or the proxy of its far side
 abbrev pub far_value : Far → Value
 far_value (At d j) = node_value d.node
 far_value (Alone o) = value.Object o
@@ -25,7 +25,7 @@ far_indexed (Proxy t) v e = None
 abbrev pub indexed_value : Link → End → Option (ℕ × Value)
 indexed_value l e = if same_end l.end e then Some (l.index, far_value l.far) else far_indexed l.far (node_value l.end.node) e
 
--- whether the value at a position is v
+-- whether the pair p is present, and its value is v
 abbrev pub is_value_at : Value → Option (ℕ × Value) → Bool
 is_value_at v p = option_map_or (λ q. same_value q.1 v) p false
 
@@ -48,6 +48,7 @@ bare_far (At d j) = At d 0
 bare_far (Alone o) = Alone o
 bare_far (Proxy t) = Proxy t
 
--- the link with both of its positions set to 0; edits of other links change only positions, so they leave this value as it is
+-- the link with both of its positions set to 0; edits of other links change only positions, so they do not change the result of this
+-- function
 abbrev pub link_without_positions : Link → Link
 link_without_positions l = record { end = l.end; index = 0; far = bare_far l.far; container = l.container }

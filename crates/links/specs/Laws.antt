@@ -45,14 +45,14 @@ put_end s e i o g d =
     else if is_far o g d then end s d ++ node_value e.node ∷ []
     else end s d
 
--- the containing feature is f or its opposite
+-- whether there is a containing feature c, and it is f or f's opposite g
 abbrev pub is_of_pair : FeatureNo → Option FeatureNo → Option FeatureNo → Bool
 is_of_pair f g c = option_map_or (λ h. same_feature h f || is_feature h g) c false
 
 abbrev pub is_contained : End → ObjectNo → Option FeatureNo → Node → Bool
 is_contained e o c n = option_map_or (λ x. same_node x n) (node_contained e o c) false
 
--- the end that contains n after an object is put into e; g is the opposite, and c the containing feature of the pair
+-- the end that contains n after an object is put into e; g is the opposite of e's feature, and c is the containing feature
 abbrev pub put_holder : Links → End → ObjectNo → Option FeatureNo → Option FeatureNo → Node → Option End
 put_holder s e o g c n =
     if is_of_pair e.feature g c && is_contained e o c n then end_containing e o c else holder s n
@@ -74,7 +74,7 @@ pub record PutProxyMakes (s : Links) (e : End) (i : ℕ) (t : List ℕ) : Type 0
   pub others : (d : End) → (e ≡ d → ⊥) → end (put_proxy s e i t) d ≡ end s d
   pub holders : (n : Node) → holder (put_proxy s e i t) n ≡ holder s n
 
--- a cut takes the link's value out of each end that has it, and leaves the node that the link contained without a holder; the link can be
+-- a cut takes the link's value out of each end that has the link, and the node that the link contained then has no holder; the link can be
 -- named by its value at either end
 pub record CutMakes (s : Links) (l : Link) : Type 0 where
   pub named : (e : End) (k : ℕ) (v : Value) → indexed_value l e ≡ Some (k, v) → cut_value s e v ≡ cut s l
@@ -114,7 +114,7 @@ is_named m ts d w = list_any (λ t. names m t.0 t.1 d w) ts
 abbrev pub without_all : Links → List (End × Value) → Links
 without_all s ts = fold (λ t x. cut_value t x.0 x.1) s ts
 
--- the holder of n after the cuts: the earlier holder o, unless the list ts names the link through which o holds n
+-- the holder of n after the cuts: none, if the list ts names the link by which o contains n; else o, the holder before the cuts
 abbrev pub kept_holder : Kinds → List (End × Value) → Node → Option End → Option End
 kept_holder m ts n o = option_and_then (λ (d : End). if is_named m ts d (node_value n) then None else Some d) o
 

@@ -1,5 +1,5 @@
--- The conditions for a legal set of links: each end is a list, and no node is contained twice. Further conditions say when the links agree
--- with the features of a metamodel.
+-- The conditions for a legal set of links: each end is a list without repetitions, and no node is contained twice. Further conditions say
+-- when the links agree with the features of a metamodel.
 use Rattle.std.specs.Prelude.{◌≡◌, ℕ, ◌<◌, ◌≤◌, List, length, slice_get, Option, Some, None}
 use Rattle.mm_types.specs.declared.numbers.FeatureNo.{FeatureNo}
 use Rattle.mm_types.specs.declared.numbers.Node.{Node}
@@ -40,7 +40,8 @@ HasTwoSides e (Proxy t) = Unit {0}
 abbrev pub most : ℕ
 most = 1000000
 
--- the positions of each end are 0 to its length - 1, each once, and no end repeats a value
+-- the positions of each end are 0 to its length - 1, each once; no end repeats a value or has more than `most` values; each link between
+-- two ends is between objects, and its two features differ
 pub record IsPlaced (s : Links) : Type 0 where
   pub ends : (e : End) → IsEnd s e (end s e)
   pub once : (l k : Link) (e : End) (i : ℕ) (v w : Value) → In l s → In k s → indexed_value l e ≡ Some (i, v) → indexed_value k e ≡ Some (i, w) → l ≡ k
@@ -48,7 +49,7 @@ pub record IsPlaced (s : Links) : Type 0 where
   pub sides : (l : Link) → In l s → HasTwoSides l.end l.far
   pub few : (e : End) → length (end s e) ≤ most
 
--- no node is contained twice
+-- no two ends contain the same node
 abbrev pub IsHeldOnce : Links → Type 0
 IsHeldOnce s = (l k : Link) (n : Node) (x y : End) → In l s → In k s → holding_end l n ≡ Some x → holding_end k n ≡ Some y → x ≡ y
 
@@ -58,7 +59,8 @@ pub record IsLegalSet (s : Links) : Type 0 where
 
 ---------------------------------------------------------------- kinds
 
--- for each feature: its opposite, if it has one; and the containment among the feature and its opposite, if one of the two is a containment
+-- for each feature: its opposite, if it has one; and its containing feature: the feature or its opposite, if one of the two is a
+-- containment
 pub record Kinds : Type 0 where
   pub opposite : FeatureNo → Option FeatureNo
   pub container : FeatureNo → Option FeatureNo
@@ -75,7 +77,7 @@ FarOfKind m f (At d j) = (m.opposite f ≡ Some d.feature) × (m.opposite d.feat
 FarOfKind m f (Alone o) = m.opposite f ≡ None
 FarOfKind m f (Proxy t) = Unit {0}
 
--- a link agrees with the opposite and the containment of its feature; if the link is between two ends, its own end is the end with the
+-- a link agrees with the opposite and the containment of its feature; if the link is between two ends, its near end is the end with the
 -- lower feature number
 pub record IsOfKind (m : Kinds) (l : Link) : Type 0 where
   pub far : FarOfKind m l.end.feature l.far

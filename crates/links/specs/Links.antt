@@ -45,7 +45,7 @@ value_at (l ∷ ls) e k = at_indexed (indexed_value l e) k (value_at ls e k)
 abbrev pub past : Option (ℕ × Value) → ℕ
 past p = option_map_or (λ q. suc q.0) p 0
 
--- one more than the last position of e
+-- one more than the last position of e; 0 if e has no value
 abbrev pub length_at : List Link → End → ℕ
 length_at [] e = 0
 length_at (l ∷ ls) e = max (past (indexed_value l e)) (length_at ls e)
@@ -58,7 +58,7 @@ values_from ls e k (suc n) = cons_option (value_at ls e k) (values_from ls e (su
 abbrev pub values : List Link → End → List Value
 values ls e = values_from ls e 0 (length_at ls e)
 
--- each value of e at its position
+-- the values of e, each at the index that is its position
 unfoldable pub end : Links → End → List Value
 end s e = values (set.items s) e
 
@@ -120,7 +120,8 @@ joined_link x i y j c =
 abbrev pub far_end : ObjectNo → FeatureNo → End
 far_end o g = record { node = node.Object o; feature = g }
 
--- the new link that puts the object o at position i in e; g is the opposite of e's feature; the link gets the last position at the far end
+-- the new link that puts the object o at position i in e; g is the opposite of e's feature, if it has one, and the link is then put last in
+-- the far end; c is the containing feature
 abbrev pub new_link : Links → End → ℕ → ObjectNo → Option FeatureNo → Option FeatureNo → Link
 new_link s e i o None c = record { end = e; index = i; far = Alone o; container = c }
 new_link s e i o (Some g) c = joined_link e i (far_end o g) (length (end s (far_end o g))) c
@@ -141,7 +142,7 @@ put_proxy s e i t = set.insert (renumbered_links s e (raise i)) (new_proxy e i t
 unfoldable pub shift : Links → End → ℕ → ℕ → Links
 shift s e to from = renumbered_links s e (shifted_index to from)
 
--- a list without the value at a position: an end after a cut
+-- a list without the value at a position, as an end is after a cut; the whole list, if there is no position
 abbrev pub list_without : List Value → Option (ℕ × Value) → List Value
 list_without vs p = option_map_or (λ q. remove vs q.0) p vs
 

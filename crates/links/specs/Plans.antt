@@ -1,4 +1,4 @@
--- Edits as a list: the set of links after an edit, and when the edit fits.
+-- Plans, which are lists of edits: the set of links after an edit or a plan, and when an edit or a plan fits a set.
 use Rattle.std.specs.Prelude.{◌≡◌, ◌↔◌, ◌||◌, ◌&&◌, ℕ, ◌<◌, ◌≤◌, Bool, true, false, List, [], ◌∷◌, fold, length, nat_lt, slice_get, Option, Some, None}
 use Rattle.std.specs.List.{Contains}
 use Rattle.mm_types.specs.Same.{node_value, same_end, same_feature}
@@ -75,7 +75,7 @@ PlanFits s (x ∷ xs) = EditFits s x × PlanFits (links_after_edit s x) xs
 
 ---------------------------------------------------------------- kinds and cycles
 
--- an edit agrees with the opposite and the containment of its feature; a proxy is under no containment
+-- an edit agrees with the opposite and the containment of its feature; a proxy is put only under a feature without a containing feature
 abbrev pub IsEditOfKind : Kinds → Edit → Type 0
 IsEditOfKind m (edit.Cut e v) = Unit {0}
 IsEditOfKind m (edit.Put l) = (l.opposite ≡ m.opposite l.end.feature) × (l.container ≡ m.container l.end.feature)
@@ -111,7 +111,7 @@ abbrev pub has_end : List End → End → Bool
 has_end [] d = false
 has_end (e ∷ es) d = same_end e d || has_end es d
 
--- the ends are exactly the ends that hold the object
+-- the ends are exactly the ends that have the object as a value
 abbrev pub AreIncoming : Links → ObjectNo → List End → Type 0
 AreIncoming s o es = (e : End) → (has_end es e ≡ true) ↔ Has s e (value.Object o)
 
@@ -123,14 +123,14 @@ incoming_end i = record { node = i.node; feature = i.feature }
 abbrev pub AreEntriesOf : Links → ObjectNo → List Incoming → Type 0
 AreEntriesOf s o is = (i : Incoming) → Contains is i ↔ (slice_get (end s (incoming_end i)) i.position ≡ Some (value.Object o))
 
--- objects come before resources, each by number
+-- a node comes before another one: by the kind (objects first), then by the number
 abbrev pub node_before : Node → Node → Bool
 node_before (node.Object x) (node.Object y) = nat_lt x.0 y.0
 node_before (node.Object x) (node.Resource y) = true
 node_before (node.Resource x) (node.Object y) = false
 node_before (node.Resource x) (node.Resource y) = nat_lt x.0 y.0
 
--- e comes before d: by the feature, then by the node
+-- e comes before d: by the number of the feature, then by the node
 abbrev pub is_before : End → End → Bool
 is_before e d = nat_lt e.feature.0 d.feature.0 || (same_feature e.feature d.feature && node_before e.node d.node)
 

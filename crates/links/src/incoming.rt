@@ -1,4 +1,4 @@
-//! The positions of an object.
+//! The positions that an object has in ends.
 use mm_types::{FeatureNo, Node};
 
 /// A position of an object: the position that the object has in the end of `node` under `feature`.

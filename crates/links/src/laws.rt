@@ -46,12 +46,13 @@ pub fn chains_of_holders_end()
     ensures { (s : Links) → IsLegalSet s → HasNoCycle s → IsForest s }
 {}
 
-/// The nodes above a node are the node of its holder, and then the nodes above the holder's node (EMF: eContainer, repeated).
+/// The nodes above a node are the node of its holder, and then the nodes above that node (EMF: eContainer, repeated). There are none if the
+/// node has no holder.
 pub fn what_is_above_follows_the_holders()
     ensures { (s : Links) → IsLegalSet s → HasNoCycle s → (n : Node) → above s n ≡ option_map_or (λ (e : End). e.node ∷ above s e.node) (holder s n) [] }
 {}
 
-/// If an end holds a node, fewer nodes are above the end's node than above the held node. So a loop that walks up terminates.
+/// If an end contains a node, fewer nodes are above the end's node than above the contained node. So a loop that walks up terminates.
 pub fn fewer_are_above_a_holder()
     ensures { (s : Links) → IsLegalSet s → HasNoCycle s → (n : Node) (e : End) → holder s n ≡ Some e → length (above s e.node) < length (above s n) }
 {}
@@ -67,18 +68,22 @@ pub fn a_resource_has_no_holder()
     ensures { (s : Links) (r : ResourceNo) → IsLegalSet s → holder s (node.Resource r) ≡ None }
 {}
 
-/// The ends and the holders after a put.
+/// After a put that fits a legal set, the object is at its position in the end. The far end, if there is one, has the end's node as a new
+/// last value. Each other end is as it was. If the new link contains a node, the holder of this node is the containing end; all other
+/// holders are as they were.
 pub fn a_put_gains_at_both_ends()
     ensures { (s : Links) (e : End) (i : ℕ) (o : ObjectNo) (g c : Option FeatureNo) → IsLegalSet s → EditFits s (put_of e i o g c) → PutMakes s e i o g c }
 {}
 
-/// Each end and each holder after a put, as equations that compute.
+/// After a put that fits a legal set, each end has the values that `put_end` computes, and each node has the holder that `put_holder`
+/// computes.
 pub fn a_put_gives_each_end_and_holder()
     ensures { (s : Links) (e : End) (i : ℕ) (o : ObjectNo) (g c : Option FeatureNo) → IsLegalSet s → EditFits s (put_of e i o g c) → PutGives s e i o g c }
 {}
 
-/// A put that fits keeps a legal set legal, and the set still agrees with the same kinds. The put makes no cycle if the node that becomes
-/// the container is neither the contained node nor below it.
+/// A put that fits keeps a legal set legal. If the put has the opposite and the containing feature of some kinds with which the set agrees,
+/// the set still agrees with these kinds. The put makes no cycle if the node that becomes the container is neither the contained node nor
+/// below the contained node.
 pub fn a_put_keeps_a_set_legal()
     ensures legal { (s : Links) (e : End) (i : ℕ) (o : ObjectNo) (g c : Option FeatureNo) → IsLegalSet s → EditFits s (put_of e i o g c) → IsLegalSet (put s e i o g c) }
     ensures kinds { (m : Kinds) → AreKinds m → (s : Links) (e : End) (i : ℕ) (o : ObjectNo) → AreOfKind m s → AreOfKind m (put s e i o (m.opposite e.feature) (m.container e.feature)) }
@@ -86,27 +91,31 @@ pub fn a_put_keeps_a_set_legal()
     ensures no_cycle { (s : Links) (e : End) (i : ℕ) (o : ObjectNo) (g c : Option FeatureNo) → IsLegalSet s → EditFits s (put_of e i o g c) → HasNoCycle s → IsPutOutside s e o c → HasNoCycle (put s e i o g c) }
 {}
 
-/// The ends and the holders after a put of a proxy.
+/// After a put of a proxy that fits a legal set, the proxy is at its position in the end. Each other end and all holders are as they were.
 pub fn a_proxy_stands_in_one_end()
     ensures { (s : Links) (e : End) (i : ℕ) (t : List ℕ) → IsLegalSet s → EditFits s (edit.PutProxy e i t) → PutProxyMakes s e i t }
 {}
 
-/// The ends and the holders after a cut.
+/// After a cut of a link of a legal set, each end that had the link has lost the link's value, and the node that the link contained has no
+/// holder. All other ends and holders are as they were. The link can be named by its value at either end.
 pub fn a_cut_loses_at_both_ends()
     ensures { (s : Links) (l : Link) → IsLegalSet s → In l s → CutMakes s l }
 {}
 
-/// The ends and the holders after a cut by an end and a value there. A value that is not there cuts nothing.
+/// After a cut by an end and a value there, each end has lost the value of the named link, and the node that the link contained has no
+/// holder. All else is as it was. If the value is not in the end, nothing is cut.
 pub fn a_cut_by_name_loses_what_it_names()
     ensures { (m : Kinds) → AreKinds m → (s : Links) (e : End) (v : Value) → IsLegalSet s → AreOfKind m s → CutByNameMakes m s e v }
 {}
 
-/// The ends and the holders after several cuts, each by an end and a value there.
+/// After several cuts, each by an end and a value there, each end has lost the values of the named links, and the nodes that these links
+/// contained have no holder. All else is as it was.
 pub fn cuts_by_name_lose_what_they_name()
     ensures { (m : Kinds) → AreKinds m → (s : Links) (ts : List (End × Value)) → IsLegalSet s → AreOfKind m s → CutsByNameMake m s ts }
 {}
 
-/// After cuts, a legal set is still legal, agrees with the same kinds, and has no cycles if it had none.
+/// After cuts, a legal set is still legal and agrees with the same kinds. If the set had no cycle, it has none, and no node is above a node
+/// that it was not above before the cuts.
 pub fn cuts_by_name_keep_a_set_legal()
     ensures legal { (s : Links) (ts : List (End × Value)) → IsLegalSet s → IsLegalSet (without_all s ts) }
     ensures kinds { (m : Kinds) (s : Links) (ts : List (End × Value)) → AreOfKind m s → AreOfKind m (without_all s ts) }
@@ -128,8 +137,9 @@ pub fn a_plan_of_cuts_fits()
     ensures no_cycle { (s : Links) (ts : List (End × Value)) → PlanMakesNoCycle s (cut_edits ts) }
 {}
 
-/// A plan with the edits of two plans has the effect of the two plans, one after the other. It fits if each of the two plans fits when its
-/// turn comes.
+/// A plan with the edits of two plans has the effect of the two plans, one after the other. It fits if the first plan fits the set, and the
+/// second plan fits the set that the first plan leaves. It agrees with all kinds with which both plans agree, and makes no cycle if neither
+/// of the two plans makes one in its turn.
 pub fn plans_follow_one_another()
     ensures makes { (s : Links) (xs ys : List Edit) → links_after_edits s (xs ++ ys) ≡ links_after_edits (links_after_edits s xs) ys }
     ensures fits { (s : Links) (xs ys : List Edit) → PlanFits s xs → PlanFits (links_after_edits s xs) ys → PlanFits s (xs ++ ys) }
@@ -137,18 +147,19 @@ pub fn plans_follow_one_another()
     ensures no_cycle { (s : Links) (xs ys : List Edit) → PlanMakesNoCycle s xs → PlanMakesNoCycle (links_after_edits s xs) ys → PlanMakesNoCycle s (xs ++ ys) }
 {}
 
-/// The ends and the holders after nodes are removed, together with each link that names a removed node. No link that is left names a
-/// removed node.
+/// Nodes are removed from a legal set, together with each link that names a removed node. Then the removed nodes have empty ends, and each
+/// other end has lost the removed objects. A node has no holder if it, or the node of its holder, was removed. No link that is left names a
+/// removed node. The set is still legal, agrees with the same kinds, and has no cycle if it had none.
 pub fn a_set_without_nodes_names_none_of_them()
     ensures makes { (s : Links) (gone : Node → Bool) → IsLegalSet s → WithoutNodesMakes s gone }
     ensures legal { (s : Links) (gone : Node → Bool) → IsLegalSet s → IsLegalSet (without_nodes s gone) }
     ensures kinds { (m : Kinds) (s : Links) (gone : Node → Bool) → AreOfKind m s → AreOfKind m (without_nodes s gone) }
     ensures no_cycle { (s : Links) (gone : Node → Bool) → IsLegalSet s → HasNoCycle s → HasNoCycle (without_nodes s gone) }
-    // cuts of exactly the links of the removed nodes leave the same set
+    // if cuts name exactly the links of the removed nodes, the cuts leave the same set
     ensures by_cuts { (m : Kinds) → AreKinds m → (s : Links) (gone : Node → Bool) (ts : List (End × Value)) → IsLegalSet s → AreOfKind m s → NameLinksOf m s gone ts → without_all s ts ≡ without_nodes s gone }
 {}
 
-/// The ends and the holders after a shift.
+/// After a shift that fits a legal set, one value of the end is at its new position. Each other end and all holders are as they were.
 pub fn a_shift_moves_in_one_end()
     ensures { (s : Links) (e : End) (to from : ℕ) → IsLegalSet s → EditFits s (edit.Shift e to from) → ShiftMakes s e to from }
 {}
@@ -158,13 +169,14 @@ pub fn a_plan_of_other_links_leaves_what_contains()
     ensures { (m : Kinds) → AreKinds m → (s : Links) (plan : List Edit) → IsLegalSet s → AreOfKind m s → PlanFits s plan → IsPlanOfKind m plan → touches_containment m plan ≡ false → (d : End) → contains_by m d.feature ≡ true → end (links_after_edits s plan) d ≡ end s d }
 {}
 
-/// Links that agree with the kinds of features agree at both ends: if the features are opposites and the end x has the node of the end y,
-/// then y has the node of x.
+/// Links that agree with the kinds of features agree at both ends: if the features of two ends x and y are opposites, and x has the node of
+/// y, then y has the node of x.
 pub fn both_ends_agree()
     ensures { (m : Kinds) (s : Links) → IsLegalSet s → AreOfKind m s → BothEndsAgree m s }
 {}
 
-/// Links that agree with the kinds of features are determined by their ends: two such legal sets with the same ends are equal.
+/// Links that agree with the kinds of features are determined by their ends: two legal sets that agree with the same kinds and have the
+/// same ends are equal.
 pub fn the_ends_determine_the_links()
     ensures { (m : Kinds) (s t : Links) → IsLegalSet s → IsLegalSet t → AreOfKind m s → AreOfKind m t → HaveSameEnds s t → s ≡ t }
 {}

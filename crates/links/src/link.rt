@@ -1,10 +1,10 @@
 //! Links, and proxies, which are links to objects that are not loaded.
 use mm_types::{End, FeatureNo, ObjectNo, Text};
 
-/// The other side of a link.
+/// The far side of a link. The near side is the end `Link::end`.
 #[derive(Debug, Drop)]
 pub enum Far {
-    /// A position in the end of an opposite.
+    /// The opposite end, and the position of the link in the opposite end.
     At(End, u32),
     /// An object, if the feature has no opposite.
     Alone(ObjectNo),
@@ -12,7 +12,7 @@ pub enum Far {
     Proxy(Text),
 }
 
-/// A link or a proxy: its index in one end, and its other side (MOF 2.5.1: Link).
+/// A link or a proxy: its near end, its position in the near end, and its far side (MOF 2.5.1: Link).
 #[derive(Debug, Drop)]
 pub struct Link {
     pub end: End,

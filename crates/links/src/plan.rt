@@ -8,11 +8,12 @@ use mm_types::{End, Seq, Text, Value};
 /// One edit. A cut names its link by an end and the value there, and not by a position, which other edits may change.
 #[derive(Debug, Drop)]
 pub enum Edit {
-    /// Takes the link of a value, an object or a proxy, out of an end, and lowers the later positions in each end that had the link.
+    /// Removes the link that has the given value, an object or a proxy, in the given end. Lowers the later positions in each end that had
+    /// the link.
     Cut { end: End, value: Value },
-    /// Puts an object at a position of an end. At the opposite end, if there is one, the new value is put last.
+    /// Puts an object at a position of an end. In the opposite end, if there is one, the node of the end is put last.
     Put(NewLink),
-    /// Moves the value at the position `from` to the position `to`.
+    /// Moves the value at the position `from` of an end to the position `to`.
     Shift { end: End, to: u32, from: u32 },
     /// Puts a proxy at a position of an end.
     PutProxy { end: End, index: u32, text: Text },

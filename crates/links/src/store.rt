@@ -18,9 +18,9 @@ use std::alloc::{AllocError, Global};
 
 /// A set of links, however it is kept.
 ///
-/// A store may keep, for each feature, its opposite and its containing feature, as the puts give them. So a store agrees with the kinds of
-/// features of some metamodels only. An empty store agrees with the kinds of every metamodel, and `apply` keeps the kinds with which its
-/// plan agrees.
+/// A store may keep the opposite and the containing feature of each feature, as the puts give them. The store then agrees only with
+/// metamodels in which each of these features has this opposite and this containing feature (`Kinds`). An empty store agrees with the kinds
+/// of every metamodel. After `apply` a store agrees with all kinds with which it agreed before, and with which the plan agrees too.
 pub trait LinkStore: Drop {
     /// The links.
     ghost links: { Self → Links };
@@ -56,7 +56,7 @@ pub trait LinkStore: Drop {
         requires legal { IsLegalSet (links self.now) }
         ensures { (k : ℕ) → k < result → proxy_of (links self.now) end k ≡ None };
 
-    /// The position of an object in an end; `None` if it has none there.
+    /// The position of an object in an end; `None` if the object is not in the end.
     fn position(&self, end: End, object: ObjectNo) -> Option<u32>
         requires legal { IsLegalSet (links self.now) }
         ensures { MatchOption result (Lacks (links self.now) end (value.Object object)) (λ k. slice_get (end_of (links self.now) end) k ≡ Some (value.Object object)) };
@@ -66,14 +66,14 @@ pub trait LinkStore: Drop {
         requires legal { IsLegalSet (links self.now) }
         ensures { result ≡ holder_of (links self.now) (node.Object object) };
 
-    /// The positions of an object, one for each end that has the object. They are in order by the numbers of the features, then by the
-    /// nodes: objects before resources, each by number. Fails only if memory is refused.
+    /// The positions of an object, one for each end that has the object. They are sorted by the number of the feature, then by the kind of
+    /// the node (objects first), then by the number of the node. Fails only if memory is refused.
     fn incoming(&self, alloc: Global, object: ObjectNo) -> Result<Vec<Incoming>, AllocError>
         requires legal { IsLegalSet (links self.now) }
         ensures entries { IfOk result (λ r. AreEntriesOf (links self.now) object r.items) }
         ensures order { IfOk result (λ r. AreInOrder (map incoming_end r.items)) };
 
-    /// The ends that an object is in, in no order; one end may come twice. Fails only if memory is refused.
+    /// The ends that an object is in, in any order; an end may be repeated. Fails only if memory is refused.
     fn ends_holding(&self, alloc: Global, object: ObjectNo) -> Result<Vec<End>, AllocError>
         requires legal { IsLegalSet (links self.now) }
         ensures { IfOk result (λ r. AreIncoming (links self.now) object r.items) };
@@ -93,7 +93,7 @@ pub trait LinkStore: Drop {
         ensures links { links self.new ≡ links_after_edits (links self.old) plan }
         ensures kinds { (m : Kinds) → kinds self.old m → IsPlanOfKind m plan → kinds self.new m };
 
-    /// Takes the memory for one link, and puts it in (`Edit::Put`). Fails only if memory is refused, and then no link changes.
+    /// Takes the memory for one link, and puts the link in (`Edit::Put`). Fails only if memory is refused, and then no link changes.
     fn put(&mut self, link: NewLink) -> Result<(), AllocError>
         requires legal { IsLegalSet (links self.old) }
         requires fits { EditFits (links self.old) (edit.Put link) }

@@ -5,7 +5,7 @@ use Rattle.mm_meta.specs.Resolution.{IsResolutionOf}
 use Rattle.mm_check.specs.declared.document.Outcome.{Outcome}
 use Rattle.mm_check.specs.declared.document.Outcome.TheVariants as found
 
--- the first fault, or the metamodel of a well-formed document
+-- the first fault of the document, or the resolution of a well-formed document
 abbrev pub Finds : RawMetamodel → Outcome → Type 0
 Finds raw (found.Fault condition place) = IsFirstFault raw condition place
 Finds raw (found.Resolution r) = WellFormed raw × IsResolutionOf raw r

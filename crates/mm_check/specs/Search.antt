@@ -31,7 +31,7 @@ IsFirstPlace raw k found = MatchOption found ((p : Place) → Applies raw k p �
 abbrev pub AppliesToNoEnum : RawMetamodel → Condition → Type 0
 AppliesToNoEnum raw k = (i : ℕ) → Applies raw k (place.Enum i) → ⊥
 
--- a condition applies to none of the first classes, and to none of the features that they declare
+-- a condition applies to none of the first n classes, and to none of the features that these classes declare
 pub record AppliesToNone (raw : RawMetamodel) (k : Condition) (n : ℕ) : Type 0 where
   pub to_class : (c : ℕ) → c < n → Applies raw k (place.Class c) → ⊥
   pub to_feature : (c i : ℕ) → c < n → Applies raw k (place.Feature c i) → ⊥

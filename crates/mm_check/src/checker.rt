@@ -67,7 +67,7 @@ impl<'a> Checker<'a> {
         })
     }
 
-    /// The metamodel to which the document resolves, if it is well-formed. Fails only if memory is refused.
+    /// The classes and features to which the document resolves. The document has to be well-formed. Fails only if memory is refused.
     pub fn resolution(&self, alloc: Global) -> Result<Resolution, AllocError>
         requires { WellFormed self.now }
         ensures { IfOk result (IsResolutionOf self.now) }

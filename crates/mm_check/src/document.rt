@@ -35,7 +35,7 @@ enum Outcome {
 }
 
 /// The first condition, in the order of the numbers of conditions, that applies somewhere, and the first place at which this condition
-/// applies.
+/// applies; `None` if no condition applies anywhere. Fails only if memory is refused.
 fn first_fault(
     alloc: Global,
     checker: &Checker<'_>,

@@ -30,7 +30,7 @@ fn has_repeated_text(alloc: Global, texts: &[Text]) -> Result<bool, AllocError>
 }
 
 impl<'a> Checker<'a> {
-    /// Whether one of the enumerations before a position has a name.
+    /// Whether one of the enumerations before the position `i` has the name `name`.
     fn has_enum_before(&self, i: usize, name: &str) -> bool
         ensures { result ≡ is_among (take i (enum_names self.now)) name.now }
     {
@@ -46,7 +46,7 @@ impl<'a> Checker<'a> {
         self.resolver.enumeration(name).is_some()
     }
 
-    /// Whether one of the classes before a position has a name.
+    /// Whether one of the classes before the position `c` has the name `name`.
     fn has_class_before(&self, c: usize, name: &str) -> bool
         ensures { result ≡ is_among (take c (class_names self.now)) name.now }
     {
@@ -84,8 +84,8 @@ impl<'a> Checker<'a> {
         clashes(alloc, self.graph.as_slice(), self.names.as_slice(), c)
     }
 
-    /// Whether a name at a place occurs twice, although it may occur only once. Fails only if memory is
-    /// refused.
+    /// Whether a name at a place occurs twice, although it may occur only once; or whether the enumeration or the class at the place has a
+    /// reserved name. Fails only if memory is refused.
     pub fn has_duplicate(&self, alloc: Global, place: Place) -> Result<bool, AllocError>
         ensures { IfOk result (λ b. IsTrue b ↔ HasDuplicate self.now place) }
     {

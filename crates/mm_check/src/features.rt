@@ -24,7 +24,7 @@ fn has_bad_literal(literals: &[Text]) -> bool
     literals.iter().any(|l| is_bad_name(l))
 }
 
-/// Whether the bounds of a feature contradict one another.
+/// Whether the lower bound of a feature is below 0, or the upper bound is not -1 and is below 1 or below the lower bound.
 fn has_odd_bounds(f: &RawFeature) -> bool
     ensures { result ≡ (int_lt f.now.lower (pos 0) || (not (int_eq f.now.upper any_number) && (int_lt f.now.upper (pos 1) || int_lt f.now.upper f.now.lower))) }
 {
@@ -73,7 +73,8 @@ impl<'a> Checker<'a> {
         }
     }
 
-    /// Whether a name at a place names no class or type.
+    /// Whether a place is a class with a supertype that is no class, an attribute whose type is no data type and no enumeration, or a
+    /// reference whose type is no class.
     pub fn lacks_type(&self, place: Place) -> bool
         ensures { result ≡ lacks_type_at self.now place }
     {
@@ -90,7 +91,8 @@ impl<'a> Checker<'a> {
         }
     }
 
-    /// Whether a place is a feature whose bounds contradict one another.
+    /// Whether a place is a feature with a lower bound below 0, or with an upper bound that is not -1 and is below 1 or below the lower
+    /// bound.
     pub fn has_bad_bounds(&self, place: Place) -> bool
         ensures { result ≡ has_bad_bounds_at self.now place }
     {
@@ -103,7 +105,7 @@ impl<'a> Checker<'a> {
         }
     }
 
-    /// Whether a literal is not of the type of its attribute.
+    /// Whether a literal is not of the type of the attribute `f`; true if that type is no data type and no enumeration.
     fn is_no_literal(
         &self,
         alloc: Global,
@@ -138,8 +140,8 @@ impl<'a> Checker<'a> {
         }
     }
 
-    /// Whether a place is an attribute with a default literal, and the attribute is many-valued or the literal is not
-    /// of its type. Fails only if memory is refused.
+    /// Whether a place is an attribute with a default literal, and the attribute's upper bound is not 1, or the literal is not of the
+    /// attribute's type. Fails only if memory is refused.
     pub fn has_bad_default(&self, alloc: Global, place: Place) -> Result<bool, AllocError>
         ensures { IfOk result (λ b. b ≡ has_bad_default_at self.now place) }
     {

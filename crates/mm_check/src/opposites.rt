@@ -106,7 +106,7 @@ impl<'a> Checker<'a> {
         self.opposite_of(feature)
     }
 
-    /// Whether the opposite of a reference is the reference itself, or does not lead back to it.
+    /// Whether the opposite of a reference is the reference itself, or does not name the reference as its own opposite.
     fn leads_astray(&self, c: usize, i: usize, opposite: (usize, usize)) -> bool
         ensures { result ≡ goes_astray self.now c i opposite }
     {

@@ -95,8 +95,8 @@ impl<'a> Checker<'a> {
         }
     }
 
-    /// The first place at which a condition applies, if the conditions before it apply nowhere. Fails
-    /// only if memory is refused.
+    /// The first place at which a condition applies; `None` if the condition applies nowhere. The caller has made sure that no condition
+    /// with a lower number applies anywhere. Fails only if memory is refused.
     pub fn first_place(
         &self,
         alloc: Global,

@@ -10,12 +10,12 @@ is_in s k = slice_index_or s k false
 abbrev pub IsSetOf : (ℕ → Type 0) → List Bool → Type 0
 IsSetOf P s = (k : ℕ) → (is_in s k ≡ true) ↔ P k
 
--- every supertype of a class is in the set
+-- every direct supertype of a class is in the set
 abbrev pub HasSupers : List (List ℕ) → List Bool → ℕ → Type 0
 HasSupers g s k = All (λ (e : ℕ). is_in s e ≡ true) (by_class g k)
 
--- class c was added to a set; any other class that was added is a class that c conforms to; the supertypes of each added class are in the
--- set
+-- classes were added to a set: class c is in the new set; c conforms to each added class; the direct supertypes of each added class are in
+-- the new set
 pub record IsAdded (g : List (List ℕ)) (c : ℕ) (old new : List Bool) : Type 0 where
   pub long : length new ≡ length old
   pub here : is_in new c ≡ true

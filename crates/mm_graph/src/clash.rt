@@ -24,7 +24,8 @@ pub fn has_repeats(alloc: Global, names: &[&str]) -> Result<bool, AllocError>
     Ok(false)
 }
 
-/// The names that the classes of a set declare.
+/// The names of the features that the chosen classes declare, one class after another. `chosen` says for each class whether it is chosen,
+/// and `names` has the names for each class.
 fn gather<'a>(
     alloc: Global,
     chosen: &[bool],

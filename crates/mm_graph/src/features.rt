@@ -10,7 +10,7 @@ use indexmap::IndexSet;
 use mm_types::Seq;
 use std::alloc::{AllocError, Global};
 
-/// Adds the new features of a list, after the features that were found.
+/// Adds to the found features each feature of a list that is not among them yet, at the end.
 fn add_new(found: &mut IndexSet<u32>, features: &[u32]) -> Result<(), AllocError>
     ensures { OnOk result (found.new.keys ≡ with_new found.old.keys features.now) }
 {

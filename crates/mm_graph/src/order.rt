@@ -31,7 +31,7 @@ fn visit(
 {
     match marks[c] {
         Mark::Done => return Ok(true),
-        // An open class reaches this class, which is open itself: this is a cycle.
+        // Each open class reaches the class that is visited. This class is open, so it reaches itself: this is a cycle.
         Mark::Open => return Ok(false),
         Mark::Unseen => {}
     }

@@ -10,7 +10,7 @@ use crate::order::order_of;
 use mm_types::Seq;
 use std::alloc::{AllocError, Global};
 
-/// Adds a class, and the classes that it reaches, to a set.
+/// Adds a class, and the classes that it reaches, to a set. The supertypes of a class that is in the set already are not visited again.
 fn add_reached(graph: &[Seq<usize>], c: usize, seen: &mut [bool])
     requires graph { InRange graph.now }
     requires class { c < length graph.now }
@@ -71,7 +71,8 @@ pub fn first_on_cycle(alloc: Global, graph: &[Seq<usize>]) -> Result<Option<usiz
     requires { InRange graph.now }
     ensures { IfOk result (λ found. IsFirst (λ c. Reaches graph.now c c) (length graph.now) found) }
 {
-    // An order rules out every cycle, and takes less time than a search from each class.
+    // If there is an order in which supertypes come first, there is no cycle. To make an order takes less time than a search from each
+    // class.
     match order_of(alloc, graph)? {
         Some(_order) => return Ok(None),
         None => {}

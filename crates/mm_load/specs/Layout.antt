@@ -17,7 +17,7 @@ use Rattle.json_fields.specs.Fields.{Fields, ◌also◌, ◌such_that◌, array_
 abbrev pub new_head : List ℕ → List ℕ → ℤ → ℤ → Head
 new_head name type_name lower upper = record { name = name; type_name = type_name; lower = lower; upper = upper }
 
--- the fields of every feature
+-- the fields that attributes and references have in common
 abbrev pub feature_fields : Fields Head
 feature_fields = makes new_head
     -- its name

@@ -22,7 +22,7 @@ abbrev pub metamodel_of_json : Option Data → Result RawMetamodel MetaFault
 metamodel_of_json None = Err Syntax
 metamodel_of_json (Some d) = metamodel_of_layout (document d)
 
--- the metamodel that the bytes describe, or the lowest fault that applies
+-- the metamodel that the bytes describe, or the first fault that applies
 unfoldable pub metamodel_of_bytes : List ℕ → Result RawMetamodel MetaFault
 metamodel_of_bytes bytes = if is_utf8 bytes then metamodel_of_json (read bytes) else Err Syntax
 

@@ -14,7 +14,8 @@ use serde_json::{Map, Value};
 use std::alloc::Global;
 use std::marker::Model;
 
-/// The content of a document. It may pass the limits of a metamodel, but contracts see it as a metamodel in any case.
+/// The content of a document. Its counts and lengths may be above the limits of a metamodel; contracts see the content as a `RawMetamodel`
+/// in either case.
 #[derive(Debug, Drop)]
 pub struct Document {
     enums: Seq<Enumeration>,
@@ -37,7 +38,7 @@ impl Document {
         Document { enums, classes }
     }
 
-    /// The metamodel itself, or `Limit` if a count or a length passes its limit. Takes no memory.
+    /// The metamodel itself, or `Limit` if a count or a length is above its limit. Takes no memory.
     pub fn into_raw(self) -> Result<RawMeta, MetaFault>
         ensures { result ≡ metamodel_if_within_limits self }
     {

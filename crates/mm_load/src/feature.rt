@@ -1,4 +1,4 @@
-//! Features are read: the fields of every feature, and the further fields of an attribute or a reference.
+//! Features are read: the fields that attributes and references have in common, and the further fields of an attribute or a reference.
 ghost use Rattle.std.specs.Prelude.{◌≡◌};
 ghost use Rattle.serde_json.specs.Data.{object};
 ghost use Rattle.serde_json.specs.View.{members_view};
@@ -13,10 +13,10 @@ use mm_types::{RawFeature, RawKind};
 use serde_json::{Map, Value};
 use std::alloc::Global;
 
-/// The keys of the fields of every feature.
+/// The keys of the fields that attributes and references have in common.
 const HEAD: [&str; 4] = ["name", "type", "lower", "upper"];
 
-/// Takes out and reads the fields of every feature.
+/// Takes out and reads the fields of a feature that attributes and references have in common.
 fn take_head(alloc: Global, members: &mut Map<String, Value>) -> Result<Head, ReadFault>
     ensures read { Gives result (feature_fields.reading (object (members_view members.old.entries))) }
     ensures others { KeepsOthers feature_fields.keys (members_view members.old.entries) (members_view members.new.entries) }

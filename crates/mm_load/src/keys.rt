@@ -9,7 +9,7 @@ use json_fields::{ReadFault, take};
 use serde_json::{Map, Value};
 use std::alloc::Global;
 
-/// Takes out the value of a key and reads it. Fails with `Layout` if the key is absent, or if the value has a different layout.
+/// Takes out the value of a key and reads it. Fails with `Layout` if the key is absent, or if the value does not have the layout of `T`.
 pub fn required<T: FromJson>(
     alloc: Global,
     members: &mut Map<String, Value>,
@@ -24,8 +24,8 @@ pub fn required<T: FromJson>(
     }
 }
 
-/// Takes out the value of a key and reads it; returns `absent` if the key is absent. Fails with `Layout` if the value has a different
-/// layout.
+/// Takes out the value of a key and reads it; returns `absent` if the key is absent. Fails with `Layout` if the value does not have the
+/// layout of `T`.
 pub fn optional<T: FromJson + Drop>(
     alloc: Global,
     members: &mut Map<String, Value>,

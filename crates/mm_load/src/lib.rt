@@ -1,4 +1,4 @@
-//! A metamodel document is read: JSON to enumerations and classes whose names are unresolved.
+//! A metamodel document is read: its JSON becomes enumerations and classes, in which supertypes, types and opposites are still names.
 //!
 //! `specs/Layout.antt` is the layout of a document, key by key, and `specs/Loaded.antt` says which of the faults `Syntax`, `Layout` and
 //! `Limit` a document has.

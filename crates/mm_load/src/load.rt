@@ -8,15 +8,15 @@ use mm_types::{MetaFault, RawMeta};
 use serde_json::Value;
 use std::alloc::Global;
 
-/// The metamodel that a document describes, with its names unresolved; else the lowest fault that applies:
+/// The metamodel that a document describes, with its names unresolved; else the first of these faults that applies:
 ///
-/// - `Syntax` if the bytes are no JSON in UTF-8, or if the JSON has more than 127 levels;
+/// - `Syntax` if the bytes are no JSON in UTF-8, if the JSON has more than 127 levels, or if a number is too large for a float;
 /// - `Layout` if the value does not have the shape of a metamodel, or has a key that is not listed;
-/// - `Limit` if a count or a length passes its limit.
+/// - `Limit` if a count or a length is above its limit.
 ///
-/// `Memory` only if memory is refused, whatever else applies. Of equal keys of an object the last counts. The time is linear in the
-/// document, except that a look-up of a key in a large object takes the logarithm of the number of its keys. The texts are moved out of the
-/// parsed JSON, which is freed part by part as it is read.
+/// Only if memory is refused, `Memory` may be returned in place of the metamodel or of any of these faults. Of equal keys of an object the
+/// last counts. The time is linear in the document, except that a look-up of a key in a large object takes the logarithm of the number of
+/// its keys. The texts are moved out of the parsed JSON, which is freed part by part as it is read.
 pub fn load_meta(alloc: Global, bytes: &[u8]) -> Result<RawMeta, MetaFault>
     ensures { Loads result (metamodel_of_bytes bytes.now) }
 {

@@ -10,6 +10,6 @@ use Rattle.mm_types.specs.declared.numbers.ClassNo.{ClassNo}
 abbrev pub has_containment : Metamodel → ClassNo → Bool
 has_containment m c = list_any (is_containment m) (unwrap_or (features m c) [])
 
--- the list says, at the number of each of the first classes, whether the class has a containment
+-- the list says, at a class's number, whether the class has a containment; the list may end before the last class
 abbrev pub AreContainments : Metamodel → List Bool → Type 0
 AreContainments m found = (c : ℕ) (b : Bool) → slice_get found c ≡ Some b → b ≡ has_containment m (class_no c)

@@ -20,17 +20,18 @@ pub record AreFeatureNames (n : FeatureNames) (names : List (List ℕ)) : Type 0
   pub long : length n.next.items ≡ length names
   pub next : (f : ℕ) → f < length names → IsNext names (slice_index_or names f []) (suc f) (slice_index_or n.next.items f 0)
 
--- a search for the feature of a class by name has reached the position `at`: the feature at that position has the name; the class has no
--- feature with that name at an earlier position
+-- a search for the feature of a class by name has reached the position `at`: the feature at that position, if there is one, has the name;
+-- the class has no feature with that name at an earlier position
 pub record ComesTo (m : Metamodel) (c : ClassNo) (name : List ℕ) (at : ℕ) : Type 0 where
   pub passed : (h : ℕ) → h < at → feature_name m (feature_no h) ≡ name → has_feature m c (feature_no h) ≡ false
   pub here : at < length m.features → feature_name m (feature_no at) ≡ name
 
--- a list by class number: for each of the first classes it has the feature of that class with a given name, or none
+-- a list by class number: for each class it has the feature of that class with a given name, or none; the list may end before the last
+-- class
 abbrev pub IsRow : Metamodel → List ℕ → List (Option FeatureNo) → Type 0
 IsRow m name by_class = (c : ℕ) (found : Option FeatureNo) → slice_get by_class c ≡ Some found → found ≡ feature_by_name m (class_no c) name
 
--- a row for each feature, by its number: for each of the first classes, the row has the feature of that class with the same name; a row may
--- be empty
+-- rows by feature number: for each class, the row of a feature has the feature of that class with the same name, or none. A row may be
+-- empty or end before the last class, and there may be no rows for the last features
 abbrev pub AreRows : Metamodel → List (List (Option FeatureNo)) → Type 0
 AreRows m rows = (f : ℕ) → f < length rows → IsRow m (feature_name m (feature_no f)) (slice_index_or rows f [])

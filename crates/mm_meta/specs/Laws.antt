@@ -29,8 +29,8 @@ pub record IsContainerOf (m : Metamodel) (f h : FeatureNo) : Type 0 where
   pub apart : (h.0 ≡ f.0) → ⊥
   pub contains : (shape m h).containing ≡ Some h
 
--- the containing feature of a feature's links is the feature itself or, for a container reference, its opposite; for `contents` it is
--- `contents`
+-- the containing feature of a feature's links, if there is one, is the feature itself or, for a container reference, its opposite; for
+-- `contents` it is `contents`
 abbrev pub ContainingIsKnown : Metamodel → Type 0
 ContainingIsKnown m = (f h : FeatureNo) → f.0 ≤ length m.features → (shape m f).containing ≡ Some h → (h ≡ f) ⊎ IsContainerOf m f h
 

@@ -22,7 +22,7 @@ fn class_numbers(alloc: Global, numbers: &[usize]) -> Result<Seq<ClassNo>, Alloc
     Ok(found)
 }
 
-/// The features of a class, in a list whose capacity is the number of features.
+/// The features with these numbers, in a list without unused capacity.
 fn feature_numbers(alloc: Global, numbers: &[u32]) -> Result<Seq<FeatureNo>, AllocError>
     ensures { IfOk result (λ s. s ≡ map feature_no numbers.now) }
 {
@@ -94,8 +94,8 @@ impl<'a> Resolver<'a> {
         })
     }
 
-    /// The classes with their names resolved, given their supertypes and all features of each. Each list is freed as soon as its class is
-    /// made, so that the lists and the classes are never both whole in memory.
+    /// The classes with their names resolved, given the supertypes and all features of each class. The list of a class's features is freed
+    /// as soon as the class is made, so that all lists and all classes are never in memory at the same time.
     pub fn resolved_classes(
         &self,
         alloc: Global,

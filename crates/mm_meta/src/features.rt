@@ -40,7 +40,7 @@ impl<'a> Resolver<'a> {
         }
     }
 
-    /// The reference that the class `target` declares under a name.
+    /// The feature that the class `target` declares under a name; `None` if no name is given, or the class declares no such feature.
     fn opposite(&self, target: usize, name: &Option<Text>) -> Option<FeatureNo>
         ensures { result ≡ option_map feature_no (option_and_then (own_named self.now.classes target) name.now) }
     {

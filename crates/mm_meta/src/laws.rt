@@ -20,8 +20,9 @@ pub fn opposites()
     ensures shape { (m : Metamodel) (f : FeatureNo) → (shape m f).opposite ≡ opposite m f }
 {}
 
-/// The containing feature of a feature's links is the feature itself or its opposite. If it is the opposite, the feature is single, since
-/// an object has one container (EMF: EReference.isContainment, isContainer). The containing feature of `contents` is `contents`.
+/// The containing feature of a feature's links, if there is one, is the feature itself or its opposite. If it is the opposite, the feature
+/// is single, since an object has one container (EMF: EReference.isContainment, isContainer). The containing feature of `contents` is
+/// `contents`.
 pub fn containers()
     ensures { (m : Metamodel) → IsOfDocument m → ContainingIsKnown m }
 {}

@@ -24,7 +24,8 @@ const FEW: usize = 8;
 /// A metamodel with its names resolved into numbers: always well-formed and within the limits. Classes
 /// are numbered in document order, features in class order.
 ///
-/// No look-up takes memory. A look-up by a number that names nothing returns `None`.
+/// No look-up takes memory. A look-up that returns an `Option` returns `None` if a number that it is given names nothing; the exception is
+/// `containing`.
 #[derive(Drop)]
 pub struct Meta {
     enums: Seq<Enumeration>,
@@ -96,7 +97,7 @@ impl Meta {
         Ok(meta)
     }
 
-    /// Every metamodel is the metamodel of a well-formed document. Code calls this function to make the fact known to a proof that has only
+    /// Every `Meta` is the metamodel of a well-formed document. Code calls this function to make the fact known to a proof that has only
     /// the view of the metamodel.
     pub fn lemma_is_of_document(&self)
         ensures { IsOfDocument self.now }
@@ -134,8 +135,8 @@ impl Meta {
         }
     }
 
-    /// The feature of `class` that has the same name as the feature `first`; `None` if no list of the features of that name is kept.
-    /// `first` is the first feature of its name.
+    /// `Some` with the feature of `class` that has the same name as the feature `first`, or with `None` if the class has no such feature;
+    /// `None` if no list of the features of that name is kept. `first` is the first feature of its name.
     fn kept(&self, class: ClassNo, first: usize) -> Option<Option<FeatureNo>>
         ensures { IfSome result (λ found. found ≡ m.feature_by_name self.now class (m.feature_name self.now (feature_no first))) }
     {
@@ -273,7 +274,7 @@ impl Meta {
         Some(class.all.as_slice())
     }
 
-    /// Whether a class is a given one or inherits from it (EClass.isSuperTypeOf, with the receiver and the argument exchanged).
+    /// Whether the class `sub` is the class `sup` or inherits from it (EClass.isSuperTypeOf, with the receiver and the argument exchanged).
     pub fn conforms(&self, sub: ClassNo, sup: ClassNo) -> bool
         ensures { result ≡ m.conforms self.now sub sup }
     {
@@ -330,8 +331,8 @@ impl Meta {
     }
 
     /// The containing feature of a feature's links: the feature itself, if it is a containment reference; its opposite, if it is a
-    /// container reference (EReference.isContainment, isContainer). `contents()` is a containment too. If no feature has the number,
-    /// `contents()` is returned. Takes no memory.
+    /// container reference (EReference.isContainment, isContainer); `None` for any other feature. `contents()` is a containment too. If no
+    /// feature has the number, `contents()` is returned. Takes no memory.
     pub fn containing(&self, feature: FeatureNo) -> Option<FeatureNo>
         ensures { result ≡ (shapes.shape self.now feature).containing }
     {
@@ -386,7 +387,7 @@ impl Meta {
         Some(index as u32)
     }
 
-    /// The only feature of a resource, which holds its roots. Its number is one more than the number of the last feature.
+    /// The only feature of a resource, which holds the resource's roots. Its number is the first after the numbers of all other features.
     pub fn contents(&self) -> FeatureNo
         ensures { result ≡ m.contents self.now }
     {

@@ -69,8 +69,8 @@ impl Named for Text {
 #[derive(Drop)]
 pub struct NameTable {
     positions: IndexMap<String, usize>,
-    /// At the slot of a name: the index in `positions` that is compared first, which is faster than hashing the name. A hint may be any
-    /// number; if the name is not at that index, the hash finds it.
+    /// At the slot of a name (`slot_of`) is a hint: the index in `positions` at which the name is looked for first, since this is faster
+    /// than hashing the name. A hint may be any number; if the name is not at that index, the name is found by its hash.
     hints: Vec<u32>,
 }
 
@@ -84,7 +84,7 @@ impl NameTable {
         }
     }
 
-    /// Adds the name at position `at`, unless the name was added for an earlier position.
+    /// Adds the name with the position `at`. A name that is in the table already keeps its earlier position.
     fn insert(&mut self, alloc: Global, name: &str, at: usize) -> Result<(), AllocError>
         ensures { OnOk result ((names : List (List ℕ)) → length names ≡ at → IsTableOf self.old names → IsTableOf self.new (names ++ name.now ∷ [])) }
     {
@@ -117,7 +117,7 @@ impl NameTable {
         }
     }
 
-    /// The first position of a name, if its hint leads to the name.
+    /// The first position of a name; `None` if the name is not at the index that its hint gives.
     fn hinted(&self, name: &str) -> Option<usize>
         ensures { IfSome result (λ at. get_by_text self.now.positions name.now ≡ Some at) }
     {
@@ -157,7 +157,7 @@ fn hints_for(alloc: Global, positions: &IndexMap<String, usize>) -> Result<Vec<u
     Ok(hints)
 }
 
-/// The slot of a name among `hints` hints, a power of two. The length and three bytes of the name distinguish most names.
+/// The slot of a name among `hints` hints; `hints` is a power of two. The length and three bytes of the name distinguish most names.
 fn slot_of(name: &str, hints: usize) -> usize {
     let bytes = name.as_bytes();
     let len = bytes.len();

@@ -97,7 +97,7 @@ impl<'a> Resolver<'a> {
         Some(index as u32)
     }
 
-    /// The value that a literal of a type writes, if it writes one. Fails only if memory is refused.
+    /// The value that a text writes as a literal of a type; `None` if the text is no literal of the type. Fails only if memory is refused.
     pub fn literal_value(
         &self,
         alloc: Global,

@@ -2,7 +2,7 @@
 use Rattle.std.specs.Prelude.{ℕ, List, insert, remove, slice_get, Option, Some, None}
 use Rattle.mm_types.specs.declared.value.Value.{Value}
 
--- the list after v, its value at `from`, is moved to `to`; without a value the list stays
+-- the list vs after its value v, which is at `from`, is moved to `to`; the same list if no value is given
 abbrev pub put_back : Option Value → List Value → ℕ → ℕ → List Value
 put_back None vs to from = vs
 put_back (Some v) vs to from = insert (remove vs from) to v

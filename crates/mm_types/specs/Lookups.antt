@@ -68,7 +68,7 @@ abbrev pub conforms_within : List (List ℕ) → ℕ → ℕ → ℕ → Bool
 conforms_within g zero c d = nat_eq c d
 conforms_within g (suc n) c d = nat_eq c d || list_any (λ e. conforms_within g n e d) (by_class g c)
 
--- computes `ConformsTo`: a search of as many steps as there are classes is enough, since no path of supertypes is longer
+-- computes `ConformsTo`: a search of as many steps as there are classes is enough, since a shortest path of supertypes is never longer
 abbrev pub conforms : Metamodel → ClassNo → ClassNo → Bool
 conforms m sub sup = nat_lt sub.0 (length m.classes) && conforms_within (supertypes m) (length m.classes) sub.0 sup.0
 
@@ -143,13 +143,14 @@ is_of_attribute m single (Reference target containment opposite) v = false
 abbrev pub keeps : Metamodel → FeatureNo → Value → Bool
 keeps m f v = option_map_or (λ g. is_of_attribute m (is_single g) g.kind v) (feature m f) false
 
--- whether a reference to a class, single or not, may hold a value: null if it is single, or an object whose class conforms to the target
+-- whether a reference to a class, single or not, may be given a value: null if the reference is single, or an object whose class conforms
+-- to the target; never a proxy, since proxies come only from documents
 abbrev pub is_reference_value : Metamodel → (ObjectNo → Option ClassNo) → Bool → ClassNo → Value → Bool
 is_reference_value m class_of single target value.Null = single
 is_reference_value m class_of single target (value.Object o) = option_map_or (λ c. conforms m c target) (class_of o) false
 is_reference_value m class_of single target _ = false
 
--- whether a feature of a kind, single or not, may hold a value
+-- whether a feature of a kind, single or not, may be given a value
 abbrev pub is_of_kind : Metamodel → (ObjectNo → Option ClassNo) → Bool → Kind → Value → Bool
 is_of_kind m class_of single (Attribute t unique unsettable default) v = is_attribute_value m single t v
 is_of_kind m class_of single (Reference target containment opposite) v = is_reference_value m class_of single target v
@@ -163,6 +164,6 @@ abbrev pub is_live_object : (ObjectNo → Option ClassNo) → Value → Bool
 is_live_object class_of (value.Object o) = is_some (class_of o)
 is_live_object class_of _ = false
 
--- whether a feature may hold a value; `contents` may hold any live object
+-- whether a feature may be given a value; `contents` may be given any live object
 abbrev pub takes : Metamodel → (ObjectNo → Option ClassNo) → FeatureNo → Value → Bool
 takes m class_of f v = option_map_or (λ g. is_of_kind m class_of (is_single g) g.kind v) (feature m f) (is_live_object class_of v)

@@ -16,7 +16,7 @@ pub enum Read {
     Save(ResourceNo),
     /// Asks for the object at an address (EMF: ResourceSet.getEObject, without loading).
     ObjectAt(Text),
-    /// Asks for a count of an adapter.
+    /// Asks how many notifications an adapter got or keeps.
     Adapter(AdapterNo, Tally),
 }
 
@@ -49,7 +49,7 @@ pub enum ObjectRead {
 pub enum NodeRead {
     /// The objects that the node directly contains (EMF: EObject.eContents).
     Contents,
-    /// The state of the node and of each node below it: its class, the values of its features and its set flags.
+    /// The state of the node and of each node below it. The state of a node is its class, the values of its features and its set flags.
     Snapshot,
 }
 

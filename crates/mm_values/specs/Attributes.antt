@@ -37,7 +37,8 @@ pub record IsAt (l : List Entry) (f i : ℕ) : Type 0 where
   pub in_range : i < length l
   pub has_feature : feature_at l i ≡ f
 
--- index i is the place for the attribute's entry: the entries before i have smaller numbers, and the entries from i on have greater ones
+-- an entry of the attribute f would be inserted at index i: the entries before i have smaller numbers, and the entries from i on have
+-- greater ones
 pub record IsGapFor (l : List Entry) (f i : ℕ) : Type 0 where
   pub in_range : i ≤ length l
   pub smaller_before : (j : ℕ) → j < i → feature_at l j < f

@@ -38,13 +38,13 @@ abbrev pub is_insert_in : Option (ObjectNo × FeatureNo) → ValueEdit → Bool
 is_insert_in None e = false
 is_insert_in (Some p) e = is_insert_at p.0.0 p.1.0 e
 
--- how much capacity for values an edit takes, by object and attribute
+-- how much capacity an edit takes in the list of each object under each attribute
 abbrev pub places_taken : ValueEdit → ℕ → ℕ → ℕ
 places_taken (PutList x g list flag) = taken_at x g (length list)
 places_taken (InsertValue x g i w u) = taken_at x g 1
 places_taken _ = none_taken
 
--- how much capacity the list of o under f needs for a plan: none if the plan inserts no value into it
+-- how much capacity the list of o under f needs for a plan: none if the plan inserts no value into this list
 abbrev pub capacity_needed : List ValueEdit → ℕ → ℕ → ℕ
 capacity_needed plan o f = if list_any (is_insert_at o f) plan then sum_by (λ e. places_taken e o f) plan else 0
 

@@ -12,7 +12,8 @@ use Rattle.mm_values.specs.ListEdits.{IsReadyFor}
 use Rattle.mm_values.specs.declared.list_edit.ListEdit.{ListEdit}
 use Rattle.mm_values.specs.Values.{Objects, ObjectState}
 
--- by object number: the class, if the object is live, and the attribute lists
+-- the two columns, whose index is the number of an object: its class, if the object is live, and its attribute lists; and how many objects
+-- were made
 pub record Slots : Type 0 where
   pub classes : List (Option ClassNo)
   pub lists : List (List Entry)
@@ -21,7 +22,7 @@ pub record Slots : Type 0 where
 abbrev pub state_of : Option ClassNo → List Entry → Option ObjectState
 state_of class lists = option_map (λ c. record { class = c; stored = stored_in lists }) class
 
--- the objects by number: the object at each number is made from the entries of the two columns at that number
+-- the objects in the order of their numbers: each is made from the two entries that the columns have at its number
 abbrev pub states_of : List (Option ClassNo) → List (List Entry) → Objects
 states_of [] ls = []
 states_of (c ∷ cs) [] = []
@@ -39,23 +40,25 @@ pub record IsReady (r : Slots) : Type 0 where
 abbrev pub IsDead : Slots → ℕ → Type 0
 IsDead r o = (o < r.next) × (slice_index_or r.classes o None ≡ None)
 
--- the object's list under an attribute can take n values without memory; a dead object, or a number without an object, needs no capacity
+-- the object's list under an attribute can take n values without memory; nothing is needed for a dead object, or for a number past the end
+-- of the columns
 abbrev pub HasPlaceAt : Slots → ℕ → ℕ → ℕ → Type 0
 HasPlaceAt r o f n = (d : List Entry) → o < length r.lists → IsDead r o ⊎ HasPlace (slice_index_or r.lists o d) f n
 
--- the object's list under an attribute has the capacity that an edit needs; a dead object, or a number without an object, needs no capacity
+-- the object's list under an attribute has the capacity that an edit needs; nothing is needed for a dead object, or for a number past the
+-- end of the columns
 abbrev pub IsReadyAt : Slots → ℕ → ℕ → ListEdit → Type 0
 IsReadyAt r o f e = (d : List Entry) → o < length r.lists → IsDead r o ⊎ IsReadyFor (slice_index_or r.lists o d) f e
 
--- how much capacity is taken for each object and attribute: none; and `taken_at`, which takes k for the attribute g of the object x and
--- none for any other attribute
+-- how much capacity is taken in the list of each object o under each attribute f: `none_taken` takes none; `taken_at` takes k for the
+-- object x and the attribute g, and none for other objects and attributes
 abbrev pub none_taken : ℕ → ℕ → ℕ
 none_taken o f = 0
 
 abbrev pub taken_at : ObjectNo → FeatureNo → ℕ → ℕ → ℕ → ℕ
 taken_at x g k o f = if nat_eq o x.0 then taken_of g.0 k f else 0
 
--- there are as many entries as before, and each list keeps its capacity, minus the capacity that is used
+-- there are as many entries as before, and each list keeps its capacity, minus the capacity that is taken
 pub record KeepsPlaces (taken : ℕ → ℕ → ℕ) (old new : Slots) : Type 0 where
   pub slots : length new.lists ≡ length old.lists
   pub places : (o f n : ℕ) → HasPlaceAt old o f n → HasPlaceAt new o f (n - taken o f)

@@ -21,7 +21,7 @@ is_nothing h = is_nil h.list && not h.flag
 abbrev pub StoredMap : Type 0
 StoredMap = map.FinMap nat_cmp Stored
 
--- the map with h under f; if h holds nothing, the map has no entry for f
+-- the map with h under f; if h is nothing, the map has no entry for f
 abbrev pub with_stored : StoredMap → ℕ → Stored → StoredMap
 with_stored m f h = if is_nothing h then map.remove m f else map.insert m f h
 
@@ -29,7 +29,7 @@ with_stored m f h = if is_nothing h then map.remove m f else map.insert m f h
 abbrev pub list_changed : (List Value → List Value) → Stored → Stored
 list_changed g h = record { list = g h.list; flag = h.flag }
 
--- the values of an optional list; no values without a list
+-- the values of a list, or no values if there is no list
 abbrev pub items_of : Option (Places Value) → List Value
 items_of None = []
 items_of (Some p) = p.items

@@ -50,7 +50,7 @@ impl AttributeLists {
         }
     }
 
-    /// The list under an attribute; `None` if it has no entry, and so no values.
+    /// The list under an attribute; `None` if the attribute has no entry, and so no values.
     pub fn list(&self, feature: FeatureNo) -> Option<&ValueList>
         ensures { items_of (option_copied result) ≡ (stored_under self.now feature).list }
     {
@@ -70,8 +70,8 @@ impl AttributeLists {
         }
     }
 
-    /// Makes an entry for an attribute, if it has none, and reserves capacity for more values of its list. `is_asked` says whether the list
-    /// is looked up by value. Fails only if memory is refused.
+    /// Makes an entry for an attribute, if it has none, and reserves capacity for more values of the list in the entry. `is_asked` says
+    /// whether the list is looked up by value. Fails only if memory is refused.
     pub fn make_place(
         &mut self,
         feature: FeatureNo,
@@ -89,7 +89,8 @@ impl AttributeLists {
         self.reserve(feature, at, additional, is_asked)
     }
 
-    /// Puts a long list into pieces, so that it is fast to edit. Fails only if memory is refused.
+    /// If the list under an attribute is long, moves the list into pieces, so that edits of the list are fast. Fails only if memory is
+    /// refused.
     pub fn make_pieces(&mut self, feature: FeatureNo) -> Result<(), AllocError>
         ensures stored { stored_in self.new ≡ stored_in self.old }
         ensures kept { (f n : ℕ) → HasPlace self.old f n → HasPlace self.new f n }
@@ -100,7 +101,7 @@ impl AttributeLists {
         }
     }
 
-    /// Makes an entry for an attribute, if it has none, and returns its index.
+    /// Makes an entry for an attribute, if it has none, and returns the index of the entry.
     fn make_entry(&mut self, feature: FeatureNo) -> Result<usize, AllocError>
         ensures stored { stored_in self.new ≡ stored_in self.old }
         ensures kept { (f n : ℕ) → HasPlace self.old f n → HasPlace self.new f n }
@@ -121,7 +122,7 @@ impl AttributeLists {
         }
     }
 
-    /// Reserves capacity for more values in the entry of an attribute.
+    /// Reserves capacity for more values in the entry of an attribute, which is at the index `at`.
     fn reserve(
         &mut self,
         feature: FeatureNo,
@@ -151,7 +152,7 @@ impl AttributeLists {
             .reserve_exact(if len == 0 { 2 } else { len / 4 + 1 })
     }
 
-    /// Replaces the list under an attribute, in place. Takes no memory.
+    /// Replaces the list and the set flag of an attribute, in the entry of the attribute. Takes no memory.
     pub fn put(&mut self, feature: FeatureNo, list: NewValues, flag: bool)
         requires { HasPlace self.old feature.0 0 }
         ensures stored { stored_in self.new ≡ with_stored (stored_in self.old) feature.0 (record { list = list; flag = flag }) }
@@ -163,8 +164,8 @@ impl AttributeLists {
         }
     }
 
-    /// Replaces the list under an attribute; takes memory for an entry if the attribute has none. Fails only if memory is refused, and then
-    /// nothing that contracts see has changed.
+    /// Replaces the list and the set flag of an attribute. Takes memory for an entry if the attribute has none. Fails only if memory is
+    /// refused, and then nothing that contracts see has changed.
     pub fn set(&mut self, feature: FeatureNo, list: NewValues, flag: bool) -> Result<(), AllocError>
         ensures ok { OnOk result (stored_in self.new ≡ with_stored (stored_in self.old) feature.0 (record { list = list; flag = flag })) }
         ensures err { OnErr result (stored_in self.new ≡ stored_in self.old) }
@@ -201,7 +202,7 @@ impl AttributeLists {
         Ok(())
     }
 
-    /// Replaces the list in the entry of an attribute. Takes no memory.
+    /// Replaces the list and the set flag in the entry of an attribute, which is at the index `at`. Takes no memory.
     fn put_at(&mut self, feature: FeatureNo, at: usize, list: NewValues, flag: bool)
         requires { IsAt self.old feature.0 at }
         ensures stored { stored_in self.new ≡ with_stored (stored_in self.old) feature.0 (record { list = list; flag = flag }) }
@@ -213,7 +214,7 @@ impl AttributeLists {
         entry.flag = flag;
     }
 
-    /// Changes the list that is stored under an attribute; the flag stays. Takes no memory.
+    /// Makes an edit of the list that is stored under an attribute; the set flag stays. Takes no memory.
     pub fn change(&mut self, feature: FeatureNo, edit: ListEdit)
         requires { IsReadyFor self.old feature.0 edit }
         ensures stored { stored_in self.new ≡ change_stored (stored_in self.old) feature.0 (list_after_edit edit) }
@@ -225,7 +226,7 @@ impl AttributeLists {
         }
     }
 
-    /// The index of the attribute's entry, or else the index at which it would be inserted.
+    /// `Ok` with the index of the attribute's entry, or `Err` with the index at which an entry of the attribute would be inserted.
     fn find(&self, feature: FeatureNo) -> Result<usize, usize>
         ensures found { IfOk result (IsAt self.now feature.0) }
         ensures absent { IfErr result (IsGapFor self.now feature.0) }

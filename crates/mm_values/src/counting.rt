@@ -21,29 +21,30 @@ pub(crate) fn uris_added(plan: &[ValueEdit]) -> usize
     plan.iter().filter(|e| e.is_new_uri()).count()
 }
 
-/// Whether a plan puts a value into any list.
+/// Whether a plan inserts a value into any list (`InsertValue`).
 fn has_insert(plan: &[ValueEdit]) -> bool
     ensures { result ≡ list_any is_insert plan.now }
 {
     plan.iter().any(|e| e.is_insert())
 }
 
-/// The edits for which capacity has to be counted: the whole plan; or no edit, if no edit of the plan puts a value into a list. Counting
-/// then takes no time.
+/// The edits for which capacity has to be counted: the whole plan; or no edit, if no edit of the plan inserts a value into a list
+/// (`InsertValue`). In the second case counting takes no time.
 pub(crate) fn counted(plan: &[ValueEdit]) -> &[ValueEdit]
     ensures { (o f : ℕ) → capacity_needed result.now o f ≡ capacity_needed plan.now o f }
 {
     if has_insert(plan) { plan } else { &[] }
 }
 
-/// Whether a plan puts a value into the list that an object has under an attribute.
+/// Whether a plan inserts a value into the list that an object has under an attribute.
 fn is_inserted_at(plan: &[ValueEdit], object: ObjectNo, feature: FeatureNo) -> bool
     ensures { result ≡ list_any (is_insert_at object.0 feature.0) plan.now }
 {
     plan.iter().any(|e| e.is_insert_at(object, feature))
 }
 
-/// How much capacity a plan needs in the list that an object has under an attribute. Fails if the count overflows.
+/// How much capacity a plan needs in the list that an object has under an attribute; none, if the plan inserts no value into this list,
+/// since lists that are put bring their own memory. Fails if the count overflows.
 pub(crate) fn places_needed(
     plan: &[ValueEdit],
     object: ObjectNo,

@@ -1,8 +1,8 @@
-//! What a model repository holds besides links: objects by number, each with its class and its
-//! attribute lists, and the URIs of resources.
+//! What a model repository holds besides links: its objects, each with its number, its class and its attribute lists, and the URIs of its
+//! resources.
 //!
-//! Changes are planned as a list of edits. `Values::reserve_for` takes all the memory that a plan
-//! needs, and `Values::apply` then runs it and cannot fail.
+//! Changes are planned as a list of edits. `Values::reserve_for` takes all the memory that a plan needs, and `Values::apply` then makes the
+//! edits of the plan and cannot fail.
 #![tactic(auto)]
 
 mod attribute_lists;

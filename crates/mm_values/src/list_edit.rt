@@ -9,11 +9,12 @@ use value_lists::ValueList;
 /// One edit of a list of values.
 #[derive(Drop)]
 pub(crate) enum ListEdit {
-    /// Puts a value in at an index; past the end it is put last.
+    /// Inserts a value at an index; if the index is past the end, at the end.
     Insert { index: u32, value: Value },
-    /// Takes a value out; past the end nothing changes.
+    /// Takes out the value at an index; if the index is past the end, nothing changes.
     Remove { index: u32 },
-    /// Takes the value at `from` out and puts it in so that it is then at `to`.
+    /// Takes out the value at `from` and inserts it at `to`, or at the end if `to` is past the end. If `from` is past the end, nothing
+    /// changes.
     Move { to: u32, from: u32 },
 }
 

@@ -1,4 +1,4 @@
-//! The objects of a repository, by number.
+//! The objects of a repository, each found by its number.
 ghost use Rattle.std.specs.Prelude.{◌≡◌, ◌+◌, ◌<◌, ◌≤◌, [], length, option_copied, OnOk, OnErr};
 ghost use Rattle.std.specs.Option.{option_map};
 ghost use Rattle.mm_values.specs.ListEdits.{list_after_edit, list_edit_capacity};
@@ -15,8 +15,9 @@ use std::alloc::{AllocError, Global};
 use std::marker::Model;
 use value_lists::ValueList;
 
-/// The objects by number: `next` of them were made. The entries after the first `next` are reserved for new objects. An entry has the
-/// class, if the object is live, and the attribute lists. Classes and lists are in two columns, so that a look at a class reads no lists.
+/// The objects of a repository, in two columns, whose index is the number of an object: `classes` has the class, if the object is live, and
+/// `lists` has the attribute lists. So a look at a class reads no lists. `next` objects were made, and the entries from `next` on are
+/// reserved for new objects.
 #[derive(Drop)]
 pub(crate) struct Objects {
     classes: Vec<Option<ClassNo>>,
@@ -84,7 +85,7 @@ impl Objects {
         Some(lists.list(feature))
     }
 
-    /// Whether an attribute of a live object is set.
+    /// Whether an attribute of a live object is set; `None` if no live object has the number.
     pub fn flag(&self, object: ObjectNo, feature: FeatureNo) -> Option<bool>
         ensures { result ≡ option_map (λ s. (stored_under s feature).flag) (object_at (objects_of self.now) object) }
     {
@@ -92,7 +93,7 @@ impl Objects {
         Some(lists.flag(feature))
     }
 
-    /// Makes one more entry ready. If memory is refused, nothing has changed.
+    /// Adds one entry, which is ready for a new object. If memory is refused, nothing has changed.
     fn add_slot(&mut self) -> Result<(), AllocError>
         ensures objects { objects_of self.new ≡ objects_of self.old }
         ensures next { self.new.next ≡ self.old.next }
@@ -113,7 +114,7 @@ impl Objects {
         self.lists.len() - self.next
     }
 
-    /// Makes entries ready for more objects. Fails only if memory is refused.
+    /// Makes sure that there are entries ready for a number of new objects. Fails only if memory is refused.
     pub fn reserve(&mut self, additional: usize) -> Result<(), AllocError>
         ensures objects { objects_of self.new ≡ objects_of self.old }
         ensures ok { OnOk result (self.new.next + additional ≤ length self.new.lists) }
@@ -124,8 +125,10 @@ impl Objects {
         Ok(())
     }
 
-    /// Makes an entry for an attribute of an object, if it has none, and reserves capacity for more values of its list. The object may
-    /// still have to be made. `is_asked` says whether the list is looked up by value. Fails only if memory is refused.
+    /// Makes an entry for an attribute of an object, if the attribute has none, and reserves capacity for more values of the list in the
+    /// entry. The object need not be made yet: its number may be one of those that are reserved. Nothing changes for a dead object, or for
+    /// a number that is neither given nor reserved. `is_asked` says whether the list is looked up by value. Fails only if memory is
+    /// refused.
     pub fn make_place(
         &mut self,
         object: ObjectNo,
@@ -148,7 +151,8 @@ impl Objects {
         self.lists[index].make_place(feature, additional, is_asked)
     }
 
-    /// Puts a long list of an object into pieces, so that it is fast to edit. Fails only if memory is refused.
+    /// If the list that an object has under an attribute is long, moves the list into pieces, so that edits of the list are fast. Fails
+    /// only if memory is refused.
     pub fn make_pieces(&mut self, object: ObjectNo, feature: FeatureNo) -> Result<(), AllocError>
         ensures objects { objects_of self.new ≡ objects_of self.old }
         ensures next { self.new.next ≡ self.old.next }
@@ -186,7 +190,7 @@ impl Objects {
         }
     }
 
-    /// Replaces the list of a live object under an attribute, in place. Takes no memory.
+    /// Replaces the list and the set flag that a live object has under an attribute, in the entry of the attribute. Takes no memory.
     pub fn put(&mut self, object: ObjectNo, feature: FeatureNo, list: NewValues, flag: bool)
         requires { HasPlaceAt self.old object.0 feature.0 0 }
         ensures objects { objects_of self.new ≡ with_list (objects_of self.old) object feature (record { list = list; flag = flag }) }
@@ -209,8 +213,8 @@ impl Objects {
         Ok(())
     }
 
-    /// Replaces the list of a live object under an attribute. Fails only if memory is refused, and then nothing that contracts see has
-    /// changed.
+    /// Replaces the list and the set flag that a live object has under an attribute. Fails only if memory is refused, and then nothing that
+    /// contracts see has changed.
     pub fn set(
         &mut self,
         object: ObjectNo,
@@ -228,7 +232,7 @@ impl Objects {
         Ok(())
     }
 
-    /// Changes the list that a live object holds under an attribute; the flag stays. Takes no memory.
+    /// Makes an edit of the list that a live object has under an attribute; the set flag stays. Takes no memory.
     pub fn change(&mut self, object: ObjectNo, feature: FeatureNo, edit: ListEdit)
         requires { IsReadyAt self.old object.0 feature.0 edit }
         ensures objects { objects_of self.new ≡ with_changed (objects_of self.old) object feature (list_after_edit edit) }

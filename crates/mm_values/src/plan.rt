@@ -8,7 +8,7 @@ use std::alloc::Global;
 use std::marker::Model;
 use std::slice;
 
-/// How a plan keeps its edits. Most changes are one edit, which is in the plan itself.
+/// How a plan keeps its edits. Most changes are only one edit, and that edit is in the plan itself.
 #[derive(Debug, Drop)]
 pub(crate) enum EditList {
     One(ValueEdit),

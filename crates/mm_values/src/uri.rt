@@ -11,7 +11,7 @@ use indexmap::Equivalent;
 use mm_types::Text;
 use std::hash::{Hash, Hasher};
 
-/// A URI. It is found by its text, as a `&str`.
+/// A URI. A set finds it by its text, as a `&str`.
 #[derive(Drop)]
 pub(crate) struct Uri {
     text: Text,

@@ -1,4 +1,4 @@
-//! The URIs of resources, by number.
+//! The URIs of resources, in the order of the resources' numbers.
 ghost use Rattle.std.specs.Prelude.{◌≡◌, ◌+◌, ◌<◌, ◌≤◌, [], length, slice_get, position, option_copied, OnOk};
 ghost use Rattle.std.specs.Option.{option_map};
 ghost use Rattle.std.specs.Str.{bytes_eq};
@@ -13,7 +13,7 @@ use std::marker::Model;
 /// How many resources can be numbered.
 const NUMBERS: usize = 1 << 32;
 
-/// The URIs in the order of their resources, each once.
+/// The URIs in the order of the numbers of their resources, each once.
 #[derive(Drop)]
 pub(crate) struct Uris {
     set: IndexSet<Uri>,

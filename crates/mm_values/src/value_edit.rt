@@ -4,7 +4,7 @@ ghost use Rattle.std.specs.Prelude.{◌≡◌};
 use crate::new_values::NewValues;
 use mm_types::{ClassNo, FeatureNo, ObjectNo, Text, Value};
 
-/// One edit. If it has the number of an object that is not live, it changes nothing.
+/// One edit. An edit of an object that is not live changes nothing.
 #[derive(Debug, Drop)]
 pub enum ValueEdit {
     /// Makes an object of a class (EMF: EFactory.create). The number of the object is the count of all objects that were made before it.
@@ -18,8 +18,9 @@ pub enum ValueEdit {
         list: NewValues,
         flag: bool,
     },
-    /// Puts one value into an attribute's list, at an index; past the end it is put last. `is_unique` says that the list is looked up by
-    /// value again and again. If the list is long, `Values::has` then finds at once that a value is missing.
+    /// Inserts one value into an attribute's list, at an index; if the index is past the end, at the end. `is_unique` says that the list is
+    /// looked up by value again and again. In this case the hashes of a long list are counted, so that `Values::has` finds at once that a
+    /// value is not there.
     InsertValue {
         object: ObjectNo,
         feature: FeatureNo,
@@ -27,20 +28,21 @@ pub enum ValueEdit {
         value: Value,
         is_unique: bool,
     },
-    /// Takes one value out of an attribute's list; past the end nothing changes.
+    /// Takes the value at an index out of an attribute's list; if the index is past the end, nothing changes.
     RemoveValue {
         object: ObjectNo,
         feature: FeatureNo,
         index: u32,
     },
-    /// Takes the value at `from` out and puts it in so that it is then at `to`.
+    /// Takes the value at `from` out of an attribute's list and inserts it at `to`, or at the end if `to` is past the end. If `from` is
+    /// past the end, nothing changes.
     MoveValue {
         object: ObjectNo,
         feature: FeatureNo,
         to: u32,
         from: u32,
     },
-    /// Makes a resource of a URI (EMF: ResourceSet.createResource), unless a resource has this URI already.
+    /// Makes a resource with a URI (EMF: ResourceSet.createResource); if a resource has this URI already, nothing changes.
     NewUri(Text),
 }
 

@@ -15,7 +15,8 @@ use mm_types::{ClassNo, FeatureNo, ObjectNo, ResourceNo, Seq, Value};
 use std::alloc::{AllocError, Global};
 use std::slice;
 
-/// Objects by number, each with its class and its attribute lists, and the URIs of resources.
+/// The objects of a repository, each with its class and its attribute lists, and the URIs of its resources. Objects and resources are found
+/// by their numbers.
 #[derive(Drop)]
 pub struct Values {
     objects: Objects,
@@ -80,8 +81,8 @@ impl Values {
         }
     }
 
-    /// The first index of a value among the values of an object under an attribute; `None` if it is not there, and if no live object has
-    /// the number.
+    /// The first index of a value among the values of an object under an attribute; `None` if the value is not there, and if no live object
+    /// has the number.
     pub fn position(&self, object: ObjectNo, feature: FeatureNo, value: &Value) -> Option<usize>
         ensures { result ≡ option_and_then (position (same_value value.now)) (list_of (values_of self.now) object feature) }
     {
@@ -91,8 +92,9 @@ impl Values {
         }
     }
 
-    /// Whether an object has a value under an attribute; `None` if no live object has the number. If more than 64 values were put in with
-    /// `is_unique`, it takes constant time to find that a value is not there, whatever the list's length.
+    /// Whether an object has a value under an attribute; `None` if no live object has the number. If the values were inserted with
+    /// `is_unique`, and there are more than 64, it takes constant time to find that no value with the same hash is there, whatever the
+    /// list's length.
     pub fn has(&self, object: ObjectNo, feature: FeatureNo, value: &Value) -> Option<bool>
         ensures { result ≡ option_map (list_any (same_value value.now)) (list_of (values_of self.now) object feature) }
     {
@@ -116,15 +118,15 @@ impl Values {
         self.uris.get(resource)
     }
 
-    /// The resource of a URI (EMF: ResourceSet.getResource); `None` if no resource has it.
+    /// The resource that has a URI (EMF: ResourceSet.getResource); `None` if no resource has the URI.
     pub fn resource_of(&self, uri: &str) -> Option<ResourceNo>
         ensures { result ≡ resource_of (values_of self.now) uri.now }
     {
         self.uris.find(uri)
     }
 
-    /// Takes all the memory that a plan needs. Fails only if memory is refused, or if there would be more than 2^32 resources; `apply` may
-    /// be called only after `Ok`. Nothing that contracts see changes.
+    /// Takes all the memory that a plan needs. Fails only if memory is refused, or if the resources and the `NewUri` edits of the plan
+    /// together are more than 2^32. `apply` may be called only after `Ok`. Nothing that contracts see changes.
     pub fn reserve_for(&mut self, plan: &ValuePlan) -> Result<(), AllocError>
         ensures unchanged { values_of self.new ≡ values_of self.old }
         ensures ok { OnOk result (HasRoom self.new plan.now) }
@@ -158,8 +160,9 @@ impl Values {
         }
     }
 
-    /// Takes the memory that a plan needs, and makes its edits. Fails only if memory is refused, or if there would be more than 2^32
-    /// resources, and then nothing that contracts see has changed. For a plan of one edit this is faster than `reserve_for` and `apply`.
+    /// Takes the memory that a plan needs, and makes its edits. Fails only if memory is refused, or if the resources and the `NewUri` edits
+    /// of the plan together are more than 2^32, and then nothing that contracts see has changed. For a plan of one edit this is faster than
+    /// `reserve_for` and `apply`.
     pub fn try_apply(&mut self, plan: ValuePlan) -> Result<(), AllocError>
         ensures ok { OnOk result (values_of self.new ≡ values_after_edits (values_of self.old) plan) }
         ensures err { OnErr result (values_of self.new ≡ values_of self.old) }
@@ -170,8 +173,8 @@ impl Values {
         }
     }
 
-    /// Takes the memory that an edit needs, and makes the edit. Fails only if memory is refused, and then nothing that contracts see has
-    /// changed.
+    /// Takes the memory that an edit needs, and makes the edit. Fails only if memory is refused, or if the edit is `NewUri` and there are
+    /// 2^32 resources, and then nothing that contracts see has changed.
     fn try_edit(&mut self, edit: ValueEdit) -> Result<(), AllocError>
         ensures ok { OnOk result (values_of self.new ≡ values_after_edit (values_of self.old) edit) }
         ensures err { OnErr result (values_of self.new ≡ values_of self.old) }
@@ -223,7 +226,7 @@ impl Values {
         Ok(())
     }
 
-    /// Makes edits, in their order, once there is capacity for all of them.
+    /// Reserves capacity for all edits, and then makes them in their order.
     fn try_all(&mut self, edits: Seq<ValueEdit>) -> Result<(), AllocError>
         ensures ok { OnOk result (values_of self.new ≡ values_after_edits (values_of self.old) edits) }
         ensures err { OnErr result (values_of self.new ≡ values_of self.old) }
@@ -286,7 +289,7 @@ impl Values {
         }
     }
 
-    /// Reserves capacity for each list that is put or changed.
+    /// Reserves capacity for each list that an edit puts or changes.
     fn make_places(&mut self, edits: &[ValueEdit]) -> Result<(), AllocError>
         ensures unchanged { values_of self.new ≡ values_of self.old }
         ensures next { self.new.objects.next ≡ self.old.objects.next }
@@ -339,7 +342,8 @@ impl Values {
         }
     }
 
-    /// Reserves capacity for a list, and for the values that a plan puts into it.
+    /// Makes an entry for the list that an object has under an attribute, if it has none, and reserves capacity for the values that a plan
+    /// puts into the list.
     fn make_list(
         &mut self,
         object: ObjectNo,

@@ -35,7 +35,8 @@ pub(crate) struct Asked {
     pub(crate) journal: Option<String>,
     /// Whether the program says what to fix, after its messages.
     pub(crate) explain: bool,
-    /// Whether the program says which file can't be read or written, and why. It does so with `--explain`, and for a person at a terminal.
+    /// Whether the program says which file can't be read or written, and why. This is so with `--explain`, or if standard error is a
+    /// terminal.
     pub(crate) names_files: bool,
 }
 
@@ -63,7 +64,8 @@ fn path_of(rt: &HostRuntime, path: Option<&str>) -> Result<Option<String>, Stop>
     }
 }
 
-/// The resource and the file that a value of an option names. The last `=` separates them, since a URI may have `=` too.
+/// The resource and the file that a value of an option names. The last `=` separates the two, since a URI may have `=` too. A value without
+/// `=`, or with no file after it, is refused.
 fn resource_file(
     rt: &HostRuntime,
     option: &'static str,

@@ -1,4 +1,4 @@
-//! What the program says in addition when it reports why it stops: with `--explain`, and about files also for a person at a terminal.
+//! What the program says in addition when it reports why it stops: with `--explain`, and about files also if standard error is a terminal.
 use crate::asked::Asked;
 use crate::stop::{JournalRefusal, Stop};
 use durable::JournalFault;
@@ -10,7 +10,8 @@ use script_streams::RunFault;
 use std::alloc::AllocError;
 use std::io;
 
-/// Why the program stops for a fault of a file. If `explain` is set, a text has the path and the reason that the system gives.
+/// Why the program stops for a fault of a file. If `explain` is set, the result has a text with the path and the reason that the system
+/// gives.
 fn failed(rt: &HostRuntime, explain: bool, path: &str, fault: RunFault, error: io::Error) -> Stop {
     if !explain {
         return Stop::Run(fault);
@@ -85,7 +86,7 @@ pub(crate) fn explained_fault(
     }
 }
 
-/// A journal that is refused, with an explanation if `--explain` asks for it.
+/// Why the program stops for a journal that is refused; with the explanation `text` if `explain` is set.
 fn refused(explain: bool, refusal: JournalRefusal, text: Result<String, AllocError>) -> Stop {
     match text {
         Ok(text) if explain => Stop::ExplainedJournal(refusal, text),
@@ -113,7 +114,7 @@ pub(crate) fn explained_lock(
     }
 }
 
-/// Why a journal is not taken.
+/// Why a journal is not opened, or why its lines can't be run again.
 pub(crate) fn explained_journal(
     rt: &HostRuntime,
     asked: &Asked,

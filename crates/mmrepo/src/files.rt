@@ -15,7 +15,7 @@ use std::fs::File;
 use std::io::Read;
 use std::{fs, io, str};
 
-/// Capacity for as many bytes as a file has now. Fails only if memory is refused.
+/// An empty vector with capacity for one byte more than a file has now. Fails only if memory is refused.
 fn room_for(rt: &HostRuntime, file: &File) -> Result<Vec<u8>, AllocError> {
     let len = match file.metadata() {
         Ok(metadata) => usize::try_from(metadata.len()).unwrap_or(0),
@@ -40,8 +40,8 @@ fn bytes_of(rt: &HostRuntime, asked: &Asked, path: &str) -> Result<Vec<u8>, Stop
     }
 }
 
-/// Why the resource of a file is not loaded or not saved. With `--explain` the text has the explanation of the script line that would do
-/// the same.
+/// Why the resource of a file is not loaded or not saved. With `--explain` the result has the explanation that a script line of the form
+/// `form` would get.
 pub(crate) fn refused_form<L: LinkStore, A: Adapter>(
     rt: &HostRuntime,
     asked: &Asked,
@@ -80,7 +80,7 @@ fn not_utf8(
     Ok(Stop::Resource(file, refused, text))
 }
 
-/// Whether there is a resource of a number.
+/// Whether there is a resource with a given number.
 fn is_made<L: LinkStore, A: Adapter>(repository: &Repository<L, A>, resource: ResourceNo) -> bool {
     let contents = repository.meta().contents();
     repository

@@ -48,7 +48,7 @@ fn answer<D: Disk + Drop, A: Adapter>(
     Ok(run.outcome)
 }
 
-/// The file of a journal, and the digest of the metamodel's document that its first line must have.
+/// The file of a journal, and the digest of the metamodel's document. The first line of the journal must have this digest.
 #[derive(Clone, Copy)]
 struct JournalFile<'a> {
     path: &'a str,

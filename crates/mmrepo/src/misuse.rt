@@ -1,4 +1,4 @@
-//! Options that don't go together.
+//! Options that can't be used together, options without an option that they need, and values that are not of the form URI=FILE.
 use command_line::Options;
 use std::fmt;
 
@@ -24,7 +24,7 @@ impl fmt::Display for Misuse {
 }
 
 /// The first rule on options that is broken. A live run reads its lines from standard input, and writes its answers without output options.
-/// A journal needs a live run. It keeps lines, but not the documents that `--load` loads.
+/// A journal needs a live run. A journal keeps lines, but not the documents that `--load` loads.
 pub(crate) fn misuse_of(options: &Options<'_>) -> Option<Misuse> {
     let is_live = options.live;
     let is_kept = options.journal.is_some();

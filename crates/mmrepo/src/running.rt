@@ -26,13 +26,14 @@ const BOXES: u32 = 8;
 /// How many adapters a live run has.
 const LIVE_BOXES: u32 = 1000;
 
-/// How many notifications A8 can still count, its last one included.
+/// How many notifications A8 can count in a run, the notification of REMOVING_ADAPTER included.
 const LEFT: u64 = 2;
 
-/// The status after a script with a refused or bad line, if such a line gives a status of its own.
+/// The exit status with `--strict` after a script with a refused or bad line.
 const FAULTY: u8 = 4;
 
-/// Standard output through a buffer. The watch is below the buffer, so that a write into the buffer costs no more than the copy.
+/// Standard output through a buffer. The buffer writes to the `Watched` stream, and not the other way round, so that a write into the
+/// buffer costs no more than the copy.
 pub(crate) fn writer_of<'w>(
     rt: &'w HostRuntime,
     watch: Watching<'w>,
@@ -43,7 +44,7 @@ pub(crate) fn writer_of<'w>(
     }
 }
 
-/// Writes the rest of the buffer, whatever the outcome of a run.
+/// Flushes the writer, whatever the outcome of a run. Returns the outcome, or `Write` if the run came to its end and the flush failed.
 fn ended<W: Write>(
     writer: &mut W,
     outcome: Result<Summary, RunFault>,
@@ -125,7 +126,8 @@ fn run_script<A: Adapter>(
     }
 }
 
-/// Loads files, runs the script and saves files. Nothing is saved if a refused or bad line ended the script.
+/// Loads files, runs the script and saves files. With the option `stop`, nothing is saved if a line was refused or bad. Returns whether a
+/// line was refused or bad.
 fn run_between<A: Adapter>(
     rt: &HostRuntime,
     asked: &Asked,
@@ -142,7 +144,7 @@ fn run_between<A: Adapter>(
     Ok(faulty)
 }
 
-/// Runs everything that the options name over a new repository, which keeps no journal. Returns whether a line was refused or bad.
+/// Loads files, runs the script and saves files, over a new repository and without a journal. Returns whether a line was refused or bad.
 fn run_unkept<A: Adapter>(
     rt: &HostRuntime,
     asked: &Asked,
@@ -190,9 +192,9 @@ fn run_over_metamodel<A: Adapter>(
     }
 }
 
-/// Runs the script with its adapters: A1 to A4 keep every notification, A5 keeps the last 2 and A6 the last 100, A7 counts, and A8 can
-/// count two more. A live run has further adapters, which only count: so their notifications take no memory in a long run. Returns whether
-/// a line was refused or bad.
+/// Runs the script with its adapters: A1 to A4 keep every notification, A5 keeps the last 2 and A6 the last 100, A7 and A8 only count, and
+/// A8 counts no more than two notifications. A live run has further adapters, which only count, so that their notifications take no memory
+/// in a long run. Returns whether a line was refused or bad.
 fn run_with_boxes(
     rt: &HostRuntime,
     asked: &Asked,
@@ -213,7 +215,7 @@ fn run_with_boxes(
 }
 
 /// Runs the script as the options say, over the metamodel of a document, and returns whether a line was refused or bad. The lines are
-/// watched if they are to be commented on, or if the resources that they make are to be saved.
+/// watched if they are to be commented on, or if resources are to be saved: the watch notes the URIs of the resources.
 pub(crate) fn run_asked(
     rt: &HostRuntime,
     asked: &Asked,

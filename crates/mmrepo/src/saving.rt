@@ -25,7 +25,7 @@ fn resource_for(watch: Watching<'_>, to: &ResourceFile) -> Result<ResourceNo, Re
     Err(Refused::NoResource)
 }
 
-/// Why the run stops, if the resource that is to be saved into a file is not found.
+/// Why the program stops, if the resource that is to be saved into a file is not found.
 fn not_found<L: LinkStore, A: Adapter>(
     rt: &HostRuntime,
     asked: &Asked,
@@ -67,14 +67,14 @@ fn document_for<L: LinkStore, A: Adapter>(
     }
 }
 
-/// Writes a document as a line, and puts it on the disk.
+/// Writes a document and a newline into a file, and puts the file on the disk.
 fn write_document(mut file: File, document: &str) -> io::Result<()> {
     file.write_all(document.as_bytes())?;
     file.write_all(b"\n")?;
     file.sync_all()
 }
 
-/// Replaces a file by a document in one step: a reader of the file finds its old content, or all of the document.
+/// Replaces a file by a document in one step: a reader of the file finds the old content, or all of the document.
 fn replace(rt: &HostRuntime, path: &str, document: &str) -> io::Result<()> {
     let id = process::id(rt.process());
     let temporary = format!(in rt.alloc(); "{path}.{id}.tmp")?;
@@ -106,7 +106,7 @@ fn documents_for<L: LinkStore, A: Adapter>(
     Ok(documents)
 }
 
-/// Saves the resources that the options name. If one of the resources is refused, no file is written.
+/// Saves the resources that the options name. If the save of one of the resources is refused, no file is written.
 pub(crate) fn save_files<L: LinkStore, A: Adapter>(
     rt: &HostRuntime,
     asked: &Asked,

@@ -1,4 +1,4 @@
-//! Why the program stops, and its message.
+//! Why the program stops, the message that it then writes, and its exit status.
 use crate::misuse::Misuse;
 use clap::error::ErrorKind;
 use command_line::usage_of;
@@ -16,7 +16,7 @@ pub(crate) enum JournalRefusal {
     NoJournal,
     /// The journal was begun with another metamodel.
     OtherMetamodel,
-    /// The line of this number was not done when it was run again.
+    /// The line of this number was run again, and was refused, or is bad, or is no line that a journal keeps. The head is line 1.
     Line(u64),
 }
 
@@ -31,14 +31,14 @@ impl fmt::Display for JournalRefusal {
     }
 }
 
-/// Why the program stops before the end of the script.
+/// Why the program stops before it has done all that its options say.
 #[derive(Drop)]
 pub(crate) enum Stop {
-    /// The words are not valid arguments of the program, or they ask for help.
+    /// The words are not valid arguments of the program, or they ask for the help or the version, or memory was refused for the arguments.
     Arguments(clap::Error),
     /// An argument is not UTF-8.
     NotUtf8,
-    /// Options don't go together, or the value of an option is not of the form URI=FILE.
+    /// Options can't be used together, an option lacks an option that it needs, or the value of an option is not of the form URI=FILE.
     Misuse(Misuse),
     /// The metamodel is refused.
     Metamodel(MetaFault),
@@ -52,7 +52,7 @@ pub(crate) enum Stop {
     ExplainedJournal(JournalRefusal, String),
     /// A file is not read or written, and a text says why.
     Explained(RunFault, String),
-    /// The resource of a file is not loaded or not saved, and a text may say why.
+    /// The resource of a file is not loaded or not saved: the path of the file, the refusal, and a text that says why or is empty.
     Resource(String, Refused, String),
 }
 
@@ -131,7 +131,8 @@ fn explain(rt: &HostRuntime, status: u8, text: &str) -> u8 {
     status
 }
 
-/// Says on standard error why the program stops, and returns its status.
+/// Says on standard error why the program stops, and returns the exit status of the program. The texts of `--help` and `--version` are
+/// written to standard output.
 pub(crate) fn report(rt: &HostRuntime, stop: Stop) -> u8 {
     match stop {
         Stop::Arguments(error) => report_arguments(rt, error),

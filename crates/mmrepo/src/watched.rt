@@ -1,4 +1,4 @@
-//! The listener of a run, and the stream that writes its comments.
+//! The listener of a run, and the stream that writes the comments on the lines of the run.
 use adapters::Adapter;
 use explain_commands::Commentary;
 use links::LinkStore;

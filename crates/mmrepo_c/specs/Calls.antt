@@ -26,12 +26,12 @@ pub record Accepts (bytes : List ℕ) (h : Held) : Type 0 where
   pub given : Gives bytes (Ok metamodel)
   pub begun : Begins metamodel h
 
--- a document was opened: the handle has a new session; or the status says why it is refused, and the handle is closed
+-- a document was opened: the handle has a new session; or the status says why the document is refused, and the handle is closed
 abbrev pub OpensDocument : List ℕ → ℕ → Option Held → Type 0
 OpensDocument bytes status None = (f : MetaFault) × IsRefusedFor bytes f × (status ≡ fault_status f)
 OpensDocument bytes status (Some h) = (status ≡ OK) × Accepts bytes h
 
--- the status of opening a document, and the handle after it
+-- the status that opening a document returns, and the handle after the call
 abbrev pub Opens : List ℕ → ℕ → Option Held → Type 0
 Opens bytes status new =
     ((INPUT_BYTES < length bytes) × (status ≡ TOO_LONG) × (new ≡ None)) ⊎ ((length bytes ≤ INPUT_BYTES) × OpensDocument bytes status new)
@@ -41,23 +41,24 @@ abbrev pub AnswersLine : Held → List ℕ → ℕ → Option Held → Type 0
 AnswersLine h line status None = status ≡ MEMORY
 AnswersLine h line status (Some t) = (turn : Turn) × (status ≡ line_status turn) × RunsLine (running_session h) (form line) (printed_line (answer t) turn) (running_session t)
 
--- the status of a line in a handle, and the handle after it
+-- the status that running a line in the session of a handle returns, and the handle after the call
 abbrev pub Answers : Option Held → List ℕ → ℕ → Option Held → Type 0
 Answers None line status new = (status ≡ CLOSED) × (new ≡ None)
 Answers (Some h) line status new =
     ((INPUT_BYTES < length line) × (status ≡ TOO_LONG) × (new ≡ Some h)) ⊎ ((length line ≤ INPUT_BYTES) × AnswersLine h line status new)
 
--- a read was made: the text that the read printed is now the answer of the session; if memory was refused to the text, the handle is closed
+-- a read was made: the text that the read printed is now the answer of the session; if memory was refused for the text, the handle is
+-- closed
 abbrev pub ReadsSession : Held → (Session → Printed) → ℕ → Option Held → Type 0
 ReadsSession h asked status None = status ≡ MEMORY
 ReadsSession h asked status (Some t) = (turn : Turn) × (status ≡ line_status turn) × Reads (running_session h) asked (printed_line (answer t) turn) (running_session t)
 
--- the status of a read of a list in a handle, and the handle after it; `name` is the name of the feature
+-- the status that reading a list in the session of a handle returns, and the handle after the call; `name` is the name of the feature
 abbrev pub ReadsList : Option Held → List ℕ → (Session → Printed) → ℕ → Option Held → Type 0
 ReadsList None name asked status new = (status ≡ CLOSED) × (new ≡ None)
 ReadsList (Some h) name asked status new = (¬ IsUtf8 name × (status ≡ BAD) × (new ≡ Some h)) ⊎ (IsUtf8 name × ReadsSession h asked status new)
 
--- the resource with a number; and `node_of`, the resource or the object with a number
+-- the resource with a number; `node_of` is this resource for `true`, and the object with the number for `false`
 abbrev pub resource_of : ℕ → ResourceNo
 resource_of number = record { 0 = number }
 
@@ -65,30 +66,32 @@ abbrev pub node_of : Bool → ℕ → Node
 node_of true number = node.Resource (resource_of number)
 node_of false number = node.Object (record { 0 = number })
 
--- how many values a list has
+-- what a read of the length of a list prints
 abbrev pub asked_len : Node → List ℕ → Session → Printed
 asked_len n name s = list_len_printed s.state n name
 
--- the value at an index of a list
+-- what a read of the value at an index of a list prints
 abbrev pub asked_value : Node → List ℕ → ℕ → Session → Printed
 asked_value n name i s = list_value_printed s.state n name i
 
--- a document was loaded, as the command `Load` does; if memory was refused to the call, the handle is closed
+-- a document was loaded, as the command `Load` loads it: the text that the load printed is now the answer of the session; if memory was
+-- refused to the call, the handle is closed
 abbrev pub LoadsDocument : Held → ResourceNo → List ℕ → ℕ → Option Held → Type 0
 LoadsDocument h k text status None = status ≡ MEMORY
 LoadsDocument h k text status (Some t) = (turn : Turn) × (status ≡ line_status turn) × RunsCommand (running_session h) (Load k text) (printed_line (answer t) turn) (running_session t)
 
--- the status of a load in a handle, and the handle after it
+-- the status that a load in the session of a handle returns, and the handle after the call
 abbrev pub Loads : Option Held → ResourceNo → List ℕ → ℕ → Option Held → Type 0
 Loads None k text status new = (status ≡ CLOSED) × (new ≡ None)
 Loads (Some h) k text status new = LoadsDocument h k text status new
 
--- the text of the last answer
+-- the text that the last line, read or load of a handle printed; no text if the handle is closed
 abbrev pub text_of : Option Held → List ℕ
 text_of None = []
 text_of (Some h) = answer h
 
--- the text of a handle was copied into a buffer, and the handle is as it was
+-- the text of a handle was copied into a buffer, as far as the buffer can hold it; the count is the length of the whole text, and the
+-- handle is as it was
 pub record Copies (held : Option Held) (room : List ℕ) (count : ℕ) (filled_room : List ℕ) (new : Option Held) : Type 0 where
   pub counted : count ≡ length (text_of held)
   pub copied : filled_room ≡ filled_buffer (text_of held) room

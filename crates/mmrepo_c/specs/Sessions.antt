@@ -1,4 +1,4 @@
--- The view of a session, and its first state.
+-- A session as the definitions of scripts see it, its first state, and what a read leaves of it.
 use Rattle.std.specs.Prelude.{◌≡◌, ℕ, List, [], map, replicate, Some}
 use Rattle.mm_types.specs.Resolved.{Metamodel}
 use Rattle.notice_chain.specs.View.{View}
@@ -29,7 +29,7 @@ pub record Begins (m : Metamodel) (h : Held) : Type 0 where
   pub runs : running_session h ≡ session (empty_state m) (replicate BOXES (Some new_view))
   pub silent : answer h ≡ []
 
--- the text that was asked of a session was printed, and the session is as it was
+-- what `asked` gives for a session was printed, and the session is as it was
 pub record Reads (s : Session) (asked : Session → Printed) (p : Printed) (t : Session) : Type 0 where
   pub printed : p ≡ asked s
   pub kept : t ≡ s

@@ -14,6 +14,6 @@ line_status turned.Done = OK
 line_status turned.Refused = REFUSED
 line_status turned.Lost = LOST
 
--- the status of a metamodel that is refused
+-- the status of a metamodel that is refused: the number of its fault, or `MEMORY` if memory was refused
 abbrev pub fault_status : MetaFault → ℕ
 fault_status f = unwrap_or (fault_number f) MEMORY

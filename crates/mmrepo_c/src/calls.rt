@@ -10,7 +10,7 @@ use mm_types::{Node, ObjectNo, ResourceNo};
 use script_answers::Turn;
 use std::alloc::AllocError;
 
-/// The resource or the object that has a number.
+/// The resource with a number if `is_resource` is true, else the object with that number.
 pub(crate) fn node_of(is_resource: bool, number: u32) -> Node
     ensures { result ≡ c.node_of is_resource number }
 {
@@ -21,8 +21,8 @@ pub(crate) fn node_of(is_resource: bool, number: u32) -> Node
     }
 }
 
-/// Puts a session back into its handle after a call, and returns the status of the call. If memory was refused to the call, the session is
-/// closed.
+/// Puts a session back into its handle, from which a call took the session. Returns the status of the call. If memory was refused to the
+/// call, the session is dropped instead, and the handle stays closed.
 pub(crate) fn put_back(
     handle: &mut Handle,
     session: Box<Session>,

@@ -6,7 +6,7 @@ use crate::session::Session;
 use std::alloc::Global;
 use std::mem;
 
-/// A session, or none if the handle is closed. C declares it as `mmrepo_session`, whose bytes are zero at first.
+/// A session, or none if the handle is closed. In C the handle is an `mmrepo_session`, which begins as a null pointer and `false`.
 #[repr(C)]
 #[derive(Drop)]
 pub struct Handle {

@@ -1,8 +1,8 @@
-//! mmrepo for C: a static library, whose functions `include/mmrepo.h` declares. A session over a metamodel answers the lines of a
-//! script, each in a call. docs/C.md begins with a program.
+//! mmrepo for C: a static library, whose functions `include/mmrepo.h` declares. A session over a metamodel answers the lines of a script,
+//! one line in each call. docs/C.md has an example.
 //!
-//! A call takes a session out of its handle and puts it back. So all code except that of `SessionPointer` and `Loose` is safe, and is
-//! proved from the contracts of these two.
+//! A call takes the `Box` of a session out of its handle, and puts the `Box` back. So only `SessionPointer` and `Loose` work with raw
+//! pointers. All other code is safe, and is proved from the contracts of these two types.
 #![tactic(auto)]
 
 ghost use Rattle.std.specs.Prelude.{◌≡◌, None};
@@ -51,11 +51,13 @@ pub extern "C" fn mmrepo_open(alloc: Global, handle: &mut Handle, document: &[u8
     }
 }
 
-/// Runs a line of a script; `line` has no newline at its end. From then on the output of the line is the text of the session.
+/// Runs a line of a script; `line` has no newline at its end. From then on the text of the session is the output of the line.
 ///
-/// Returns how the line is counted: `OK` for a command that was done, `BLANK`, `BAD`, `REFUSED`, or `LOST` if the repository was
-/// refused memory, and nothing has changed. `CLOSED` if the handle is closed. `TOO_LONG` if the line has more than `INPUT_BYTES`
-/// bytes: the session is as it was. `MEMORY` if memory is refused to the run itself: the session is closed.
+/// Returns how the line is counted: `OK` if its command was done, `BLANK` if the line is empty or has only spaces, `BAD` if the line is no
+/// command, `REFUSED` if its command was refused, and `LOST` if the repository was refused memory for the command. After `REFUSED` or
+/// `LOST` the repository is as it was. Returns `CLOSED` if the handle is closed, however long the line is. Returns `TOO_LONG` if the line
+/// has more than `INPUT_BYTES` bytes: the session is as it was. Returns `MEMORY` if memory is refused to the run itself: the session is
+/// closed.
 #[unsafe(no_mangle)]
 pub extern "C" fn mmrepo_line(alloc: Global, handle: &mut Handle, line: &[u8]) -> u32
     ensures { c.Answers handle.old.pointer.held line.now result handle.new.pointer.held }
@@ -75,11 +77,13 @@ pub extern "C" fn mmrepo_line(alloc: Global, handle: &mut Handle, line: &[u8]) -
     }
 }
 
-/// Reads how many values a list has: a list of an object, or the `contents` of a resource. The number is the text of the session from then
-/// on.
+/// Reads how many values a list has. `number` is the number of a resource if `is_resource` is true, else the number of an object. `feature`
+/// is the name of the feature whose values are the list; a resource has only the list `contents`. From then on the text of the session is
+/// the count.
 ///
-/// Returns `OK`; or `REFUSED` if there is no such list, and then the text is the refusal. `CLOSED` if the handle is closed. `BAD` if the
-/// name is not UTF-8: the session is as it was. `MEMORY` if memory is refused for the text: the session is closed.
+/// Returns `OK`; or `REFUSED` if there is no such list, and then the text of the session is the refusal. Returns `CLOSED` if the handle is
+/// closed. Returns `BAD` if the name is not UTF-8: the session is as it was. Returns `MEMORY` if memory is refused for the text: the
+/// session is closed.
 #[unsafe(no_mangle)]
 pub extern "C" fn mmrepo_list_length(
     alloc: Global,
@@ -101,9 +105,12 @@ pub extern "C" fn mmrepo_list_length(
     put_back(handle, session, outcome)
 }
 
-/// Reads the value at an index of a list; the first index is 0. The value is the text of the session from then on.
+/// Reads the value at an index of a list; the first index is 0. The arguments name the list as those of `mmrepo_list_length` do. From then
+/// on the text of the session is the value.
 ///
-/// Returns what `mmrepo_list_length` returns. If the index is past the last value, the refusal is `INDEX`.
+/// Returns `OK`; or `REFUSED` if there is no such list, or if the index is past the last value. After `REFUSED` the text of the session is
+/// the refusal, which is `INDEX` for such an index. Returns `CLOSED` if the handle is closed. Returns `BAD` if the name is not UTF-8: the
+/// session is as it was. Returns `MEMORY` if memory is refused for the text: the session is closed.
 #[unsafe(no_mangle)]
 pub extern "C" fn mmrepo_list_value(
     alloc: Global,
@@ -126,11 +133,12 @@ pub extern "C" fn mmrepo_list_value(
     put_back(handle, session, outcome)
 }
 
-/// Loads a document into a resource, as the line `load` does, but from bytes of any length, newlines among them. From then on the output of
-/// the load is the text of the session.
+/// Loads a document into a resource, as the line `load` does. But the document may have any length, and may have newlines. From then on the
+/// text of the session is the output of the load.
 ///
-/// Returns `OK`, `REFUSED` or `LOST` as `mmrepo_line` does. `CLOSED` if the handle is closed. `MEMORY` if memory is refused to the call
-/// itself: the session is closed.
+/// Returns `OK` if the document was loaded, `REFUSED` if the load was refused, and `LOST` if the repository was refused memory. After
+/// `REFUSED` or `LOST` the repository is as it was. Returns `CLOSED` if the handle is closed. Returns `MEMORY` if memory is refused to the
+/// call itself: the session is closed.
 #[unsafe(no_mangle)]
 pub extern "C" fn mmrepo_load(
     alloc: Global,
@@ -147,8 +155,9 @@ pub extern "C" fn mmrepo_load(
     put_back(handle, session, outcome)
 }
 
-/// Copies the text of the last answer, or as much of the text as the buffer can hold. Returns how many bytes the text has: 0 if no line,
-/// read or load was run yet, and if the handle is closed.
+/// Copies the text of the session, or as much of the text as the buffer can hold. The text is what the last line, read or load printed.
+/// Returns how many bytes the whole text has: 0 if no line, read or load was run yet, if the last line was blank, and if the handle is
+/// closed.
 #[unsafe(no_mangle)]
 pub extern "C" fn mmrepo_text(alloc: Global, handle: &mut Handle, out: &mut [u8]) -> usize
     ensures { c.Copies handle.old.pointer.held out.old result out.new handle.new.pointer.held }

@@ -1,11 +1,11 @@
-//! A `Box` as its pointer.
+//! A `Box`, taken apart into its pointer and its allocator.
 ghost use Rattle.std.specs.Prelude.{◌≡◌};
 ghost use Rattle.std.specs.Box.Ownership.{box_owns};
 
 use std::alloc::Allocator;
 use std::marker::Model;
 
-/// The parts of a `Box`. They own what the `Box` owned.
+/// The parts of a `Box`. The parts own what the `Box` owned.
 pub(crate) struct Loose<T, A: Allocator> {
     pub(crate) at: *mut T,
     pub(crate) alloc: A,

@@ -15,10 +15,10 @@ use script_answers::Turn;
 use script_program::Interpreter;
 use std::alloc::{AllocError, Global};
 
-/// How many adapters a script has: A1 and so on.
+/// How many adapters a session has: A1 to A1000.
 const BOXES: usize = 1000;
 
-/// A repository over a metamodel, the adapters of its script, and the output of the last line.
+/// A repository over a metamodel, the adapters that lines can attach, and the output of the last line, read or load.
 #[derive(Drop)]
 pub struct Session {
     interpreter: Interpreter<SlotStore, Counter>,
@@ -79,7 +79,7 @@ impl Session {
         self.interpreter.load(resource, document)
     }
 
-    /// The text that the last call printed.
+    /// The text that the last line, read or load printed.
     pub(crate) fn text(&self) -> &[u8]
         ensures { result.now ≡ answer self.now }
     {

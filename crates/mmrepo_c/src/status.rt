@@ -14,7 +14,7 @@ pub const BLANK: u32 = 20;
 /// The line is no command, or the name of a feature is not UTF-8.
 pub const BAD: u32 = 21;
 
-/// The command was refused.
+/// The command or the read was refused.
 pub const REFUSED: u32 = 22;
 
 /// The command was refused memory.
@@ -23,10 +23,10 @@ pub const LOST: u32 = 23;
 /// The session is closed.
 pub const CLOSED: u32 = 30;
 
-/// The input is longer than it may be.
+/// The metamodel or the line has more than `INPUT_BYTES` bytes.
 pub const TOO_LONG: u32 = 31;
 
-/// Memory was refused to the call itself.
+/// Memory was refused to the call itself, and the session is closed.
 pub const MEMORY: u32 = 32;
 
 /// The status of a line, by how it is counted.
@@ -42,7 +42,7 @@ pub(crate) fn line_status(turn: Turn) -> u32
     }
 }
 
-/// The status of a metamodel that is refused: the number of its fault, or `MEMORY`.
+/// The status of a metamodel that is refused: the number of its fault, or `MEMORY` if memory was refused.
 pub(crate) fn fault_status(fault: MetaFault) -> u32
     ensures { result ≡ s.fault_status fault }
 {

@@ -1,5 +1,5 @@
--- Notifications are enough: replayed on a snapshot of a deep target, the notifications of an adapter give the later state of each node at
--- or below that target.
+-- Notifications are enough: replayed on a snapshot of a deep target, the notifications of an adapter give the later state of that target,
+-- and of each node that stays below it.
 use Rattle.std.specs.Prelude.{◌≡◌, ◌&&◌, Bool, true, false, IsTrue, List, [], ◌∷◌, drop, length, Some, None}
 use Rattle.std.specs.List.{list_any}
 use Rattle.std.specs.Option.{option_map_or}
@@ -25,15 +25,15 @@ use Rattle.repository.specs.declared.command.Command.TheVariants.{Detach}
 use Rattle.snapshots.specs.Replayed.{replayed_notices, state_at}
 use Rattle.snapshots.specs.Snapshots.{node_state, snapshot_of}
 
--- the notifications of a command that is not refused, replayed on the values of an end before it, give the values of the end after it, if
--- the end's node exists before and after
+-- the notifications of a command that is not refused, replayed on the values and the set flag that an end has before the command, give the
+-- values and the set flag that the end has after the command, if the end's node exists before and after the command
 abbrev pub ChainReplays : State → Command View → Type 0
 ChainReplays s c =
     IsLegal s → refusal_of s c ≡ None
     → (d : End) → IsTrue (is_there (reads s) d.node) → IsTrue (is_there (reads (step s c).after) d.node)
     → ends_after_notices (has_flag s.model.metamodel) (held_at (reads s)) (chain (reads s) c) d ≡ held_at (reads (step s c).after) d
 
--- a snapshot has the state of each node that is its target or below it
+-- a snapshot of the node `target` has the state of each node that is `target` or below `target`
 abbrev pub HasEachNode : Model → Node → Node → Type 0
 HasEachNode s target n =
     models.IsLegal s → IsTrue (is_there (reading s) target) → is_within (reading s) target n ≡ true → state_at n (snapshot_of (reading s) target) ≡ Some (node_state (reading s) n)
@@ -49,7 +49,7 @@ AllAlong P s (c ∷ cs) = P s × AllAlong P (step s c).after cs
 abbrev pub is_deep_of : Node → Listed → Bool
 is_deep_of target a = list_any (λ t. t.deep && same_node t.node target) a.targets
 
--- whether a node is a deep target of the attached adapter of a number
+-- whether a node is a deep target of the attached adapter that has this number
 abbrev pub is_deep_target : AdapterNo → Node → State → Bool
 is_deep_target number target s = option_map_or (is_deep_of target) (adapter number s.adapters) false
 
@@ -60,8 +60,8 @@ HasDeepTarget number target s = IsTrue (is_deep_target number target s)
 abbrev pub IsAtOrBelow : Node → Node → State → Type 0
 IsAtOrBelow target n s = is_within (reads s) target n ≡ true
 
--- The notifications of a run, replayed on a snapshot of the target before the run, give a node the state that it has in a snapshot after the
--- run.
+-- The notifications `ns`, replayed on a snapshot of the target before a run, give the node n the state that n has in a snapshot of the
+-- target after the run.
 abbrev pub AreEnough : State → List (Command View) → Node → Node → List Notice → Type 0
 AreEnough s cs target n ns = state_at n (replayed_notices (snapshot_of (reads s) target) ns) ≡ state_at n (snapshot_of (reads (run s cs).after) target)
 
@@ -76,7 +76,7 @@ OfWatched s cs number target a n Holds =
 abbrev pub ToldIsEnough : State → List (Command View) → AdapterNo → Node → Listed → Node → Type 0
 ToldIsEnough s cs number target a n = OfWatched s cs number target a n (AreEnough s cs target n (told_to number (told_by_all (run s cs).outcomes)))
 
--- if a view keeps all notifications, the notifications that it got since an earlier view are enough
+-- if the adapter of an earlier view v keeps all notifications, the notifications that its later view w has kept after those of v are enough
 abbrev pub KeepsEnough : State → List (Command View) → Node → Node → View → View → Type 0
 KeepsEnough s cs target n v w = v.room ≡ None → AreEnough s cs target n (drop (length v.kept) w.kept)
 

@@ -11,12 +11,13 @@ use Rattle.repository.specs.Step.{Stepped, step}
 use Rattle.repository.specs.Views.{Outcome}
 use Rattle.repository.specs.declared.command.Command.{Command}
 
--- the notifications of a list that are for the adapter of a number
+-- the notifications of a list that are for the adapter with this number
 abbrev pub told_to : AdapterNo → List (AdapterNo × Notice) → List Notice
 told_to number [] = []
 told_to number (t ∷ ts) = if same_no number t.0 then t.1 ∷ told_to number ts else told_to number ts
 
--- which adapter was notified of what, as one outcome says; and `told_by_all`, as several outcomes say in turn
+-- the notifications that an outcome lists, each with the number of the adapter that was notified; and `told_by_all`, the notifications that
+-- all outcomes of a list have, in order
 abbrev pub told_by : Outcome → List (AdapterNo × Notice)
 told_by (Ok r) = r.told
 told_by (Err f) = []
@@ -30,11 +31,11 @@ abbrev pub handed_out_by : Outcome → List (AdapterNo × View)
 handed_out_by (Ok r) = r.released
 handed_out_by (Err f) = []
 
--- the view of the adapter of a number among the adapters that are given back
+-- the view of the adapter with this number, if it is among the adapters that are given back
 abbrev pub handed_out : AdapterNo → List (AdapterNo × View) → Option View
 handed_out number vs = option_map (λ (v : AdapterNo × View). v.1) (find (λ (v : AdapterNo × View). same_no number v.0) vs)
 
--- the view of the adapter of a number, attached or given back
+-- the view of the adapter with this number, if it is attached or given back
 abbrev pub view_among : AdapterNo → List Listed → List (AdapterNo × View) → Option View
 view_among number rs vs = option_map_or (λ (a : Listed). Some a.view) (adapter number rs) (handed_out number vs)
 

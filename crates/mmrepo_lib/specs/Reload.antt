@@ -31,13 +31,14 @@ use Rattle.repository.specs.declared.command.Command.TheVariants as command
 use Rattle.repository.specs.declared.reply.Answer.{Answer}
 use Rattle.repository.specs.declared.reply.Answer.TheVariants as answer
 
--- the commands that do some tasks; `texts` has the text of each resource
+-- the commands that do a list of tasks: `texts` has the text of each resource, and `made` lists the resources that were made before, in
+-- order
 abbrev pub commands : Reading → (ResourceNo → List ℕ) → List ResourceNo → List Task → List (Command View)
 commands r texts made [] = []
 commands r texts made (Make k ∷ ts) = command.CreateResource (uri_of r k) ∷ commands r texts (made ++ k ∷ []) ts
 commands r texts made (Fill k ∷ ts) = command.Load (number_of made k) (texts k) ∷ commands r texts made ts
 
--- each resource was saved as its text
+-- each resource was saved as its text in `texts`: the text is read as the document of the resource, and is UTF-8
 pub record AreTexts (r : Reading) (texts : ResourceNo → List ℕ) : Type 0 where
   pub reads : (k : ResourceNo) → has_resource r k ≡ true → IsReadAs r k (texts k)
   pub utf8 : (k : ResourceNo) → has_resource r k ≡ true → is_utf8 (texts k) ≡ true
@@ -58,18 +59,19 @@ AllDone os = AllByRecursion IsDone os
 
 ---------------------------------------------------------------- loads
 
--- a new repository over the metamodel of s after the tasks of an order
+-- the state of a new repository over the metamodel of s after a list of tasks
 abbrev pub reloaded_state : State → (ResourceNo → List ℕ) → List Task → State
 reloaded_state s texts ts = (run (empty_state s.model.metamodel) (commands (reads s) texts [] ts)).after
 
--- the loads are not refused; the state that they leave is legal, and a partly resolved copy of the saved state
+-- the commands of the tasks are not refused; the state that they leave is legal, and a partly resolved copy of the saved state s
 pub record AreLoads (s : State) (texts : ResourceNo → List ℕ) (ts : List Task) : Type 0 where
   pub done : AllDone (run (empty_state s.model.metamodel) (commands (reads s) texts [] ts)).outcomes
   pub legal : IsLegal (reloaded_state s texts ts)
   pub between : Between (reads s) (reads (reloaded_state s texts ts))
 
--- P is true for each order of tasks, and each legal state that has normalised URIs and no proxies, and whose resources were saved as the
--- texts `texts`
+-- P is true of a state s, texts and tasks, if these conditions apply: s is legal and has normalised URIs and no proxies; each resource of s
+-- can be saved, with no text of a reference that is too long; the resources were saved as the texts; and the tasks make each resource once,
+-- and fill each resource once after it is made
 abbrev pub OfSaved : ((s : State) → (ResourceNo → List ℕ) → List Task → Type 0) → State → Type 0
 OfSaved P s =
     IsLegal s → HasSteadyTexts s.model → IsSaved (reads s) → (texts : ResourceNo → List ℕ) → AreTexts (reads s) texts → (ts : List Task) → IsOrder (reads s) [] [] ts → P s texts ts
@@ -80,8 +82,8 @@ LoadsGiveBetween = OfSaved AreLoads
 
 ---------------------------------------------------------------- resolves
 
--- a resolve of a proxy is not refused; the state is still a partly resolved copy, and has one proxy fewer, or two if the reference has an
--- opposite
+-- the resolve of a proxy in the state t is not refused; the state after it is still a partly resolved copy, and has one proxy fewer than t,
+-- or two fewer if the reference has an opposite
 pub record IsResolvedBetween (r : Reading) (t : State) (o : ObjectNo) (f : FeatureNo) (i : ℕ) : Type 0 where
   pub done : IsDone (step t (resolve o f i)).outcome
   pub between : Between r (reads (step t (resolve o f i)).after)
@@ -96,13 +98,14 @@ abbrev pub LeavesProxies : Outcome → ℕ → Type 0
 LeavesProxies (Ok r) n = CountsLeft r.answer n
 LeavesProxies (Err f) n = ⊥
 
--- resolving all proxies is not refused; no proxy is left, and the answer says so; the state is isomorphic to the saved one
+-- the resolve of all proxies is not refused; no proxy is left, and the answer says so; the state after it is isomorphic to the saved one
 pub record IsAllResolved (r : Reading) (t : State) : Type 0 where
   pub done : LeavesProxies (step t command.ResolveAll).outcome 0
   pub none : HasNoProxy (reads (step t command.ResolveAll).after)
   pub alike : Alike r (reads (step t command.ResolveAll).after)
 
--- P is true of each state without adapters that is a partly resolved copy of a state without proxies
+-- P is true of a state s and a state t without adapters, if both are legal, s has no proxies, and t is a partly resolved copy of s; t has
+-- the metamodel of s, the objects and URIs of w, and the links of b
 abbrev pub OfBetween : (Reading → State → Type 0) → State → ValuesState → Links → Type 0
 OfBetween P s w b =
     let t = state_of_model (model_of s.model.metamodel w b) in
@@ -122,8 +125,9 @@ pub record IsHadAgain (s : State) (texts : ResourceNo → List ℕ) (ts : List T
   pub resolves : AllDone (run (reloaded_state s texts ts) rs).outcomes
   pub alike : Alike (reads s) (reads (run (reloaded_state s texts ts) rs).after)
 
--- the loads in some order are not refused. After them: a resolve of all proxies at once brings the saved state back; some list of single
--- resolves leaves no proxy; each list of single resolves that leaves no proxy brings the saved state back
+-- The commands of the tasks are not refused. The resolve of all proxies at once then gives a state that is isomorphic to the saved one.
+-- There is a list of single resolves that leaves no proxy, and each list of single resolves that leaves no proxy gives a state that is
+-- isomorphic to the saved one.
 pub record IsReloaded (s : State) (texts : ResourceNo → List ℕ) (ts : List Task) : Type 0 where
   pub loads : AllDone (run (empty_state s.model.metamodel) (commands (reads s) texts [] ts)).outcomes
   pub all : IsAllResolved (reads s) (reloaded_state s texts ts)

@@ -28,14 +28,15 @@ pub fn keeps_legal()
     ensures { (s : State) (c : Command View) → KeepsLegal s c }
 {}
 
-/// A command that is refused, also for lack of memory, changes nothing, and gives back the adapter that it was given.
+/// A command that is refused, also for lack of memory, changes nothing, and gives back the adapter that the command was given, if any.
 pub fn a_refusal_changes_nothing()
     ensures unchanged { (s t : State) (c : Command View) (f : Failure View) → Executed s c (Err f) t → t ≡ s }
     ensures given_back { (s t : State) (c : Command View) (f : Failure View) → Executed s c (Err f) t → f.given_back ≡ brought_adapter c }
 {}
 
-/// Take the values that an end has before a command, and replay the notifications of the command on them, one after another. The result is
-/// the values that the end has after the command. That is so for each end of a node that is there before and after the command.
+/// Take the values and the set flag that an end has before a command that is not refused, and replay the notifications of the command on
+/// them, one after another. The result is the values and the set flag that the end has after the command. That is so for each end of a node
+/// that exists before and after the command.
 pub fn the_notices_of_a_command_replay_it()
     ensures { (s : State) (c : Command View) → ChainReplays s c }
 {}
@@ -51,11 +52,12 @@ pub fn an_adapter_hears_what_the_reply_tells_it()
     ensures { (s : State) (c : Command View) (number : AdapterNo) (a : Listed) → HearsItsReply s c number a }
 {}
 
-/// Notifications are enough. Let a node be a deep target of an adapter during a whole run of commands, and let a snapshot of the target be
-/// taken at its beginning. Take a second node that is the target or below it during the whole run. If the adapter's notifications of the
-/// run are replayed on the snapshot, the state of the second node in the snapshot becomes the state that a snapshot at the end has for this
-/// node. The notifications are taken from the replies, however many the adapter keeps. If the adapter keeps all notifications, they are
-/// also the notifications that it has kept since the beginning: while it is attached, and when `detach` or `close` gives it back.
+/// Notifications are enough. Let the node `target` be a deep target of an adapter during a whole run of commands, and let a snapshot of
+/// `target` be taken at the beginning of the run. Let the node `n` be `target` or below `target` during the whole run. If the adapter's
+/// notifications of the run are replayed on the snapshot, the state of `n` in the snapshot becomes the state of `n` in a snapshot at the
+/// end of the run. The notifications can be taken from the replies, however many notifications the adapter keeps. If the adapter keeps all
+/// notifications, those that it has kept since the beginning of the run can be taken instead: while it is attached, and when `detach` or
+/// `close` gives it back.
 pub fn notices_are_enough()
     ensures kept { (s : State) (cs : List (Command View)) (number : AdapterNo) (target : Node) (a b : Listed) (n : Node) → NoticesAreEnough s cs number target a b n }
     ensures told { (s : State) (cs : List (Command View)) (number : AdapterNo) (target : Node) (a : Listed) (n : Node) → ToldIsEnough s cs number target a n }
@@ -65,41 +67,42 @@ pub fn notices_are_enough()
 
 /// The texts that were saved of a state without proxies can be loaded into a new repository over the same metamodel, if the text of no
 /// reference is longer than 65,535 bytes. The resources of the state are created and their texts loaded, in any order in which no resource
-/// is loaded before it is created. The texts are the results of `Repository::save`. Only memory can refuse these commands. The new state is
-/// legal, and a partly resolved copy of the saved one: it has the same objects at the same addresses, and some references are still
-/// proxies.
+/// is loaded before it is created. The texts are the results of `Repository::save`. These commands can be refused only for lack of memory.
+/// The new state is legal, and a partly resolved copy of the saved state: it has the same objects at the same addresses, and some
+/// references may still be proxies.
 pub fn loads_in_any_order_give_what_stands_between()
     ensures { (s : State) → LoadsGiveBetween s }
 {}
 
-/// In a partly resolved copy of a saved state without proxies, only memory can refuse to resolve a proxy. Afterwards the state is still
-/// such a copy, and has one proxy fewer, or two fewer if the reference of the proxy has an opposite.
+/// In a partly resolved copy of a saved state without proxies, the resolve of a proxy can be refused only for lack of memory. After the
+/// resolve, the state is still a partly resolved copy, and has one proxy fewer, or two fewer if the reference of the proxy has an opposite.
 pub fn resolving_stays_between()
     ensures { (s : State) (w : ValuesState) (b : Links) → ResolvesBetween s w b }
 {}
 
-/// Only memory can refuse to resolve all proxies of a partly resolved copy. Afterwards the state has no proxy, the answer says so, and the
-/// state is isomorphic to the saved one (EMF: EcoreUtil.resolveAll).
+/// In a partly resolved copy of a saved state without proxies, the resolve of all proxies can be refused only for lack of memory. After
+/// this resolve, the state has no proxy, the answer says so, and the state is isomorphic to the saved state (EMF: EcoreUtil.resolveAll).
 pub fn resolving_all_leaves_no_proxy()
     ensures { (s : State) (w : ValuesState) (b : Links) → ResolvesAll s w b }
 {}
 
-/// If neither a partly resolved copy nor the saved state has proxies, they are isomorphic.
+/// If neither a saved state nor a partly resolved copy of it has proxies, the two states are isomorphic.
 pub fn without_proxies_what_stands_between_is_alike()
     ensures { (s t : Reading) → HasNoProxy s → HasNoProxy t → Between s t → Alike s t }
 {}
 
-/// What was saved comes back. All resources of a state without proxies were saved, and the text of no reference is longer than 65,535
-/// bytes. In a new repository over the same metamodel the resources are created and loaded, in any order in which no resource is loaded
-/// before it is created. Then proxies are resolved, all at once or one after another in any order until no proxy is left. Only memory can
-/// refuse these commands, and the two states are isomorphic: they have the same addresses, and at each address the same class, values,
-/// flags and ends, with objects compared by their addresses.
+/// What was saved comes back. Suppose that all resources of a state without proxies were saved, and that the text of no reference is longer
+/// than 65,535 bytes. In a new repository over the same metamodel the resources are created and loaded, in any order in which no resource
+/// is loaded before it is created. Then the proxies are resolved, all at once or one after another in any order until no proxy is left.
+/// These commands can be refused only for lack of memory, and the new state is isomorphic to the saved state: both have the same URIs with
+/// the same roots, and the same addresses, and at each address an object of the same class with the same values and set flags. Values that
+/// are objects are compared by their addresses.
 pub fn what_was_saved_is_had_again_in_any_order()
     ensures { (s : State) → ReloadsInAnyOrder s }
 {}
 
-/// Adapters do not change the effect of a change: a change that succeeds would succeed without them too, and leave the same model. Any
-/// other command leaves the model as it was.
+/// Adapters do not change the effect of a change: a change that succeeds would succeed without them too, and leave the same model. A
+/// command that asks for no change of the model, such as a read or `Attach`, leaves the model as it was.
 pub fn adapters_have_no_part()
     ensures alone { (s : State) (c : Command View) → IsAloneToo s c }
     ensures again { (s t : State) (c : Command View) (r : Reply View) → ComesBack s c r t }

@@ -1,4 +1,4 @@
-//! Adapters: attached, given targets, notified, refused, given back and dropped; and views that follow notifications.
+//! Adapters: attached, given targets, notified, refused, given back and dropped; and snapshots on which notifications are replayed.
 mod adapter_kinds;
 mod attached;
 mod attached_again;

@@ -1,6 +1,6 @@
 //! Tests of the crates of models and scripts, by calls that a script can't make: values that no script names, adapters of other kinds,
-//! dropped values, streams that fail, and command lines. The tests are in the folders whose names end with `_tests`, and their parts in
-//! `fixtures`.
+//! dropped adapters, streams that fail, and command lines. The tests are in the folders whose names end with `_tests`. What several tests
+//! use is in `fixtures`.
 //!
 //! The crate `cases` tests what a script prints.
 #![tactic(auto)]

@@ -1,4 +1,4 @@
--- Why an object, a resource, a class or a feature that a call names is not there. No look-up takes memory.
+-- Why an object, a resource, a class or a feature that a call names is not there. The look-ups that find the reason take no memory.
 use Rattle.std.specs.Prelude.{◌&&◌, Option, is_some}
 use Rattle.mm_types.specs.Conditions.{◌unless◌, ◌else_by◌}
 use Rattle.mm_types.specs.Lookups as lookups

@@ -1,4 +1,4 @@
--- The models that a repository can be in.
+-- The models that a repository can have.
 use Rattle.std.specs.Prelude.{◌≡◌, ◌≤◌, ℕ, ◌&&◌, Bool, true, false, not, IsTrue, List, [], ◌∷◌, length, nat_le, Option, Some, None, is_some}
 use Rattle.std.specs.List.{All, list_all, IsDistinct}
 use Rattle.std.specs.Str.{bytes_eq}
@@ -36,8 +36,8 @@ is_short _ = true
 abbrev pub is_legal_value : Metamodel → FeatureNo → Value → Bool
 is_legal_value m f v = lookups.keeps m f v && is_short v
 
--- whether an object of a class may store a list under a feature: the class has the feature, each value is legal for it, and there are not
--- too many
+-- whether an object of a class may store a list under a feature: the list is empty, or the class has the feature, each value is legal for
+-- the feature, and there are not too many values
 abbrev pub is_legal_list : Metamodel → ClassNo → FeatureNo → List Value → Bool
 is_legal_list m c f [] = true
 is_legal_list m c f (v ∷ vs) = lookups.has_feature m c f && (list_all (is_legal_value m f) (v ∷ vs) && is_bounded (shape m f) (length (v ∷ vs)))
@@ -59,7 +59,7 @@ IsLegalObject m (Some o) = IsTrue (lookups.is_concrete m o.class) × ((f : Featu
 
 ---------------------------------------------------------------- links
 
--- for each feature its opposite, and the containment of the pair
+-- for each feature: its opposite, and the containment among the feature and its opposite
 abbrev pub kinds_of : Metamodel → Kinds
 kinds_of m = record { opposite = λ f. (shape m f).opposite; container = λ f. (shape m f).containing }
 
@@ -73,7 +73,8 @@ is_legal_target r f (value.Object o) = takes r f (value.Object o)
 is_legal_target r f (value.Proxy t) = takes_proxies (shape r.metamodel f)
 is_legal_target r f _ = false
 
--- whether a list is legal at an end: it is empty, or the node has the feature, each value is legal for it, and there are not too many
+-- whether a list is legal at an end: the list is empty, or the node has the feature, each value is legal for the feature, and there are not
+-- too many values
 abbrev pub is_legal_end : Reading → End → List Value → Bool
 is_legal_end r e [] = true
 is_legal_end r e (v ∷ vs) =
@@ -83,8 +84,8 @@ is_legal_end r e (v ∷ vs) =
 abbrev pub OfProxies : (List ℕ → Type 0) → Links → Type 0
 OfProxies Holds s = (l : Link) (t : List ℕ) → In l s → l.far ≡ Proxy t → Holds t
 
--- the links agree with the metamodel's features and are legal at their ends; no object contains itself, directly or not, and the text of
--- each proxy is a URI, `#` and a fragment (`IsProxyText`)
+-- the set of links is legal, agrees with the metamodel's features, and gives each end a legal list; no object contains itself, directly or
+-- not, and the text of each proxy is a URI, `#` and a fragment (`IsProxyText`)
 pub record AreLegalLinks (r : Reading) (s : Links) : Type 0 where
   pub set : IsLegalSet s
   pub kinds : AreOfKind (kinds_of r.metamodel) s

@@ -1,5 +1,5 @@
--- What can be read of a model: its objects, what each end holds, and what contains each object. Only the reading determines refusals and
--- answers, so no caller can tell apart two models that read the same.
+-- What can be read of a model: its objects, what each end holds, and what contains each object. Refusals and answers depend only on the
+-- reading and on the views of the adapters. So no caller can tell apart two models with the same reading.
 use Rattle.std.specs.Prelude.{ℕ, ◌&&◌, ◌||◌, Bool, true, false, List, [], ◌∷◌, length, nat_lt, Option, Some, None, is_some, option_and_then, option_map, position, unwrap_or, if◌then◌else◌}
 use Rattle.std.specs.List.{filter_map, list_any}
 use Rattle.std.specs.Option.{option_map_or}
@@ -109,7 +109,7 @@ all_features_of r (node.Resource k) = if has_resource r k then lookups.contents 
 abbrev pub first_at : Reading → End → Value → Option ℕ
 first_at r e v = first_in (r.values e) v
 
--- whether the values of an end are unique, and the value is among them already
+-- whether the feature of an end is unique, and the value is at the end already
 abbrev pub is_repeat : Reading → End → Value → Bool
 is_repeat r e v = (shape_at r e).is_unique && has_value (r.values e) v
 

@@ -9,7 +9,7 @@ use links::LinkStore;
 use mm_meta::Meta;
 use mm_types::{ClassNo, End, Node, ObjectNo, Refused, Value};
 
-/// Why no object of a class can be made: `NoClass` if no class has the number, or `Abstract`.
+/// Why no object of a class can be made: `NoClass` if no class has the number, or `Abstract` if the class is abstract.
 pub fn class_refusal(meta: &Meta, class: ClassNo) -> Option<Refused>
     ensures { result ≡ existence.class_refusal meta.now class }
 {

@@ -43,7 +43,7 @@ impl<'a, L: LinkStore> ModelRef<'a, L> {
         found_kept(attribute_value_in(meta, values, end, index as usize))
     }
 
-    /// The value at a position of a reference: an object, or the text of a proxy.
+    /// The value at a position of a reference: an object, or the text of a proxy; `None` past the last.
     pub(crate) fn target_in(&self, end: End, index: u32) -> Option<Found<'a>>
         requires reference { (shape self.now.metamodel end.feature).is_reference ≡ true }
         ensures { option_map found_value result ≡ slice_get ((reading self.now).values end) index }
@@ -77,7 +77,7 @@ impl<'a, L: LinkStore> ModelRef<'a, L> {
         0
     }
 
-    /// Whether a value is at a position of a reference.
+    /// Whether `value` is at a position of a reference.
     fn has_target(&self, end: End, index: u32, value: &Value) -> bool
         requires reference { (shape self.now.metamodel end.feature).is_reference ≡ true }
         ensures { result ≡ option_map_or (same_value value.now) (slice_get ((reading self.now).values end) index) false }
@@ -102,7 +102,7 @@ impl<'a, L: LinkStore> ModelRef<'a, L> {
         None
     }
 
-    /// The first position of a value at an end; `None` if it is not there.
+    /// The first position of a value at an end; `None` if the value is not there.
     pub fn position(&self, end: End, value: &Value) -> Option<u32>
         ensures { result ≡ first_in ((reading self.now).values end) value.now }
     {
@@ -118,7 +118,7 @@ impl<'a, L: LinkStore> ModelRef<'a, L> {
         Some(index as u32)
     }
 
-    /// Whether a value is at an end.
+    /// Whether `value` is at an end.
     pub fn has(&self, end: End, value: &Value) -> bool
         ensures { result ≡ has_value ((reading self.now).values end) value.now }
     {
@@ -128,7 +128,7 @@ impl<'a, L: LinkStore> ModelRef<'a, L> {
         attribute_has(self.meta(), self.values(), end, value)
     }
 
-    /// Whether the values of an end are unique, and a value is among them already.
+    /// Whether the feature of an end is unique, and `value` is at the end already.
     pub fn is_repeat(&self, end: End, value: &Value) -> bool
         ensures { result ≡ r.is_repeat (reading self.now) end value.now }
     {
@@ -162,7 +162,7 @@ pub fn copied_list<L: LinkStore>(
     Ok(Seq::from_vec(values))
 }
 
-/// Whether an attribute has its default: it is single, and no value is stored.
+/// Whether an attribute has its default since nothing is stored: the attribute is single, and no value is stored.
 fn has_default(meta: &Meta, values: &Values, end: End) -> bool
     ensures { result ≡ (is_nil (kept_values (values_of values.now) end.node end.feature) && (shape meta.now end.feature).is_single) }
 {
@@ -188,7 +188,7 @@ fn attribute_len(meta: &Meta, values: &Values, end: End) -> usize
     kept_len(values, end)
 }
 
-/// The value of an attribute at a position.
+/// The value of an attribute at a position; `None` past the last.
 fn attribute_value_in<'a>(
     meta: &'a Meta,
     values: &'a Values,
@@ -220,7 +220,7 @@ fn attribute_position(meta: &Meta, values: &Values, end: End, value: &Value) -> 
     kept_position(values, end, value)
 }
 
-/// Whether an attribute has a value.
+/// Whether `value` is among the values of an attribute.
 #[tactic(auto, using(crate::proofs::ReadLemmas::attribute_values_by))]
 fn attribute_has(meta: &Meta, values: &Values, end: End, value: &Value) -> bool
     requires attribute { (shape meta.now end.feature).is_reference ≡ false }
@@ -246,7 +246,7 @@ fn kept_position(values: &Values, end: End, value: &Value) -> Option<usize>
     }
 }
 
-/// Whether a value is stored under an attribute.
+/// Whether `value` is among the values that are stored under an attribute.
 fn kept_has(values: &Values, end: End, value: &Value) -> bool
     ensures { result ≡ has_value (kept_values (values_of values.now) end.node end.feature) value.now }
 {

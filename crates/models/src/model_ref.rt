@@ -1,4 +1,4 @@
-//! A model in its parts.
+//! Reads of a model that is kept in parts.
 ghost use Rattle.std.specs.Prelude.{◌≡◌, length, option_copied, slice_get};
 ghost use Rattle.mm_values.specs.Room.{values_of};
 ghost use Rattle.links.specs.Holders.{HasNoCycle};
@@ -52,7 +52,8 @@ impl<'a, L: LinkStore> ModelRef<'a, L> {
         }
     }
 
-    /// Every model is legal. Code calls this function to make the fact known to a proof that has only the view of the model.
+    /// The model of every `ModelRef` is legal. Code calls this function so that a proof can use the fact, if it knows the model only as
+    /// contracts see it.
     pub fn lemma_is_legal(&self)
         ensures { IsLegal self.now }
     {

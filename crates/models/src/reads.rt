@@ -1,4 +1,4 @@
-//! The values of ends.
+//! Reads of ends: the value of a single end, whether an end is set, and which values a feature may hold.
 ghost use Rattle.std.specs.Prelude.{◌≡◌, [], true, false, Bool, Option, unwrap_or, option_map, option_copied, length, not, slice_get, IfOk};
 ghost use Rattle.std.specs.Option.{option_map_or};
 ghost use Rattle.mm_types.specs.Ends as ends;
@@ -22,7 +22,7 @@ use mm_types::{ClassNo, End, FeatureNo, Kind, Node, ObjectNo, Text, Value};
 use mm_values::Values;
 use std::alloc::{AllocError, Global};
 
-/// A value at an end, borrowed from the place in which it is kept.
+/// A value at an end, borrowed from the model.
 #[derive(Clone, Copy, Debug)]
 pub enum Found<'a> {
     /// The value of an attribute.
@@ -81,7 +81,7 @@ impl<'a> Found<'a> {
     }
 }
 
-/// The proxy of a text.
+/// A proxy with a copy of a text. Fails only if memory is refused.
 fn proxy_of(alloc: Global, text: &str) -> Result<Value, AllocError>
     ensures { IfOk result (λ v. v ≡ value.Proxy text.now) }
 {
@@ -89,8 +89,8 @@ fn proxy_of(alloc: Global, text: &str) -> Result<Value, AllocError>
 }
 
 impl<'a, L: LinkStore> ModelRef<'a, L> {
-    /// The value of a single end (EMF: EObject.eGet). For an attribute, it is the value that was set, or else the default; for a reference,
-    /// it is the object or the proxy. `None` is null; a proxy is returned as it is.
+    /// The value of a single end (EMF: EObject.eGet). The value of an attribute is the value that was set, or else the default. The value
+    /// of a reference is an object or a proxy; a proxy is not resolved. `None` stands for null.
     pub fn value_at(&self, end: End) -> Option<Found<'a>>
         ensures { unwrap_or (option_map found_value result) Null ≡ r.value_at (reading self.now) end }
     {
@@ -181,7 +181,7 @@ pub(crate) fn kept_len(values: &Values, end: End) -> usize
     }
 }
 
-/// The value at an index among the values that are stored under an attribute of a node; `None` past the end.
+/// The value at an index among the values that are stored under an attribute of a node; `None` past the last.
 pub(crate) fn kept_at(values: &Values, end: End, index: usize) -> Option<&Value>
     ensures { option_copied result ≡ slice_get (kept_values (values_of values.now) end.node end.feature) index }
 {
@@ -200,7 +200,8 @@ fn flag_at(values: &Values, end: End) -> bool
     }
 }
 
-/// The first value of an attribute: the value that was set, else its default if it is single.
+/// The first value of an attribute: the first value that is stored. If no value is stored, a single attribute has its default, and a list
+/// has no value.
 #[tactic(auto, using(crate::proofs::ReadLemmas::value_in_shown))]
 fn attribute_at<'a>(meta: &'a Meta, values: &'a Values, end: End) -> Option<&'a Value>
     ensures { unwrap_or (option_copied result) Null ≡ value_in (attribute_held meta.now (values_of values.now) end).values 0 }

@@ -1,4 +1,4 @@
--- The rows of all nodes as functions, and these functions after one change of a node.
+-- The rows of all nodes as functions of a node or an end, and these functions after one change of a node.
 use Rattle.std.specs.Prelude.{◌≡◌, ℕ, zero, suc, ◌+◌, ◌≤◌, Bool, true, List, [], ◌∷◌, ◌++◌, map, slice_get, IsPermutation, Option, Some, None, if◌then◌else◌}
 use Rattle.std.specs.List.{list_any}
 use Rattle.mm_types.specs.Same.{same_end, same_node}
@@ -17,19 +17,19 @@ use Rattle.node_slots.specs.Rows.{entered_after, entries_taken, hold_after, is_r
 use Rattle.node_slots.specs.Tables.{Table, place_at, row_index_at, row_from, row_in}
 
 -- for each end: its values, and the opposite and the containing feature of its feature, as puts of objects gave them; for each node: the
--- end that contains the node, and the ends without opposite that hold the node
+-- end that contains the node, and the ends with no opposite that have the node as a value
 pub record Cells : Type 0 where
   pub vals : End → List Value
   pub pairing : End → Pairing
   pub hold : Node → Option End
   pub entered : Node → List End
 
--- no values anywhere, and no node is held
+-- no end has a value, no node has a container, and no node is the value of an end
 abbrev pub no_cells : Cells
 no_cells = record { vals = λ e. []; pairing = λ e. no_pairing; hold = λ n. None; entered = λ n. [] }
 
 -- the reserved capacity: for each end, how many more values it can take, and whether these may be values other than objects; for each node,
--- how many more ends that hold the node can be kept, and whether the node has a row
+-- how many more ends can be added to the ends with no opposite that have the node as a value, and whether the node has a row
 pub record Room : Type 0 where
   pub places : End → ℕ
   pub mixed : End → Bool
@@ -68,8 +68,8 @@ room t =
 abbrev pub slot_ends : Node → List Slot → List End
 slot_ends n ss = map (λ s. record { node = n; feature = s.feature }) ss
 
--- the ends that have a slot, for all nodes whose number is at least k; the list gives for each of these nodes, in order, the index of its
--- row
+-- the ends that have a slot, for all nodes whose number is at least k; the list has an element for each of these nodes, in the order of
+-- their numbers: 0 if the node has no row, else one more than the index of its row
 abbrev pub row_ends : (ℕ → Node) → ℕ → List Row → List ℕ → List End
 row_ends at k rs [] = []
 row_ends at k rs (p ∷ ps) = slot_ends (at k) (row_slots (row_from rs (place_at (Some p)))) ++ row_ends at (suc k) rs ps
@@ -87,11 +87,11 @@ resource_of k = node.Resource (record { 0 = k })
 unfoldable pub ends_of : NodeSlots → List End
 ends_of t = table_ends object_of t.objects ++ table_ends resource_of t.resources
 
--- each end with a value is among the ends
+-- each end that has a value is in the list es
 abbrev pub HasKeys : Cells → List End → Type 0
 HasKeys c es = (e : End) (k : ℕ) (v : Value) → slice_get (c.vals e) k ≡ Some v → list_any (same_end e) es ≡ true
 
--- the same cells, but the ends without opposite that hold a node may be in another order
+-- the same cells, except that the ends with no opposite that have a node as a value may be in a different order
 pub record AreReordered (old new : Cells) : Type 0 where
   pub vals : (e : End) → new.vals e ≡ old.vals e
   pub pairing : (e : End) → new.pairing e ≡ old.pairing e

@@ -42,7 +42,7 @@ row_indexes o f = places_of (row_slot o f)
 abbrev pub row_mixed : Option Row → FeatureNo → Bool
 row_mixed o f = mixed_of (row_slot o f)
 
--- how many more ends that hold the node can be kept without memory
+-- how many more ends can be added, in reserved capacity, to the ends with no opposite that have the node as a value
 abbrev pub row_entries : Option Row → ℕ
 row_entries None = zero
 row_entries (Some r) = min r.promised r.entered.spare
@@ -61,7 +61,7 @@ vals_after (Enter d) g vs = vs
 vals_after (Leave i) g vs = vs
 vals_after (ForgetEntries n) g vs = vs
 
--- the pairing of feature g after a change: its opposite, and the containing feature of the two
+-- the pairing of feature g after a change: the opposite of g, and the containing feature, which is g or its opposite
 abbrev pub told_after : RowEdit → FeatureNo → Pairing → Pairing
 told_after (Change f x) g p = if same_feature f g then pairing_after x p else p
 told_after (Hold h) g p = p
@@ -91,7 +91,7 @@ places_taken (Enter d) g = zero
 places_taken (Leave i) g = zero
 places_taken (ForgetEntries n) g = zero
 
--- how much capacity for ends that hold the node a change takes
+-- how much capacity for ends that have the node as a value a change takes
 abbrev pub entries_taken : RowEdit → ℕ
 entries_taken (Change f x) = zero
 entries_taken (Hold h) = zero
@@ -136,7 +136,7 @@ pub record IsRowGrown (old new : Option Row) : Type 0 where
 abbrev pub AreRowsGrown : (ℕ → Option Row) → (ℕ → Option Row) → Type 0
 AreRowsGrown old new = (j : ℕ) → IsRowGrown (old j) (new j)
 
--- the same row, but the ends that hold the node may be in another order
+-- the same row, except that the ends with no opposite that have the node as a value may be in a different order
 pub record IsRowReordered (old new : Option Row) : Type 0 where
   pub vals : (g : FeatureNo) → row_vals new g ≡ row_vals old g
   pub pairing : (g : FeatureNo) → row_pairing new g ≡ row_pairing old g

@@ -1,4 +1,4 @@
--- Rows of nodes, and the index of each node's row by the node's number.
+-- A table of rows of nodes. The index of a node's row is found by the node's number.
 use Rattle.std.specs.Prelude.{◌≡◌, ℕ, zero, suc, ◌<◌, List, slice_get, Option, Some, None}
 use Rattle.node_slots.specs.declared.row.Row.{Row}
 

@@ -1,7 +1,10 @@
-//! Links by node: for each node its lists of values, the end that contains it, and the ends with no opposite that hold it.
+//! Links, kept at their nodes: for each node its lists of values, the end that contains the node, and the ends with no opposite that have
+//! the node as a value.
 //!
 //! `NodeSlots::reserve_for` reserves capacity for a plan of edits; `NodeSlots::edit` then makes one change of a node and takes no memory. A
-//! node has a row once capacity was reserved for it; a node without a row takes four bytes of an index (`RowTable`), or nothing.
+//! node has a row once capacity was reserved for it; a node without a row takes four bytes of an index (`RowTable`) if a node of the same
+//! kind with a higher number has a row, and nothing otherwise. A reservation for more values or rows than can be counted fails as if memory
+//! were refused.
 #![tactic(auto)]
 
 mod node_slots;

@@ -17,7 +17,7 @@ pub use growth::PutPlaces;
 use mm_types::{End, Node, ObjectNo, Value};
 use std::alloc::Global;
 
-/// A row for each node for which capacity was reserved: for a value of the node, or for an end that holds the node.
+/// A row for each node for which capacity was reserved: for a value of the node, or for an end that has the node as a value.
 #[derive(Drop)]
 pub struct NodeSlots {
     objects: RowTable,
@@ -36,7 +36,7 @@ impl NodeSlots {
         }
     }
 
-    /// The row of a node; `None` if it has none, and so no values.
+    /// The row of a node; `None` if the node has no row, and so no values.
     fn row(&self, node: Node) -> Option<&Row>
         ensures { option_copied result ≡ row_at self.now node }
     {
@@ -46,7 +46,7 @@ impl NodeSlots {
         }
     }
 
-    /// The slots of a node, with its values by features.
+    /// The slots of a node, each with the values of one feature.
     pub fn slots(&self, node: Node) -> &[Slot]
         ensures { result.now ≡ row_slots (row_at self.now node) }
     {
@@ -56,7 +56,7 @@ impl NodeSlots {
         }
     }
 
-    /// The slot of an end; `None` if it has none, and so no values.
+    /// The slot of an end; `None` if the end has no slot, and so no values.
     fn slot(&self, end: End) -> Option<&Slot>
         ensures { option_copied result ≡ row_slot (row_at self.now end.node) end.feature }
     {
@@ -75,7 +75,7 @@ impl NodeSlots {
         }
     }
 
-    /// The object at an index of an end; `None` past the last, and if no object is there.
+    /// The object at an index of an end; `None` past the last value, and if no object is there.
     #[tactic(auto, unfolding(crate::specs::Cells::cells))]
     pub fn object_at(&self, end: End, index: usize) -> Option<ObjectNo>
         ensures { result ≡ option_and_then object_of (slice_get ((cells self.now).vals end) index) }
@@ -83,7 +83,7 @@ impl NodeSlots {
         self.slot(end)?.values.object_at(index)
     }
 
-    /// The text of the proxy at an index of an end; `None` past the last, and if no proxy is there.
+    /// The text of the proxy at an index of an end; `None` past the last value, and if no proxy is there.
     #[tactic(auto, unfolding(crate::specs::Cells::cells))]
     pub fn text_at(&self, end: End, index: usize) -> Option<&str>
         ensures { option_copied result ≡ option_and_then text_of (slice_get ((cells self.now).vals end) index) }
@@ -113,7 +113,7 @@ impl NodeSlots {
         }
     }
 
-    /// The index of a value in an end; `None` if it is not there.
+    /// The index of a value in an end; `None` if the value is not there.
     #[tactic(auto, unfolding(crate::specs::Cells::cells))]
     pub fn position(&self, end: End, value: &Value) -> Option<usize>
         ensures { result ≡ position (same_value value.now) ((cells self.now).vals end) }
@@ -121,8 +121,10 @@ impl NodeSlots {
         self.slot(end)?.values.position(value)
     }
 
-    /// A guess at the index of a value in an end. The guess is right if the numbers of the objects rise or fall along the list, or if the
-    /// list has labels that rise or fall along it. Otherwise the guess may be any index.
+    /// A guess at the index of a value in an end. In a list with labels, the guess is right if each object has a label and the labels rise
+    /// along the list. In a list with neither labels nor proxies, the guess is right if the numbers of the objects rise or fall along the
+    /// list. The guess for a proxy is right if the proxy is the first one, and no object comes after it. Otherwise the guess may be any
+    /// index.
     pub fn guess(&self, end: End, value: &Value) -> usize {
         match self.slot(end) {
             Some(slot) => slot.values.guess(value),
@@ -130,7 +132,8 @@ impl NodeSlots {
         }
     }
 
-    /// The opposite and the containing feature of an end's feature, as the last put of an object into the end gave them.
+    /// The opposite and the containing feature of an end's feature, as the last put of an object into the end gave them; neither of them if
+    /// no object was put.
     #[tactic(auto, unfolding(crate::specs::Cells::cells))]
     pub fn pairing(&self, end: End) -> Pairing
         ensures { result ≡ (cells self.now).pairing end }
@@ -152,7 +155,7 @@ impl NodeSlots {
         self.row(node)?.holder
     }
 
-    /// How many ends with no opposite hold a node.
+    /// How many ends with no opposite have a node as a value.
     #[tactic(auto, unfolding(crate::specs::Cells::cells))]
     pub fn entered_len(&self, node: Node) -> usize
         ensures { result ≡ length ((cells self.now).entered node) }
@@ -163,7 +166,7 @@ impl NodeSlots {
         }
     }
 
-    /// The end at an index among the ends with no opposite that hold a node; `None` past the last.
+    /// The end at an index among the ends with no opposite that have a node as a value; `None` past the last one.
     #[tactic(auto, unfolding(crate::specs::Cells::cells))]
     pub fn entered_at(&self, node: Node, index: usize) -> Option<&End>
         ensures { option_copied result ≡ slice_get ((cells self.now).entered node) index }
@@ -171,7 +174,7 @@ impl NodeSlots {
         self.row(node)?.entered.get(index)
     }
 
-    /// The index of an end among the ends with no opposite that hold a node; `None` if it is not there.
+    /// The index of an end among the ends with no opposite that have a node as a value; `None` if the end is not among them.
     #[tactic(auto, unfolding(crate::specs::Cells::cells))]
     pub fn entered_position(&self, node: Node, end: End) -> Option<usize>
         ensures { result ≡ position (same_end end) ((cells self.now).entered node) }
@@ -179,7 +182,7 @@ impl NodeSlots {
         self.row(node)?.entered.position(&end)
     }
 
-    /// The index of the row of a node; `None` if it has none.
+    /// The index of the row of a node; `None` if the node has no row.
     fn find(&self, node: Node) -> Option<usize>
         ensures { result ≡ row_index_of self.now node }
     {
@@ -189,7 +192,7 @@ impl NodeSlots {
         }
     }
 
-    /// The index of the row of a node that has one.
+    /// The index of the row of a node that has a row.
     pub fn row_index(&self, node: Node) -> usize
         requires { (room self.now).rows node ≡ true }
         ensures { row_index_of self.now node ≡ Some result }
@@ -200,8 +203,8 @@ impl NodeSlots {
         }
     }
 
-    /// Makes one change of a node, for which there is capacity. Takes no memory. An end can always take an object. It can take a proxy only
-    /// if it may have values other than objects; `reserve_for` allows such values at each end into which its plan puts a proxy.
+    /// Makes one change of a node, for which there is capacity. Takes no memory. An end can always take an object. An end can take a proxy
+    /// only if it may have values other than objects; `reserve_for` allows such values at each end into which its plan puts a proxy.
     pub fn edit(&mut self, node: Node, edit: RowEdit)
         requires { Fits node edit (room self.old) }
         ensures cells { cells self.new ≡ cell_edit node edit (cells self.old) }
@@ -230,7 +233,7 @@ impl NodeSlots {
         }
     }
 
-    /// Sorts the ends with no opposite that hold a node, by the numbers that `entry_rank` gives. Takes no memory.
+    /// Sorts the ends with no opposite that have a node as a value, by the numbers that `entry_rank` gives. Takes no memory.
     pub fn order_entries(&mut self, node: Node)
         ensures cells { AreReordered (cells self.old) (cells self.new) }
         ensures room { room self.new ≡ room self.old }

@@ -1,4 +1,4 @@
-//! What is kept of one node.
+//! The row of a node: what is kept of this node.
 ghost use Rattle.std.specs.Prelude.{◌≡◌, true, ℕ, ◌+◌, ◌≤◌, ◌<◌, [], ◌∷◌, ◌++◌, is_ok, length, option_copied, position, if◌then◌else◌, IfOk, None, OnOk, Some};
 ghost use Rattle.std.specs.List.{remove};
 ghost use Rattle.mm_types.specs.Same.{same_feature};
@@ -17,30 +17,30 @@ use std::alloc::{AllocError, Global};
 pub enum RowEdit {
     /// Changes the values of a feature.
     Change(FeatureNo, SlotEdit),
-    /// Sets the end that contains the node.
+    /// Sets the end that contains the node; `None` if no end does.
     Hold(Option<End>),
-    /// Adds an end with no opposite that holds the node.
+    /// Adds an end with no opposite that has the node as a value.
     Enter(End),
-    /// Takes away the end at an index among the ends with no opposite that hold the node; past the last nothing changes.
+    /// Takes out the end at an index among the ends with no opposite that have the node as a value; past the last one nothing changes.
     Leave(usize),
-    /// Takes back capacity that was reserved for the ends without opposite that hold the node. No end changes.
+    /// Takes back capacity that was reserved for ends with no opposite that have the node as a value. No end changes.
     ForgetEntries(usize),
 }
 
-/// The values of one node, and the ends that hold it.
+/// The values of one node, and the ends that have the node as a value.
 #[derive(Drop)]
 pub struct Row {
     pub slots: RowSlots,
     /// The end that contains the node.
     pub holder: Option<End>,
-    /// The ends with no opposite that hold the node, in the order in which they came, until `order_entries` sorts them.
+    /// The ends with no opposite that have the node as a value, in the order in which they were added, until `order_entries` sorts them.
     pub entered: ShortList<End>,
     /// The number of further ends for which capacity is reserved in `entered`.
     pub promised: usize,
 }
 
 impl Row {
-    /// A node with no values, which no end holds. Takes no memory.
+    /// The row of a node that has no values, and is a value of no end. Takes no memory.
     pub fn new() -> Self
         ensures slots { result.slots ≡ [] }
         ensures holder { result.holder ≡ None }
@@ -54,7 +54,7 @@ impl Row {
         }
     }
 
-    /// The slot of a feature; `None` if it has none, and so no values.
+    /// The slot of a feature; `None` if the feature has no slot, and so no values.
     pub fn slot(&self, feature: FeatureNo) -> Option<&Slot>
         ensures { option_copied result ≡ slot_in self.now.slots feature }
     {
@@ -65,8 +65,8 @@ impl Row {
         }
     }
 
-    /// Makes one change, for which `promise` reserved capacity. Takes no memory. A value that is put in is an object, unless capacity was
-    /// reserved for any value.
+    /// Makes one change, for which `promise` or `promise_entry` reserved the capacity. Takes no memory. A value that is put in is an
+    /// object, unless capacity was reserved for any value.
     pub fn edit(&mut self, edit: RowEdit)
         requires { RowFits edit (Some self.old) }
         ensures { IsRowEdited edit (Some self.old) (Some self.new) }
@@ -83,14 +83,15 @@ impl Row {
         }
     }
 
-    /// Sorts the ends with no opposite that hold the node. Takes no memory.
+    /// Sorts the ends with no opposite that have the node as a value. Takes no memory.
     pub fn order_entries(&mut self)
         ensures { IsRowReordered (Some self.old) (Some self.new) }
     {
         put_in_order(&mut self.entered);
     }
 
-    /// Reserves capacity for one more value of a feature, for an object or for any value. Fails only if memory is refused; no value changes.
+    /// Reserves capacity for one more value of a feature: for any value if `is_mixed`, otherwise for an object. Fails only if memory is
+    /// refused; no value changes.
     pub fn promise(
         &mut self,
         alloc: Global,
@@ -105,14 +106,14 @@ impl Row {
         self.slots.promise(alloc, feature, is_mixed)
     }
 
-    /// How many more ends that hold the node can be put in without memory, by the capacity that is reserved.
+    /// How many more ends can be added to `entered` in reserved capacity.
     pub fn entries(&self) -> usize
         ensures { result ≡ row_entries (Some self.now) }
     {
         self.promised.min(self.entered.spare())
     }
 
-    /// Reserves capacity for one more end that holds the node. Fails only if memory is refused; no end changes.
+    /// Reserves capacity for one more end with no opposite that has the node as a value. Fails only if memory is refused; no end changes.
     pub fn promise_entry(&mut self, alloc: Global) -> Result<(), AllocError>
         ensures grown { IsRowGrown (Some self.old) (Some self.new) }
         ensures ok { OnOk result (row_entries (Some self.old) + 1 ≤ row_entries (Some self.new)) }
@@ -136,7 +137,7 @@ fn push_on(ends: &mut ShortList<End>, end: End)
     ends.insert(ends.len(), end);
 }
 
-/// Takes an end out; past the last nothing changes.
+/// Takes out the end at an index; past the last one nothing changes.
 fn remove_from(ends: &mut ShortList<End>, index: usize)
     ensures items { ends.new.items ≡ remove ends.old.items index }
     ensures places { ends.old.spare ≤ ends.new.spare }

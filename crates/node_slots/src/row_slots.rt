@@ -9,7 +9,7 @@ use std::alloc::{AllocError, Global};
 use std::marker::Model;
 use std::{mem, slice};
 
-/// The layout of slots in memory. Most nodes have one, which takes no block of memory.
+/// The layout of slots in memory. Most nodes have one slot, which takes no block of memory.
 #[derive(Drop)]
 enum Layout {
     Empty,
@@ -17,7 +17,8 @@ enum Layout {
     Many(Vec<Slot>),
 }
 
-/// The slots of a node in the order of first use; the first slot of a feature counts. Contracts see them as the list.
+/// The slots of a node, in the order in which they were made. If a feature had several slots, only the first of them would count. Contracts
+/// see the list of slots.
 #[derive(Drop)]
 pub struct RowSlots {
     layout: Layout,
@@ -54,7 +55,7 @@ impl RowSlots {
         }
     }
 
-    /// Changes the values of a feature.
+    /// Changes the values of a feature. If the feature has no slot, nothing changes.
     pub fn edit(&mut self, feature: FeatureNo, edit: SlotEdit)
         requires places { slot_edit_capacity edit ≤ places_of (slot_in self.old feature) }
         requires can { CanEdit (mixed_of (slot_in self.old feature)) edit }
@@ -67,7 +68,7 @@ impl RowSlots {
         }
     }
 
-    /// Makes a slot for a feature, if it has none.
+    /// Makes a slot for a feature, if the feature has none.
     pub fn add(&mut self, alloc: Global, feature: FeatureNo) -> Result<(), AllocError>
         ensures grown { AreSlotsGrown self.old self.new }
         ensures ok { OnOk result ((slot_in self.new feature ≡ None) → ⊥) }
@@ -89,7 +90,7 @@ impl RowSlots {
         }
     }
 
-    /// Reserves capacity for one more value in the slot of a feature.
+    /// Reserves capacity for one more value in the slot of a feature: for any value if `is_mixed`, otherwise for an object.
     pub fn promise(
         &mut self,
         alloc: Global,
@@ -129,7 +130,7 @@ pub(crate) fn slot_index(slots: &[Slot], feature: FeatureNo) -> Option<usize>
     slots.iter().position(|slot| slot.feature == feature)
 }
 
-/// Changes the values of a feature in the only slot of a node.
+/// Changes the values of a feature in the only slot of a node. If the slot is of a different feature, nothing changes.
 fn edit_one(slot: &mut Slot, feature: FeatureNo, edit: SlotEdit)
     requires places { slot_edit_capacity edit ≤ places_of (slot_in (slot.old ∷ []) feature) }
     requires can { CanEdit (mixed_of (slot_in (slot.old ∷ []) feature)) edit }
@@ -142,7 +143,7 @@ fn edit_one(slot: &mut Slot, feature: FeatureNo, edit: SlotEdit)
     }
 }
 
-/// Changes the values of a feature.
+/// Changes the values of a feature. If the feature has no slot, nothing changes.
 fn edit_slot(slots: &mut Vec<Slot>, feature: FeatureNo, edit: SlotEdit)
     requires places { slot_edit_capacity edit ≤ places_of (slot_in slots.old.items feature) }
     requires can { CanEdit (mixed_of (slot_in slots.old.items feature)) edit }
@@ -167,16 +168,19 @@ fn with_new(alloc: Global, slot: &mut Slot, feature: FeatureNo) -> Result<Vec<Sl
     Ok(slots)
 }
 
-/// Adds a slot, and reserves capacity for half as many more. Fails only if memory is refused, and then nothing has changed.
+/// Adds a slot, and reserves capacity for half as many further slots as there were before. Fails only if memory is refused, and then
+/// nothing has changed.
 fn push_slot(slots: &mut Vec<Slot>, slot: Slot) -> Result<(), AllocError>
     ensures { slots.new.items ≡ (if is_ok result then slots.old.items ++ slot ∷ [] else slots.old.items) }
 {
-    slots.reserve_exact(slots.len() / 2 + 1)?;
+    if slots.len() == slots.capacity() {
+        slots.reserve_exact(slots.len() / 2 + 1)?;
+    }
     slots.push(slot)?;
     Ok(())
 }
 
-/// Makes a slot for a feature, if it has none.
+/// Makes a slot for a feature, if the feature has none.
 fn add_slot(slots: &mut Vec<Slot>, feature: FeatureNo) -> Result<(), AllocError>
     ensures grown { AreSlotsGrown slots.old.items slots.new.items }
     ensures ok { OnOk result ((slot_in slots.new.items feature ≡ None) → ⊥) }
@@ -188,7 +192,8 @@ fn add_slot(slots: &mut Vec<Slot>, feature: FeatureNo) -> Result<(), AllocError>
     Ok(())
 }
 
-/// Reserves capacity for one more value in the only slot of a node.
+/// Reserves capacity for one more value in the only slot of a node, which is the slot of the feature: for any value if `is_mixed`,
+/// otherwise for an object.
 fn promise_one(
     slot: &mut Slot,
     alloc: Global,
@@ -207,7 +212,7 @@ fn promise_one(
     }
 }
 
-/// Reserves capacity for one more value in the slot of a feature.
+/// Reserves capacity for one more value in the slot of a feature: for any value if `is_mixed`, otherwise for an object.
 fn promise_in(slots: &mut Vec<Slot>, feature: FeatureNo, is_mixed: bool) -> Result<(), AllocError>
     requires { (slot_in slots.old.items feature ≡ None) → ⊥ }
     ensures grown { AreSlotsGrown slots.old.items slots.new.items }

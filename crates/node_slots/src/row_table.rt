@@ -1,4 +1,4 @@
-//! The rows of some numbers, each found by its number.
+//! A table of rows. A row is found by the number of its node.
 ghost use Rattle.std.specs.Prelude.{◌≡◌, true, ℕ, ◌+◌, ◌<◌, ◌≤◌, [], length, option_copied, vec_len, None, Some, IfOk, OnOk};
 ghost use Rattle.node_slots.specs.Rows.{AreRowsEdited, AreRowsGrown, AreRowsReordered, RowFits, row_entries, row_mixed, row_indexes};
 ghost use Rattle.node_slots.specs.Tables.{row_index_at, row_in};
@@ -8,8 +8,8 @@ use mm_types::FeatureNo;
 use std::alloc::{AllocError, Global};
 use std::marker::Model;
 
-/// Rows by number. Most objects of a model may have no links. So a number with no row takes only four bytes if a higher number has a row,
-/// and no bytes otherwise. Contracts see both lists, and read them by `row_in`.
+/// Rows, which are found by numbers. It may be that most objects of a model have no links. So a number with no row takes only four bytes if
+/// a higher number has a row, and no bytes otherwise. Contracts see both lists, and read them by `row_in`.
 #[derive(Drop)]
 pub(crate) struct RowTable {
     /// At each number: zero if the number has no row, and else one more than the index of its row.
@@ -40,14 +40,14 @@ impl RowTable {
         }
     }
 
-    /// The row of a number; `None` if it has none.
+    /// The row of a number; `None` if the number has no row.
     pub fn get(&self, number: usize) -> Option<&Row>
         ensures { option_copied result ≡ row_in self.now number }
     {
         self.rows.get(row_index_in(&self.places, number)?)
     }
 
-    /// The index of the row of a number; `None` if it has none.
+    /// The index of the row of a number; `None` if the number has no row.
     pub fn row_index(&self, number: usize) -> Option<usize>
         ensures { result ≡ row_index_at self.now.places number }
     {
@@ -64,7 +64,7 @@ impl RowTable {
         self.rows[row_index].edit(edit);
     }
 
-    /// Sorts the ends with no opposite that hold a node, in the row of the node. Takes no memory.
+    /// Sorts the ends with no opposite that have a node as a value, in the row of the node. Takes no memory.
     pub fn order_entries(&mut self, number: usize)
         ensures { AreRowsReordered (row_in self.old) (row_in self.new) }
     {
@@ -73,8 +73,8 @@ impl RowTable {
         }
     }
 
-    /// Reserves capacity for one more value of a feature, for an object or for any value, in the row of a number. Fails only if memory is
-    /// refused; no value changes.
+    /// Reserves capacity for one more value of a feature in the row of a number: for any value if `is_mixed`, otherwise for an object.
+    /// Fails only if memory is refused; no value changes.
     pub fn promise_at(
         &mut self,
         number: usize,
@@ -92,7 +92,8 @@ impl RowTable {
         self.rows[row_index].promise(alloc, feature, is_mixed)
     }
 
-    /// Reserves capacity for one more end that holds a node, in the row of the node. Fails only if memory is refused; no end changes.
+    /// Reserves capacity for one more end with no opposite that has a node as a value, in the row of the node. Fails only if memory is
+    /// refused; no end changes.
     pub fn promise_entry_at(&mut self, number: usize, row_index: usize) -> Result<(), AllocError>
         requires at { row_index_at self.old.places number ≡ Some row_index }
         ensures grown { AreRowsGrown (row_in self.old) (row_in self.new) }
@@ -103,7 +104,7 @@ impl RowTable {
         self.rows[row_index].promise_entry(alloc)
     }
 
-    /// The index of the row of a number, which is made if there is none. No row is moved.
+    /// The index of the row of a number. If the number has no row, makes the row. The indexes of the other rows stay the same.
     pub fn make_row(&mut self, number: usize) -> Result<usize, AllocError>
         ensures grown { AreRowsGrown (row_in self.old) (row_in self.new) }
         ensures unmoved { (n k : ℕ) → row_index_at self.old.places n ≡ Some k → row_index_at self.new.places n ≡ Some k }
@@ -116,8 +117,8 @@ impl RowTable {
         }
     }
 
-    /// Makes a row for a number that has none, and returns its index. The row is made before its index is stored, so that no index is
-    /// without its row if memory is refused.
+    /// Makes a row for a number that has none, and returns the index of the row. The row is made before its index is stored. So if memory
+    /// is refused, no index is stored without its row.
     fn push_row(&mut self, number: usize) -> Result<usize, AllocError>
         requires in_range { number < length self.old.places }
         requires none { row_index_at self.old.places number ≡ None }
@@ -135,7 +136,7 @@ impl RowTable {
     }
 }
 
-/// The index of the row of a number; `None` if it has none.
+/// The index of the row of a number; `None` if the number has no row.
 fn row_index_in(places: &[u32], number: usize) -> Option<usize>
     ensures { result ≡ row_index_at places.now number }
 {

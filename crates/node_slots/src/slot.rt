@@ -9,10 +9,10 @@ use end_values::EndValueList;
 use mm_types::{FeatureNo, Value};
 use std::alloc::{AllocError, Global};
 
-/// The properties of a feature that a put gives: its opposite and its containing feature.
+/// The properties of a feature that a put gives: the opposite and the containing feature.
 #[derive(Clone, Copy)]
 pub struct Pairing {
-    /// Its opposite, if it has one.
+    /// The opposite of the feature, if it has one.
     pub opposite: Option<FeatureNo>,
     /// The containing feature: the feature or its opposite, if one of the two is a containment.
     pub container: Option<FeatureNo>,
@@ -21,28 +21,29 @@ pub struct Pairing {
 /// One change of the values of an end.
 #[derive(Drop)]
 pub enum SlotEdit {
-    /// Puts a value in at an index; past the end it is put last. With an object, `pairing` has the opposite and the containing feature of
-    /// the end's feature.
+    /// Inserts a value at an index; if the index is past the last value, the value is put last. If the value is an object, `pairing` has
+    /// the opposite and the containing feature of the end's feature.
     Insert {
         index: usize,
         value: Value,
         pairing: Option<Pairing>,
     },
-    /// Puts a value in last.
+    /// Inserts a value after the last value. `pairing` has the opposite and the containing feature of the end's feature.
     Push {
         value: Value,
         pairing: Pairing,
     },
-    /// Takes a value out; past the end nothing changes.
+    /// Takes out the value at an index; if the index is past the last value, nothing changes.
     Remove {
         index: usize,
     },
-    /// Takes the value at `from` out and puts it in so that it is then at `to`.
+    /// Takes out the value at `from` and inserts it at `to`, or last if `to` is past the last value. If `from` is past the last value,
+    /// nothing changes.
     Move {
         to: usize,
         from: usize,
     },
-    /// Takes back reserved capacity. No value changes.
+    /// Takes back reserved capacity for `places` values. No value changes.
     Forget {
         places: usize,
     },
@@ -60,7 +61,7 @@ pub struct Slot {
 }
 
 impl Slot {
-    /// A feature with no values. Takes no memory.
+    /// The slot of a feature with no values. Takes no memory.
     pub fn new(feature: FeatureNo) -> Self
         ensures feature { result.feature ≡ feature }
         ensures values { result.values.items ≡ [] }
@@ -77,14 +78,15 @@ impl Slot {
         }
     }
 
-    /// How many more values can be put in without memory, by the capacity that is reserved.
+    /// How many more values can be added in reserved capacity.
     pub fn places(&self) -> usize
         ensures { result ≡ slot_places self.now }
     {
         self.promised.min(self.values.spare())
     }
 
-    /// Reserves capacity for one more value, for an object or for any value. Fails only if memory is refused; no value changes.
+    /// Reserves capacity for one more value: for any value if `is_mixed`, otherwise for an object. Fails only if memory is refused; no
+    /// value changes.
     pub fn promise(&mut self, alloc: Global, is_mixed: bool) -> Result<(), AllocError>
         ensures feature { self.new.feature ≡ self.old.feature }
         ensures values { self.new.values.items ≡ self.old.values.items }
@@ -152,7 +154,7 @@ fn make_places(
     values.reserve(alloc, places)
 }
 
-/// Puts a value in at an index. There is capacity for the value.
+/// Inserts a value at an index; if the index is past the last value, the value is put last. There is capacity for the value.
 #[inline(always)]
 fn insert_in(values: &mut EndValueList, index: usize, value: Value)
     requires room { 1 ≤ values.old.spare }
@@ -164,7 +166,7 @@ fn insert_in(values: &mut EndValueList, index: usize, value: Value)
     values.insert(index.min(values.len()), value);
 }
 
-/// Puts a value in last. There is capacity for the value.
+/// Inserts a value after the last value. There is capacity for the value.
 fn push_in(values: &mut EndValueList, value: Value)
     requires room { 1 ≤ values.old.spare }
     requires can { CanHave values.old.mixed value }
@@ -175,7 +177,7 @@ fn push_in(values: &mut EndValueList, value: Value)
     insert_in(values, values.len(), value);
 }
 
-/// Takes a value out; past the end nothing changes.
+/// Takes out the value at an index; if the index is past the last value, nothing changes.
 fn remove_value(values: &mut EndValueList, index: usize)
     ensures items { values.new.items ≡ remove values.old.items index }
     ensures places { values.old.spare ≤ values.new.spare }

@@ -1,4 +1,4 @@
--- The attached adapters in attach order, each with its targets: which adapters get a notification, and what notifying them does.
+-- The attached adapters in attach order, each with its targets: which adapters get a notification, and the adapters after they got a chain.
 use Rattle.std.specs.Prelude.{ℕ, ◌+◌, ◌<◌, Bool, ◌&&◌, ◌||◌, nat_eq, nat_lt, nat_le, List, [], ◌∷◌, ◌++◌, map, filter, length, ◌^◌, Option, if◌then◌else◌, All, sum_by}
 use Rattle.std.specs.List.{IsDistinct, list_any, find}
 use Rattle.mm_types.specs.declared.numbers.AdapterNo.{AdapterNo}
@@ -74,8 +74,8 @@ Above = Node → List Node
 abbrev pub brings_in : Above → Node → Target → Bool
 brings_in up x t = same_node t.node x || (t.deep && list_any (same_node t.node) (up x))
 
--- whether an adapter gets a notification: at least one of its targets notifies it; the adapter gets the notification once, however many
--- targets do
+-- whether an adapter gets a notification: whether at least one of its targets notifies it of changes at the notifier. However many targets
+-- do so, the adapter gets the notification once.
 abbrev pub hears : Above → Listed → Notice → Bool
 hears up r n = list_any (brings_in up n.notifier) r.targets
 
@@ -103,7 +103,7 @@ tell_chain up ns rs = map (λ r. adapter_after_notices r (heard_of up ns r)) rs
 abbrev pub told_of : Above → Notice → List Listed → List (AdapterNo × Notice)
 told_of up n rs = map (λ r. (r.no, n)) (audience up n rs)
 
--- which adapter is notified of what: the chain in order, each notification with its adapters in attach order
+-- which adapter is notified of what: for each notification of the chain, in order, the adapters that get it, in attach order
 abbrev pub told_list : Above → List Notice → List Listed → List (AdapterNo × Notice)
 told_list up [] rs = []
 told_list up (n ∷ ns) rs = told_of up n rs ++ told_list up ns rs

@@ -19,11 +19,11 @@ lead r p = record { site = p; object = option_and_then (at r) (proxy_at r (end_o
 abbrev pub leads : Reading → List Lead
 leads r = map (lead r) (sites r)
 
--- whether a proxy is at the reference of a key, and leads to the object of the key
+-- whether the proxy of a lead is at the reference of a key, and the object at the proxy's address is the object of the key
 abbrev pub is_by : ReferenceKey → Lead → Bool
 is_by k x = option_map_or (λ o. same_reference_key (reference_key x.site.object x.site.feature o.0) k) x.object false
 
--- the index of the first proxy that is at the reference of a key and leads to its object
+-- the index of the first proxy that is at the reference of a key, and that has the object of the key at its address
 abbrev pub first_index : List Lead → ReferenceKey → Option ℕ
 first_index [] k = None
 first_index (x ∷ xs) k = if is_by k x then Some x.site.index else first_index xs k

@@ -20,14 +20,14 @@ end_of p = at_end (node.Object p.object) p.feature
 abbrev pub is_proxy_site : Reading → ProxySite → Bool
 is_proxy_site r p = is_some (proxy_at r (end_of p) p.index)
 
--- the locations of proxies at a feature of an object
+-- the locations of proxies at a feature of an object, in the order of their indexes
 abbrev pub sites_under : Reading → ObjectNo → FeatureNo → List ProxySite
 sites_under r o f = filter (is_proxy_site r) (map (site o f) (range_with_len 0 (length (r.values (at_end (node.Object o) f)))))
 
--- the locations of proxies of an object, in the order of all its features
+-- the locations of proxies at all features of an object, in the order of these features
 abbrev pub sites_of : Reading → ObjectNo → List ProxySite
 sites_of r o = flat_map (sites_under r o) (all_features_of r (node.Object o))
 
--- the locations of proxies of all objects, by number
+-- the locations of proxies at all objects, in the order of the numbers of the objects
 abbrev pub sites : Reading → List ProxySite
 sites r = flat_map (λ n. sites_of r (record { 0 = n })) (range_with_len 0 r.next)

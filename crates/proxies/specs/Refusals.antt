@@ -12,15 +12,15 @@ use Rattle.models.specs.Reading.{Reading, has_uri, shape_at, takes}
 use Rattle.proxies.specs.Resolving.{is_unmatched, proxy_at, target_at}
 use Rattle.proxies.specs.declared.resolved_proxy.ResolvedProxy.{ResolvedProxy}
 
--- whether the feature is an attribute, or the object at a proxy's address is not of the feature's type
+-- whether the feature of an end is an attribute, or the object at a proxy's address is not of the feature's type
 abbrev pub is_mistyped : Reading → End → Option ResolvedProxy → Bool
 is_mistyped r e q = not (shape_at r e).is_reference || option_map_or (λ x. not (takes r e.feature (value.Object x.object))) q false
 
--- whether the object at a proxy's address is at the end of the proxy already
+-- whether the end of a proxy already has the object at the proxy's address as a value
 abbrev pub is_there_already : Reading → End → Option ResolvedProxy → Bool
 is_there_already r e q = option_map_or (λ x. has_value (r.values e) (value.Object x.object)) q false
 
--- why the proxy at an index can't be resolved to the target that it finds
+-- why the proxy at an index can't be resolved; q is the target of the proxy, if it has one
 abbrev pub target_refusal : Reading → End → ℕ → Option ResolvedProxy → Option Refused
 target_refusal r e i q =
     WrongType where_so is_mistyped r e q else_by

@@ -1,4 +1,4 @@
--- What resolving a proxy finds: the object at its address and, at the opposite end of that object, the proxy of the same link.
+-- What resolving a proxy finds: the object at the proxy's address and, at the opposite end of that object, the proxy of the same link.
 use Rattle.std.specs.Prelude.{ℕ, ◌&&◌, Bool, false, not, List, Option, is_some, option_and_then, option_map, position, slice_get}
 use Rattle.std.specs.Option.{option_map_or}
 use Rattle.mm_types.specs.Same.{same_node}
@@ -13,7 +13,7 @@ use Rattle.fragment_paths.specs.Finding.{at}
 use Rattle.proxies.specs.declared.resolved_proxy.Counterpart.{Counterpart}
 use Rattle.proxies.specs.declared.resolved_proxy.ResolvedProxy.{ResolvedProxy}
 
--- the opposite end of a link between e and an object
+-- the opposite end of a link between e and an object; none if the feature of e has no opposite
 abbrev pub opposite_end : Reading → End → ObjectNo → Option End
 opposite_end r e o = option_map (far_end o) (shape_at r e).opposite
 
@@ -21,25 +21,25 @@ opposite_end r e o = option_map (far_end o) (shape_at r e).opposite
 abbrev pub proxy_at : Reading → End → ℕ → Option (List ℕ)
 proxy_at r e i = option_and_then text_of (slice_get (r.values e) i)
 
--- whether a value is a proxy with the address of a node
+-- whether a value is a proxy that has a node at its address
 abbrev pub leads_to : Reading → Node → Value → Bool
 leads_to r n v = option_map_or (λ o. same_node (node.Object o) n) (option_and_then (at r) (text_of v)) false
 
--- the first proxy at an end that has the address of a node
+-- the first proxy at the end d that has the node n at its address
 abbrev pub first_to : Reading → Node → End → Option Counterpart
 first_to r n d = option_map (λ j. record { end = d; index = j }) (position (leads_to r n) (r.values d))
 
--- the proxy that a link between e and an object has at the opposite end
+-- the first proxy at the opposite end of a link between e and an object, among the proxies that have the node of e at their address
 abbrev pub counterpart : Reading → End → ObjectNo → Option Counterpart
 counterpart r e o = option_and_then (first_to r e.node) (opposite_end r e o)
 
 abbrev pub target : Reading → End → ObjectNo → ResolvedProxy
 target r e o = record { object = o; counterpart = counterpart r e o }
 
--- the target of the proxy at an index; none without a proxy, or without an object at its address
+-- the target of the proxy at an index; none if no proxy is there, or no object is at the proxy's address
 abbrev pub target_at : Reading → End → ℕ → Option ResolvedProxy
 target_at r e i = option_map (target r e) (option_and_then (at r) (proxy_at r e i))
 
--- whether the reference has an opposite, and the opposite end has no proxy with the address of the referring object
+-- whether the reference has an opposite, and no proxy at the opposite end has the referring object at its address
 abbrev pub is_unmatched : Reading → End → ResolvedProxy → Bool
 is_unmatched r e x = is_some (shape_at r e).opposite && not (is_some x.counterpart)

@@ -1,5 +1,5 @@
--- The proxies of a model are resolved one after another. A proxy is skipped if it can't be resolved in the model that the earlier resolves
--- left.
+-- The proxies of a model are resolved one after another. A proxy is skipped if it can't be resolved in the model as it is after the earlier
+-- resolves.
 use Rattle.std.specs.Prelude.{ℕ, List, [], ◌∷◌, length, slice_set, Option, None, is_some, if◌then◌else◌}
 use Rattle.std.specs.Option.{option_map_or}
 use Rattle.mm_types.specs.Same.{node_value, same_end}
@@ -37,26 +37,26 @@ pub record Resolution : Type 0 where
   pub site : ProxySite
   pub target : ResolvedProxy
 
--- the resolutions of the proxies at some locations, in this order; a proxy that is refused has none
+-- the resolutions of the proxies at some locations, in the order of the locations; there is none for a proxy whose resolve is refused
 abbrev pub resolutions : Reading → List ProxySite → List Resolution
 resolutions r [] = []
 resolutions r (p ∷ ps) =
     option_map_or (λ x. record { reads = r; site = p; target = x } ∷ resolutions (with_resolved r p x) ps) (resolved_to r p) (resolutions r ps)
 
--- what ends hold after the proxies at some locations are resolved
+-- what ends hold after the proxies at some locations are resolved one after another, as far as they can be
 abbrev pub values_left : Reading → List ProxySite → End → List Value
 values_left r [] = r.values
 values_left r (p ∷ ps) = option_map_or (λ x. values_left (with_resolved r p x) ps) (resolved_to r p) (values_left r ps)
 
--- the reading after the proxies at some locations are resolved
+-- the reading after the proxies at some locations are resolved, as far as they can be
 abbrev pub left_by : Reading → List ProxySite → Reading
 left_by r ps = record r { values = values_left r ps }
 
--- the reading after all proxies of a model are resolved
+-- the reading after all proxies of a model are resolved, as far as they can be
 abbrev pub all_resolved : Reading → Reading
 all_resolved r = left_by r (sites r)
 
--- how many proxies are resolved, two proxies of one link counted once; and `unresolved_count`, how many proxies remain
+-- how many proxies are resolved, counting two proxies of one link as one; and `unresolved_count`, how many proxies remain
 abbrev pub resolved_count : Reading → ℕ
 resolved_count r = length (resolutions r (sites r))
 

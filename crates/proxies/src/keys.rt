@@ -5,7 +5,7 @@ use indexmap::IndexSet;
 use models::ReferenceKey;
 use std::alloc::{AllocError, Global};
 
-/// A set of keys. Each key is an index or an object, under a reference of an object.
+/// A set of keys. Each key names a reference of an object, and either an index or an object in this reference.
 #[derive(Drop)]
 pub struct Keys {
     set: IndexSet<ReferenceKey>,
@@ -17,7 +17,7 @@ impl Keys {
     ghost use Rattle.models.specs.declared.reference_key.ReferenceKey.{ReferenceKey};
     ghost use Rattle.proxies.specs.Keys.{has};
 
-    /// No keys. Takes no memory.
+    /// The empty set. Takes no memory.
     pub fn new(alloc: Global) -> Self
         ensures { (k : ReferenceKey) → has result k ≡ false }
     {

@@ -14,14 +14,14 @@ use mm_types::{FeatureNo, Node, ObjectNo};
 use models::{ModelRef, ReferenceKey};
 use std::alloc::{AllocError, Global};
 
-/// The location of a proxy, and the object at its address, if there is one.
+/// The location of a proxy, and the object at the proxy's address, if there is one.
 #[derive(Clone, Copy)]
 pub struct Lead {
     pub site: ProxySite,
     pub object: Option<ObjectNo>,
 }
 
-/// The leads of all proxies, in the order in which they are resolved. Fails only if memory is refused.
+/// The `Lead`s of all proxies, in the order in which a resolve of all proxies takes them. Fails only if memory is refused.
 pub fn leads<L: LinkStore>(alloc: Global, model: &ModelRef<L>) -> Result<Vec<Lead>, AllocError>
     ensures { IfOk result (λ ls. ls.items ≡ spec.leads (reading model.now)) }
 {
@@ -33,7 +33,7 @@ pub fn leads<L: LinkStore>(alloc: Global, model: &ModelRef<L>) -> Result<Vec<Lea
     Ok(leads)
 }
 
-/// Adds the leads of an object.
+/// Adds the `Lead`s of all proxies in the references of an object.
 fn push_of_object<L: LinkStore>(
     alloc: Global,
     model: &ModelRef<L>,
@@ -49,7 +49,7 @@ fn push_of_object<L: LinkStore>(
     Ok(())
 }
 
-/// Adds the leads under a feature of an object.
+/// Adds the `Lead`s of the proxies under a feature of an object.
 fn push_under<L: LinkStore>(
     alloc: Global,
     model: &ModelRef<L>,
@@ -70,7 +70,7 @@ fn push_under<L: LinkStore>(
     Ok(())
 }
 
-/// Adds the lead of a location, if a proxy is there.
+/// Adds the `Lead` of a location, if a proxy is there.
 fn push_lead<L: LinkStore>(
     alloc: Global,
     model: &ModelRef<L>,
@@ -88,7 +88,8 @@ fn push_lead<L: LinkStore>(
     Ok(())
 }
 
-/// For each reference of an object, and each object that a proxy there leads to: the index of the first such proxy.
+/// A table of the indexes of proxies. A key names a reference of an object, and a second object. The index of the key is the index of the
+/// first proxy in this reference that has the second object at its address.
 #[derive(Drop)]
 pub struct FirstLeads {
     indices: IndexMap<ReferenceKey, u32>,
@@ -107,7 +108,7 @@ impl FirstLeads {
         }
     }
 
-    /// The first leads of some proxies. Fails only if memory is refused.
+    /// The table of the proxies of `leads`; if several of them have one key, the first in `leads` counts. Fails only if memory is refused.
     pub fn of(alloc: Global, leads: &[Lead]) -> Result<Self, AllocError>
         ensures { IfOk result (λ t. (k : ReferenceKey) → spec.index_at t k ≡ spec.first_index leads.now k) }
     {
@@ -118,7 +119,8 @@ impl FirstLeads {
         Ok(first)
     }
 
-    /// Adds a lead after the others.
+    /// Gives the key of a `Lead` the index of its proxy, if the key has no index yet. A `Lead` without an object has no key, and changes
+    /// nothing.
     fn add(&mut self, lead: Lead) -> Result<(), AllocError>
         ensures { OnOk result ((k : ReferenceKey) → spec.index_at self.new k ≡ option_or (spec.index_at self.old k) (spec.first_index (lead ∷ []) k)) }
     {
@@ -131,7 +133,7 @@ impl FirstLeads {
         }
     }
 
-    /// Adds the index of a key, unless the key has an index already.
+    /// Gives a key an index; a key that already has an index keeps it.
     fn add_first(&mut self, key: ReferenceKey, index: u32) -> Result<(), AllocError>
         ensures { OnOk result ((k : ReferenceKey) → spec.index_at self.new k ≡ option_or (spec.index_at self.old k) (if spec.same_reference_key key k then Some index else None)) }
     {

@@ -1,8 +1,8 @@
 //! The proxies of a model: the object at the address of a proxy, the proxy of the same link at the opposite end, and why a proxy can't be
 //! resolved.
 //!
-//! `specs/Resolving.antt` says what a proxy finds, `specs/Refusals.antt` why it can't be resolved, and `specs/ResolvingAll.antt` which
-//! proxies are resolved if all proxies are tried, one after another.
+//! `specs/Resolving.antt` says what resolving a proxy finds, `specs/Refusals.antt` why a proxy can't be resolved, and
+//! `specs/ResolvingAll.antt` which proxies are resolved if all proxies are tried, one after another.
 #![tactic(auto)]
 
 mod ends;

@@ -1,4 +1,4 @@
-//! What a proxy finds.
+//! What resolving a proxy finds.
 use mm_types::{End, ObjectNo};
 
 /// The object at the address of a proxy, and the proxy of the same link at the opposite end, if there is one.

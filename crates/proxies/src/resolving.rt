@@ -1,4 +1,4 @@
-//! What a proxy finds, and why it can't be resolved.
+//! What resolving a proxy finds, and why a proxy can't be resolved.
 ghost use Rattle.std.specs.Prelude.{◌≡◌, false, is_some, not, option_and_then, option_copied, IfOk};
 ghost use Rattle.std.specs.Option.{option_map_or};
 ghost use Rattle.fragment_paths.specs.Finding.{at};
@@ -21,7 +21,8 @@ use models::ModelRef;
 use std::alloc::{AllocError, Global};
 use web_uris::split_address;
 
-/// The target of the proxy at an index; `None` without a proxy, or without an object at its address. Fails only if memory is refused.
+/// The target of the proxy at an index of an end: the object at the proxy's address, and the proxy of the same link at the opposite end.
+/// `None` if no proxy is at the index, or no object is at its address. Fails only if memory is refused.
 pub fn target_at<L: LinkStore>(
     alloc: Global,
     model: &ModelRef<L>,
@@ -43,8 +44,8 @@ pub fn target_at<L: LinkStore>(
     }))
 }
 
-/// The proxy that a link between an end and an object has at the opposite end, if there is one. Fails only if memory is
-/// refused.
+/// The first proxy at the opposite end of a link between `end` and an object, among the proxies that have the node of `end` at their
+/// address. `None` if there is no opposite end or no such proxy. Fails only if memory is refused.
 fn counterpart<L: LinkStore>(
     alloc: Global,
     model: &ModelRef<L>,
@@ -59,7 +60,7 @@ fn counterpart<L: LinkStore>(
     }
 }
 
-/// The first proxy at an end that has the address of a node. Fails only if memory is refused.
+/// The first proxy at `end` that has `node` at its address; `None` if there is none. Fails only if memory is refused.
 fn first_to<L: LinkStore>(
     alloc: Global,
     model: &ModelRef<L>,
@@ -76,7 +77,7 @@ fn first_to<L: LinkStore>(
     Ok(None)
 }
 
-/// Whether a proxy is at an index and has the address of a node. Fails only if memory is refused.
+/// Whether a proxy is at an index of `end` and has the node `to` at its address. Fails only if memory is refused.
 fn leads_to<L: LinkStore>(
     alloc: Global,
     model: &ModelRef<L>,
@@ -95,8 +96,8 @@ fn leads_to<L: LinkStore>(
     }
 }
 
-/// Why the proxy at an index can't be resolved to the target that it finds: `WrongType`, `Index`, `Duplicate`, `NotProxy`, `Unloaded`,
-/// `Unresolved` or `Unmatched`. Takes no memory.
+/// Why the proxy at an index can't be resolved; `target` is what `target_at` found for the proxy. Returns the first of these refusals that
+/// applies: `WrongType`, `Index`, `Duplicate`, `NotProxy`, `Unloaded`, `Unresolved` or `Unmatched`. Takes no memory.
 pub fn resolve_refusal<L: LinkStore>(
     model: &ModelRef<L>,
     end: End,
@@ -120,7 +121,8 @@ pub fn resolve_refusal<L: LinkStore>(
     }
 }
 
-/// Whether the feature is an attribute, or the object at a proxy's address is not of the feature's type.
+/// Whether the feature of an end is an attribute, or the object at a proxy's address is not of the feature's type. `target` has that
+/// object, if there is one.
 pub fn is_mistyped<L: LinkStore>(
     model: &ModelRef<L>,
     end: End,
@@ -137,7 +139,7 @@ pub fn is_mistyped<L: LinkStore>(
     }
 }
 
-/// Whether the object at a proxy's address is at the end of the proxy already.
+/// Whether the end of a proxy already has the object at the proxy's address as a value. `target` has that object, if there is one.
 pub fn is_there_already<L: LinkStore>(
     model: &ModelRef<L>,
     end: End,
@@ -161,7 +163,7 @@ pub fn proxy_at<'a, L: LinkStore>(model: &ModelRef<'a, L>, end: End, index: u32)
     }
 }
 
-/// The URI in a proxy's text: the text before the first `#`.
+/// The URI in a proxy's text: the text before the first `#`, or all of it if there is no `#`.
 fn uri_of(text: &str) -> &str
     ensures { result.now ≡ uri_part text.now }
 {
@@ -171,7 +173,8 @@ fn uri_of(text: &str) -> &str
     }
 }
 
-/// Why a proxy leads to no object, or to an object with no proxy that leads back: `Unloaded`, `Unresolved` or `Unmatched`.
+/// Why a proxy can't be resolved, without the refusals that `resolve_refusal` tests before: `Unloaded` if no resource has the URI in the
+/// proxy's text, `Unresolved` if no object is at the proxy's address, `Unmatched` if `is_unmatched`.
 fn lost_refusal<L: LinkStore>(
     model: &ModelRef<L>,
     end: End,
@@ -190,7 +193,7 @@ fn lost_refusal<L: LinkStore>(
     }
 }
 
-/// Whether a reference has an opposite, and no proxy at the opposite end of the target leads back.
+/// Whether the reference has an opposite, and no proxy at the opposite end has the referring object at its address.
 pub fn is_unmatched<L: LinkStore>(model: &ModelRef<L>, end: End, target: ResolvedProxy) -> bool
     ensures { result ≡ resolving.is_unmatched (reading model.now) end target }
 {

@@ -21,7 +21,8 @@ pub record IsThere (name : Reading → Value → Named) (s t : Reading) (o : Obj
   pub at : address t object ≡ Some a
   pub same : HasSame name s t o object
 
--- two models have the same URIs, the same roots in the resources of one URI, and the same objects at the same addresses, and no others
+-- two models have the same URIs; resources with the same URI have the same roots; and the two models have the same addresses, with the same
+-- objects at them
 pub record HaveSame (name : Reading → Value → Named) (s t : Reading) : Type 0 where
   pub uris : (u : List ℕ) → has_uri t u ≡ has_uri s u
   pub roots : (u : List ℕ) (k j : ResourceNo) → slice_get s.uris k.0 ≡ Some u → slice_get t.uris j.0 ≡ Some u → map (name t) (t.values (roots_end t j)) ≡ map (name s) (s.values (roots_end s k))

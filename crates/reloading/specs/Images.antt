@@ -1,5 +1,5 @@
--- The images of saved objects after a load of the saved document: each has an image under a new number, with the same contents. Objects of
--- other resources have become proxies.
+-- The images of saved objects after a load of the saved document: each saved object has an image under a new number, with the same
+-- contents. In these contents, objects of other resources have become proxies.
 use Rattle.std.specs.Prelude.{◌≡◌, ◌≤◌, ◌<◌, ◌+◌, ℕ, Some, length, map, slice_get}
 use Rattle.mm_types.specs.declared.numbers.FeatureNo.{FeatureNo}
 use Rattle.mm_types.specs.declared.numbers.Node.TheVariants as node
@@ -21,21 +21,22 @@ image r k n o = loaded_number n (root_copied (objects_in r k) o)
 abbrev pub value_image : Reading → ResourceNo → ℕ → Value → Value
 value_image r k n v = loaded_value n (renamed_value r (objects_in r k) v)
 
--- the objects of resource k of r have images in resource j of t, in their order, with the numbers from n on
+-- the objects of resource k of r have images in resource j of t. In the order of the document, the images have the numbers from n on
 pub record HasImages (r : Reading) (k : ResourceNo) (n : ℕ) (j : ResourceNo) (t : Reading) : Type 0 where
   pub next : t.next ≡ n + length (objects_in r k)
-  -- each image has the class of its object, at each end the images of its values, and its flags
+  -- each image has the class and the flags of its object, and at each end the images of the object's values
   pub classes : (o : ObjectNo) → resource_of r.above o ≡ Some k → t.class (image r k n o) ≡ r.class o
   pub values : (o : ObjectNo) (f : FeatureNo) → resource_of r.above o ≡ Some k
       → t.values (at_end (node.Object (image r k n o)) f) ≡ map (value_image r k n) (r.values (at_end (node.Object o) f))
   pub flags : (o : ObjectNo) (f : FeatureNo) → resource_of r.above o ≡ Some k → t.flag (at_end (node.Object (image r k n o)) f) ≡ r.flag (at_end (node.Object o) f)
-  -- the roots are the images of the roots
+  -- the roots of resource j are the images of the roots of resource k
   pub roots : t.values (roots_end t j) ≡ map (value_image r k n) (r.values (roots_end r k))
-  -- each image is in the resource, and contained by the image of its object's container
+  -- each image is in resource j; if an object contains its object, the image is contained by the image of that container, at the same
+  -- feature
   pub inside : (o : ObjectNo) → resource_of r.above o ≡ Some k → resource_of t.above (image r k n o) ≡ Some j
   pub holders : (o b : ObjectNo) (f : FeatureNo) → resource_of r.above o ≡ Some k → r.holder (node.Object o) ≡ Some (at_end (node.Object b) f)
       → t.holder (node.Object (image r k n o)) ≡ Some (at_end (node.Object (image r k n b)) f)
-  -- if both resources have the same URI, each image has the address of its object
+  -- if the resources k and j have the same URI, each image has the address of its object
   pub addresses : slice_get t.uris j.0 ≡ slice_get r.uris k.0 → (o : ObjectNo) → resource_of r.above o ≡ Some k → address t (image r k n o) ≡ address r o
   -- each object with a number from n on is an image
   pub only : (p : ObjectNo) → n ≤ p.0 → p.0 < t.next → (o : ObjectNo) × (resource_of r.above o ≡ Some k) × (p ≡ image r k n o)

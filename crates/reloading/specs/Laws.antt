@@ -36,19 +36,19 @@ pub record HasOwnAddresses (r : Reading) : Type 0 where
   pub finds : (o : ObjectNo) (a : List ℕ) → address r o ≡ Some a → at r a ≡ Some o
   pub one : (o b : ObjectNo) (a : List ℕ) → address r o ≡ Some a → address r b ≡ Some a → o ≡ b
 
--- resolving a proxy changes no object's address
+-- a resolve of a proxy, if it is not refused, changes no object's address
 abbrev pub ResolvesKeepAddresses : Model → ObjectNo → FeatureNo → ℕ → Type 0
 ResolvesKeepAddresses s o f i = OfAllowed (λ s c. (x : ObjectNo) → address (reading (model_after s c)) x ≡ address (reading s) x) s (At (at_end (node.Object o) f) (Resolve i))
 
--- a load changes the address of no object that has one
+-- a load, if it is not refused, changes the address of no object that has one
 abbrev pub LoadsKeepAddresses : Model → ResourceNo → Doc → Type 0
 LoadsKeepAddresses s k doc =
     OfAllowed (λ s c. HasReadDocument s.metamodel c → (o : ObjectNo) (a : List ℕ) → address (reading s) o ≡ Some a → address (reading (model_after s c)) o ≡ Some a) s (Load k doc)
 
 ---------------------------------------------------------------- loads
 
--- if the document of a saved resource of s is loaded into a resource of another model, that resource has the images of the objects of the
--- saved resource
+-- if the document of the saved resource k of s is loaded into the resource j of a second model, and the load is not refused, then j has the
+-- images of the objects of k
 abbrev pub LoadsSaved : Model → ValuesState → Links → Type 0
 LoadsSaved s w b =
     IsLegal s → HasSteadyTexts s → (k j : ResourceNo) (uri : List ℕ) → IsReadable (reading s) k uri
@@ -56,8 +56,8 @@ LoadsSaved s w b =
 
 ---------------------------------------------------------------- resolves
 
--- a resolve of a proxy is not refused; the model is still a partly resolved copy, and has one proxy fewer, or two if the reference has an
--- opposite
+-- a resolve of a proxy is not refused; the model after it is still a partly resolved copy, and has one proxy fewer, or two fewer if the
+-- reference has an opposite
 pub record IsResolvedBetween (r : Reading) (t : Model) (o : ObjectNo) (f : FeatureNo) (i : ℕ) : Type 0 where
   pub early : early_refusal (reading t) (At (at_end (node.Object o) f) (Resolve i)) ≡ None
   pub late : late_refusal (reading t) (At (at_end (node.Object o) f) (Resolve i)) ≡ None

@@ -19,7 +19,7 @@ use Rattle.handshake.specs.declared.change.Change.TheVariants.{Load, NewResource
 use Rattle.reloading.specs.Between.{Between}
 use Rattle.reloading.specs.Proxies.{HasNoProxy}
 
--- a resource is made anew, or its document is loaded into it
+-- `Make`: a resource is made anew; `Fill`: the document of a resource is loaded into the new resource
 pub data Task : Type 0 where
   Make : ResourceNo → Task
   Fill : ResourceNo → Task
@@ -46,25 +46,26 @@ IsOrder r made filled [] = (k : ResourceNo) → has_resource r k ≡ true → ha
 IsOrder r made filled (Make k ∷ ts) = IsMaking r made k × IsOrder r (made ++ k ∷ []) filled ts
 IsOrder r made filled (Fill k ∷ ts) = IsFilling made filled k × IsOrder r made (filled ++ k ∷ []) ts
 
--- the number that a resource got, if resources were made in the order of the list
+-- the number that a new resource has, if the resources were made in the order of the list `made`
 abbrev pub number_of : List ResourceNo → ResourceNo → ResourceNo
 number_of made k = record { 0 = unwrap_or (position (is_same k) made) 0 }
 
 abbrev pub uri_of : Reading → ResourceNo → List ℕ
 uri_of r k = unwrap_or (slice_get r.uris k.0) []
 
--- the changes of tasks: `Make` makes a resource of the same URI, `Fill` loads the document of the resource
+-- the changes of tasks: `Make` makes a resource with the URI of the saved one, `Fill` loads the document of the saved resource into the new
+-- one
 abbrev pub changes : Reading → List ResourceNo → List Task → List Change
 changes r made [] = []
 changes r made (Make k ∷ ts) = NewResource (uri_of r k) ∷ changes r (made ++ k ∷ []) ts
 changes r made (Fill k ∷ ts) = Load (number_of made k) (copied_document r k) ∷ changes r made ts
 
--- the model after changes
+-- the model after some changes, one after another
 abbrev pub after_all : Model → List Change → Model
 after_all t [] = t
 after_all t (c ∷ cs) = after_all (model_after t c) cs
 
--- a change is not refused; and `AreAllowed`, no change of a list is refused in the model that the changes before it leave
+-- a change is not refused; and `AreAllowed`, no change of a list is refused in the model as it is after the changes before it
 pub record IsAllowed (t : Model) (c : Change) : Type 0 where
   pub early : early_refusal (reading t) c ≡ None
   pub late : late_refusal (reading t) c ≡ None
@@ -73,14 +74,14 @@ abbrev pub AreAllowed : Model → List Change → Type 0
 AreAllowed t [] = Unit {0}
 AreAllowed t (c ∷ cs) = IsAllowed t c × AreAllowed (model_after t c) cs
 
--- each resource can be saved, no text of a reference is too long, and no proxy is left
+-- each resource can be saved, no text of a reference is too long, and no end has a proxy
 pub record IsSaved (r : Reading) : Type 0 where
   pub allowed : (k : ResourceNo) → has_resource r k ≡ true → save_refusal r k ≡ None
   pub short : (k : ResourceNo) (o : ObjectNo) → has_resource r k ≡ true → Refers r k o → length (reference_text r k o) ≤ TEXT_BYTES
   pub resolved : HasNoProxy r
 
--- in an empty model of the metamodel the changes are not refused; the model that they leave is legal, and a partly resolved copy of the
--- saved model
+-- in an empty model of the metamodel the changes of the tasks are not refused; the model after them is legal, and a partly resolved copy of
+-- the saved model
 pub record AreLoads (s : Model) (ts : List Task) : Type 0 where
   pub allowed : AreAllowed (empty_model s.metamodel) (changes (reading s) [] ts)
   pub legal : IsLegal (after_all (empty_model s.metamodel) (changes (reading s) [] ts))

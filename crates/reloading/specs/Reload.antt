@@ -15,7 +15,7 @@ use Rattle.reloading.specs.Laws.{IsAllResolved}
 use Rattle.reloading.specs.Orders.{AreAllowed, IsOrder, IsSaved, Task, after_all, changes}
 use Rattle.reloading.specs.Proxies.{HasNoProxy}
 
--- each change resolves a proxy of the model that the changes before it leave, and no proxy is left after the last change
+-- each change resolves a proxy of the model as it is after the changes before it, and no proxy is left after the last change
 abbrev pub AreResolves : Model → List Change → Type 0
 AreResolves t [] = HasNoProxy (reading t)
 AreResolves t (At e (Resolve i) ∷ cs) = (is_some (proxy_at (reading t) e i) ≡ true) × AreResolves (model_after t (At e (Resolve i))) cs
@@ -25,14 +25,14 @@ AreResolves t (c ∷ cs) = ⊥
 abbrev pub reloaded_model : Model → List Task → Model
 reloaded_model s ts = after_all (empty_model s.metamodel) (changes (reading s) [] ts)
 
--- neither the loads nor the resolves are refused, and the model that they leave is isomorphic to the saved one
+-- neither the loads nor the resolves are refused, and the model after them is isomorphic to the saved one
 pub record IsHadAgain (s : Model) (ts : List Task) (cs : List Change) : Type 0 where
   pub loads : AreAllowed (empty_model s.metamodel) (changes (reading s) [] ts)
   pub resolves : AreAllowed (reloaded_model s ts) cs
   pub alike : Alike (reading s) (reading (after_all (reloaded_model s ts) cs))
 
--- after the loads in some order: some list of resolves leaves no proxy; each list of resolves that leaves no proxy brings the saved model
--- back; a resolve of all proxies at once brings the saved model back too
+-- after the loads in some order: there is a list of resolves after which no proxy is left; after each such list the model is isomorphic to
+-- the saved one; and so it is after one resolve of all proxies
 pub record IsReloaded (s : Model) (ts : List Task) : Type 0 where
   pub some : (cs : List Change) × AreResolves (reloaded_model s ts) cs
   pub had : (cs : List Change) → AreResolves (reloaded_model s ts) cs → IsHadAgain s ts cs

@@ -16,40 +16,45 @@ ghost use Rattle.reloading.specs.Orders.{LoadsGiveBetween};
 ghost use Rattle.reloading.specs.Proxies.{HasNoProxy, proxies_len};
 ghost use Rattle.reloading.specs.Reload.{ReloadsInAnyOrder};
 
-/// In a legal model an address finds the object that has it, and no two objects have the same address (EMF: EcoreUtil.getURI,
-/// ResourceSet.getEObject).
+/// In a legal model, each object that has an address is found at this address, and no two objects have the same address (EMF:
+/// EcoreUtil.getURI, ResourceSet.getEObject).
 pub fn an_address_is_of_one_object()
     ensures { (s : Model) → IsLegal s → HasOwnAddresses (reading s) }
 {}
 
-/// Resolving a proxy changes no object's address, and a load changes the address of no object that has one.
+/// If a resolve of a proxy of a legal model is not refused, it changes no object's address. If a load of a document that was read is not
+/// refused, it changes the address of no object that has one.
 pub fn resolves_and_loads_keep_addresses()
     ensures resolves { (s : Model) (o : ObjectNo) (f : FeatureNo) (i : ℕ) → ResolvesKeepAddresses s o f i }
     ensures loads { (s : Model) (k : ResourceNo) (doc : Doc) → LoadsKeepAddresses s k doc }
 {}
 
-/// If a saved resource is loaded into another model, each saved object is there again, under the next numbers: with its class, its flags,
-/// its container and the values of its ends. Objects of other resources become proxies with their addresses. Each object is in the resource
-/// of the load, and has its old address if that resource has the same URI (EMF: XMLResource.save, XMLResource.load).
+/// Take a legal model whose URIs are normalised, and one of its resources that can be saved and read back (`IsReadable`). If the document
+/// of this resource is loaded into a legal model of the same metamodel and the load is not refused, then each saved object is made there,
+/// under the next numbers: with its class, its flags, its container and the values of its ends. A value that is an object of another
+/// resource becomes a proxy with the address of that object. Each new object is in the resource of the load, and has the address of the
+/// saved object if both resources have the same URI (EMF: XMLResource.save, XMLResource.load).
 pub fn what_was_saved_is_loaded_as_it_was()
     ensures { (s : Model) (w : ValuesState) (b : Links) → LoadsSaved s w b }
 {}
 
-/// A model without proxies, in which no text of a reference is longer than 65,535 bytes, is saved and loaded into a new model: its
-/// resources are made there, and their documents loaded, in any order in which no resource is loaded before it is made. Only memory can
-/// refuse these changes, and they leave a partly resolved copy of the saved model.
+/// Take a legal model without proxies, whose URIs are normalised, whose resources can all be saved, and in which no text of a reference is
+/// longer than 65,535 bytes. Its resources are made in an empty model of the same metamodel, and their documents are loaded there, in any
+/// order in which no resource is loaded before it is made. Only memory can refuse these changes, and the model after them is a partly
+/// resolved copy of the saved model.
 pub fn loads_in_any_order_give_what_stands_between()
     ensures { (s : Model) → LoadsGiveBetween s }
 {}
 
-/// In a partly resolved copy of a saved model without proxies, only memory can refuse to resolve a proxy. After the resolve, the model is
-/// still such a copy, and has one proxy fewer, or two fewer if the reference of the proxy has an opposite.
+/// Take a legal model without proxies, and a legal, partly resolved copy of it. Only memory can refuse the resolve of a proxy of the copy.
+/// After the resolve, the copy is still partly resolved, and has one proxy fewer, or two fewer if the reference of the proxy has an
+/// opposite.
 pub fn resolving_stays_between()
     ensures { (s : Model) (w : ValuesState) (b : Links) → ResolvesBetween s w b }
 {}
 
-/// If all proxies of a partly resolved copy of a saved model without proxies are resolved, one after another in their order, no proxy is
-/// left, and the model is isomorphic to the saved one.
+/// Take a legal model without proxies, and a legal, partly resolved copy of it. After a resolve of all proxies of the copy no proxy is
+/// left, and the copy is isomorphic to the saved model.
 pub fn resolving_all_leaves_no_proxy()
     ensures { (s : Model) (w : ValuesState) (b : Links) → ResolvesAll s w b }
 {}
@@ -59,14 +64,16 @@ pub fn with_no_proxy_left_none_stands()
     ensures { (s : Model) → IsLegal s → proxies_len (reading s) ≡ 0 → HasNoProxy (reading s) }
 {}
 
-/// If neither a partly resolved copy nor the saved model has proxies, they are isomorphic.
+/// If a saved model has no proxies, and neither has a partly resolved copy of it, the two models are isomorphic.
 pub fn without_proxies_models_between_are_alike()
     ensures { (s t : Reading) → HasNoProxy s → HasNoProxy t → Between s t → Alike s t }
 {}
 
-/// A model without proxies, in which no text of a reference is longer than 65,535 bytes, is saved and loaded into a new model in any order.
-/// Then proxies are resolved in any order until none is left. Only memory can refuse these changes, and the model is then isomorphic to the
-/// saved one. There are resolves that leave no proxy: to resolve all proxies in their order is one way.
+/// Take a legal model without proxies, whose URIs are normalised, whose resources can all be saved, and in which no text of a reference is
+/// longer than 65,535 bytes. Its resources are made and loaded in an empty model of the same metamodel, in any order in which no resource
+/// is loaded before it is made. Then proxies are resolved one by one in any order, until none is left. Only memory can refuse these
+/// changes, and the model after them is isomorphic to the saved one. Some list of resolves ends with no proxy left, and a resolve of all
+/// proxies does so too.
 pub fn what_was_saved_is_had_again_in_any_order()
     ensures { (s : Model) → ReloadsInAnyOrder s }
 {}

@@ -1,4 +1,4 @@
--- Laws on the links that are cut with an object.
+-- Laws on the links that are cut when an object is deleted.
 use Rattle.std.specs.Prelude.{List, map}
 use Rattle.mm_types.specs.declared.end.End.{End}
 use Rattle.mm_types.specs.declared.value.Value.{Value}

@@ -13,7 +13,7 @@ use Rattle.models.specs.Reading.{Reading}
 use Rattle.removal.specs.Outer.{is_in_subtree, touched_ends}
 use Rattle.removal.specs.declared.loss.Loss.{Loss}
 
--- whether an end contains an object
+-- whether e is the end that contains the object o
 abbrev pub is_held_by : Reading → ObjectNo → End → Bool
 is_held_by r o e = option_map_or (same_end e) (r.holder (node.Object o)) false
 
@@ -37,7 +37,7 @@ losses_at r o e = losses_from (is_lost r o e) e (r.values e) 0
 abbrev pub values_kept : Reading → ObjectNo → End → List Value
 values_kept r o e = filter (λ v. not (is_lost r o e v)) (r.values e)
 
--- the loss of the object itself, at the end that contains it
+-- the loss of the object itself, at the end that contains it; none if no end does
 abbrev pub last_loss : Reading → ObjectNo → List Loss
 last_loss r o = option_map_or (λ e. loss e (value.Object o) (index_in (values_kept r o e) (value.Object o)) ∷ []) (r.holder (node.Object o)) []
 

@@ -1,5 +1,5 @@
--- The objects that are destroyed with an object (the object itself and all objects below it), and the ends of other nodes that hold some of
--- these objects.
+-- The objects that are destroyed with an object (the object itself and all objects below it), and the ends of other nodes that have some of
+-- these objects as values.
 use Rattle.std.specs.Prelude.{ℕ, suc, ◌&&◌, Bool, not, List, filter, flat_map, length, map, if◌then◌else◌}
 use Rattle.std.specs.List.{list_any, range_with_len}
 use Rattle.mm_types.specs.Lookups as lookups
@@ -17,18 +17,18 @@ use Rattle.containment.specs.Forest.{is_node_among, subtree}
 abbrev pub is_in_subtree : Reading → ObjectNo → Node → Bool
 is_in_subtree r o = is_node_among (subtree r o)
 
--- the nodes that may have a feature, by number, without the nodes that are destroyed: the resources for `contents`, and the objects for
--- each other feature
+-- the nodes that may have a feature, in the order of their numbers, without the nodes that are destroyed: for `contents`, the resources;
+-- for each other feature, the objects that were made
 abbrev pub others_with : Reading → (Node → Bool) → FeatureNo → List Node
 others_with r is_gone f =
     if same_feature f (lookups.contents r.metamodel) then map resource_node (range_with_len 0 (length r.uris))
     else filter (λ n. not (is_gone n)) (map object_node (range_with_len 0 r.next))
 
--- the ends of one feature at nodes that stay
+-- the ends of one feature at nodes that remain
 abbrev pub ends_of : Reading → (Node → Bool) → ℕ → List End
 ends_of r is_gone k = let f : FeatureNo = record { 0 = k } in map (λ n. at_end n f) (others_with r is_gone f)
 
--- all ends of nodes that stay, by feature number, then by node
+-- all ends of nodes that remain, in the order of the feature numbers, then of the nodes
 abbrev pub outer_ends : Reading → (Node → Bool) → List End
 outer_ends r is_gone = flat_map (ends_of r is_gone) (range_with_len 0 (suc (length r.metamodel.features)))
 
@@ -36,6 +36,6 @@ outer_ends r is_gone = flat_map (ends_of r is_gone) (range_with_len 0 (suc (leng
 abbrev pub holds_some : Reading → (Node → Bool) → End → Bool
 holds_some r is_gone e = (shape_at r e).is_reference && list_any (goes is_gone) (r.values e)
 
--- the ends of other nodes that have an object that is destroyed with o
+-- the ends of other nodes that have as a value an object that is destroyed with o
 abbrev pub touched_ends : Reading → ObjectNo → List End
 touched_ends r o = filter (holds_some r (is_in_subtree r o)) (outer_ends r (is_in_subtree r o))

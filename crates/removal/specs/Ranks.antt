@@ -1,4 +1,5 @@
--- How the ends of other nodes are found: by the numbers of the destroyed objects, and by the ends that have an object.
+-- How the ends of other nodes are found: among all ends that have a destroyed object, those whose node is not destroyed. A destroyed object
+-- is recognised by its number.
 use Rattle.std.specs.Prelude.{ℕ, ◌≡◌, Bool, false, not, List, filter}
 use Rattle.std.specs.BTreeSet as set
 use Rattle.std.specs.Ordering.{nat_cmp}
@@ -22,7 +23,7 @@ is_in s (node.Resource k) = false
 abbrev pub HasGone : Reading → ObjectNo → Numbers → Type 0
 HasGone r o s = (n : Node) → is_in s n ≡ is_in_subtree r o n
 
--- whether an end holds an object
+-- whether an end has an object as a value
 abbrev pub holds : Links → End → ObjectNo → Bool
 holds s e x = has_value (end s e) (value.Object x)
 

@@ -1,4 +1,4 @@
--- The links that are cut with an object and all objects below it, each named once.
+-- The links that are cut when an object and all objects below it are destroyed, each named once.
 use Rattle.std.specs.Prelude.{◌||◌, Bool, true, not, List, [], ◌++◌, filter, flat_map, map, is_some, nat_lt, if◌then◌else◌}
 use Rattle.std.specs.Option.{option_map_or}
 use Rattle.mm_types.specs.Shapes.{shape}
@@ -17,8 +17,8 @@ use Rattle.removal.specs.declared.link_end.LinkEnd.{LinkEnd}
 abbrev pub link_end : End → Value → LinkEnd
 link_end e v = record { end = e; value = v }
 
--- whether a link is named at this end, whose node is destroyed. If the link's value is destroyed too, and its feature has an opposite, the
--- link is named only at the end of the feature with the lower number
+-- whether a link is named at this end, whose node is destroyed. If the value at this end is destroyed too, and the end's feature has an
+-- opposite, the link is named only at that of its two ends whose feature has the lower number
 abbrev pub is_named_here : Reading → (Node → Bool) → FeatureNo → Value → Bool
 is_named_here r is_gone f v = not (goes is_gone v) || option_map_or (λ g. nat_lt f.0 g.0) (shape r.metamodel f).opposite true
 
@@ -28,7 +28,7 @@ end_link_ends r is_gone e = map (link_end e) (filter (is_named_here r is_gone e.
 abbrev pub references_of : Reading → Node → List FeatureNo
 references_of r n = filter (λ f. (shape r.metamodel f).is_reference) (all_features_of r n)
 
--- the links of a node that is destroyed
+-- the links that are named at the ends of an object that is destroyed
 abbrev pub node_link_ends : Reading → (Node → Bool) → ObjectNo → List LinkEnd
 node_link_ends r is_gone o = flat_map (λ f. end_link_ends r is_gone (at_end (node.Object o) f)) (references_of r (node.Object o))
 
@@ -36,6 +36,6 @@ node_link_ends r is_gone o = flat_map (λ f. end_link_ends r is_gone (at_end (no
 abbrev pub outer_link_ends : Reading → (Node → Bool) → End → List LinkEnd
 outer_link_ends r is_gone e = if is_some (shape_at r e).opposite then [] else map (link_end e) (filter (goes is_gone) (r.values e))
 
--- all links that name an object or an object below it
+-- all links of an object and of the objects below it
 abbrev pub tree_link_ends : Reading → ObjectNo → List LinkEnd
 tree_link_ends r o = flat_map (node_link_ends r (is_in_subtree r o)) (subtree r o) ++ flat_map (outer_link_ends r (is_in_subtree r o)) (touched_ends r o)

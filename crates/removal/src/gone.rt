@@ -13,11 +13,12 @@ use mm_types::{End, Node, ObjectNo};
 use models::ModelRef;
 use std::alloc::{AllocError, Global};
 
-/// What a deletion of an object takes away: the objects that it destroys (the object and all objects below it), and the ends of other nodes
-/// that have some of these objects. A `Removal` is found once, and then borrowed.
+/// What a deletion of an object concerns: the objects that it destroys (the object and all objects below it), and the ends of other nodes
+/// that have some of these objects as values. `Removal::of` finds all this in one search, and the other functions of this crate borrow the
+/// result.
 #[derive(Drop)]
 pub struct Removal {
-    /// The object that is destroyed.
+    /// The object that is deleted.
     pub object: ObjectNo,
     /// That object and all objects below it, each before its contents.
     pub objects: Vec<ObjectNo>,
@@ -26,7 +27,7 @@ pub struct Removal {
 }
 
 impl Removal {
-    /// What is destroyed with a live object. Fails only if memory is refused.
+    /// What a deletion of a live object concerns. Fails only if memory is refused.
     pub fn of<L: LinkStore>(
         alloc: Global,
         model: &ModelRef<L>,

@@ -1,4 +1,4 @@
-//! The links of nodes that are destroyed with an object; the nodes are recognised by their numbers.
+//! The links that are named at the ends of destroyed objects. An object is recognised as destroyed by its number.
 ghost use Rattle.std.specs.Prelude.{◌≡◌, ◌++◌, [], true, filter, flat_map, map, OnOk, option_map, option_to_list, if◌then◌else◌};
 ghost use Rattle.mm_types.specs.Shapes.{shape};
 ghost use Rattle.mm_types.specs.declared.numbers.Node.TheVariants as node;
@@ -16,7 +16,7 @@ use mm_types::{End, FeatureNo, Node, ObjectNo};
 use models::{Found, ModelRef};
 use std::alloc::AllocError;
 
-/// Adds the links of some objects; `numbers` has the numbers of the objects that are destroyed.
+/// Adds the links that are named at the ends of `objects`; `numbers` has the numbers of the objects that are destroyed.
 pub(crate) fn push_inner<L: LinkStore>(
     model: &ModelRef<L>,
     objects: &[ObjectNo],
@@ -31,7 +31,7 @@ pub(crate) fn push_inner<L: LinkStore>(
     Ok(())
 }
 
-/// Adds the links of one object.
+/// Adds the links that are named at the ends of one object.
 fn push_node<L: LinkStore>(
     model: &ModelRef<L>,
     object: ObjectNo,
@@ -47,7 +47,7 @@ fn push_node<L: LinkStore>(
     Ok(())
 }
 
-/// Adds the links of the end that an object has under a feature, if the feature is a reference.
+/// Adds the links that are named at the end of an object under a feature, if the feature is a reference.
 fn push_reference<L: LinkStore>(
     model: &ModelRef<L>,
     object: ObjectNo,
@@ -64,7 +64,7 @@ fn push_reference<L: LinkStore>(
     push_end(model, End { node, feature }, numbers, link_ends)
 }
 
-/// Adds the links that the end of a reference names.
+/// Adds the links that are named at an end. The end's feature is a reference.
 fn push_end<L: LinkStore>(
     model: &ModelRef<L>,
     end: End,
@@ -79,7 +79,7 @@ fn push_end<L: LinkStore>(
     Ok(())
 }
 
-/// Adds the link of one value of an end, or the proxy, if this end is the one that names the link.
+/// Adds the link (or the proxy) of the value that was found at an end, if the link is named at this end.
 fn push_named<L: LinkStore>(
     model: &ModelRef<L>,
     end: End,
@@ -98,8 +98,9 @@ fn push_named<L: LinkStore>(
     Ok(())
 }
 
-/// Whether a destroyed node's end names the link of a value that was found there: the value is a proxy, an object that stays, or an object
-/// whose own end has a higher feature number.
+/// Whether the link of a value that was found at an end of a destroyed object is named at this end. It is named there if the value is a
+/// proxy or an object that remains. If the value is a destroyed object, the link is named there if the end's feature has no opposite, or if
+/// the opposite has a higher feature number.
 fn is_named_here<L: LinkStore>(
     model: &ModelRef<L>,
     feature: FeatureNo,

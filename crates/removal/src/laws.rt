@@ -16,7 +16,7 @@ pub fn touched_ends_are_those_that_hold_something()
     ensures all { (s : Model) → IsLegal s → (o : ObjectNo) → is_live (reading s) o ≡ true → (e : End) → has_end (touched_ends (reading s) o) e ≡ (not (is_in_subtree (reading s) o e.node) && holds_some (reading s) (is_in_subtree (reading s) o) e) }
 {}
 
-/// The links that are cut with an object are exactly the links of the object and of all objects below it, each named once.
+/// The links that are cut when an object is deleted are exactly the links of the object and of all objects below it, each named once.
 pub fn each_link_of_a_tree_is_named_once()
     ensures { (s : Model) → IsLegal s → (o : ObjectNo) → is_live (reading s) o ≡ true → NameTreeLinks s o }
 {}

@@ -1,4 +1,4 @@
-//! The links that are cut with an object.
+//! The links that are cut when an object is deleted.
 ghost use Rattle.std.specs.Prelude.{◌≡◌, IfOk};
 ghost use Rattle.models.specs.Model.{reading};
 ghost use Rattle.removal.specs.Removals.{IsRemoval};

@@ -22,7 +22,7 @@ use std::alloc::{AllocError, Global};
 pub struct Loss {
     pub end: End,
     pub value: Value,
-    /// The position of the value, from 0, once the earlier losses are made.
+    /// The position of the value, from 0, once the losses before this loss are made.
     pub position: u32,
 }
 
@@ -44,7 +44,8 @@ pub fn losses<L: LinkStore>(
     Ok(out)
 }
 
-/// Adds the losses of one end. If this end contains the deleted object itself, that object is not among these losses yet.
+/// Adds the losses of one end. If this end contains the deleted object itself, the loss of that object is left out here, and `push_last`
+/// adds it.
 fn push_lost<L: LinkStore>(
     model: &ModelRef<L>,
     removal: &Removal,
@@ -88,7 +89,7 @@ fn push_loss(
     Ok(())
 }
 
-/// Adds the loss of the object itself, at the end that contains it.
+/// Adds the loss of the deleted object itself, at the end that contains it, if an end does.
 fn push_last<L: LinkStore>(
     model: &ModelRef<L>,
     removal: &Removal,
@@ -104,7 +105,7 @@ fn push_last<L: LinkStore>(
     push_loss(end, Some(removal.object), position, out)
 }
 
-/// The position of the object itself in the end that contains it, after that end has lost all other objects that are destroyed.
+/// The position of the deleted object itself in the end that contains it, after that end has lost all other objects that are destroyed.
 fn last_position<L: LinkStore>(model: &ModelRef<L>, removal: &Removal, end: End) -> u32
     requires held { (reading model.now).holder (node.Object removal.now.object) ≡ Some end }
     requires removal { IsRemoval (reading model.now) removal.now }
@@ -135,7 +136,7 @@ fn is_lost(removal: &Removal, is_holder: bool, found: Option<ObjectNo>) -> bool
     }
 }
 
-/// Whether the object that was found is the given one.
+/// Whether an object was found, and is `object`.
 fn is_found(found: Option<ObjectNo>, object: ObjectNo) -> bool
     ensures { result ≡ option_map_or (same_object object) found false }
 {
@@ -145,7 +146,7 @@ fn is_found(found: Option<ObjectNo>, object: ObjectNo) -> bool
     }
 }
 
-/// Whether an end contains an object.
+/// Whether `end` is the end that contains `object`.
 fn is_held_by<L: LinkStore>(model: &ModelRef<L>, object: ObjectNo, end: End) -> bool
     ensures { result ≡ l.is_held_by (reading model.now) object end }
 {

@@ -1,4 +1,5 @@
-//! The links from remaining nodes to destroyed nodes, if the links can be named only by the ends of the remaining nodes.
+//! The links from ends of remaining nodes to destroyed objects, for features without opposite: these links can be named only at the ends of
+//! the remaining nodes.
 ghost use Rattle.std.specs.Prelude.{◌≡◌, ◌++◌, true, All, filter, flat_map, map, OnOk, option_map, option_to_list};
 ghost use Rattle.mm_types.specs.Shapes.{shape};
 ghost use Rattle.mm_types.specs.declared.value.Value.TheVariants as value;
@@ -14,7 +15,7 @@ use mm_types::{End, Node, ObjectNo, Value};
 use models::ModelRef;
 use std::alloc::AllocError;
 
-/// Adds the links that only these ends of remaining nodes can name.
+/// Adds the links to destroyed objects that can be named only at `ends`, which are ends of remaining nodes.
 pub(crate) fn push_outer<L: LinkStore>(
     model: &ModelRef<L>,
     ends: &[End],
@@ -49,7 +50,7 @@ fn push_alone<L: LinkStore>(
     Ok(())
 }
 
-/// Adds the link of one value, if the value is destroyed.
+/// Adds the link of the object that was found at an end, if this object is destroyed.
 fn push_if_gone(
     end: End,
     other: Option<ObjectNo>,

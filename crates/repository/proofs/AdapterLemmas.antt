@@ -1,6 +1,6 @@
 -- The adapters after a chain.
 use Rattle.std.proofs.Common.{◌≡◌, ◌∙◌, ◌||◌, ◌++◌, Bool, true, false, List, [], ◌∷◌, length, map, nat_lt, if◌then◌else◌, refl, sym, ap, subst, arith, le-leb}
-use Rattle.std.proofs.lemmas.Bool.{or_parts}
+use Rattle.std.proofs.lemmas.Bool.{false≢true, or_parts}
 use Rattle.notice_chain.specs.Listed.{Above, Listed, adapter_after_notices, audience, heard_of, hears, is_chain_full, is_full, tell_chain, told_list}
 use Rattle.notice_chain.specs.declared.notice.Notice.{Notice}
 use Rattle.adapter_list.specs.Hearing.{IsUnheard, is_heard}
@@ -36,6 +36,12 @@ heard_where_attached up made chain (r ∷ rs) e =
       adapters = ap (λ ns. tell_chain up ns (r ∷ rs)) same;
       full = ap (λ ns. is_chain_full up ns (r ∷ rs)) same;
     }
+
+-- if no adapter is attached, no adapter is notified
+pub nobody-hears : (up : Above) (ns : List Notice) (rs : List Listed) → nat_lt 0 (length rs) ≡ false → IsUnheard up ns rs
+nobody-hears up [] [] h = tt
+nobody-hears up (n ∷ ns) [] h = (refl, nobody-hears up ns [] h)
+nobody-hears up ns (r ∷ rs) h = absurd (false≢true (sym h ∙ le-leb _ _ (omega arith)))
 
 ---------------------------------------------------------------- no adapter is notified
 

@@ -1,84 +1,88 @@
--- The invariant of a repository holds again after edits of only values, and after memory for them was refused.
-use Rattle.std.proofs.Common.{◌≡◌, ◌∙◌, ℕ, [], Bool, List, sym, subst}
+-- The invariant of a repository holds again after the edits of a change, and after memory for them was refused.
+use Rattle.std.proofs.Common.{◌≡◌, ◌∙◌, ℕ, List, None, Err, sym, subst}
+use Rattle.std.specs.FinMap as map
+use Rattle.std.specs.Prelude.{false, if◌then◌else◌}
 use Rattle.links.specs.Holders.{above}
+use Rattle.links.specs.Laws.{touches_containment}
 use Rattle.links.specs.LegalSets.{Kinds}
 use Rattle.links.specs.Links.{Links}
+use Rattle.links.specs.Plans.{links_after_edits}
+use Rattle.links.specs.declared.plan.Edit.{Edit}
 use Rattle.mm_values.specs.Room.{values_of}
 use Rattle.mm_values.specs.Values.{values_after_edits}
 use Rattle.mm_values.specs.declared.value_edit.ValueEdit.{ValueEdit}
 use Rattle.mm_values.specs.declared.values.Values.{Values}
-use Rattle.models.specs.Model.{Model, model_of, reading}
+use Rattle.models.specs.Legal as models
+use Rattle.models.specs.Legal.{kinds_of}
+use Rattle.models.specs.Model.{model_of, reading}
 use Rattle.models.specs.Steady.{HasSteadyTexts}
+use Rattle.fragment_paths.specs.Kept.{Kept}
 use Rattle.notice_chain.specs.Listed.{Listed}
+use Rattle.notice_chain.specs.Released.{Spot}
 use Rattle.notice_chain.specs.declared.notice.Notice.{Notice}
 use Rattle.adapter_list.specs.Hearing.{AreKnown}
-use Rattle.adapter_list.specs.Rounds.{adapters_after_copies}
 use Rattle.adapter_list.specs.declared.hearers.Hearers.{Hearers}
-use Rattle.handshake.specs.Laws.{BringsSteadyTexts}
-use Rattle.change_plans.specs.Plans.{IsPlanOf, of_values}
 use Rattle.handshake.specs.declared.change.Change.{Change}
 use Rattle.handshake.proofs.ProxyLemmas.{change-keeps-steady}
 use Rattle.repository.specs.Repository.{IsLegalInside, KeepsFragments, state}
 use Rattle.repository.specs.Prepared.{IsReady}
-use Rattle.repository.specs.State.{IsLegal, reads}
+use Rattle.repository.specs.Remembered.{may_change_containers}
+use Rattle.repository.specs.State.{IsLegal, State, reads}
 use Rattle.repository.specs.declared.reply.Answer.{Answer}
 use Rattle.repository.specs.declared.repository.Repository.TheInside.{Inside}
+use Rattle.mm_types.specs.declared.refused.Refused.TheVariants.{Memory}
+use Rattle.repository.specs.Run.{Executed}
+use Rattle.repository.specs.Views.{command_of}
 use Rattle.repository.proofs.LoadLemmas.{proper-steady}
-use Rattle.repository.proofs.RememberedLemmas.{kept-after, known-adapters_after_copies}
+use Rattle.repository.proofs.PlanLemmas.{out_of_memory}
+use Rattle.repository.proofs.RememberedLemmas.{hearers-kept, kept-after}
 
-module _ {L A : Type 0} (links : L → Links) (kinds : L → Kinds → Type 0) (r : Inside L A) (w : Values) where
-  -- the repository with other values
-  abbrev pub with_values : Inside L A
-  with_values = record { alloc = r.alloc; meta = r.meta; values = w; store = r.store; adapters = r.adapters; paths = r.paths; hearers = r.hearers }
+-- a change that is ready for the abstract state is ready for the state of the repository
+pub seen : (s v : State) (text : List ℕ) (c : Change) (a : Answer) (ss : List Spot) (es : List Edit) (vs : List ValueEdit) (ns : List Notice) → s ≡ v → IsReady v text c a ss es vs ns → IsReady s text c a ss es vs ns
+seen s v text c a ss es vs ns is ready = subst (λ (t : State). IsReady t text c a ss es vs ns) (sym is) ready
 
-  -- values whose view is as before
-  pub refused : values_of w ≡ values_of r.values → IsLegalInside links kinds r → IsLegalInside links kinds with_values
-  refused unseen holds =
-      let same : model_of r.meta (values_of r.values) (links r.store) ≡ model_of r.meta (values_of w) (links r.store) = λ i. model_of r.meta (sym unseen i) (links r.store) in
+-- a change that is ready may be refused memory
+pub no-memory : (s v : State) (text : List ℕ) (c : Change) (a : Answer) (ss : List Spot) (es : List Edit) (vs : List ValueEdit) (ns : List Notice) → s ≡ v → IsReady v text c a ss es vs ns → Executed s (command_of text c) (Err (record { refused = Memory; given_back = None })) s
+no-memory s v text c a ss es vs ns is ready =
+    let here = seen s v text c a ss es vs ns is ready in
+    out_of_memory s text c here.proper here.asked
+
+module _ {L A : Type 0} (links : L → Links) (kinds : L → Kinds → Type 0) (r : Inside L A) (s : L) (w : Values) (qs : List Listed × List ℕ) (p : Kept) (h : Hearers) where
+  -- the repository with other parts
+  abbrev pub with_parts : Inside L A
+  with_parts = record { alloc = r.alloc; meta = r.meta; values = w; store = s; adapters = qs; paths = p; hearers = h }
+
+  -- parts whose view is as before
+  pub unchanged : links s ≡ links r.store → kinds s (kinds_of r.meta) → values_of w ≡ values_of r.values → qs.0 ≡ r.adapters.0 → KeepsFragments (reads (state links r)) p → AreKnown (above (links r.store)) r.adapters.0 h → IsLegalInside links kinds r → IsLegalInside links kinds with_parts
+  unchanged same_links agree same_values same_adapters kept known holds =
+      let is : state links r ≡ state links with_parts = λ i. record { model = model_of r.meta (sym same_values i) (sym same_links i); adapters = sym same_adapters i } in
       record {
-        legal = subst IsLegal (λ i. record { model = same i; adapters = r.adapters.0 }) holds.legal;
-        steady = subst HasSteadyTexts same holds.steady;
-        kinds_are = holds.kinds_are;
-        paths = subst (λ (m : Model). KeepsFragments (reading m) r.paths) same holds.paths;
-        hearers = holds.hearers;
+        legal = subst IsLegal is holds.legal;
+        steady = subst (λ (t : State). HasSteadyTexts t.model) is holds.steady;
+        kinds_are = agree;
+        paths = subst (λ (t : State). KeepsFragments (reads t) p) is kept;
+        hearers = subst (λ (l : Links). AreKnown (above l) qs.0 h) (sym same_links) (subst (λ (rs : List Listed). AreKnown (above (links r.store)) rs h) (sym same_adapters) known);
       }
 
-  -- the edits of a change that edits no link
-  pub made : (is_heard : Bool) (c : Change) (vs : List ValueEdit) (ns : List Notice) → IsPlanOf is_heard (state links r).model c (of_values vs ns) → values_of w ≡ values_after_edits (values_of r.values) vs → BringsSteadyTexts c → IsLegal (state links with_values) → IsLegalInside links kinds r → IsLegalInside links kinds with_values
-  made is_heard c vs ns plan edited brings legal holds =
-      record {
-        legal = legal;
-        steady = subst HasSteadyTexts (sym (λ i. model_of r.meta ((edited ∙ plan.values_made) i) (plan.links_made i))) (change-keeps-steady (state links r).model c holds.steady brings);
-        kinds_are = holds.kinds_are;
-        paths = kept-after r.meta (values_of r.values) (values_of w) (links r.store) [] holds.legal.model legal.model plan.fits plan.of_kind r.paths holds.paths;
-        hearers = holds.hearers;
-      }
+  module _ (text : List ℕ) (c : Change) (a : Answer) (ss : List Spot) (es : List Edit) (vs : List ValueEdit) (ns : List Notice) (ready : IsReady (state links r) text c a ss es vs ns) (edited : links s ≡ links_after_edits (links r.store) es) (legal : IsLegal (state links with_parts)) (holds : IsLegalInside links kinds r) where
+    legal-after : models.IsLegal (model_of r.meta (values_of w) (links_after_edits (links r.store) es))
+    legal-after = subst (λ (l : Links). models.IsLegal (model_of r.meta (values_of w) l)) edited legal.model
 
-module _ {L A : Type 0} (links : L → Links) (kinds : L → Kinds → Type 0) (r : Inside L A) (w : Values) (qs : List Listed × List ℕ) (h : Hearers) where
-  -- the repository with other values, and with adapters that were asked for capacity or notified
-  abbrev pub with_told : Inside L A
-  with_told = record { alloc = r.alloc; meta = r.meta; values = w; store = r.store; adapters = qs; paths = r.paths; hearers = h }
+    -- the adapters that are remembered for a node are right after the edits too, if these give no node another container
+    pub known-after : (rs : List Listed) (h0 : Hearers) → AreKnown (above (links r.store)) rs h0 → may_change_containers (kinds_of r.meta) es ≡ false → AreKnown (above (links s)) rs h0
+    known-after rs h0 known out =
+        subst (λ (l : Links). AreKnown (above l) rs h0) (sym edited)
+        (hearers-kept r.meta (values_of r.values) (values_of w) (links r.store) es holds.legal.model legal-after ready.fits ready.of_kind rs h0 known out)
 
-  -- values and adapters whose views are as before
-  pub same-told : values_of w ≡ values_of r.values → qs.0 ≡ r.adapters.0 → AreKnown (above (links r.store)) r.adapters.0 h → IsLegalInside links kinds r → IsLegalInside links kinds with_told
-  same-told unseen kept known holds =
-      let same : model_of r.meta (values_of r.values) (links r.store) ≡ model_of r.meta (values_of w) (links r.store) = λ i. model_of r.meta (sym unseen i) (links r.store) in
-      record {
-        legal = subst IsLegal (λ i. record { model = same i; adapters = sym kept i }) holds.legal;
-        steady = subst HasSteadyTexts same holds.steady;
-        kinds_are = holds.kinds_are;
-        paths = subst (λ (m : Model). KeepsFragments (reading m) r.paths) same holds.paths;
-        hearers = subst (λ (rs : List Listed). AreKnown (above (links r.store)) rs h) (sym kept) known;
-      }
-
-  -- the edits of a change that edits no link, and the adapters that were notified of it
-  pub made-told : (c : Change) (a : Answer) (vs : List ValueEdit) (ns : List Notice) (cs : List (ℕ × Notice)) → IsReady (state links r) [] c a [] [] vs ns → values_of w ≡ values_after_edits (values_of r.values) vs → IsLegal (state links with_told) → qs.0 ≡ adapters_after_copies cs r.adapters.0 → AreKnown (above (links r.store)) r.adapters.0 h
-      → IsLegalInside links kinds r → IsLegalInside links kinds with_told
-  made-told c a vs ns cs ready edited legal told known holds =
-      record {
-        legal = legal;
-        steady = subst HasSteadyTexts (sym (λ i. model_of r.meta ((edited ∙ ready.values_made) i) (ready.links_made i))) (change-keeps-steady (state links r).model c holds.steady (proper-steady (reads (state links r)) [] c ready.proper));
-        kinds_are = holds.kinds_are;
-        paths = kept-after r.meta (values_of r.values) (values_of w) (links r.store) [] holds.legal.model legal.model ready.fits ready.of_kind r.paths holds.paths;
-        hearers = subst (λ (rs : List Listed). AreKnown (above (links r.store)) rs h) (sym told) (known-adapters_after_copies (above (links r.store)) cs r.adapters.0 h known);
-      }
+    -- the edits of a change that is ready
+    pub made : kinds s (kinds_of r.meta) → values_of w ≡ values_after_edits (values_of r.values) vs → p ≡ (if touches_containment (kinds_of r.meta) es then map.empty else r.paths) → AreKnown (above (links s)) qs.0 h → IsLegalInside links kinds with_parts
+    made agree valued forgotten known =
+        record {
+          legal = legal;
+          steady = subst HasSteadyTexts (sym (λ i. model_of r.meta ((valued ∙ ready.values_made) i) ((edited ∙ ready.links_made) i))) (change-keeps-steady (state links r).model c holds.steady (proper-steady (reads (state links r)) text c ready.proper));
+          kinds_are = agree;
+          paths = subst (KeepsFragments (reading (model_of r.meta (values_of w) (links s)))) (sym forgotten)
+              (subst (λ (l : Links). KeepsFragments (reading (model_of r.meta (values_of w) l)) (if touches_containment (kinds_of r.meta) es then map.empty else r.paths)) (sym edited)
+              (kept-after r.meta (values_of r.values) (values_of w) (links r.store) es holds.legal.model legal-after ready.fits ready.of_kind r.paths holds.paths));
+          hearers = known;
+        }

@@ -1,5 +1,5 @@
 -- The targets that are removed with the objects that a change destroys.
-use Rattle.std.proofs.Common.{◌≡◌, ℕ, suc, ◌+◌, ◌≤◌, ◌<◌, ◌||◌, Bool, true, false, cond, List, [], ◌∷◌, ◌++◌, length, length-append, map, if◌then◌else◌, filter, drop, get_or, slice_get, Option, None, Some, option_map, append_assoc, refl, ap, sym, subst, ◌∙◌, arith}
+use Rattle.std.proofs.Common.{◌≡◌, ℕ, suc, ◌+◌, ◌≤◌, ◌<◌, ◌||◌, Bool, true, false, cond, List, [], ◌∷◌, ◌++◌, length, map, filter, drop, get_or, slice_get, Option, None, Some, option_map, append_assoc, refl, ap, sym, subst, ◌∙◌, arith}
 use Rattle.std.specs.Prelude.{IfSome}
 use Rattle.std.specs.List.{flat_map, list_any}
 use Rattle.std.specs.Option.{option_map_or}
@@ -11,12 +11,10 @@ use Rattle.mm_types.specs.declared.numbers.AdapterNo.{AdapterNo}
 use Rattle.mm_types.specs.declared.numbers.Node.{Node}
 use Rattle.mm_types.specs.declared.numbers.Node.TheVariants as node
 use Rattle.mm_types.specs.declared.numbers.ObjectNo.{ObjectNo}
-use Rattle.notice_chain.specs.Listed.{Listed, is_at, is_target}
-use Rattle.notice_chain.specs.Released.{Spot, adapters_without_target, is_gone_at, last_notice, released_adapters, spots, spots_of, told_of_all, told_of_leaving}
-use Rattle.notice_chain.specs.declared.notice.Notice.{Notice}
+use Rattle.notice_chain.specs.Listed.{Listed, is_at}
+use Rattle.notice_chain.specs.Released.{Spot, is_gone_at, spots, spots_of}
 use Rattle.notice_chain.specs.declared.target.Target.{Target}
 use Rattle.adapter_list.specs.Hearing.{is_touched, ordinals_from, touched_indexes}
-use Rattle.adapter_list.specs.Rounds.{adapters_after_copies_from}
 use Rattle.containment.specs.Forest.{is_node_among}
 use Rattle.models.specs.Reading.{Reading}
 use Rattle.removal.specs.Outer.{is_in_subtree}
@@ -41,23 +39,6 @@ use Rattle.repository.specs.Leaving.{going_with}
 use Rattle.repository.specs.Views.{command_of}
 use Rattle.repository.specs.declared.reply.Answer.{Answer}
 use Rattle.repository.specs.declared.reply.Answer.TheVariants as answer
-
--- a delivery changes no target
-spots-from : (goes : AdapterNo → Node → Bool) (k : ℕ) (cs : List (ℕ × Notice)) (rs : List Listed) → spots goes (adapters_after_copies_from k cs rs) ≡ spots goes rs
-spots-from goes k cs [] = refl
-spots-from goes k cs (r ∷ rs) = ap (λ (ss : List Spot). spots_of goes r ++ ss) (spots-from goes (suc k) cs rs)
-
--- there are at most as many last notifications as targets that are removed
-told_all-few : (ss : List Spot) (rs : List Listed) → length (told_of_all ss rs) ≤ length ss
-told_all-few [] rs = omega arith
-told_all-few (s ∷ ss) rs =
-    let last : AdapterNo × Notice = (s.0, last_notice s rs) in
-    let one : length (told_of_leaving s rs) ≤ 1 = elim (is_target s.0 s.1 rs) as (λ b. length (if b then last ∷ [] else []) ≤ 1) [ true ↦ omega arith | false ↦ omega arith ] in
-    omega (arith, one, told_all-few ss (adapters_without_target s rs), length-append (told_of_leaving s rs) (told_of_all ss (adapters_without_target s rs)))
-
-pub told-few : (ss : List Spot) (rs : List Listed) → length (released_adapters ss rs).told ≤ length ss
-told-few [] rs = omega arith
-told-few (s ∷ ss) rs = told_all-few (s ∷ ss) rs
 
 ---------------------------------------------------------------- the targets at what is destroyed
 

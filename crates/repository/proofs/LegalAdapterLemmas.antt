@@ -4,7 +4,6 @@ use Rattle.std.specs.List.{All, IsDistinct, list_any, sum_by}
 use Rattle.std.proofs.lemmas.Bool.{or_parts, leb-false, ltb-false}
 use Rattle.std.proofs.lemmas.List.Elements.{All-append, All-cons, All-nil, All-head, All-tail, All-weaker}
 use Rattle.std.proofs.lemmas.List.Sums.{sum_by-cons, sum_by_push}
-use Rattle.mm_types.specs.Conditions.{◌where_so◌}
 use Rattle.mm_types.specs.declared.limits.TheConstants.{TARGETS}
 use Rattle.mm_types.specs.declared.numbers.AdapterNo.{AdapterNo}
 use Rattle.mm_types.specs.declared.numbers.Node.{Node}

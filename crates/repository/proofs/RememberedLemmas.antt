@@ -47,6 +47,11 @@ none-at X o t h = absurd (none-some t (sym (map.get-empty nat_cmp o.0) ∙ h))
 none-kept : (r : Reading) → KeepsFragments r map.empty
 none-kept r o t h = none-at _ o t h
 
+-- fragments that are kept, or forgotten
+pub some-kept : (r : Reading) (kept : Kept) (b : Bool) → KeepsFragments r kept → KeepsFragments r (if b then map.empty else kept)
+some-kept r kept true keeps = none-kept r
+some-kept r kept false keeps = keeps
+
 -- if a feature is a containment, its pair has a containing feature
 some-feature : (f : FeatureNo) (x : Option FeatureNo) → is_feature f x ≡ true → is_some x ≡ true
 some-feature f (Some g) h = refl

@@ -17,7 +17,7 @@ is_change (command.Detach number) = false
 is_change (command.Read q) = false
 is_change _ = true
 
--- a change that is not refused is also not refused if there are no adapters, and leaves the same model in both cases
+-- a change that is not refused is also not refused if there are no adapters, and the model after it is the same in both cases
 abbrev pub IsAloneToo : State → Command View → Type 0
 IsAloneToo s c =
     is_change c ≡ true → refusal_of s c ≡ None
@@ -27,7 +27,7 @@ IsAloneToo s c =
 abbrev pub KeepsModel : State → Command View → Type 0
 KeepsModel s c = is_change c ≡ false → (step s c).after.model ≡ s.model
 
--- a change that was done is also done if there are no adapters, and leaves the same model in both cases
+-- a change that was done is also done if there are no adapters, and the model after it is the same in both cases
 abbrev pub ComesBack : State → Command View → Reply View → State → Type 0
 ComesBack s c r t =
     is_change c ≡ true → Executed s c (Ok r) t

@@ -6,7 +6,7 @@ use Rattle.notice_chain.specs.View.{View}
 use Rattle.notice_chain.specs.Listed.{Listed, adapter, is_target}
 use Rattle.mm_types.specs.Ends.{has_value, value_in}
 use Rattle.mm_types.specs.declared.end.End.{End}
-use Rattle.models.specs.Reading.{Reading, at_end, is_repeat, is_set, shape_at, value_at}
+use Rattle.models.specs.Reading.{Reading, is_repeat, is_set, shape_at, value_at}
 use Rattle.containment.specs.Above.{resource_of}
 use Rattle.containment.specs.Forest.{container, contents, subtree}
 use Rattle.repository.specs.declared.command.Command.{Command}
@@ -49,7 +49,7 @@ got_answer (feature_value.One v) = answer.Value v
 got_answer (feature_value.Many vs) = answer.Values vs
 
 -- `add` gives whether the list changed, `remove` and `move` the value, `remove_value` whether the value was there, and `resolve` the object
--- that the proxy finds
+-- that replaces the proxy
 abbrev pub act_answer : Reading → End → Act → Answer
 act_answer r e (act.Add v i) = answer.Flag (not (is_repeat r e v))
 act_answer r e (act.Remove i) = answer.Value (value_in (r.values e) i)
@@ -87,7 +87,7 @@ answer_of r rs (command.Read q) = read_answer r rs q
 answer_of r rs _ = answer.Done
 
 -- whether the answer of a change is known only when the change is planned; the answer then says how many objects a deletion destroys, which
--- object a proxy finds, or how many proxies are resolved
+-- object replaces a proxy, or how many proxies are resolved and how many are left
 abbrev pub is_answered_late : Change → Bool
 is_answered_late c = is_some (destroyed_by c) || resolves_one c || resolves_all c
 

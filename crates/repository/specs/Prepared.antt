@@ -1,13 +1,16 @@
 -- A change that is ready to be made.
-use Rattle.std.specs.Prelude.{◌≡◌, ℕ, List, None}
+use Rattle.std.specs.Prelude.{◌≡◌, ℕ, Bool, List, None}
 use Rattle.mm_values.specs.Values as values
 use Rattle.mm_values.specs.declared.value_edit.ValueEdit.{ValueEdit}
 use Rattle.links.specs.Plans as links
 use Rattle.links.specs.declared.plan.Edit.{Edit}
 use Rattle.models.specs.Legal.{kinds_of}
+use Rattle.models.specs.Model.{Model}
 use Rattle.notice_chain.specs.Listed.{Above, Listed, is_chain_full, tell_chain, told_list}
 use Rattle.notice_chain.specs.Released.{Spot}
 use Rattle.notice_chain.specs.declared.notice.Notice.{Notice}
+use Rattle.change_plans.specs.Plans.{IsPlanOf}
+use Rattle.change_plans.specs.declared.planned.Finding.{Finding}
 use Rattle.handshake.specs.Effects.{model_after}
 use Rattle.handshake.specs.FeatureChanges.{chain}
 use Rattle.handshake.specs.Refusals.{early_refusal, late_refusal}
@@ -25,6 +28,10 @@ pub record TellsAll (up : Above) (made chain : List Notice) (rs : List Listed) :
   pub told : told_list up made rs ≡ told_list up chain rs
   pub adapters : tell_chain up made rs ≡ tell_chain up chain rs
   pub full : is_chain_full up made rs ≡ is_chain_full up chain rs
+
+-- what planning finds besides these edits of links and of values and these notifications, with which they are the plan of a change
+abbrev pub IsPlanned : Bool → Model → Change → List Edit → List ValueEdit → List Notice → Type 0
+IsPlanned is_heard m c es vs ns = (f : Finding) × IsPlanOf is_heard m c (record { finding = f; edits = es; values = vs; chain = ns })
 
 -- a change is ready: it can be refused only with `AdapterFull` or `Memory`; a is its answer, `going` has the targets that are taken away,
 -- es and vs are its edits of links and of values, and ns are its notifications

@@ -1,4 +1,5 @@
--- Why a command is refused: the first condition that applies, in the order of their numbers.
+-- Why a command is refused: the first refusal that applies, in the order of the numbers of the refusals, with one exception: `Unmatched`
+-- comes after `Unresolved` and before `NoAdapter`.
 use Rattle.std.specs.Prelude.{◌≡◌, ℕ, ◌&&◌, MatchBool, true, false, nat_lt, length, List, [], Option, Some, None, is_some, option_map}
 use Rattle.std.specs.Option.{option_map_or}
 use Rattle.mm_types.specs.Conditions.{◌unless◌, ◌where_so◌, ◌else_by◌, is_memory_refusal}
@@ -30,8 +31,8 @@ use Rattle.web_uris.specs.Addresses.{has_mark}
 use Rattle.fragment_paths.specs.Fragments.{fragment}
 use Rattle.doc_writer.specs.Saved.{save_refusal}
 
--- the change of the model that a command asks for, if the command asks for a change; the change of a load has the document that its text is
--- read as
+-- the change of the model that a command asks for; none if the command asks for no change, or if its text gives no URI or no document. The
+-- change of a load has the document that its text is read as
 abbrev pub change_of : Reading → Command View → Option Change
 change_of r (command.At e a) = Some (change.At e a)
 change_of r (command.Create c) = Some (change.Create c)
@@ -79,14 +80,14 @@ resource_refusal r t uri =
     BadUri unless is_some uri else_by
     ResourceExists where_so option_map_or (has_uri r) uri false
 
--- the refusals of reads that are found by a look at the model
+-- why a read is refused though all that it names exists
 abbrev pub late_read_refusal : Reading → Read → Option Refused
 late_read_refusal r (asks.Of o Fragment) = Dangling unless is_some (fragment r o)
 late_read_refusal r (asks.Save k) = save_refusal r k
 late_read_refusal r (asks.ObjectAt t) = TextLength unless is_short_text t else_by BadUri unless has_mark t
 late_read_refusal r _ = None
 
--- the refusals that planning finds, and the refusals that the list of adapters finds
+-- the refusals that planning finds, the refusals that the list of adapters finds, and the refusals of reads by `late_read_refusal`
 abbrev pub late_refusal : Reading → List Listed → Command View → Option Refused
 late_refusal r rs (command.CreateResource t) = resource_refusal r t (joined_uri [] t)
 late_refusal r rs (command.Load k text) = load_refusal r k (reads_into r k text)
@@ -95,7 +96,7 @@ late_refusal r rs (command.Watch number target deep) = watch_refusal rs number t
 late_refusal r rs (command.Read q) = late_read_refusal r q
 late_refusal r rs c = option_map_or (planned.late_refusal r) (change_of r c) None
 
--- the refusal of a command that notifies an adapter which can't count its notifications
+-- `AdapterFull` if a command would notify an adapter that can't count so many notifications
 abbrev pub full_refusal : Reading → List Listed → Command View → Option Refused
 full_refusal r rs c = AdapterFull where_so is_chain_full r.above (chain r c) rs
 

@@ -24,7 +24,7 @@ abbrev pub is_memory : Outcome → Bool
 is_memory (Ok r) = false
 is_memory (Err f) = is_memory_refusal f.refused
 
--- whether a refusal is found without memory; a command to which such a refusal applies does not fail with MEMORY
+-- whether a refusal is always found before memory is taken; a command whose refusal this is does not fail with MEMORY
 abbrev pub is_plain : Refused → Bool
 is_plain NoObject = true
 is_plain NoResource = true
@@ -51,7 +51,7 @@ abbrev pub takes_memory : Command View → Bool
 takes_memory (command.Read q) = read_takes_memory q
 takes_memory _ = true
 
--- whether a command may fail with MEMORY: it takes memory, and no refusal applies that is found without memory
+-- whether a command may fail with MEMORY: it takes memory, and it has no refusal that is found before memory is taken
 abbrev pub may_want_memory : State → Command View → Bool
 may_want_memory s c = takes_memory c && not (option_map_or is_plain (refusal_of s c) false)
 
@@ -61,7 +61,8 @@ pub record IsWanting (s : State) (c : Command View) (o : Outcome) (t : State) : 
   pub outcome : o ≡ Err (failure c Memory)
   pub state : t ≡ s
 
--- the outcome of a command that is given no adapter; and `read_outcome`, the outcome of a read
+-- the outcome of a command that is given no adapter; and `read_outcome`, the outcome of a command that is given no adapter and notifies
+-- none, such as a read
 abbrev pub change_outcome : Result (Reply View) Refused → Outcome
 change_outcome (Ok r) = Ok r
 change_outcome (Err r) = Err (record { refused = r; given_back = None })
@@ -79,11 +80,11 @@ brief_outcome heard a (Replied r) = change_outcome (changed_view heard r)
 abbrev pub answered_outcome : Result Answer Refused → Outcome
 answered_outcome = read_outcome (λ a. a)
 
--- a command was executed: it had the outcome and left the state that the step gives, or it failed with MEMORY
+-- a command was executed: its outcome and the state after it are those of the step, or the command failed with MEMORY
 abbrev pub Executed : State → Command View → Outcome → State → Type 0
 Executed s c o t = MatchBool (is_memory o) (IsWanting s c o t) (step s c ≡ record { outcome = o; after = t })
 
--- each command of a list was done in the state that the command before it left
+-- each command of a list was executed in the state as it was after the command before it
 abbrev pub AllExecuted : State → List (Command View) → List Outcome → State → Type 0
 AllExecuted s [] [] t = s ≡ t
 AllExecuted s [] (o ∷ os) t = ⊥
@@ -113,6 +114,6 @@ commands_kept cs [] = []
 commands_kept [] (o ∷ os) = []
 commands_kept (c ∷ cs) (o ∷ os) = if is_memory o then commands_kept cs os else c ∷ commands_kept cs os
 
--- a run of the commands that did not fail with MEMORY gives exactly their outcomes, and leaves the state t
+-- a run of the commands that did not fail with MEMORY gives exactly their outcomes, and the state after it is t
 abbrev pub IsRun : State → List (Command View) → List Outcome → State → Type 0
 IsRun s cs os t = run s (commands_kept cs os) ≡ record { outcomes = outcomes_kept os; after = t }

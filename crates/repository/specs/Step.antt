@@ -31,8 +31,8 @@ failure c r = record { refused = r; given_back = brought_adapter c }
 abbrev pub refused_step : State → Command View → Refused → Stepped
 refused_step s c r = record { outcome = Err (failure c r); after = s }
 
--- the targets that are taken away with a command: the targets at objects that it destroys, the target that it names, or all targets of the
--- adapter that it names
+-- the targets that a command takes away: `delete` takes away the targets at the objects that it destroys, `unwatch` the target that it
+-- names, and `detach` all targets of the adapter that it names
 abbrev pub going_spots : Reading → List Listed → Command View → List Spot
 going_spots r rs (command.Delete o) = spots (is_gone_at (is_in_subtree r o)) rs
 going_spots r rs (command.Unwatch number target) = (number, target) ∷ []

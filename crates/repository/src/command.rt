@@ -10,15 +10,15 @@ pub enum Command<A = Box<dyn Adapter>> {
     At(End, Act),
     /// Makes an object of a class (EMF: EFactory.create; MOF 2.5.1: Reflection, Factory.create).
     Create(ClassNo),
-    /// Destroys an object and all objects below it, and takes them out of every end that holds them (EMF: EcoreUtil.delete, recursively;
-    /// MOF 2.5.1: Reflection, Object.delete).
+    /// Destroys an object and all objects below it, and takes each of them out of every end that has it as a value (EMF: EcoreUtil.delete,
+    /// recursively; MOF 2.5.1: Reflection, Object.delete).
     Delete(ObjectNo),
-    /// Makes a resource whose URI a text gives (EMF: ResourceSet.createResource).
+    /// Makes a resource; the text gives its URI (EMF: ResourceSet.createResource).
     CreateResource(Text),
-    /// Loads the document of a text into an empty resource (EMF: Resource.load).
+    /// Reads a text as a document, and loads the document into an empty resource (EMF: Resource.load).
     Load(ResourceNo, Text),
-    /// Resolves all proxies, one after another, by object number, feature and position (EMF: EcoreUtil.resolveAll). A proxy that `resolve`
-    /// would refuse is skipped.
+    /// Resolves all proxies, one after another (EMF: EcoreUtil.resolveAll). They are ordered by the number of the referring object, then by
+    /// feature in the order of all features, then by index. A proxy that `Repository::resolve` would refuse is skipped.
     ResolveAll,
     /// Attaches an adapter to a node, last in attach order (EMF: Notifier.eAdapters().add). A deep adapter is also notified of changes
     /// below the node (EMF: EContentAdapter).
@@ -34,7 +34,8 @@ pub enum Command<A = Box<dyn Adapter>> {
         target: Node,
         deep: bool,
     },
-    /// Takes one target from an adapter. If the adapter has no other target, it is given back (EMF: Notifier.eAdapters().remove).
+    /// Takes one target from an adapter. If this was the adapter's last target, the adapter is given back (EMF:
+    /// Notifier.eAdapters().remove).
     Unwatch {
         no: AdapterNo,
         target: Node,

@@ -3,10 +3,11 @@
 //! `specs/Step.antt` says what a command does, and `specs/Run.antt` what a list of commands does.
 #![tactic(auto)]
 
+mod answering;
 mod command;
+mod edits;
 mod leaving;
-mod lone_puts;
-mod preparing;
+mod prepared;
 mod remembered;
 mod replies;
 mod reply;

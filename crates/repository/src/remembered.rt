@@ -22,24 +22,23 @@ fn touches_containment(meta: &Meta, edits: &Plan) -> bool
         .any(|e| meta.containing(e.end().feature).is_some())
 }
 
-/// Forgets what may be wrong after a change. The fragments are forgotten if the plan edits a containing link. The adapters that are
-/// notified at a node are forgotten if the plan may give a node another container, or if targets are taken away. Takes no memory.
+/// Forgets what may be wrong after a plan. The fragments are forgotten if the plan edits a containing link. The adapters that are remembered
+/// for a node are forgotten if the plan may give a node another container. Takes no memory.
+#[inline(always)]
 pub(crate) fn forget_touched(
     paths: &mut PathCache,
     hearers: &mut Hearers,
     meta: &Meta,
     edits: &Plan,
-    targets_go: bool,
 )
     ensures paths { paths.new ≡ (if touches (kinds_of meta.now) edits.now then map.empty else paths.old) }
-    ensures hearers { (up : Above) (rs : List Listed) → (may_change_containers (kinds_of meta.now) edits.now ≡ false → targets_go ≡ false → AreKnown up rs hearers.old) → AreKnown up rs hearers.new }
+    ensures hearers { (up : Above) (rs : List Listed) → (may_change_containers (kinds_of meta.now) edits.now ≡ false → AreKnown up rs hearers.old) → AreKnown up rs hearers.new }
 {
-    let touched = touches_containment(meta, edits);
-    if touched {
-        paths.clear();
+    if !touches_containment(meta, edits) {
+        return;
     }
-    let moves = matches!(edits.as_slice(), [Edit::Shift { .. }]);
-    if (touched && !moves) || targets_go {
+    paths.clear();
+    if !matches!(edits.as_slice(), [Edit::Shift { .. }]) {
         hearers.forget();
     }
 }

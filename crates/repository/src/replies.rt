@@ -6,7 +6,7 @@ ghost use Rattle.repository.specs.Views.{changed_view, outcome_view};
 ghost use Rattle.repository.specs.declared.reply.Answer.TheVariants as answer;
 
 use crate::reply::{Answer, Failure, Reply};
-use mm_types::{ObjectNo, Refused, Seq};
+use mm_types::{Refused, Seq};
 use std::alloc::Global;
 
 /// An answer, as the reply of a command that notifies no adapter. Takes no memory.
@@ -32,18 +32,7 @@ pub(crate) fn replied<A>(
     Ok(reply(alloc, answer))
 }
 
-/// The object that was made, as a reply.
-pub(crate) fn replied_object<A>(
-    alloc: Global,
-    made: Result<ObjectNo, Refused>,
-) -> Result<Reply<A>, Refused>
-    ensures { (heard : A → View) → change_outcome (changed_view heard result) ≡ read_outcome answer.Object made }
-{
-    let object = made?;
-    Ok(reply(alloc, Answer::Object(object)))
-}
-
-/// The answer of a read, as a reply.
+/// The outcome of a read: a reply with the answer, or the refusal.
 pub(crate) fn replied_read<A>(
     alloc: Global,
     read: Result<Answer, Refused>,

@@ -27,7 +27,7 @@ pub enum Answer {
     Count(u64),
     /// How many objects were destroyed.
     Destroyed(u64),
-    /// How many objects a document made.
+    /// How many objects a load made.
     Loaded(u64),
     /// How many proxies were resolved (two at the ends of one link count once), and how many are left.
     Resolved { done: u64, left: u64 },
@@ -35,15 +35,15 @@ pub enum Answer {
     Container(Option<ObjectNo>),
     /// The resource that an object is in; `None` if the object is in no resource.
     Within(Option<ResourceNo>),
-    /// Features of an object, in the order of all features of its class.
+    /// The features of an object that have too few values, in the order of all features of its class.
     Features(Seq<FeatureNo>),
     /// The object at an address, if one is there.
     Found(Option<ObjectNo>),
-    /// A fragment.
+    /// The fragment of an object.
     Fragment(Text),
     /// The document of a resource.
     Document(Text),
-    /// The objects that a node contains.
+    /// The objects that a node directly contains.
     Objects(Seq<ObjectNo>),
     /// The state of a node and of each node below it.
     Snapshot(Snapshot),

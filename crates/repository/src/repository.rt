@@ -26,8 +26,8 @@ use models::ModelRef;
 use std::alloc::Global;
 use std::marker::Model;
 
-/// Objects of a metamodel's classes with their values, their links in a store, and the adapters that are notified of their changes (EMF:
-/// Resource with EObjects; MOF 2.5.1: Extent).
+/// Objects of a metamodel's classes with their values, their links in a store, and the adapters that are notified of changes (EMF: Resource
+/// with EObjects; MOF 2.5.1: Extent).
 ///
 /// A command that is refused changes nothing and notifies no adapter. Contracts see a repository as its `State`, which is always legal.
 /// Code that holds a repository is generic over its store and the type of its adapters; only the outermost caller picks these two types.
@@ -40,10 +40,10 @@ pub struct Repository<L: LinkStore, A: Adapter = Box<dyn Adapter>> {
     values: Values,
     store: L,
     adapters: AdapterList<A>,
-    /// The fragments that were computed since a containing link last changed.
+    /// The fragments that are remembered: up to 1,024, computed since a plan or a put last edited a containing link.
     paths: PathCache,
-    /// The adapters that get the notifications of one node, as the last search found them. They are forgotten when a node may get another
-    /// container, and when an adapter gets or loses a target.
+    /// The adapters that are notified of changes at one node, the node that was looked up last. They are forgotten when a node may get
+    /// another container, and when an adapter gets or loses a target.
     hearers: Hearers,
 }
 
@@ -94,14 +94,15 @@ impl<L: LinkStore, A: Adapter> Repository<L, A> {
         ModelRef::new(&self.meta, &self.values, &self.store)
     }
 
-    /// The state of every repository is legal. Proofs that know a repository by its view call this.
+    /// The state of every repository is legal. A proof that sees only the view of a repository gets this fact by a call of this method.
     pub fn lemma_is_legal(&self)
         ensures { s.IsLegal self.now }
     {
         let _ = &self.alloc;
     }
 
-    /// The URIs of every repository's resources and proxies are normalised, so a resource that is saved is read back (`round_trip::laws`).
+    /// The URIs of the resources and the proxies of every repository are normalised. The laws by which a saved resource is read back
+    /// (`round_trip::laws`) require this.
     pub fn has_steady_texts(&self)
         ensures { HasSteadyTexts self.now.model }
     {

@@ -75,7 +75,7 @@ has_cross m c = is_some (shape m c.feature).opposite && list_any is_proxy c.valu
 abbrev pub of_content : (ObjectNo → Content → Bool) → Doc → Bool
 of_content holds d = list_any (λ x. list_any (holds (record { 0 = x.0 })) x.1.contents) (enumerate_from 0 d.objects)
 
--- the causes by the shape of the parts, and by their names and types
+-- the causes by the shape of the parts, by the format, and by the names and types in the parts
 abbrev pub shape_cause : Metamodel → Option Top → List Part → Option DocFault
 shape_cause m t ps =
     cause.Layout where_so (not (is_some t) || list_any is_misshapen ps) else_by
@@ -84,7 +84,8 @@ shape_cause m t ps =
     cause.Feature where_so of_written (has_other_key m) ps else_by
     cause.Value where_so of_entry m (λ e. not (is_content m e)) ps
 
--- the causes that depend on the targets of references, on the number of values, and on the level of a part
+-- the causes that depend on the targets of references, on repeated values, on the number of values, on opposites, and on the level of a
+-- part
 abbrev pub sense_cause : Metamodel → Base → Data → List Part → Doc → Option DocFault
 sense_cause m b d ps doc =
     cause.Reference where_so of_entry m (has_lost m b ps) ps else_by

@@ -1,4 +1,4 @@
--- The values under one feature of a document.
+-- The values under one feature of an object of a document.
 use Rattle.std.specs.Prelude.{List, [], ◌∷◌}
 use Rattle.mm_types.specs.declared.value.Value.{Value}
 use Rattle.resource_docs.specs.declared.doc_values.Layout.{Layout}

@@ -14,7 +14,7 @@ value_of_key (key.Literal i) = value.Literal i
 value_of_key (key.Object o) = value.Object (record { 0 = o })
 value_of_key (key.Proxy t) = value.Proxy t.now
 
--- whether a list has only objects, in the order of their numbers, from n on
+-- whether a list has only objects, whose numbers rise along the list and are at least n
 abbrev pub rising_from : ℕ → List Value → Bool
 rising_from n [] = true
 rising_from n (value.Object o ∷ vs) = nat_le n o.0 && rising_from (suc o.0) vs

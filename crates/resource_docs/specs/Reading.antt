@@ -1,4 +1,4 @@
--- What is read so far, and whether a reference in it leads nowhere.
+-- What is read of a document so far: values, contents and objects, and the faults that were noted on the way.
 use Rattle.std.specs.Prelude.{◌≡◌, ◌++◌, ◌||◌, ℕ, Bool, false, not, List, [], ◌∷◌, filter, filter_map, is_some, map, Option, Some}
 use Rattle.std.specs.List.{All, enumerate_from, list_any}
 use Rattle.std.specs.Option.{option_map_or}
@@ -39,12 +39,13 @@ Numbered m f n says = (ps : List Part) (path : Path) → Knows m f ps → number
 abbrev pub new_values : List Value → Bool → ReadValues
 new_values vs lost = record { values = vs; is_lost = lost }
 
--- the values that the first data of a feature give
+-- what is read from ds, the first data of a feature: the values, and whether a reference among them leads nowhere or to an object of a
+-- wrong class
 abbrev pub values_so_far : Metamodel → Base → List Part → Path → FeatureNo → Kind → List Data → ReadValues
 values_so_far m b ps path f k ds =
     record { values = filter_map (value_of m b ps path f k) (enumerate_from 0 ds); is_lost = list_any (is_lost m b ps k) ds }
 
--- the values that all data of a feature give
+-- what is read from all data of a feature
 abbrev pub entry_read : Metamodel → Base → List Part → Path → Entry → ReadValues
 entry_read m b ps path e = record { values = values_read m b ps path e; is_lost = has_lost m b ps e }
 
@@ -59,7 +60,7 @@ contents_so_far m b ps path es =
       has_long = list_any (is_long m) es;
     }
 
--- the contents with the values of one more feature, if it has any
+-- the contents with what was read under one more feature: its values, if there are any, and whether a reference is lost
 abbrev pub with_values : ReadContents → FeatureNo → ReadValues → ReadContents
 with_values r f v =
     record {
@@ -69,7 +70,7 @@ with_values r f v =
       has_long = r.has_long;
     }
 
--- the contents with the flags of one more content: whether that content is of its type, and whether it is too long
+-- the contents with the flags of one more content: whether that content is of its feature's type, and whether it is too long
 abbrev pub with_content_flags : ReadContents → Bool → Bool → ReadContents
 with_content_flags r is_of_type long =
     record { contents = r.contents; is_lost = r.is_lost; has_other = r.has_other || not is_of_type; has_long = r.has_long || long }
@@ -89,7 +90,7 @@ objects_so_far m b ps qs =
 
 ---------------------------------------------------------------- causes
 
--- the causes that are found before values are read: by the shape of the parts, and by the names of their classes
+-- the causes that are found before values are read: by the shape of the parts, by the format, and by the names of the parts' classes
 abbrev pub early_cause : Metamodel → Option Top → List Part → Option DocFault
 early_cause m t ps =
     cause.Layout where_so (not (is_some t) || list_any is_misshapen ps) else_by

@@ -17,7 +17,7 @@ enum Layout {
     Many(Seq<Content>),
 }
 
-/// The contents of an object, in the order of all features of its class. Contracts see them as the list.
+/// The contents of an object, in the order of all features of its class. Contracts see a `Contents` as the list of its contents.
 #[derive(Debug, Drop)]
 pub struct Contents {
     layout: Layout,

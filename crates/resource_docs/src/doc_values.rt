@@ -1,4 +1,4 @@
-//! The values under one feature of a document.
+//! The values under one feature of an object of a document.
 ghost use Rattle.std.specs.Prelude.{◌≡◌, ◌++◌, ◌==◌, [], ◌∷◌, IfOk, MatchResult, OnOk, length};
 
 use mm_types::{Seq, Value};
@@ -14,7 +14,7 @@ enum Layout {
     Many(Seq<Value>),
 }
 
-/// The values under a feature. Contracts see them as the list.
+/// The values under a feature. Contracts see a `DocValues` as the list of its values.
 #[derive(Debug, Drop)]
 pub struct DocValues {
     layout: Layout,

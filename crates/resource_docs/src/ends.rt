@@ -52,7 +52,7 @@ impl Ends {
         self.namings.contains(&naming)
     }
 
-    /// Adds the naming of one value, if it is an object.
+    /// Adds the naming by one value, if the value is an object.
     fn add_value(
         &mut self,
         object: usize,
@@ -71,7 +71,7 @@ impl Ends {
         }
     }
 
-    /// Adds the namings of the values under a feature of an object.
+    /// Adds the namings by the values under a feature of an object.
     fn add_values(
         &mut self,
         object: usize,
@@ -86,7 +86,7 @@ impl Ends {
         Ok(())
     }
 
-    /// Adds the namings of an object.
+    /// Adds the namings by all values of an object.
     fn add_object(&mut self, object: usize, contents: &[Content]) -> Result<(), AllocError>
         ensures { OnOk result ((k : Naming) → has self.new k ≡ has self.old k || by_contents object contents.now k) }
     {
@@ -156,8 +156,8 @@ impl Ends {
             .any(|content| self.is_one_sided(meta, object, content))
     }
 
-    /// Whether some object names another object under a feature with an opposite, and the other object does not name it back. Takes no
-    /// memory.
+    /// Whether some object names another object under a feature that has an opposite and is no containment, and the other object does not
+    /// name the first object back. Takes no memory.
     fn has_one_sided(&self, meta: &Meta, objects: &[DocObject]) -> bool
         ensures { result ≡ any_one_sided_by meta.now self.now objects.now }
     {
@@ -191,8 +191,8 @@ fn is_any_asked(meta: &Meta, objects: &[DocObject]) -> bool
         .any(|object| any_asks_back(meta, object.contents.as_slice()))
 }
 
-/// Whether some object of a document names another object under a feature with an opposite, and the other object does not name it back.
-/// Fails only if memory is refused; takes no memory if no object has to name another one back.
+/// Whether some object of a document names another object under a feature that has an opposite and is no containment, and the other object
+/// does not name the first object back. Fails only if memory is refused; takes no memory if no object has to name another one back.
 pub(crate) fn has_one_sided(alloc: Global, meta: &Meta, doc: &Doc) -> Result<bool, AllocError>
     ensures { IfOk result (λ b. b ≡ of_content (is_one_sided meta.now doc.now) doc.now) }
 {

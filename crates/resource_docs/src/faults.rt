@@ -30,7 +30,8 @@ pub(crate) fn has_first_format(top: TopMembers) -> bool
     top.format == i64::from(limits::FIRST_DOCUMENT_FORMAT)
 }
 
-/// What is wrong with the shape of the parts, or with the names of their classes. Takes no memory.
+/// What is wrong with the shape of the parts, the format, or the names of the parts' classes: the first of these causes that applies. Takes
+/// no memory.
 pub(crate) fn early_cause(meta: &Meta, top: TopMembers, found: &FoundParts) -> Option<DocFault>
     ensures { (ps : List Part) → Knows meta.now found.now ps → result ≡ early_meant meta.now (Some (new_top top.entry.format (items_view top.entry.roots.now))) ps }
 {
@@ -54,7 +55,7 @@ fn has_many_roots(meta: &Meta, count: usize) -> bool
 }
 
 /// What is known of a document beside the objects that were read: whether it has the first format, the number of its roots, whether a
-/// reference leads nowhere, and whether a list is too long.
+/// reference leads nowhere or to an object of a wrong class, and whether a list is too long.
 #[derive(Clone, Copy)]
 pub(crate) struct Noted {
     pub has_first_format: bool,
@@ -63,7 +64,8 @@ pub(crate) struct Noted {
     pub has_long: bool,
 }
 
-/// What is wrong with the targets of references, with the number of values, or with the depth of a part. Fails only if memory is refused.
+/// What is wrong with the targets of references, repeated values, the number of values, opposites, or the depth of a part: the first cause
+/// from `Reference` on that applies. Fails only if memory is refused.
 pub(crate) fn sense_cause(
     source: &ReadContext,
     noted: Noted,

@@ -1,4 +1,4 @@
-//! The objects of a document are read.
+//! Reads the objects of a document.
 ghost use Rattle.std.specs.Prelude.{◌≡◌, ◌+◌, ◌<◌, ◌++◌, ◌∷◌, [], IfOk, List, if◌then◌else◌, OnOk, false, Some, filter_map, is_some, option_to_list, true};
 ghost use Rattle.std.specs.List.{All, list_all};
 ghost use Rattle.mm_types.specs.Lookups as lookups;
@@ -24,8 +24,8 @@ use mm_meta::Meta;
 use mm_types::{ClassNo, FeatureNo, Seq};
 use std::alloc::{AllocError, Global};
 
-/// What is read of an object: its contents; whether a reference leads nowhere; and whether some content is not of its feature's type, or
-/// has too many values.
+/// What is read of an object: its contents; whether a reference leads nowhere or to an object of a wrong class; and whether some content is
+/// not of its feature's type, or has too many values.
 #[derive(Drop)]
 pub(crate) struct ReadContents {
     pub contents: Contents,
@@ -34,8 +34,8 @@ pub(crate) struct ReadContents {
     pub has_long: bool,
 }
 
-/// What is read of a document: its objects; whether a reference leads nowhere; and whether some content is not of its feature's type, or
-/// has too many values.
+/// What is read of a document: its objects; whether a reference leads nowhere or to an object of a wrong class; and whether some content is
+/// not of its feature's type, or has too many values.
 #[derive(Drop)]
 pub(crate) struct ReadObjects {
     pub objects: Seq<DocObject>,
@@ -57,7 +57,8 @@ fn no_contents(alloc: Global, room: usize) -> Result<ReadContents, AllocError>
     })
 }
 
-/// Adds the values that were read under a feature, if there are any.
+/// Adds what was read under a feature: the values, if there are any, and whether a reference leads nowhere or to an object of a wrong
+/// class.
 fn add_values(
     read: &mut ReadContents,
     alloc: Global,
@@ -76,7 +77,7 @@ fn add_values(
 }
 
 /// Whether a content is of its feature's type. `values` are the values that were read from the content. The value of a single attribute is
-/// read only if it is of the attribute's type.
+/// read only if the content is of the attribute's type. So for a single attribute it is enough to look whether there is a value.
 fn is_of_type<'t>(
     meta: &Meta,
     feature: FeatureNo,
@@ -105,7 +106,7 @@ fn note_flaws<'t>(
     read.has_long = read.has_long || is_long(meta, feature, content);
 }
 
-/// Reads the content of one more feature. Returns whether there is one.
+/// Reads the content of one more feature, and returns whether the feature has a content.
 fn add_feature(
     read: &mut ReadContents,
     source: &ReadContext,
@@ -156,7 +157,7 @@ fn read_features(
     source.meta.lemma_is_of_document();
     let room = members.len().min(features.len());
     let mut read = no_contents(source.alloc, room)?;
-    // No two features share a name. So once as many contents are found as there are members, no other feature has a content.
+    // No two features of a class share a name. So once as many contents are found as there are members, no other feature has a content.
     let mut left = members.len();
     'features: for feature in features {
         if left == 0 {

@@ -1,4 +1,4 @@
-//! The bytes of a document are read.
+//! Reads the bytes of a document.
 ghost use Rattle.std.specs.Prelude.{◌≡◌, ◌≤◌, List, Some, false, map, true};
 ghost use Rattle.std.specs.List.{All};
 ghost use Rattle.std.specs.Option.{option_map_or};
@@ -29,7 +29,8 @@ use std::alloc::Global;
 /// The greatest depth of nested arrays and objects in JSON that is read.
 const NESTING: usize = 127;
 
-/// The document whose objects were read; `has_first_format` says whether it has the first format.
+/// The document whose objects were read, or the first cause from `Value` on that applies; `has_first_format` says whether the document has
+/// the first format.
 fn read_rest(
     source: &ReadContext,
     has_first_format: bool,
@@ -67,15 +68,16 @@ fn read_rest(
     }
 }
 
-/// Whether some object has a member that is no feature of its class. If `is_all` says that each member is known to be a feature of its
-/// class, no name is looked up.
+/// Whether some object has a member that is no feature of the object's class, or that is a container reference. If `is_all` says that no
+/// object has a member of this kind, no name is looked up.
 fn has_other_member(source: &ReadContext, is_all: bool) -> bool
     ensures { (ps : List Part) → Knows source.now.meta.now source.now.found.now ps → (is_all ≡ true → of_written (has_other_key source.now.meta.now) ps ≡ false) → result ≡ of_written (has_other_key source.now.meta.now) ps }
 {
     !is_all && has_unknown_feature(source.meta, source.found)
 }
 
-/// Reads the document whose parts were found and have the right shape and classes; `has_first_format` says whether it has the first format.
+/// Reads the document whose parts were found and have the right shape and classes; `has_first_format` says whether the document has the
+/// first format.
 fn read_found(source: &ReadContext, has_first_format: bool, roots: &[Json]) -> Result<Doc, Refused>
     ensures { (d : Data) → Knows source.now.meta.now source.now.found.now (parts source.now.meta.now d) → has_first_format ≡ option_map_or first_meant (top_meant d) false
         → root_parts d ≡ roots_from (map view roots.now)
@@ -150,17 +152,19 @@ pub fn read_doc_text(alloc: Global, meta: &Meta, uri: &str, text: &str) -> Resul
 /// lowest cause that applies:
 ///
 /// - `Syntax` if the bytes are no JSON in UTF-8, or if the JSON has more than 127 levels;
-/// - `Layout` if the value does not have the shape of a document, or has a key that is not listed;
-/// - `Format` if its format is neither 1 nor 2;
-/// - `Class` if an object names no class, or an abstract one;
+/// - `Layout` if the value is not laid out as a document, or if a root, or a JSON object under a containment, is not laid out as an object:
+///   a key is missing, has a value of a wrong kind, or is not listed in `docs/DOCUMENTS.md`;
+/// - `Format` if the format of the document is neither 1 nor 2;
+/// - `Class` if an object names a class that the metamodel does not have, or an abstract class;
 /// - `Feature` if a key is no feature of the object's class, or is a container reference;
-/// - `Value` if the content of a feature is not of its type, or a text has more than 65,535 bytes;
-/// - `Reference` if a text is no fragment and no URI with a fragment, or leads to no object of the document that conforms to the type of
-///   the reference;
+/// - `Value` if the content of a feature is not of the feature's type, or a text has more than 65,535 bytes;
+/// - `Reference` if the text of a reference is no fragment and no URI with a fragment, or if it leads into the document itself, but to no
+///   object that conforms to the type of the reference;
 /// - `Duplicate` if a unique list repeats a value;
-/// - `Bound` if a list has more values than its upper bound, or than 1,000,000;
-/// - `OneSided` if an object names another object under a feature with an opposite, and the other object does not name it back;
-/// - `Cross` if its format is 1, and a reference with an opposite leads to a different resource;
+/// - `Bound` if a list has more values than its upper bound, or more than 1,000,000, or if there are more than 1,000,000 roots;
+/// - `OneSided` if an object names another object under a feature that has an opposite and is no containment, and the other object does not
+///   name the first object back;
+/// - `Cross` if the format of the document is 1, and a reference with an opposite leads to a different resource;
 /// - `Depth` if an object is below level 40.
 ///
 /// The only other refusal is `Memory`: if memory is refused, or if there are more than 2^32 objects or values of a list, whatever else

@@ -1,4 +1,4 @@
-//! The texts of references are read, among the parts that were found.
+//! Reads the texts of references, and looks their objects up among the parts that were found.
 ghost use Rattle.std.specs.Prelude.{◌≡◌, IfOk, IfSome, List, None, Some, if◌then◌else◌, slice_get};
 ghost use Rattle.borrowed_json.specs.View.{view};
 ghost use Rattle.doc_parts.specs.FoundParts.{Knows, conforms_seen, part_seen};
@@ -59,8 +59,8 @@ fn led_to(meta: &Meta, found: &FoundParts, class: ClassNo, target: Referent) -> 
     }
 }
 
-/// The value of a reference to a class: an object of the document that conforms, or a proxy; `None` if the text leads
-/// nowhere, or to an object of a wrong class. Fails only if memory is refused.
+/// The value of a reference to a class: an object of the document that conforms to the class, or a proxy; `None` if the JSON value is no
+/// text, or the text leads nowhere or to an object of a wrong class. Fails only if memory is refused.
 pub(crate) fn reference_value(
     source: &ReadContext,
     class: ClassNo,

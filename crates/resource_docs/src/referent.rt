@@ -16,7 +16,8 @@ pub enum Referent {
     Elsewhere(Text),
 }
 
-/// The URI that the part before a `#` stands for: the URI of the resource if the part is empty, else the part joined with that URI.
+/// The URI that the part before a `#` stands for: the URI of the resource if the part is empty, else the part joined with that URI. `None`
+/// if joining gives no URI.
 fn uri_meant(alloc: Global, uri: &str, part: &str) -> Result<Option<String>, AllocError>
     ensures value { IfOk result (λ u. option_map string_bytes u ≡ uri_of (base_of uri.now) part.now) }
     ensures web { IfOk result (λ u. IfSome u (λ t. IsWebElsewhere uri.now (string_bytes t))) }
@@ -32,7 +33,7 @@ fn uri_meant(alloc: Global, uri: &str, part: &str) -> Result<Option<String>, All
 }
 
 /// The target of the reference with the URI `meant` and the fragment `rest`, which is read as `path`: an object of the document itself, if
-/// `meant` is the document's own URI.
+/// `meant` is the URI of the document's resource; otherwise an object of a different resource.
 fn target_in(
     alloc: Global,
     uri: &str,
@@ -51,7 +52,8 @@ fn target_in(
     Ok(Referent::Elsewhere(text))
 }
 
-/// What a reference with a `#` leads to, from the part before the `#` and the fragment after it.
+/// What a reference with a `#` leads to, from the part before the `#` and the text after the `#`. `None` if that text is no fragment, or if
+/// the part is not empty and stands for no URI.
 fn address_target(
     alloc: Global,
     uri: &str,
@@ -70,7 +72,7 @@ fn address_target(
     }
 }
 
-/// What the text of a reference in the document of a URI leads to, or nothing if it is no fragment and no URI with a
+/// What the text of a reference leads to, in the document of the resource with a URI; `None` if the text is no fragment and no URI with a
 /// fragment. Fails only if memory is refused.
 pub(crate) fn target_of(
     alloc: Global,

@@ -61,7 +61,7 @@ fn repeats_value(alloc: Global, values: &[Value]) -> Result<bool, AllocError>
     if values.len() < 2 {
         return Ok(false);
     }
-    // The objects that an object contains are in the order of their numbers, too.
+    // A list of contained objects has this order, since contained objects are numbered in loading order.
     if are_rising(values) {
         return Ok(false);
     }

@@ -1,4 +1,4 @@
-//! The values under a feature are read.
+//! Reads the values under a feature.
 ghost use Rattle.std.specs.Prelude.{◌≡◌, ◌++◌, ◌&&◌, ◌||◌, ◌∷◌, [], IfOk, IfSome, List, OnOk, Some, false, is_some, length, map, not, option_map, option_to_list};
 ghost use Rattle.std.specs.List.{All};
 ghost use Rattle.serde_json.specs.Data.{Data};
@@ -17,14 +17,14 @@ use doc_parts::{PartKey, attribute_value, index_of, values_of};
 use mm_types::{FeatureNo, Kind, ObjectNo, Value};
 use std::alloc::{AllocError, Global};
 
-/// What is read under a feature: its values, and whether a reference leads nowhere.
+/// What is read under a feature: its values, and whether a reference leads nowhere or to an object of a wrong class.
 #[derive(Drop)]
 pub(crate) struct ReadValues {
     pub values: DocValues,
     pub is_lost: bool,
 }
 
-/// The object to which a step leads from the part with the number `number`. The number `likely` is tried first.
+/// The object to which a step leads from the part with the number `number`. `likely` is a guess at the number of that object.
 fn part_at(
     source: &ReadContext,
     number: u32,
@@ -46,7 +46,7 @@ fn part_at(
     }
 }
 
-/// The object at a position under a feature of the part with the number `number`.
+/// The object at a position under a feature of the part with the number `number`. `likely` is a guess at the number of that object.
 fn part_of(
     source: &ReadContext,
     number: u32,
@@ -75,7 +75,8 @@ fn part_of(
     )
 }
 
-/// The value that is read at a position under a feature of the part with the number `number`. Fails only if memory is refused.
+/// The value that is read at a position under a feature of the part with the number `number`. `likely` is a guess at the number of a
+/// contained object. Fails only if memory is refused.
 fn value_of(
     source: &ReadContext,
     number: u32,
@@ -123,8 +124,8 @@ fn note_lost(read: &mut ReadValues, is_lost: bool)
     read.is_lost = read.is_lost || is_lost;
 }
 
-/// The likely number of the next object under a feature of the part with the number `number`: one more than the number of the object before
-/// it.
+/// A guess at the number of the next object under a feature of the part with the number `number`: one more than the number of the object
+/// that was read there last, or one more than `number` if none was read.
 fn likely_number(read: &ReadValues, number: u32) -> u32 {
     match read.values.as_slice().last() {
         Some(Value::Object(object)) => object.0.saturating_add(1),
@@ -132,7 +133,7 @@ fn likely_number(read: &ReadValues, number: u32) -> u32 {
     }
 }
 
-/// Reads one more value.
+/// Reads one more value under a feature, or notes that a reference leads nowhere or to an object of a wrong class.
 fn add_value(
     read: &mut ReadValues,
     source: &ReadContext,
@@ -186,7 +187,7 @@ fn read_values(
 }
 
 /// What was read under a single feature. If there is no value and the feature is a reference and no containment (`is_link`), the reference
-/// leads nowhere.
+/// leads nowhere or to an object of a wrong class.
 fn one_read(value: Option<Value>, is_link: bool) -> ReadValues
     ensures value { result ≡ new_values (option_to_list value) (is_link && not (is_some value)) }
     ensures proxy { IfSome value IsProxyValue → All IsProxyValue result.values }

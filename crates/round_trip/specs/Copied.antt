@@ -17,7 +17,8 @@ use Rattle.resource_docs.specs.declared.doc.Content.{Content}
 use Rattle.resource_docs.specs.declared.doc.Doc.{Doc}
 use Rattle.resource_docs.specs.declared.doc.DocObject.{DocObject}
 
--- a value as the document has it: an object of the resource becomes its position, an object of another resource a proxy with its address
+-- a value as the document has it: an object of the resource is named by its index in os, and any other object becomes a proxy with its
+-- address; os are the objects of the resource in loading order
 abbrev pub renamed_value : Reading → List ObjectNo → Value → Value
 renamed_value r os (value.Object o) =
     option_map_or (λ n. value.Object (record { 0 = n })) (position (same_object o) os) (value.Proxy (unwrap_or (address r o) []))

@@ -1,4 +1,5 @@
--- What is saved is read back: reading the document of a resource gives the resource, except for the numbers of its objects.
+-- What is saved is read back: reading the document of a resource gives the resource, with new numbers for its objects and with proxies in
+-- place of the objects of other resources.
 use Rattle.std.specs.Prelude.{◌≡◌, ℕ, true, List, Ok}
 use Rattle.std.specs.Str.{is_utf8}
 use Rattle.mm_types.specs.declared.numbers.ResourceNo.{ResourceNo}
@@ -12,13 +13,13 @@ use Rattle.resource_docs.specs.Texts.{base_of}
 use Rattle.round_trip.specs.Copied.{copied_document}
 use Rattle.round_trip.specs.Readable.{IsReadable}
 
--- the JSON value of a resource is read as that resource
+-- if the model is legal, the URIs in it are normalised and a resource is readable, the JSON value of that resource is read as that resource
 abbrev pub ReadsBack : Model → Type 0
 ReadsBack s =
     IsLegal s → HasSteadyTexts s → (k : ResourceNo) (uri : List ℕ) → IsReadable (reading s) k uri
     → reads s.metamodel (base_of uri) (document (reading s) k) ≡ Ok (copied_document (reading s) k)
 
--- the text of a resource, as a save returns it, is read as that resource
+-- under the same conditions the text of a resource, as a save returns it, is read as that resource
 abbrev pub ReadsTextBack : Model → Type 0
 ReadsTextBack s =
     IsLegal s → HasSteadyTexts s → (k : ResourceNo) (uri text : List ℕ) → IsReadable (reading s) k uri → IsReadAs (reading s) k text → is_utf8 text ≡ true

@@ -16,7 +16,8 @@ use Rattle.doc_writer.specs.Written.{written_features}
 abbrev pub path_in : Reading → ObjectNo → Path
 path_in r o = unwrap_or (path_of r o) (new_path 0 [])
 
--- the JSON value of an object with all that it contains; `r.next` levels are enough, since no tree has more levels than objects were made
+-- the JSON value of an object with all that it contains. `r.next` levels are enough, since no tree has more levels than the number of
+-- objects that were made.
 abbrev pub data_of : Reading → ResourceNo → ObjectNo → Data
 data_of r k o = object_data r k r.next o
 
@@ -24,7 +25,7 @@ data_of r k o = object_data r k r.next o
 abbrev pub features_data : Reading → ResourceNo → ObjectNo → Members
 features_data r k o = members (map (feature_member r k (data_of r k) o) (written_features r o))
 
--- the part of the document that an object becomes; and `entry_of`, the entry that a written feature of the object becomes
+-- the part of the document for an object; and `entry_of`, the entry of that part for a written feature of the object
 abbrev pub part_of : Reading → ResourceNo → ObjectNo → Part
 part_of r k o = record { path = path_in r o; json = data_of r k o }
 

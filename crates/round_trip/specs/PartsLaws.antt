@@ -18,7 +18,8 @@ pub record IsPart (r : Reading) (k : ResourceNo) (o : ObjectNo) : Type 0 where
   pub class : class_of r.metamodel (data_of r k o) ≡ r.class o
   pub entries : entries r.metamodel (data_of r k o) ≡ map (entry_of r k o) (written_features r o)
 
--- the roots and the parts of the document are the roots and the parts of the resource, in loading order
+-- the document has the newest format; its roots are the roots of the resource; its parts are the objects of the resource in loading order,
+-- and each object is read with its class and its written features
 pub record AreParts (r : Reading) (k : ResourceNo) : Type 0 where
   pub top : top (document r k) ≡ Some (new_top (pos DOCUMENT_FORMAT) (items_of (map (data_of r k) (roots r k))))
   pub roots : root_parts (document r k) ≡ map (part_of r k) (roots r k)

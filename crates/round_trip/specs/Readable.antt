@@ -14,14 +14,14 @@ use Rattle.doc_writer.specs.Document.{reference_text}
 use Rattle.doc_writer.specs.Saved.{reference_features, save_refusal, targets_under}
 use Rattle.doc_writer.specs.Written.{objects_in}
 
--- some object of a resource has a value under some feature
+-- some object of a resource has the value v under some feature
 pub record Holds (r : Reading) (k : ResourceNo) (v : Value) : Type 0 where
   pub object : ObjectNo
   pub feature : FeatureNo
   pub inside : Contains (objects_in r k) object
   pub there : Contains (r.values (at_end (node.Object object) feature)) v
 
--- an object of a resource refers to another by a feature that is written
+-- some object of a resource refers to the object o by a feature that is written
 pub record Refers (r : Reading) (k : ResourceNo) (o : ObjectNo) : Type 0 where
   pub object : ObjectNo
   pub feature : FeatureNo
@@ -35,8 +35,8 @@ HasNoneTwice r k =
     (o : ObjectNo) (f : FeatureNo) (b : ObjectNo) (t : List ℕ) → Contains (objects_in r k) o → Contains (r.values (at_end (node.Object o) f)) (value.Object b)
     → Contains (r.values (at_end (node.Object o) f)) (value.Proxy t) → is_in r k b ≡ false → address r b ≡ Some t → ⊥
 
--- the resource exists, its save is not refused, no text of a reference is too long, no proxy has an address in the resource itself, and no
--- end has both a proxy and the object at its address
+-- The resource exists, and its URI is `uri`; its save is not refused; no text of a reference or of a proxy is longer than TEXT_BYTES; no
+-- proxy has an address in the resource itself; and no end has both a proxy and the object at the address of that proxy.
 pub record IsReadable (r : Reading) (k : ResourceNo) (uri : List ℕ) : Type 0 where
   pub there : slice_get r.uris k.0 ≡ Some uri
   pub allowed : save_refusal r k ≡ None

@@ -25,19 +25,21 @@ use Rattle.round_trip.specs.Copied.{renamed_value}
 abbrev pub parts_of : Reading → ResourceNo → List Part
 parts_of r k = map (part_of r k) (objects_in r k)
 
--- an object of a resource is in that resource, and the part of the object has the object's number and level
+-- the object o is in the resource k and has a path there; the number of its part in the document is the index of o in loading order, and
+-- the level of the part is the level of o
 pub record IsPlaced (r : Reading) (k : ResourceNo) (o : ObjectNo) : Type 0 where
   pub inside : resource_of r.above o ≡ Some k
   pub path : path_of r o ≡ Some (path_in r o)
   pub number : number_of (parts_of r k) (path_in r o) ≡ position (same_object o) (objects_in r k)
   pub level : level_of (part_of r k o) ≡ level r o
 
--- the JSON value of a value under a feature is accepted for that feature, and is read as the value in the document
+-- the JSON value of the value v under the feature f is accepted for f, and is read as the value that the document has for v
+-- (`renamed_value`)
 pub record IsReadAs (r : Reading) (k : ResourceNo) (uri : List ℕ) (o : ObjectNo) (f : FeatureNo) (g : Feature) (i : ℕ) (v : Value) : Type 0 where
   pub good : is_value r.metamodel (shape r.metamodel f).is_single g.kind (value_data r k (data_of r k) f v) ≡ true
   pub value : value_of r.metamodel (base_of uri) (parts_of r k) (path_in r o) f g.kind (i, value_data r k (data_of r k) f v) ≡ Some (renamed_value r (objects_in r k) v)
 
--- each object has its place in the document, and each written value is read as the value in the document
+-- `IsPlaced` is true of each object of the resource, and `IsReadAs` is true of each value under each written feature
 pub record AreReadAs (r : Reading) (k : ResourceNo) (uri : List ℕ) : Type 0 where
   pub objects : (o : ObjectNo) → Contains (objects_in r k) o → IsPlaced r k o
   pub values : (o : ObjectNo) (f : FeatureNo) (g : Feature) (i : ℕ) (v : Value) → Contains (objects_in r k) o → Contains (written_features r o) f

@@ -16,21 +16,23 @@ pub fn the_parts_of_a_saved_document_are_its_objects()
     ensures { (s : Model) → IsLegal s → (k : ResourceNo) → AreParts (reading s) k }
 {}
 
-/// The text by which a resource refers to an object is read as the path of the object. If the object is in a different resource, the text
-/// is read as a proxy with the address of the object. The text of a proxy is read as that proxy.
+/// The text by which a resource refers to an object is read as the path of the object, if the object is in the same resource; if the object
+/// is in a different resource, the text is read as a proxy with the address of the object. The text of a proxy is read as that proxy, if
+/// the URI in the text is not that of the resource in which the text is read.
 pub fn a_reference_leads_to_its_object()
     ensures { (s : Model) → IsLegal s → HasSteadyTexts s → (k : ResourceNo) (uri : List ℕ) → slice_get (reading s).uris k.0 ≡ Some uri → LeadsBack (reading s) k uri }
 {}
 
-/// Each object that is written is read at its position, and each value is read as it was. A value that is an object of the resource is read
-/// as its number in loading order; a value that is an object of a different resource is read as a proxy with its address.
+/// Suppose that a resource is readable (`specs/Readable.antt`). Then each object that is written is read at its index in loading order, and
+/// each value is read as it was: an object of the resource is read as the number of the object in loading order, and an object of a
+/// different resource is read as a proxy with the address of the object.
 pub fn each_value_is_read_as_it_was()
     ensures { (s : Model) → IsLegal s → HasSteadyTexts s → (k : ResourceNo) (uri : List ℕ) → AreParts (reading s) k → LeadsBack (reading s) k uri → IsReadable (reading s) k uri → AreReadAs (reading s) k uri }
 {}
 
-/// The document of a resource is read as that resource: its objects in loading order, each with its class and the values of the features
-/// that are set. Objects of other resources are proxies with their addresses. The text that `doc_writer::write_doc` returns is read in the
-/// same way.
+/// The document of a readable resource is read as that resource: its objects in loading order, each with its class and the values of the
+/// features that are set. Objects of other resources are read as proxies with their addresses. The text that `doc_writer::write_doc`
+/// returns is read in the same way.
 pub fn what_is_saved_is_read_back()
     ensures value { (s : Model) → ReadsBack s }
     ensures text { (s : Model) → ReadsTextBack s }

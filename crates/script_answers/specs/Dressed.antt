@@ -1,4 +1,4 @@
--- The output options of answers, and the line at which a run ends.
+-- The output of a script under the output options, and the line at which a run ends.
 use Rattle.std.specs.Prelude.{◌&&◌, ℕ, suc, Bool, false, not, List, [], ◌∷◌, ◌++◌, codes, if◌then◌else◌}
 use Rattle.std.specs.Fmt.{decimal}
 use Rattle.std.specs.List.{flat_map, list_any}
@@ -8,7 +8,7 @@ use Rattle.script_answers.specs.Turns.{Printed, is_blank, is_fault}
 use Rattle.script_answers.specs.declared.dress.Dress.{Dress}
 use Rattle.script_answers.specs.declared.turn.Turn.{Turn}
 
--- the answers of all lines, and nothing else
+-- no output options: the answers of all lines are written, and nothing else
 abbrev pub plain_dress : Dress
 plain_dress = record { echo = false; number = false; stop = false }
 
@@ -16,11 +16,11 @@ plain_dress = record { echo = false; number = false; stop = false }
 abbrev pub each_behind : List ℕ → List ℕ → List ℕ
 each_behind front text = flat_map (λ l. front ++ l ++ NEWLINE ∷ []) (lines text)
 
--- the lines of an answer, with the number of the script's line before each
+-- the lines of an answer, each after the number k of the script line that is answered
 abbrev pub numbered_lines : ℕ → List ℕ → List ℕ
 numbered_lines k answer = each_behind (decimal k ++ codes ": ") answer
 
--- a line of the script, as it is written before its answer with `--echo`
+-- a line of the script, as it is written before its answer with `--echo`; nothing without `--echo`, or if the line is skipped
 abbrev pub echoed_line : Dress → List ℕ → Turn → List ℕ
 echoed_line d line turn = if d.echo && not (is_blank turn) then codes "> " ++ line ++ NEWLINE ∷ [] else []
 
@@ -50,6 +50,6 @@ lines_until_end d ps = if d.stop then until_fault ps else ps
 abbrev pub dressed_output : Dress → List (List ℕ) → List Printed → List ℕ
 dressed_output d ls ps = dressed_output_from d 1 ls (lines_until_end d ps)
 
--- whether a run ends at a fault in the output of some lines
+-- whether a run ends at a line that is refused or bad; `ps` is the output of the lines if all were run
 abbrev pub is_stopped : Dress → List Printed → Bool
 is_stopped d ps = d.stop && list_any (λ p. is_fault p.turn) ps

@@ -1,10 +1,10 @@
--- What a line printed, and how it is counted.
+-- What a line printed, and how the line is counted.
 use Rattle.std.specs.Prelude.{ℕ, Bool, true, false, List}
 use Rattle.std.specs.List.{flat_map}
 use Rattle.script_answers.specs.declared.turn.Turn.{Turn}
 use Rattle.script_answers.specs.declared.turn.Turn.TheVariants as turned
 
--- the output of a line, and how it is counted
+-- the output of a line, and how the line is counted
 pub record Printed : Type 0 where
   pub text : List ℕ
   pub turn : Turn

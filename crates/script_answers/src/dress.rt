@@ -5,13 +5,13 @@ ghost use Rattle.script_answers.specs.Turns.{is_fault};
 
 use crate::turn::Turn;
 
-/// What a run writes beside the answers of its lines, and at which line it ends.
+/// What a run writes beside the answers of its lines, and at which line the run ends.
 #[derive(Clone, Copy)]
 pub struct Dress {
     /// Each line that is not skipped is written before its answer, as `> LINE`.
     pub echo: bool,
-    /// Each line of an answer begins with the number of its line in the script, as `7: ok`. Lines are counted from 1; skipped lines count
-    /// too.
+    /// Each line of an answer begins with the number of the script line that is answered, as `7: ok`. Script lines are counted from 1;
+    /// skipped lines count too.
     pub number: bool,
     /// The run ends after the first line that is refused or bad.
     pub stop: bool,
@@ -36,7 +36,7 @@ impl Dress {
         !(self.echo || self.number || self.stop)
     }
 
-    /// Whether the run ends after a line that is counted in this way.
+    /// Whether the run ends after a line that is counted as `turn`.
     pub fn ends_at(self, turn: Turn) -> bool
         ensures { result ≡ (self.stop && is_fault turn) }
     {

@@ -37,7 +37,7 @@ fn write_echo<W: Write>(
     write_parts(writer, &[ECHO, line, LINE_END])
 }
 
-/// Writes each line of an answer after the number of its line in the script.
+/// For each line of an answer, writes the number of the script line that is answered, and then the line of the answer.
 fn write_numbered<W: Write>(writer: &mut W, number: u64, answer: &[u8]) -> Result<(), RunFault>
     ensures ok { OnOk result (Appends (W.contents writer.old) (W.contents writer.new) (numbered_lines number answer.now)) }
     ensures err { OnErr result (AppendsFront (W.contents writer.old) (W.contents writer.new) (numbered_lines number answer.now)) }
@@ -73,7 +73,7 @@ fn write_answer<W: Write>(
 
 /// Writes the output of a line of the script, as the output options say.
 ///
-/// Fails with `Write` as `write_all` does; then a prefix of the output was written.
+/// Fails with `Write` if a write fails or takes no byte; then a prefix of the output was written.
 pub fn write_dressed<W: Write>(
     writer: &mut W,
     dress: Dress,

@@ -3,8 +3,8 @@ ghost use Rattle.std.specs.Prelude.{◌≡◌, List, ℕ, length, true};
 ghost use Rattle.script_answers.specs.Dressed.{dressed_output, plain_dress, until_fault};
 ghost use Rattle.script_answers.specs.Turns.{Printed, texts};
 
-/// Without output options, the output is the text of the script. With only `--stop`, it is the text of the lines up to and including the
-/// first line that is refused or bad.
+/// Without output options, the output of a script is what all its lines print. With only `--stop`, the output is what the lines print up to
+/// and including the first line that is refused or bad.
 pub fn a_plain_script_is_its_text()
     ensures whole { (ls : List (List ℕ)) (printed : List Printed) → length ls ≡ length printed → dressed_output plain_dress ls printed ≡ texts printed }
     ensures stop { (ls : List (List ℕ)) (printed : List Printed) → length ls ≡ length printed

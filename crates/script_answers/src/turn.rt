@@ -13,7 +13,7 @@ pub enum Turn {
     Done,
     /// The command of the line was refused.
     Refused,
-    /// The command of the line was refused for memory.
+    /// The command of the line was refused because memory was refused.
     Lost,
 }
 

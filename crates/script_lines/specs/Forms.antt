@@ -87,7 +87,8 @@ resolve_form o f i = option_map (λ p. asks.At (node.Object p.0.0) p.0.1 (featur
 abbrev pub removevalue_form : List ℕ → List ℕ → List ℕ → Option Form
 removevalue_form n f v = option_map (λ p. asks.At p.0.0 p.0.1 (feature.RemoveValue p.1)) (feature_value_in n f v)
 
--- `move NODE NAME N N`: to, then from
+-- `move NODE NAME N N`: the first number is the index to which a value is moved, the second number is the index from which the value is
+-- moved
 abbrev pub move_form : List ℕ → List ℕ → List ℕ → List ℕ → Option Form
 move_form n f to from = option_map (λ p. asks.At p.0.0.0 p.0.0.1 (feature.Move p.0.1 p.1)) (option_zip (option_zip (feature_in n f) (natural_number to)) (natural_number from))
 
@@ -181,7 +182,7 @@ form_of (verb ∷ a ∷ b ∷ c ∷ []) = with_three verb a b c
 form_of (verb ∷ a ∷ b ∷ c ∷ d ∷ []) = with_four verb a b c d
 form_of _ = None
 
--- a line with words, which has a form or is bad
+-- a line with words, which fits a form or is bad
 abbrev pub line_with : Option Form → Line
 line_with None = line.Bad
 line_with (Some f) = line.Form f
@@ -198,7 +199,7 @@ verb_in bytes = before_first is_space (after_spaces bytes)
 abbrev pub behind_verb : List ℕ → List ℕ
 behind_verb bytes = after_first is_space (after_spaces bytes)
 
--- `load RES REST`, from RES on: the first space ends RES, and REST is all bytes after that space
+-- `load RES REST`, from RES on: the first space ends RES, and REST is all bytes after that space; without a space there is no form
 abbrev pub load_form : List ℕ → Option Form
 load_form bytes =
     if list_any is_space bytes then option_map (λ r. asks.Load r (after_first is_space bytes)) (resource_in (before_first is_space bytes))

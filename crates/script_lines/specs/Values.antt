@@ -31,7 +31,7 @@ name_in w = if is_name w then Some w else None
 abbrev pub text_in : List ℕ → Option (List ℕ)
 text_in w = if slice_index w (length w - 1) == QUOTE && is_utf8 w then option_and_then as_str (read w) else None
 
--- the text of a word, if the word begins with a quotation mark
+-- the text of a word that is a JSON string and begins with a quotation mark
 abbrev pub string_in : List ℕ → Option (List ℕ)
 string_in [] = None
 string_in (c ∷ cs) = if c == QUOTE then text_in (c ∷ cs) else None
@@ -81,7 +81,7 @@ value_in w = if bytes_eq w (codes "null") then Some written.Null
     else if bytes_eq w (codes "false") then Some (written.Bool false)
     else other_value_in w
 
--- a value that is written without a mark
+-- `null`, `true` or `false`: a value that is a word without a mark, and no number
 abbrev pub word_value_in : List ℕ → Option WrittenValue
 word_value_in w = if bytes_eq w (codes "null") then Some written.Null
     else if bytes_eq w (codes "true") then Some (written.Bool true)

@@ -1,5 +1,5 @@
--- The words of a line are separated by spaces. A word that begins with a quotation mark goes on at least to the next
--- quotation mark that no backslash escapes.
+-- The words of a line are separated by spaces. A word that begins with a quotation mark goes on at least to the next quotation mark that no
+-- backslash escapes, or to the end of the line if there is none.
 use Rattle.std.specs.Prelude.{ℕ, zero, suc, ◌==◌, ◌||◌, ◌-◌, ◌&&◌, Bool, true, false, not, List, [], ◌∷◌, length, take, if◌then◌else◌}
 use Rattle.std.specs.List.{position_or_len}
 use Rattle.script_lines.specs.declared.grammar.TheConstants.{BACKSLASH, QUOTE, SPACE}
@@ -16,12 +16,12 @@ abbrev pub after_spaces : List ℕ → List ℕ
 after_spaces [] = []
 after_spaces (c ∷ cs) = if is_space c then after_spaces cs else c ∷ cs
 
--- how many bytes are before the first space
+-- how many bytes are before the first space; the number of all bytes, if there is no space
 abbrev pub plain_len : List ℕ → ℕ
 plain_len = position_or_len is_space
 
--- how many bytes of a word follow its first quotation mark: up to the next quotation mark that no backslash escapes,
--- and from there to the next space
+-- how many bytes of a word follow the quotation mark with which the word begins: up to the next quotation mark that no backslash escapes,
+-- and from there to the next space; `escaped` says whether a backslash escapes the first of the bytes
 abbrev pub quoted_len : Bool → List ℕ → ℕ
 quoted_len escaped [] = 0
 quoted_len true (c ∷ cs) = suc (quoted_len false cs)
@@ -33,7 +33,7 @@ abbrev pub word_len : List ℕ → ℕ
 word_len [] = 0
 word_len (c ∷ cs) = if c == QUOTE then suc (quoted_len false cs) else suc (plain_len cs)
 
--- whether bytes begin with a word: there are some, and the first is no space
+-- whether bytes begin with a word: there is a first byte, and it is no space
 abbrev pub begins_word : List ℕ → Bool
 begins_word [] = false
 begins_word (c ∷ cs) = not (is_space c)
@@ -42,7 +42,7 @@ begins_word (c ∷ cs) = not (is_space c)
 abbrev pub is_one_word : List ℕ → Bool
 is_one_word bytes = begins_word bytes && word_len bytes == length bytes
 
--- the words after the next k bytes
+-- the words of the bytes that follow the first k bytes
 abbrev pub words_after : ℕ → List ℕ → List (List ℕ)
 words_after k [] = []
 words_after (suc k) (c ∷ cs) = words_after k cs

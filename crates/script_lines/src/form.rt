@@ -22,7 +22,8 @@ pub enum FeatureForm<'a> {
     RemoveValue(WrittenValue<'a>),
     /// A value of the feature's list is moved from one index to another; both are counted from 0 (EMF: EList.move).
     Move { to: u32, from: u32 },
-    /// The proxy at an index of a reference, counted from 0, is replaced by the object at its address (EMF: EcoreUtil.resolve).
+    /// The proxy at an index of a reference, counted from 0, is replaced by the object at the address of the proxy (EMF:
+    /// EcoreUtil.resolve).
     Resolve(u32),
 }
 
@@ -41,7 +42,7 @@ pub enum Form<'a> {
     },
     /// Makes a resource whose URI a text gives (EMF: ResourceSet.createResource).
     Resource(Text),
-    /// Resolves every proxy, one after another; a proxy that can't be resolved is left (EMF: EcoreUtil.resolveAll).
+    /// Resolves every proxy, one after another; a proxy that can't be resolved stays as it is (EMF: EcoreUtil.resolveAll).
     ResolveAll,
     /// Attaches an adapter to a node. A deep adapter is also notified of changes below the node (EMF: Notifier.eAdapters().add).
     Attach {

@@ -1,4 +1,4 @@
-//! The bytes that the language of scripts gives a meaning.
+//! The bytes that have a meaning of their own in the language of scripts.
 
 /// The mark before the number of an object: `#3`.
 pub const OBJECT_MARK: u8 = b'#';

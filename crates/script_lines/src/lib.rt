@@ -1,5 +1,5 @@
-//! The language of scripts: how the bytes of a script are cut into lines, how a line is cut into words, and which
-//! command each line gives.
+//! The language of scripts: how the bytes of a script are cut into lines, how a line is cut into words, and which form each line fits. The
+//! form says what the line asks for.
 #![tactic(auto)]
 
 mod adapter_forms;

@@ -1,4 +1,4 @@
-//! A line of a script, and its command.
+//! A line of a script, and its form.
 ghost use Rattle.std.specs.Prelude.{◌≡◌, IfOk, MatchOption, map};
 ghost use Rattle.script_lines.specs.Forms.{form, line_of as the_line_of, line_with as the_line_with, text_line};
 ghost use Rattle.script_lines.specs.declared.line.Line.TheVariants as asked;
@@ -21,7 +21,7 @@ pub enum Line<'a> {
     Form(Form<'a>),
 }
 
-/// A line that has words: it fits a form, or is bad.
+/// What a line that has words asks for: its form, or `Bad` if it fits no form.
 fn line_with(form: Option<Form<'_>>) -> Line<'_>
     ensures { result ≡ the_line_with form.entry }
 {
@@ -41,7 +41,7 @@ fn line_of<'a>(alloc: Global, words: &[&'a str]) -> Result<Line<'a>, AllocError>
     Ok(line_with(form_of(alloc, words)?))
 }
 
-/// What the text of a line asks for. Fails only if memory is refused for a text that is the value of the line.
+/// What the text of a line asks for. Fails only if memory is refused for a text in the line, such as a value or a document.
 pub fn text_line_of(alloc: Global, text: &str) -> Result<Line<'_>, AllocError>
     ensures { IfOk result (λ l. l ≡ text_line text.now) }
 {
@@ -51,7 +51,7 @@ pub fn text_line_of(alloc: Global, text: &str) -> Result<Line<'_>, AllocError>
     }
 }
 
-/// The text of a line; `None` for a line that is not UTF-8, which is bad.
+/// The text of a line; `None` if the line is not UTF-8 and therefore `Bad`.
 pub(crate) fn text_of_line(line: &[u8]) -> Option<&str>
     ensures { MatchOption result (form line.now ≡ asked.Bad) (λ text. form line.now ≡ text_line text.now) }
 {
@@ -61,11 +61,11 @@ pub(crate) fn text_of_line(line: &[u8]) -> Option<&str>
     }
 }
 
-/// What a line asks for. Fails only if memory is refused for a text that is the value of the line.
+/// What a line asks for. Fails only if memory is refused for a text in the line, such as a value or a document.
 ///
-/// A line is the bytes between two newlines, without them. It is blank if it is empty or has only spaces, and bad if it
-/// is not UTF-8 or fits no form of the language. The text of a `load` line is not cut into words: it is the rest of the line after the one
-/// space that follows the resource. The time is linear in the line's length.
+/// A line is passed without its newline. The line is blank if it is empty or has only spaces, and bad if it is not UTF-8 or fits no form of
+/// the language. The text of a `load` line is not cut into words: it is the rest of the line after the one space that follows the resource.
+/// The time is linear in the line's length.
 pub fn parse_line(alloc: Global, line: &[u8]) -> Result<Line<'_>, AllocError>
     ensures { IfOk result (λ l. l ≡ form line.now) }
 {

@@ -30,7 +30,7 @@ fn may_load(line: &str) -> bool
     }
 }
 
-/// The verb of a line, and the text after the space that follows it.
+/// The verb of a line, and the text after the space that follows the verb.
 fn verb_of(line: &str) -> (&str, &str)
     ensures verb { result.0.now ≡ verb_in line.now }
     ensures rest { result.1.now ≡ behind_verb line.now }
@@ -50,7 +50,8 @@ pub fn loaded_of(line: &str) -> Option<&str>
     if verb == "load" { Some(rest) } else { None }
 }
 
-/// The resource and the text of `load RES REST`, from the text after the verb.
+/// The resource and the text of `load RES REST`, from the text after the verb; `None` if there is no space after RES, or RES is no
+/// resource.
 fn parts_of(rest: &str) -> Option<(ResourceNo, &str)>
     ensures { option_map (λ p. asks.Load p.0 p.1.now) result ≡ load_form (after_spaces rest.now) }
 {
@@ -60,7 +61,7 @@ fn parts_of(rest: &str) -> Option<(ResourceNo, &str)>
 }
 
 /// The resource and the text of a `load` line; `None` if the line has a different verb, or is bad. A line that begins with a space gives
-/// `None` too: the general reader reads it, so that leading spaces are not skipped twice.
+/// `None` too: the caller then calls `text_line_of`, so leading spaces are skipped only there.
 pub fn load_parts(line: &str) -> Option<(ResourceNo, &str)>
     ensures { IfSome result (λ p. text_line line.now ≡ asked.Form (asks.Load p.0 p.1.now)) }
 {

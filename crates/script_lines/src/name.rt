@@ -37,7 +37,7 @@ fn first_other(bytes: &[u8]) -> Option<usize>
     bytes.iter().position(|b| !is_name_byte(*b))
 }
 
-/// How many bytes at the front may be in a name.
+/// The length of the longest prefix whose bytes may all be in a name.
 fn name_len_of(bytes: &[u8]) -> usize
     ensures { result ≡ prefix_len is_a_name_byte bytes.now }
 {
@@ -48,7 +48,8 @@ fn name_len_of(bytes: &[u8]) -> usize
 }
 
 impl<'a> Name<'a> {
-    /// The name before the first space of a text, and the text after that space, which is empty if there is no space.
+    /// The name before the first space of a text, and the text after that space, which is empty if there is no space. `None` if the bytes
+    /// before the space are no name.
     pub fn before_space(text: &'a str) -> Option<(Self, &'a str)>
         ensures name { option_map (λ p. p.0) result ≡ name_in (before_first is_space text.now) }
         ensures rest { IfSome result (λ p. p.1.now ≡ after_first is_space text.now) }
@@ -65,7 +66,7 @@ impl<'a> Name<'a> {
         Some((Name { text: name }, rest))
     }
 
-    /// The word as a name, if the word is a letter or `_`, and then letters, digits and `_`.
+    /// The word as a name, if the word begins with a letter or `_`, and all further bytes are letters, digits or `_`.
     pub fn from_word(word: &'a str) -> Option<Self>
         ensures { result ≡ name_in word.now }
     {

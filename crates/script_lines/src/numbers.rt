@@ -11,7 +11,7 @@ use crate::words::cut_at_space;
 use mm_types::integers;
 use mm_types::integers::integer_of;
 
-/// The greatest number of digits that are read. Each number of nine digits is below 2^32.
+/// The greatest number of digits that the loop reads. Each number of nine digits is below 2^32.
 const MOST_DIGITS: usize = 9;
 
 /// The first bytes: at most `MOST_DIGITS` of them.
@@ -26,7 +26,7 @@ fn first_bytes(bytes: &[u8]) -> &[u8]
     }
 }
 
-/// The number that the leading digits write, and how many leading digits there are.
+/// The number that the leading digits write, or 0 if there are none, and how many leading digits there are.
 #[inline]
 fn digits_of(bytes: &[u8]) -> (u32, usize)
     requires { length bytes.now ≤ MOST_DIGITS }
@@ -43,8 +43,8 @@ fn digits_of(bytes: &[u8]) -> (u32, usize)
     (number, bytes.len())
 }
 
-/// The number at the front, and how many digits it has. `None` if there is no digit, or a 0 before further digits. At most nine digits are
-/// read, and a further digit may follow.
+/// The number that the leading digits write, and how many digits were read. `None` if there is no leading digit, or if the first of several
+/// digits is 0. At most nine digits are read, so the number may be followed by a digit that was not read.
 #[inline]
 pub(crate) fn number_begun(bytes: &[u8]) -> Option<(u32, usize)>
     ensures { IfSome result (λ p. (natural_number (take p.1 bytes.now) ≡ Some p.0) × (p.1 ≤ length bytes.now)) }
@@ -59,7 +59,7 @@ pub(crate) fn number_begun(bytes: &[u8]) -> Option<(u32, usize)>
     Some((number, len))
 }
 
-/// The 32-bit number that a word writes.
+/// The 32-bit number that a word writes; `None` if the word writes no such number.
 #[inline]
 pub fn natural_of(word: &str) -> Option<u32>
     ensures { result ≡ natural_number word.now }
@@ -70,7 +70,8 @@ pub fn natural_of(word: &str) -> Option<u32>
     }
 }
 
-/// The number before the first space of a text. The function is never inlined into the code that reads a number of up to nine digits.
+/// The number before the first space of a text; `None` if the bytes before the space are no number. The function is never inlined into the
+/// code that reads a number of up to nine digits.
 #[inline(never)]
 fn long_number_of(text: &str) -> Option<u32>
     ensures { result ≡ natural_number (before_first is_space text.now) }
@@ -86,7 +87,8 @@ fn behind_space(text: &str) -> &str
     cut_at_space(text).1
 }
 
-/// The number before the first space of a text, and the text after that space, which is empty if there is no space.
+/// The number before the first space of a text, and the text after that space, which is empty if there is no space. `None` if the bytes
+/// before the space are no number.
 #[inline(always)]
 pub fn number_before_space(text: &str) -> Option<(u32, &str)>
     ensures number { option_map (λ p. p.0) result ≡ natural_number (before_first is_space text.now) }
@@ -102,7 +104,7 @@ pub fn number_before_space(text: &str) -> Option<(u32, &str)>
     }
 }
 
-/// The 64-bit number that a word without a minus sign stands for.
+/// The 64-bit number that a word without a minus sign writes.
 #[inline]
 fn non_negative_of(word: &str) -> Option<i64>
     requires { slice_index word.now 0 ≢ MINUS }
@@ -126,7 +128,7 @@ fn negative_of(word: &str) -> Option<i64>
     }
 }
 
-/// The 64-bit number that a word writes.
+/// The 64-bit number that a word writes, with or without a minus sign; `None` if the word writes no such number.
 pub(crate) fn int_of(word: &str) -> Option<i64>
     requires { 0 < length word.now }
     ensures { result ≡ integer word.now }

@@ -209,7 +209,8 @@ fn removevalue_of<'a>(
     }))
 }
 
-/// `move NODE NAME N N`: to, then from.
+/// `move NODE NAME N N`: the first number is the index to which a value is moved, the second number is the index from which the value is
+/// moved.
 fn move_of<'a>(node: &str, feature: &'a str, to: &str, from: &str) -> Option<Form<'a>>
     ensures { result ≡ move_form node.now feature.now to.now from.now }
 {

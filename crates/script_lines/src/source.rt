@@ -20,7 +20,7 @@ pub enum Source<'a> {
     Bytes(&'a [u8]),
 }
 
-/// The text before the first newline, and the text after it, which is empty if there is no newline.
+/// The text before the first newline, and the text after that newline, which is empty if there is no newline.
 fn cut_at_newline(text: &str) -> (&str, &str)
     ensures before { result.0.now ≡ before_first is_newline text.now }
     ensures after { result.1.now ≡ after_first is_newline text.now }
@@ -81,7 +81,7 @@ impl<'a> Source<'a> {
         }
     }
 
-    /// The text of a line; `None` for a line that is not UTF-8, which is bad.
+    /// The text of a line; `None` if the line is not UTF-8 and therefore bad.
     pub fn text_of_line(self) -> Option<&'a str>
         ensures { MatchOption result (form (bytes_of self.entry) ≡ asked.Bad) (λ text. form (bytes_of self.entry) ≡ text_line text.now) }
     {

@@ -14,7 +14,7 @@ use crate::written_value::WrittenValue;
 use mm_types::{AdapterNo, Node, ObjectNo, ResourceNo, Text};
 use std::alloc::{AllocError, Global};
 
-/// The number that a word has after a mark.
+/// The number that a word has after a mark; `None` if the word does not begin with the mark, or no number follows the mark.
 fn number_of(mark: u8, word: &str) -> Option<u32>
     requires { mark < 128 }
     ensures { result ≡ number_in mark word.now }
@@ -65,7 +65,7 @@ pub fn feature_of<'a>(node: &str, name: &'a str) -> Option<(Node, Name<'a>)>
     node_of(node).zip(Name::from_word(name))
 }
 
-/// The text of a word that is a JSON string; any other word has none.
+/// The text of a word that is a JSON string; `None` for any other word.
 pub fn string_of(alloc: Global, word: &str) -> Result<Option<Text>, AllocError>
     ensures { IfOk result (λ o. o ≡ string_in word.now) }
 {

@@ -1,4 +1,5 @@
-//! A line is cut into words at its spaces. A word that begins with a quotation mark goes on at least to the next quotation mark.
+//! A line is cut into words at its spaces. A word that begins with a quotation mark goes on at least to the next quotation mark that no
+//! backslash escapes, or to the end of the line if there is none.
 ghost use Rattle.std.specs.Prelude.{◌≡◌, ◌<◌, ◌≤◌, ◌+◌, drop, false, length, map, position, slice_index, take};
 ghost use Rattle.std.specs.List.{after_first, before_first};
 ghost use Rattle.std.specs.Str.{IsUtf8, bytes_eq};
@@ -13,7 +14,7 @@ fn first_space(bytes: &[u8]) -> Option<usize>
     bytes.iter().position(|b| *b == SPACE)
 }
 
-/// How many bytes come before the first space.
+/// How many bytes come before the first space; the number of all bytes, if there is no space.
 fn plain_len_of(bytes: &[u8]) -> usize
     ensures value { result ≡ plain_len bytes.now }
     ensures within { result ≤ length bytes.now }
@@ -25,15 +26,16 @@ fn plain_len_of(bytes: &[u8]) -> usize
     }
 }
 
-/// The first quotation mark or backslash.
+/// The index of the first byte that is a quotation mark or a backslash.
 fn first_mark(bytes: &[u8]) -> Option<usize>
     ensures { result ≡ position is_mark bytes.now }
 {
     bytes.iter().position(|b| *b == QUOTE || *b == BACKSLASH)
 }
 
-/// How many bytes of a word follow its first quotation mark. Most words have no escape, so the next quotation mark usually ends the
-/// quotation. The function is never inlined into the code that reads a word without quotation marks.
+/// How many bytes of a word follow the quotation mark with which the word begins; `bytes` are the bytes after that mark. Most words have no
+/// escape, so the next quotation mark usually ends the quotation. The function is never inlined into the code that reads a word without
+/// quotation marks.
 #[inline(never)]
 fn quoted_len_of(bytes: &[u8]) -> usize
     ensures value { result ≡ quoted_len false bytes.now }
@@ -46,7 +48,8 @@ fn quoted_len_of(bytes: &[u8]) -> usize
     }
 }
 
-/// How many bytes of a word, which may have escapes, follow its first quotation mark.
+/// How many bytes of a word follow the quotation mark with which the word begins, if the word may have escapes; `bytes` are the bytes after
+/// that mark.
 fn escaped_len_of(bytes: &[u8]) -> usize
     ensures value { result ≡ quoted_len false bytes.now }
     ensures within { result ≤ length bytes.now }
@@ -109,7 +112,7 @@ pub fn cut_at(text: &str, len: usize) -> (&str, &str)
     }
 }
 
-/// The text before the first space, and the text after it, which is empty if there is no space.
+/// The text before the first space, and the text after that space, which is empty if there is no space.
 pub fn cut_at_space(text: &str) -> (&str, &str)
     ensures before { result.0.now ≡ before_first is_space text.now }
     ensures after { result.1.now ≡ after_first is_space text.now }

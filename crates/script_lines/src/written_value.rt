@@ -2,7 +2,7 @@
 use crate::name::Name;
 use mm_types::{ObjectNo, Text};
 
-/// A value as it is written in a line. Which value of a feature it stands for depends on the feature's type.
+/// A value as it is written in a line. Which value of a feature the written value stands for depends on the feature's type.
 #[derive(Drop)]
 pub enum WrittenValue<'a> {
     /// `null`
@@ -11,7 +11,7 @@ pub enum WrittenValue<'a> {
     Bool(bool),
     /// `-12`
     Int(i64),
-    /// `"Emma"`: a JSON string, as the text that it writes.
+    /// `"Emma"`: the text of a JSON string, without quotation marks and escapes.
     Text(Text),
     /// `:NOVEL`: a literal of an enumeration, by its name.
     Literal(Name<'a>),

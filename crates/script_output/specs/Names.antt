@@ -26,11 +26,11 @@ abbrev pub enum_of_kind : Kind → Option ℕ
 enum_of_kind (Attribute t unique unsettable default) = enum_of_type t
 enum_of_kind (Reference target containment opposite) = None
 
--- the enumeration that is the type of a feature; none if the type is no enumeration
+-- the enumeration that is the type of a feature; none if the type is no enumeration, or if no feature has the number
 abbrev pub enum_of : Metamodel → FeatureNo → Option ℕ
 enum_of m f = option_and_then (λ g. enum_of_kind g.kind) (lookups.feature m f)
 
--- the name of a literal that is a feature's value; no name if the value is no literal
+-- the name of a literal that is a feature's value; empty if the value is no literal, or no literal of the feature's type
 abbrev pub literal_name : Metamodel → FeatureNo → Value → List ℕ
 literal_name m f value.Null = []
 literal_name m f (value.Bool b) = []

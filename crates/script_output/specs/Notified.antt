@@ -14,7 +14,7 @@ use Rattle.script_output.specs.Names.{feature_name, literal_name}
 use Rattle.script_output.specs.Printed.{adapter_text, node_text, value_text}
 use Rattle.script_output.specs.declared.output.told.TheConstants.{FEATURE_MARK}
 
--- the end at which the change was made, such as `#0.pages`; `#0` if the notification has no feature
+-- the end at which the change was made, such as `#0.pages`; only the node, such as `#0`, if the notification has no feature
 abbrev pub end_text : Metamodel → Notice → List ℕ
 end_text m n = node_text n.notifier ++ option_map_or (λ f. FEATURE_MARK ∷ feature_name m f) n.feature []
 
@@ -31,7 +31,7 @@ text_before _ old = old
 abbrev pub values_text : Metamodel → Notice → List ℕ
 values_text m n = text_before n.kind (told_value_text m n n.old_value) ++ SPACE ∷ told_value_text m n n.new_value ++ SPACE ∷ signed_decimal n.position
 
--- as `#0.pages 100 1 -1`
+-- the end of a notification, with the values and the position, such as `#0.pages 100 1 -1`
 abbrev pub change_text : Metamodel → Notice → List ℕ
 change_text m n = end_text m n ++ SPACE ∷ values_text m n
 
@@ -43,7 +43,7 @@ report_text m n = kind_name n.kind ++ SPACE ∷ change_text m n
 abbrev pub notice_text : Metamodel → AdapterNo → Notice → List ℕ
 notice_text m number n = codes "told " ++ adapter_text number ++ SPACE ∷ report_text m n
 
--- how many notifications there were and how many are kept, such as `3 kept 2`
+-- how many notifications an adapter got and how many it keeps, such as `3 kept 2`
 abbrev pub counts_text : ℕ → ℕ → List ℕ
 counts_text told kept = decimal told ++ codes " kept " ++ decimal kept
 
@@ -51,6 +51,6 @@ counts_text told kept = decimal told ++ codes " kept " ++ decimal kept
 abbrev pub released_text : AdapterNo → ℕ → ℕ → List ℕ
 released_text number told kept = codes "released " ++ adapter_text number ++ codes " told " ++ counts_text told kept
 
--- how often an adapter was notified, such as `seen 3 kept 2`
+-- how many notifications an adapter got and how many it keeps, such as `seen 3 kept 2`
 abbrev pub seen_text : ℕ → ℕ → List ℕ
 seen_text told kept = codes "seen " ++ counts_text told kept

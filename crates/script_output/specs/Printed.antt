@@ -33,7 +33,7 @@ node_text (node.Resource r) = RESOURCE_MARK ∷ decimal r.0
 abbrev pub adapter_text : AdapterNo → List ℕ
 adapter_text a = ADAPTER_MARK ∷ decimal a.0
 
--- as `proxy "http://m.example/b#/0"`
+-- a proxy by its text, such as `proxy "http://m.example/b#/0"`
 abbrev pub proxy_text : List ℕ → List ℕ
 proxy_text t = codes "proxy " ++ json_text t
 
@@ -56,7 +56,7 @@ feature_value_text m f v = value_text (literal_name m f v) v
 abbrev pub spaced_values : Metamodel → FeatureNo → List Value → List ℕ
 spaced_values m f vs = flat_map (λ v. SPACE ∷ feature_value_text m f v) vs
 
--- as `["a" "b"]`
+-- the values of a feature in brackets, such as `["a" "b"]`
 abbrev pub list_text : Metamodel → FeatureNo → List Value → List ℕ
 list_text m f [] = codes "[]"
 list_text m f (v ∷ vs) = codes "[" ++ feature_value_text m f v ++ spaced_values m f vs ++ codes "]"
@@ -65,7 +65,7 @@ list_text m f (v ∷ vs) = codes "[" ++ feature_value_text m f v ++ spaced_value
 abbrev pub spaced_objects : List ObjectNo → List ℕ
 spaced_objects os = flat_map (λ o. SPACE ∷ node_text (node.Object o)) os
 
--- as `[#1 #4]`
+-- objects in brackets, such as `[#1 #4]`
 abbrev pub objects_text : List ObjectNo → List ℕ
 objects_text [] = codes "[]"
 objects_text (o ∷ os) = codes "[" ++ node_text (node.Object o) ++ spaced_objects os ++ codes "]"
@@ -74,7 +74,7 @@ objects_text (o ∷ os) = codes "[" ++ node_text (node.Object o) ++ spaced_objec
 abbrev pub spaced_features : Metamodel → List FeatureNo → List ℕ
 spaced_features m fs = flat_map (λ f. SPACE ∷ feature_name m f) fs
 
--- as `[name favourite]`
+-- names of features in brackets, such as `[name favourite]`
 abbrev pub features_text : Metamodel → List FeatureNo → List ℕ
 features_text m [] = codes "[]"
 features_text m (f ∷ fs) = codes "[" ++ feature_name m f ++ spaced_features m fs ++ codes "]"
@@ -84,14 +84,14 @@ abbrev pub holder_text : Option Node → List ℕ
 holder_text None = codes "null"
 holder_text (Some n) = node_text n
 
--- as `class Book`
+-- a class by its name, such as `class Book`
 abbrev pub class_text : Metamodel → ClassNo → List ℕ
 class_text m c = codes "class " ++ class_name m c
 
--- as ` 10 ONE_SIDED`
+-- a space, and the number and the name of the fault of a document, such as ` 10 ONE_SIDED`
 abbrev pub cause_detail : DocFault → List ℕ
 cause_detail cause = SPACE ∷ cause_text cause
 
--- as `refused 8 TYPE` or `refused 18 DOCUMENT 10 ONE_SIDED`
+-- why a command is refused, such as `refused 8 TYPE` or `refused 18 DOCUMENT 10 ONE_SIDED`
 abbrev pub refused_text : Refused → List ℕ
 refused_text r = codes "refused " ++ refusal_text r

@@ -40,8 +40,7 @@ fn enum_of_type(value_type: DataType) -> Option<u32>
     }
 }
 
-/// The name of a literal that is a feature's value; no name if the value is no literal, or no literal of the feature's
-/// type.
+/// The name of a literal that is a feature's value; empty if the value is no literal, or no literal of the feature's type.
 pub fn literal_name<'a>(meta: &'a Meta, feature: FeatureNo, value: &Value) -> &'a str
     ensures { result.now ≡ n.literal_name meta.now feature value.now }
 {

@@ -21,7 +21,7 @@ use std::alloc::{AllocError, Global};
 use std::marker::Model;
 use std::mem;
 
-/// A text that grows at its end. Contracts see its bytes. A call that is refused memory may have added a part of its text.
+/// A text that grows at its end. Contracts see its bytes. A call that fails for lack of memory may have added a part of what it should add.
 #[derive(Drop)]
 pub struct Output {
     alloc: Global,

@@ -58,7 +58,7 @@ answer_text m f (answer.Snapshot xs) = codes "snapshot " ++ decimal (length xs)
 abbrev pub answer_line : Metamodel → FeatureNo → Answer → List ℕ
 answer_line m f a = answer_text m f a ++ NEWLINE ∷ []
 
--- a line for each notification of an adapter
+-- a line for each notification that an adapter got
 abbrev pub told_text : Metamodel → List (AdapterNo × Notice) → List ℕ
 told_text m told = flat_map (λ t. notice_text m t.0 t.1 ++ NEWLINE ∷ []) told
 
@@ -78,7 +78,7 @@ abbrev pub outcome_text : Metamodel → FeatureNo → Outcome → List ℕ
 outcome_text m f (Ok r) = answer_line m f r.answer ++ notified_text m r.told r.released
 outcome_text m f (Err e) = refusal_line e.refused
 
--- the line that a command prints if it notifies no adapter
+-- the line that a command prints if it is done, notifies no adapter and releases no adapter
 abbrev pub unheard_text : Metamodel → FeatureNo → Answer → List ℕ
 unheard_text m f a = outcome_text m f (Ok (record { answer = a; told = []; released = [] }))
 

@@ -28,7 +28,7 @@ pub record AnswersLine (d : Dress) (number : ℕ) (line : List ℕ) (s : Session
   pub counted : printed.turn ≡ turn
   pub written : Appends old new (dressed_line d number line printed)
 
--- A line was run, a prefix of its output was written, and `Left` is true of the session that is left.
+-- A line was run, a prefix of its output was written as the output options say, and `Left` is true of the session after the line.
 pub record AnswersFront (d : Dress) (number : ℕ) (line : List ℕ) (s : Session) (Left : Session → Type 0) (old new : Option (List ℕ)) : Type 0 where
   pub printed : Printed
   pub after : Session
@@ -42,15 +42,15 @@ pub record RunsBatch (d : Dress) (s : Session) (bytes : List ℕ) (first : List 
   pub runs : RunsFirst d s bytes first rest printed t
   pub ends : (rest ≡ []) ⊎ (is_stopped d printed ≡ true)
 
--- a session ends with a repository of the state q; and `EndsAnywhere`, a session ends with a repository of any state
+-- at the end of a run the repository of the session has the state q; and `EndsAnywhere`, it has any state
 abbrev pub EndsIn : State → Session → Type 0
 EndsIn q t = t.state ≡ q
 
 abbrev pub EndsAnywhere : Session → Type 0
 EndsAnywhere t = Unit {0}
 
--- A script was run to its end, or to the fault at which it is to stop; its answers were written as the output options say, the counts are
--- the counts of the answers, and `Left` is true of the session that is left.
+-- A script was run to its end, or to the refused or bad line at which the option `stop` ends the run; the answers were written as the
+-- output options say, the counts are the counts of the answers, and `Left` is true of the session after the run.
 pub record PrintsDressed (d : Dress) (s : Session) (Left : Session → Type 0) (old new : Option (List ℕ)) (bytes : List ℕ) (summary : Summary) : Type 0 where
   pub first : List (List ℕ)
   pub printed : List Printed
@@ -61,7 +61,7 @@ pub record PrintsDressed (d : Dress) (s : Session) (Left : Session → Type 0) (
   pub written : Appends old new (dressed_output d first printed)
 
 -- The first lines of a script were run, a prefix of their answers was written as the output options say, and `Left` is true of the session
--- that is left.
+-- after these lines.
 pub record PrintsDressedFront (d : Dress) (s : Session) (Left : Session → Type 0) (old new : Option (List ℕ)) (bytes : List ℕ) : Type 0 where
   pub first : List (List ℕ)
   pub rest : List (List ℕ)
@@ -71,10 +71,10 @@ pub record PrintsDressedFront (d : Dress) (s : Session) (Left : Session → Type
   pub ran : RunsFirst d s bytes first rest printed after
   pub written : AppendsFront old new (dressed_output d first printed)
 
--- If the input is known, it is within its limit, and was run to its end or to the fault at which it is to stop.
+-- If the input is known, it is within its limit, and was run to its end or to the line at which the option `stop` ends the run.
 abbrev pub PrintsInputDressed : Dress → Option (List ℕ) → Session → (Session → Type 0) → Option (List ℕ) → Option (List ℕ) → Summary → Type 0
 PrintsInputDressed d input s Left old new summary = IfSome input (λ bytes. (length bytes ≤ INPUT_BYTES) × PrintsDressed d s Left old new bytes summary)
 
--- If the input is known, its first lines were run.
+-- If the input is known, `PrintsDressedFront` is true of it: its first lines were run, and a prefix of their answers was written.
 abbrev pub PrintsInputDressedFront : Dress → Option (List ℕ) → Session → (Session → Type 0) → Option (List ℕ) → Option (List ℕ) → Type 0
 PrintsInputDressedFront d input s Left old new = IfSome input (λ bytes. PrintsDressedFront d s Left old new bytes)

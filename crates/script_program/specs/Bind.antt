@@ -36,7 +36,8 @@ use Rattle.script_program.specs.declared.request.Request.TheVariants as request
 abbrev pub class_number : Metamodel → List ℕ → ClassNo
 class_number m name = unwrap_or (lookups.class_by_name m name) (record { 0 = NOTHING })
 
--- the number of the feature that has a name: a feature of the object's class, or `contents` of a resource
+-- the number of the feature that has a name: a feature of the object's class, or `contents` of a resource; NOTHING if there is no such
+-- feature
 abbrev pub feature_number : State → Node → List ℕ → FeatureNo
 feature_number s (node.Object o) name =
     unwrap_or (option_and_then (λ c. lookups.feature_by_name s.model.metamodel c name) ((reads s).class o)) (record { 0 = NOTHING })
@@ -102,13 +103,13 @@ bind s (asks.Delete o) = request.Execute (command.Delete o)
 bind s (asks.Read q) = request.Execute (command.Read q)
 bind s (asks.Seen number) = request.Seen number
 
--- the pool without the adapter that a request takes
+-- the pool without the adapter that a request takes out of it
 abbrev pub pool_of : Pool → Request View → Pool
 pool_of pool (request.Execute c) = pool_after_take pool c
 pool_of pool (request.Seen number) = pool
 pool_of pool (request.Refuse r) = pool
 
--- the adapter that a request takes is in the pool
+-- if a request takes an adapter out of the pool, the adapter is in the pool
 abbrev pub IsGiven : Pool → Request View → Type 0
 IsGiven pool (request.Execute c) = IsBrought pool c
 IsGiven pool (request.Seen number) = Unit {0}

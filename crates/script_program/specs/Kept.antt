@@ -75,13 +75,13 @@ lines_run j = j.lines
 abbrev pub has_fault : {L A H : Type 0} → Journaled L A H → Bool
 has_fault j = j.is_faulty
 
--- A line was run.
+-- A line was run, and p is its output as a journal counts it.
 pub record RunsJournaled (s : Session) (l : List ℕ) (p : durable.Printed) (t : Session) : Type 0 where
   pub printed : Printed
   pub ran : RunsLine s (form l) printed t
   pub counted : p ≡ journal_printed l printed
 
--- the lines that are kept; the output of a line decides whether the line is kept
+-- the lines that are kept; whether a line is kept depends on the line and on how its output is counted
 abbrev pub kept_lines : List (List ℕ) → List Printed → List (List ℕ)
 kept_lines [] ps = []
 kept_lines (l ∷ ls) [] = []
@@ -173,8 +173,8 @@ pub record LeavesKept (m : Metamodel) (head file : List ℕ) (ls : List (List �
   pub had : model_of m (begun_lines head (recovered_lines file)) ≡ Some start.state.model
   pub leaves : LeavesJournaled m start ls left
 
--- what a crash at any moment of a run leaves: the lines of the file, or a journal of the model that the first lines of the input left, if
--- the input is known
+-- what a crash at any moment of a run leaves: the lines of the file, or the head alone if the file had no line; or else, if the input is
+-- known, a journal of the model that the first lines of the input left
 abbrev pub LeavesKeptIn : Metamodel → List ℕ → List ℕ → Option (List ℕ) → List ℕ → Type 0
 LeavesKeptIn m head file input left = IsBegunOrNot head (recovered_lines file) left ⊎ IfSome input (λ bytes. LeavesKept m head file (lines bytes) left)
 

@@ -44,18 +44,18 @@ pub record AnswersLiveFront (line : List ℕ) (s : Session) (old new : Option (L
 abbrev pub PrintsLive : Session → Option (List ℕ) → Option (List ℕ) → List ℕ → Summary → Type 0
 PrintsLive = PrintsAs live_text
 
--- The first lines of a script were run, and a prefix of the text for them was written.
+-- The first lines of a script were run, and a prefix of their answers, each with an empty line after it, was written.
 abbrev pub PrintsLiveFront : Session → Option (List ℕ) → Option (List ℕ) → List ℕ → Type 0
 PrintsLiveFront = PrintsFrontAs live_text
 
--- If the input is known, it was run to its end.
+-- If the input is known, all its lines were run, and their answers were written.
 abbrev pub PrintsInputLive : Option (List ℕ) → Session → Option (List ℕ) → Option (List ℕ) → Summary → Type 0
 PrintsInputLive input s old new summary = IfSome input (λ bytes. PrintsLive s old new bytes summary)
 
--- If the input is known, its first lines were run.
+-- If the input is known, its first lines were run, and a prefix of their answers was written.
 abbrev pub PrintsInputLiveFront : Option (List ℕ) → Session → Option (List ℕ) → Option (List ℕ) → Type 0
 PrintsInputLiveFront input s old new = IfSome input (λ bytes. PrintsLiveFront s old new bytes)
 
--- a line of a script is longer than it may be, or there are as many lines as a run can count
+-- a line of a script is longer than a line may be, or the script has 2^64 - 1 lines or more
 abbrev pub IsTooLong : List ℕ → Type 0
 IsTooLong bytes = answered.IsTooLong (lines bytes)

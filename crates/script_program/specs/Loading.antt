@@ -14,18 +14,19 @@ abbrev pub made_resource : Answer → Option ResourceNo
 made_resource (answer.Resource k) = Some k
 made_resource _ = None
 
--- a document was loaded into the resource; without a resource, the outcome is the refusal NoResource
+-- the command that loads a document into the resource was executed; without a resource, the outcome is the refusal NoResource
 abbrev pub LoadsInto : Option ResourceNo → State → List ℕ → Outcome → State → Type 0
 LoadsInto (Some k) s document o t = Executed s (Load k document) o t
 LoadsInto None s document o t = (o ≡ change_outcome (Err NoResource)) × (t ≡ s)
 
--- a document was loaded if the resource was made; otherwise the outcome is the outcome of the first command
+-- if the resource was made, the command that loads the document was executed; otherwise the outcome is that of the command that makes the
+-- resource
 abbrev pub LoadsIfMade : Outcome → State → List ℕ → Outcome → State → Type 0
 LoadsIfMade (Ok r) s document o t = LoadsInto (made_resource r.answer) s document o t
 LoadsIfMade (Err f) s document o t = (o ≡ Err f) × (t ≡ s)
 
--- A resource with a given URI was made, and a document was loaded into it, by two commands; the second command was given only if the first
--- command was done.
+-- Two commands were given: the first makes a resource with a given URI, and the second loads a document into this resource. The second
+-- command was given only if the first command was done.
 pub record MakesAndLoads (s : State) (uri document : List ℕ) (o : Outcome) (t : State) : Type 0 where
   pub made : Outcome
   pub between : State

@@ -1,5 +1,5 @@
--- What a script prints, as a function of its bytes and of the numbers of its lost lines. A line is lost if its command
--- fails with MEMORY.
+-- What a script prints, as a function of the session before, of the bytes of the script, and of the numbers of its lost lines. A line is
+-- lost if its command fails with MEMORY.
 use Rattle.std.specs.Prelude.{◌==◌, ℕ, suc, Bool, true, false, IsTrue, List, [], ◌∷◌, slice_get, Err, if◌then◌else◌}
 use Rattle.std.specs.List.{All, list_any}
 use Rattle.std.specs.List.Sorted.{IsStrictlyIncreasing}
@@ -24,7 +24,8 @@ pub record LineRun : Type 0 where
   pub printed : Printed
   pub after : Session
 
--- a command does its step, or it is lost: it fails with MEMORY, and nothing changes
+-- what a command prints, and the session after it. The first argument says whether the command is lost. A lost command fails with MEMORY,
+-- and changes nothing; any other command does its step
 abbrev pub run_command : Bool → Session → Command View → LineRun
 run_command true s c = record { printed = command_printed s.state.model.metamodel c (Err (failure c Memory)); after = s }
 run_command false s c =
@@ -47,7 +48,7 @@ run_line lost s (line.Form f) = run_request lost s (bind s f)
 abbrev pub is_in : List ℕ → ℕ → Bool
 is_in m k = list_any (λ j. j == k) m
 
--- the output of the lines from number k on, if the lines whose numbers are in m are lost
+-- the output of lines of which the first has the number k, if the lines whose numbers are in m are lost
 unfoldable pub printed_from : List ℕ → ℕ → Session → List (List ℕ) → List Printed
 printed_from m k s [] = []
 printed_from m k s (l ∷ ls) = let one = run_line (is_in m k) s (form l) in one.printed ∷ printed_from m (suc k) one.after ls
@@ -56,7 +57,7 @@ printed_from m k s (l ∷ ls) = let one = run_line (is_in m k) s (form l) in one
 abbrev pub script : Session → List ℕ → List ℕ → List Printed
 script s bytes lost = printed_from lost 0 s (lines bytes)
 
--- the numbers of the lines that were lost; the first line of the list has the number k
+-- the numbers of the lost lines, by the output of each line; the first output in the list is the output of the line with the number k
 abbrev pub lost_from : ℕ → List Printed → List ℕ
 lost_from k [] = []
 lost_from k (p ∷ ps) = if is_lost p.turn then k ∷ lost_from (suc k) ps else lost_from (suc k) ps
@@ -69,7 +70,7 @@ is_form line.Blank = false
 is_form line.Bad = false
 is_form (line.Form f) = true
 
--- whether the line of a number has a form
+-- whether there is a line with a given number, counted from 0, and it has a form
 abbrev pub is_command_at : List (List ℕ) → ℕ → Bool
 is_command_at ls j = option_map_or (λ l. is_form (form l)) (slice_get ls j) false
 

@@ -10,11 +10,12 @@ use Rattle.notice_chain.specs.View.{View}
 abbrev pub Pool : Type 0
 Pool = List (Option View)
 
--- the index of the adapter of a number
+-- the index of the adapter with a given number; A0 has no index
 abbrev pub index : AdapterNo → Option ℕ
 index number = if nat_eq number.0 0 then None else Some (number.0 - 1)
 
--- an adapter of the pool, or why it can't be attached: no adapter has the number, or it is attached already
+-- the adapter in an entry of the pool, or why it can't be attached: there is no entry, since no adapter has the number; or the adapter is
+-- attached already
 abbrev pub box_in : Option (Option View) → Result View Refused
 box_in None = Err NoAdapter
 box_in (Some None) = Err AdapterTaken
@@ -27,7 +28,7 @@ box_of pool number = box_in (option_and_then (slice_get pool) (index number))
 abbrev pub with_entry : Option View → Pool → AdapterNo → Pool
 with_entry o pool number = option_map_or (λ i. slice_set pool i o) (index number) pool
 
--- the pool without the adapter of a number; and `with_box`, with the adapter back in it
+-- the pool without the adapter with a given number; and `with_box`, the pool with an adapter back in it, under the adapter's number
 abbrev pub pool_without : Pool → AdapterNo → Pool
 pool_without pool number = with_entry None pool number
 

@@ -112,10 +112,10 @@ Prints = PrintsAs texts
 abbrev pub PrintsFront : Session → Option (List ℕ) → Option (List ℕ) → List ℕ → Type 0
 PrintsFront = PrintsFrontAs texts
 
--- If the input is known, it is within its limit, and was run to its end.
+-- If the input is known, it is within its limit, all its lines were run, and their output was written.
 abbrev pub PrintsInput : Option (List ℕ) → Session → Option (List ℕ) → Option (List ℕ) → Summary → Type 0
 PrintsInput input s old new summary = IfSome input (λ bytes. (length bytes ≤ INPUT_BYTES) × Prints s old new bytes summary)
 
--- If the input is known, its first lines were run.
+-- If the input is known, its first lines were run, and a prefix of their output was written.
 abbrev pub PrintsInputFront : Option (List ℕ) → Session → Option (List ℕ) → Option (List ℕ) → Type 0
 PrintsInputFront input s old new = IfSome input (λ bytes. PrintsFront s old new bytes)

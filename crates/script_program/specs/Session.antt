@@ -26,7 +26,7 @@ session_with heard s boxes = session s (map (λ a. Some (heard a)) boxes)
 abbrev pub first_session : {A : Type 0} → (A → View) → Metamodel → List A → Session
 first_session heard m boxes = session_with heard (empty_state m) boxes
 
--- the adapter that a command attaches is in the pool
+-- if a command attaches an adapter, the adapter is in the pool
 abbrev pub IsBrought : Pool → Command View → Type 0
 IsBrought pool c = All (λ a. box_of pool a.no ≡ Ok a.view) (attached_adapters c)
 
@@ -34,7 +34,8 @@ IsBrought pool c = All (λ a. box_of pool a.no ≡ Ok a.view) (attached_adapters
 abbrev pub pool_after_take : Pool → Command View → Pool
 pool_after_take pool c = fold pool_without pool (map (λ a. a.no) (attached_adapters c))
 
--- the pool after a command: without the adapter that was attached, and with the adapters that were released
+-- the pool after a command: without the adapter that was attached, and with the adapters that were released; a refused command leaves the
+-- pool as it was
 abbrev pub pool_after : Pool → Command View → Outcome → Pool
 pool_after pool c (Ok r) = fold with_box (pool_after_take pool c) r.released
 pool_after pool c (Err f) = pool
@@ -43,7 +44,8 @@ pool_after pool c (Err f) = pool
 abbrev pub brought_no : Command View → Option AdapterNo
 brought_no c = option_map (λ a. a.no) (slice_get (attached_adapters c) 0)
 
--- the pool after the adapters that an outcome gives back are put into it
+-- the pool after the adapters of an outcome are put back: the released adapters or, after a failure, the adapter that is given back, under
+-- the given number
 abbrev pub pool_after_return : Pool → Option AdapterNo → Outcome → Pool
 pool_after_return pool number (Ok r) = fold with_box pool r.released
 pool_after_return pool number (Err f) = option_map_or (with_box pool) (option_zip number f.given_back) pool

@@ -51,7 +51,12 @@ fn print_answer(
             output.text("loaded ")?;
             output.natural(*count)
         }
-        Answer::Resolved { done, left } => print_resolved(output, *done, *left),
+        Answer::Resolved { done, left } => {
+            output.text("resolved ")?;
+            output.natural(*done)?;
+            output.text(" left ")?;
+            output.natural(*left)
+        }
         Answer::Resource(resource) => output.node(Node::Resource(*resource)),
         Answer::Container(object) => output.node_or_null(object.map(Node::Object)),
         Answer::Within(resource) => output.node_or_null(resource.map(Node::Resource)),
@@ -66,16 +71,6 @@ fn print_answer(
             output.natural(snapshot.nodes().len() as u64)
         }
     }
-}
-
-/// Adds how many proxies were resolved, and how many are left.
-fn print_resolved(output: &mut Output, done: u64, left: u64) -> Result<(), AllocError>
-    ensures ok { OnOk result (output.new ≡ output.old ++ a.resolved_text done left) }
-{
-    output.text("resolved ")?;
-    output.natural(done)?;
-    output.text(" left ")?;
-    output.natural(left)
 }
 
 /// Adds the line that a read of a feature prints; `None` stands for null.
@@ -110,19 +105,6 @@ fn print_value(
     output.line_end()
 }
 
-/// Adds the line of an answer to a command; `feature` is the feature that the command names.
-fn print_answer_line(
-    output: &mut Output,
-    meta: &Meta,
-    feature: FeatureNo,
-    answer: &Answer,
-) -> Result<(), AllocError>
-    ensures ok { OnOk result (output.new ≡ output.old ++ a.answer_line meta.now feature answer.now) }
-{
-    print_answer(output, meta, feature, answer)?;
-    output.line_end()
-}
-
 /// Adds the line that a refusal prints.
 pub(crate) fn print_refusal(output: &mut Output, refused: Refused) -> Result<(), AllocError>
     ensures ok { OnOk result (output.new ≡ output.old ++ a.refusal_line refused) }
@@ -131,7 +113,7 @@ pub(crate) fn print_refusal(output: &mut Output, refused: Refused) -> Result<(),
     output.line_end()
 }
 
-/// Adds a line for each notification of an adapter.
+/// Adds a line for each notification that an adapter got.
 fn print_told(
     output: &mut Output,
     meta: &Meta,
@@ -180,7 +162,8 @@ pub(crate) fn print_reply<A: Adapter>(
 ) -> Result<(), AllocError>
     ensures ok { OnOk result (output.new ≡ output.old ++ a.outcome_text meta.now feature (Ok (reply_view A.heard reply.now))) }
 {
-    print_answer_line(output, meta, feature, &reply.answer)?;
+    print_answer(output, meta, feature, &reply.answer)?;
+    output.line_end()?;
     print_notified(
         output,
         meta,

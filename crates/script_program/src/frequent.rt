@@ -33,7 +33,7 @@ use script_lines::{Name, WrittenValue, value_of};
 use script_output::Output;
 use std::alloc::{AllocError, Global};
 
-/// Prints the refusal of a command that is given no adapter. Fails only if memory is refused for the output.
+/// Prints the refusal of a command that attaches no adapter. Fails only if memory is refused for the output.
 fn print_refused(output: &mut Output, refused: Refused) -> Result<Turn, AllocError>
     ensures { (m : Metamodel) (c : Command View) → IfOk result (λ t. Adds output.old output.new t (λ p. p ≡ command_printed m c (change_outcome (Err refused)))) }
 {
@@ -41,7 +41,8 @@ fn print_refused(output: &mut Output, refused: Refused) -> Result<Turn, AllocErr
     Ok(turn_of_refusal(refused))
 }
 
-/// Reads a feature of an object and prints its value. Fails only if memory is refused for the output.
+/// Runs a line that asks for a feature of an object: prints the value of the feature, or the values of its list. Fails only if memory is
+/// refused for the output.
 fn run_read<L: LinkStore, A: Adapter>(
     repository: &mut Repository<L, A>,
     pool: &mut Pool<A>,
@@ -91,7 +92,8 @@ fn run_create<L: LinkStore, A: Adapter>(
     }
 }
 
-/// Reads which object contains an object, and prints it. Fails only if memory is refused for the output.
+/// Prints the object that contains a given object; null if no object contains the given one. Fails only if memory is refused for the
+/// output.
 fn run_container<L: LinkStore, A: Adapter>(
     repository: &Repository<L, A>,
     output: &mut Output,
@@ -138,8 +140,8 @@ fn run_fragment<L: LinkStore, A: Adapter>(
     }
 }
 
-/// Prints the outcome of a change that notified no adapter; `done` is the text of its answer. Fails only if memory is refused for the
-/// output.
+/// Prints the outcome of a change that notified no adapter; `done` is the line that is printed if the change was done. Fails only if memory
+/// is refused for the output.
 #[inline(always)]
 fn print_change(
     output: &mut Output,
@@ -357,7 +359,7 @@ fn run_is_set<L: LinkStore, A: Adapter>(
     run_command(repository, pool, output, Command::Read(read))
 }
 
-/// Does an act at a feature of an object, or asks for the value of the feature, and prints the answer.
+/// Does an act at a feature of an object, or asks for the value of the feature or whether the feature is set, and prints the answer.
 ///
 /// Fails only if memory is refused for a text that is the value of the line, or for the output.
 #[inline(always)]
@@ -402,8 +404,8 @@ fn run_at<L: LinkStore, A: Adapter>(
     }
 }
 
-/// Runs a line of one of the most frequent forms, and prints the answer. It does what `run_text` does in fewer steps, since it knows which
-/// call of the repository the line asks for.
+/// Runs a line of one of the most frequent forms, and prints the answer. The effect and the answer are the same as with `run_text`. But the
+/// steps are fewer, since this function knows which call of the repository the line asks for.
 ///
 /// Fails only if memory is refused for a text that is the value of the line, or for the output.
 pub(crate) fn run_frequent<L: LinkStore, A: Adapter>(

@@ -18,7 +18,7 @@ use script_lines::Source;
 use script_output::Output;
 use std::alloc::{AllocError, Global};
 
-/// A repository, the adapters that its lines can attach, and the output of the last line.
+/// A repository, the adapters that lines can attach, and the output of the last line or call.
 #[derive(Drop)]
 pub struct Interpreter<L: LinkStore, A: Adapter> {
     alloc: Global,
@@ -28,8 +28,8 @@ pub struct Interpreter<L: LinkStore, A: Adapter> {
 }
 
 impl<L: LinkStore, A: Adapter> Interpreter<L, A> {
-    /// An interpreter over an empty repository of a metamodel, which has printed nothing. The names of the adapters are A1, A2 and so on,
-    /// in their order. Fails only if memory is refused.
+    /// An interpreter that has run no line and printed nothing, over an empty repository of a metamodel. The names of the adapters are A1,
+    /// A2 and so on, in their order. Fails only if memory is refused.
     pub fn new(alloc: Global, meta: Meta, boxes: Vec<A>) -> Result<Self, AllocError>
         ensures begin { IfOk result (λ i. session i.repository i.pool ≡ first_session A.heard meta boxes.items) }
         ensures text { IfOk result (λ i. i.output ≡ []) }
@@ -68,7 +68,7 @@ impl<L: LinkStore, A: Adapter> Interpreter<L, A> {
         &self.repository
     }
 
-    /// What the last line printed.
+    /// What the last line printed, or the last call of `list_len`, `list_value` or `load`.
     pub fn text(&self) -> &[u8]
         ensures { result.now ≡ self.now.output }
     {

@@ -41,15 +41,16 @@ pub fn run_journal<R: Read, D: Disk, W: Write, L: LinkStore, A: Adapter, H: List
         (W.contents (writer_of outbox.old)) (W.contents (writer_of outbox.new)) (kept_by D.seen outbox.new) (session_of session.new))) }
     ensures end { OnOk result (OnSome (reader_remaining R.remaining reader.old) (IsAtEnd (reader_remaining R.remaining reader.new))) }
     ensures at_rest { OnOk result (IsAtRest D.seen D.may_leave outbox.new) }
-    // Whatever stops the run, each file that may be left has the lines that were answered. This also holds if each call fails because the
-    // machine fails.
+    // Whatever stops the run, each file that a crash may leave is a journal of the model of all lines that were answered, and perhaps of
+    // some further lines. This also holds if the run stops because the machine fails, and with it each call of the disk.
     ensures stopped { (m : Metamodel) → model_of m (kept_by D.seen outbox.old) ≡ Some (session_of session.old).state.model
         → IfErr result (λ fault. IfSome (reader_remaining R.remaining reader.old) (λ input. StopsJournaled m fault (session_of session.old) (lines input)
         (W.contents (writer_of outbox.old)) (W.contents (writer_of outbox.new)) (D.may_leave (disk_under outbox.new)))) }
-    // `TooLong` is returned only if a line is too long, or there are too many, and `Journal` only if the disk failed or the file is full.
+    // `TooLong` is returned only if a line is too long, or if there are too many lines, and `Journal` only if the disk failed or the file
+    // is full.
     ensures long { IsErrOf result RunFault.TooLong → IfSome (reader_remaining R.remaining reader.old) IsTooLong }
     ensures disk { IsErrOf result RunFault.Journal → (D.faults (disk_under outbox.old) < D.faults (disk_under outbox.new)) ⊎ IsFull D.seen outbox.new }
-    // A crash at any moment of the run leaves a journal of the model that the first lines left.
+    // A crash at any moment of the run leaves a journal of the model that some first lines of the script left.
     ensures any_moment { (m : Metamodel) → model_of m (kept_by D.seen outbox.old) ≡ Some (session_of session.old).state.model
         → LeavesOnly D.moment D.left_since (disk_under outbox.old) (disk_under outbox.new)
         (λ file. IfSome (reader_remaining R.remaining reader.old) (λ input. LeavesJournaled m (session_of session.old) (lines input) file)) }

@@ -15,7 +15,8 @@ use script_answers::Turn;
 use script_lines::{FeatureForm, Form, Line, parse_line};
 use std::alloc::{AllocError, Global};
 
-/// An interpreter that returns for each line whether a journal has to keep it: the line is a change of the model, and the change was done.
+/// An interpreter that returns for each line whether a journal has to keep the line: whether the line asks for a change of the model, and
+/// the change was done.
 #[derive(Drop)]
 pub struct Journaled<L: LinkStore, A: Adapter, H: Listener> {
     alloc: Global,
@@ -28,23 +29,17 @@ pub struct Journaled<L: LinkStore, A: Adapter, H: Listener> {
     is_faulty: bool,
 }
 
-/// Whether a form changes a feature, and does not only read it.
-fn is_edit(form: &FeatureForm<'_>) -> bool
-    ensures { result ≡ edits form.now }
-{
-    match form {
-        FeatureForm::Read(_) => false,
-        _ => true,
-    }
-}
-
 /// Whether a form asks for a change of the model.
 fn is_change(form: &Form<'_>) -> bool
     ensures { result ≡ asks_change form.now }
 {
     match form {
-        Form::At { form, .. } => is_edit(form),
-        Form::New { .. }
+        Form::At {
+            form: FeatureForm::Read(_),
+            ..
+        } => false,
+        Form::At { .. }
+        | Form::New { .. }
         | Form::Resource(_)
         | Form::ResolveAll
         | Form::Load { .. }
@@ -53,7 +48,7 @@ fn is_change(form: &Form<'_>) -> bool
     }
 }
 
-/// Whether a line asks for a change of the model. Fails only if memory is refused for a text that is the value of the line.
+/// Whether a line asks for a change of the model. Fails only if memory is refused for a text that the line has.
 fn asks_for_change(alloc: Global, line: &[u8]) -> Result<bool, AllocError>
     ensures { IfOk result (λ b. b ≡ line_asks (form line.now)) }
 {
@@ -63,7 +58,7 @@ fn asks_for_change(alloc: Global, line: &[u8]) -> Result<bool, AllocError>
     }
 }
 
-/// How a line that was run counts for a journal. Fails as `asks_for_change` does.
+/// How a line that was run counts for a journal. Fails only if memory is refused for a text that the line has.
 fn turn_of(alloc: Global, line: &[u8], turn: Turn) -> Result<durable::JournalTurn, AllocError>
     ensures { IfOk result (λ t. t ≡ journal_turn (line_asks (form line.now)) turn) }
 {
@@ -108,7 +103,7 @@ impl<L: LinkStore, A: Adapter, H: Listener> Journaled<L, A, H> {
         })
     }
 
-    /// Calls the listener when the lines of a journal were run, and the lines of a script begin.
+    /// Notifies the listener that all lines of a journal were run, and that the next line is the first line of a script.
     pub(crate) fn begin_script(&mut self)
         ensures { session_of self.new ≡ session_of self.old }
     {
@@ -129,7 +124,7 @@ impl<L: LinkStore, A: Adapter, H: Listener> Journaled<L, A, H> {
         self.lines
     }
 
-    /// Whether a line was refused, or bad.
+    /// Whether a line that the interpreter has run was refused, or bad.
     pub fn is_faulty(&self) -> bool
         ensures { result ≡ has_fault self.now }
     {

@@ -37,7 +37,7 @@ pub enum KeptFault {
 /// The result of a run with a journal.
 #[derive(Drop)]
 pub struct KeptRun<D, W> {
-    /// Whether the run came to its end.
+    /// `Ok` if the run came to its end, or why it stopped.
     pub outcome: Result<(), KeptFault>,
     /// The disk that has the journal.
     pub disk: D,
@@ -85,7 +85,7 @@ fn opened<D: Disk + Drop, L: LinkStore, A: Adapter, H: Listener>(
     }
 }
 
-/// Runs a script live, keeps its changes in a journal, and takes the journal apart afterwards.
+/// Runs a script live, and keeps its changes in a journal. Returns the disk of the journal, and the writer.
 fn run_opened<R: Read, D: Disk, W: Write, L: LinkStore, A: Adapter, H: Listener>(
     alloc: Global,
     reader: &mut BufReader<R>,
@@ -120,12 +120,14 @@ fn run_opened<R: Read, D: Disk, W: Write, L: LinkStore, A: Adapter, H: Listener>
 }
 
 /// Runs the lines of a journal again, and then runs a script live. The file of the journal has the content `bytes`, and the journal keeps
-/// the changes of the script. A file without lines gets the head first. The session is new: its repository is empty.
+/// the changes of the script. A file without lines gets the head first. The session has to be new: its repository has to be empty.
 ///
-/// Answered lines are kept. A crash may happen in the recovery, between two calls, or inside a call. The file that it leaves is a journal
-/// of the model of all lines that were answered, and perhaps of some further lines. A call that opens this file begins with that model.
+/// Answered lines are kept. A crash may happen in the recovery, between two calls, or inside a call. The file that the crash leaves is a
+/// journal of the model of all lines that were answered, and perhaps of some further lines. A call that opens this file begins with that
+/// model.
 ///
-/// Stops as `run_again` and `open_journal` do before the script is read, and then as `run_journal` does.
+/// Stops with `Unopened` and a fault of `run_again` or `open_journal`, before the script is read; or with `Stopped` and a fault of
+/// `run_journal`.
 pub fn run_kept<R: Read, D: Disk + Drop, W: Write, L: LinkStore, A: Adapter, H: Listener>(
     alloc: Global,
     reader: &mut BufReader<R>,
@@ -138,14 +140,15 @@ pub fn run_kept<R: Read, D: Disk + Drop, W: Write, L: LinkStore, A: Adapter, H: 
     requires head { IsLine head.now }
     requires bytes { D.seen disk ≡ bytes.items }
     requires durable { IsDurable (D.seen disk) (D.may_leave disk) }
-    // The lines of the file were run again, and then all lines of the script, which were answered. The file is a journal of the model that
-    // is left.
+    // The lines of the file were run again, and then all lines of the script were run and answered. The file is a journal of the model that
+    // the run left.
     ensures ok { (m : Metamodel) → (session_of session.old).state ≡ empty_state m
         → OnOk result.outcome (IfSome (reader_remaining R.remaining reader.old) (λ input. EndsKept m head.now bytes.items (lines input)
         (W.contents writer) (W.contents result.writer) (D.seen result.disk) (session_of session.new))) }
     ensures end { OnOk result.outcome (OnSome (reader_remaining R.remaining reader.old) (IsAtEnd (reader_remaining R.remaining reader.new))) }
     ensures durable { OnOk result.outcome (IsDurable (D.seen result.disk) (D.may_leave result.disk)) }
-    // Whatever stops the script, each file that may be left has the lines that were answered.
+    // Whatever stops the script, each file that a crash may leave is a journal of the model of all lines that were answered, and perhaps of
+    // some further lines.
     ensures stopped { (m : Metamodel) (fault : RunFault) → (session_of session.old).state ≡ empty_state m
         → result.outcome ≡ Err (KeptFault.Stopped fault)
         → IfSome (reader_remaining R.remaining reader.old) (λ input. StopsKept m fault head.now bytes.items (lines input)
@@ -153,7 +156,8 @@ pub fn run_kept<R: Read, D: Disk + Drop, W: Write, L: LinkStore, A: Adapter, H: 
     // If the journal is not opened, nothing was read and nothing is answered.
     ensures unopened { (fault : JournalFault) → result.outcome ≡ Err (KeptFault.Unopened fault)
         → (result.writer ≡ writer) × (reader.new ≡ reader.old) }
-    // A crash at any moment leaves the lines of the file, or a journal of the model that the first lines of the script left.
+    // A crash at any moment leaves the lines of the file, or the head alone if the file had no line, or a journal of the model that some
+    // first lines of the script left.
     ensures any_moment { (m : Metamodel) → (session_of session.old).state ≡ empty_state m
         → LeavesOnly D.moment D.left_since disk result.disk (LeavesKeptIn m head.now bytes.items (reader_remaining R.remaining reader.old)) }
 {

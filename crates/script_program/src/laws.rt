@@ -13,9 +13,10 @@ ghost use Rattle.script_answers.specs.Turns.{Printed, texts};
 ghost use Rattle.script_program.specs.Summary.{summary_of};
 ghost use Rattle.script_answers.specs.declared.dress.Dress.{Dress};
 
-/// A line is lost if its command is refused for memory. For each choice of lost lines a text of the script is defined, and the lines print
-/// exactly the text for the lines that were lost. The numbers of the lost lines are all different, each is the number of a line that has a
-/// form, and `no_memory` counts the lost lines. The text of the first lines is a prefix of this text.
+/// A line is lost if its command is refused for memory. The definition `script` gives, for each choice of lost lines, what the lines of a
+/// script print. The lines of a run print exactly what `script` gives for the lines that were lost in this run. If only the first lines
+/// were run, their output is a prefix of what `script` gives. The numbers of the lost lines are all different, each is the number of a line
+/// that has a form, and `no_memory` counts the lost lines.
 pub fn what_lines_print_is_the_script()
     ensures whole { (s t : Session) (bytes : List ℕ) (printed : List Printed) → RunsLines s (lines bytes) printed t
         → script s bytes (lost_lines printed) ≡ printed }
@@ -27,29 +28,30 @@ pub fn what_lines_print_is_the_script()
     ensures as_many { (printed : List Printed) → length (lost_lines printed) ≡ (summary_of printed).no_memory }
 {}
 
-/// If no line is lost, the output of a script depends only on its bytes.
+/// If no line is lost, the output of a script depends only on the bytes of the script and on the session before.
 pub fn with_no_line_lost_the_script_is_a_function()
     ensures { (s t : Session) (bytes : List ℕ) (printed : List Printed) → RunsLines s (lines bytes) printed t
         → (summary_of printed).no_memory ≡ 0 → printed ≡ script s bytes [] }
 {}
 
-/// The output of a run is the text of all lines, written as the output options say. The texts of the lines are defined by the numbers of
-/// the lost lines.
+/// The output of a run with output options is what `script` gives for all lines of the script, given the lost lines of the run, written as
+/// the output options say. This also holds if the option `stop` ended the run before the last line.
 pub fn a_run_writes_the_dressed_script()
     ensures { (d : Dress) (s t : Session) (bytes : List ℕ) (first : List (List ℕ)) (printed : List Printed) → RunsBatch d s bytes first printed t
         → dressed_output d (lines bytes) (script s bytes (lost_lines printed)) ≡ dressed_output d first printed }
 {}
 
-/// The output of a live run has the same answers as the text of the script, each with an empty line after it.
+/// A live run writes what each line prints, with an empty line after it. This output too is what `script` gives for the lost lines of the
+/// run.
 pub fn a_live_run_writes_the_script_with_empty_lines()
     ensures texts { (printed : List Printed) → live_text printed ≡ texts (map with_empty_line printed) }
     ensures script { (s t : Session) (bytes : List ℕ) (printed : List Printed) → RunsLines s (lines bytes) printed t
         → live_text (script s bytes (lost_lines printed)) ≡ live_text printed }
 {}
 
-/// What was kept comes back. If the lines of a run that a journal keeps are run again, without adapters, from the model before the run,
-/// then all of them are done, and they leave the model that all lines of the run left. A session without adapters refuses one of these
-/// lines only if memory is refused.
+/// What was kept comes back. Of the lines of a run, a journal keeps some. If the kept lines are run again, without adapters, from the model
+/// before the run, then all of them are done, and they leave the model that all lines of the run left. A session that has this model and no
+/// adapters refuses one of the kept lines only if memory is refused.
 pub fn what_was_kept_comes_back()
     ensures again { (s t : Session) (ls : List (List ℕ)) (printed : List Printed) → RunsLines s ls printed t
         → model_after_lines s.state.model (kept_lines ls printed) ≡ Some t.state.model }

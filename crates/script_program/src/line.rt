@@ -66,7 +66,7 @@ fn number_of<A>(command: &Command<A>) -> Option<AdapterNo>
     }
 }
 
-/// Reads a single feature, and prints its value from the place in which it is kept. Fails only if memory is refused for the output.
+/// Reads a single feature, and prints the value without making a copy of it. Fails only if memory is refused for the output.
 pub(crate) fn run_get<L: LinkStore, A: Adapter>(
     repository: &Repository<L, A>,
     output: &mut Output,
@@ -88,7 +88,8 @@ pub(crate) fn run_get<L: LinkStore, A: Adapter>(
     }
 }
 
-/// Prints how often an adapter was notified. Fails only if memory is refused for the output.
+/// Prints how often an adapter was notified, and how many notifications it keeps; or the refusal. Fails only if memory is refused for the
+/// output.
 fn run_seen<L: LinkStore, A: Adapter>(
     repository: &Repository<L, A>,
     output: &mut Output,
@@ -110,9 +111,9 @@ fn run_seen<L: LinkStore, A: Adapter>(
     }
 }
 
-/// Executes a command, and prints its answer. An adapter that the command attaches is out of the pool already; it goes back to the pool if
-/// the command is refused. Adapters that the command releases go back to the pool. Fails only if memory is refused for the output; then the
-/// command was executed.
+/// Executes a command, and prints its answer. An adapter that the command attaches is out of the pool already; the adapter goes back to the
+/// pool if the command is refused. Adapters that the command releases go back to the pool. Fails only if memory is refused for the output;
+/// then the command was executed.
 pub(crate) fn run_command<L: LinkStore, A: Adapter>(
     repository: &mut Repository<L, A>,
     pool: &mut Pool<A>,
@@ -158,7 +159,7 @@ pub(crate) fn finish_change<L: LinkStore, A: Adapter>(
     }
 }
 
-/// Runs the command of a form, and prints the answer. Fails only if memory is refused for the output.
+/// Does what a request asks for, and prints the answer. Fails only if memory is refused for the output.
 fn run_request<L: LinkStore, A: Adapter>(
     repository: &mut Repository<L, A>,
     pool: &mut Pool<A>,
@@ -214,7 +215,7 @@ fn run_load<L: LinkStore, A: Adapter>(
 
 /// Runs a line that is a text: parses it, runs its command and prints the answer.
 ///
-/// Fails only if memory is refused for a text that is the value of the line, or for the output.
+/// Fails only if memory is refused for a text that the line has, or for the output.
 #[inline(never)]
 fn run_text<L: LinkStore, A: Adapter>(
     alloc: Global,
@@ -260,8 +261,8 @@ fn run_text_line<L: LinkStore, A: Adapter>(
 
 /// Runs a line: parses it, runs its command and prints the answer.
 ///
-/// Fails if memory is refused to the program itself; then the repository is as it was, or as the line leaves it. If memory is refused to the
-/// repository, the line prints that refusal.
+/// Fails if memory is refused to the program itself; then the repository is as it was, or as the line leaves it. If memory is refused to
+/// the repository, the line prints that refusal.
 #[inline(always)]
 pub(crate) fn run_line<L: LinkStore, A: Adapter>(
     alloc: Global,

@@ -3,12 +3,13 @@ use adapters::Adapter;
 use links::LinkStore;
 use repository::Repository;
 
-/// A listener is called with each line of a script after the line was run. The listener can read the repository, but can't change it.
+/// A listener is called with each line after the line was run: with the lines of a script, and also with the lines of a journal that are
+/// run again. The listener can read the repository, but can't change it.
 pub trait Listener: Drop {
     /// Whether the listener has to be called. If not, a run takes no time for the listener.
     fn is_listening(&self) -> bool;
 
-    /// Takes note that the lines of a script begin. The lines before came from a journal.
+    /// Takes note that the next line is the first line of a script. The lines before it came from a journal.
     fn script_begins(&mut self);
 
     /// Takes note of a line and of its output. The repository is as the line left it.

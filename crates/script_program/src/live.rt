@@ -42,7 +42,7 @@ fn answer_live<W: Write, L: LinkStore, A: Adapter, H: Listener>(
         ⊎ AnswersLiveFront line.now (session repository.old pool.old) (W.contents writer.old) (W.contents writer.new)) }
     ensures kind { IfErr result (λ e. IsWriteOrMemory e) }
 {
-    // An answer without options shows no number.
+    // Without output options no line number is written, so the number that is passed here has no effect.
     let turn = answer_line(
         alloc,
         writer,
@@ -98,7 +98,8 @@ fn answer_lines<R: Read, W: Write, L: LinkStore, A: Adapter, H: Listener>(
     Err(RunFault::TooLong)
 }
 
-/// Runs a script as `run_live` does, over a repository that the caller lends. The listener is called with each line.
+/// Runs a script live as `run_live` does, but over a repository that the caller lends and that is not closed at the end. The listener is
+/// called with each line that was run.
 ///
 /// Fails as `run_live` does.
 pub fn live_over<R: Read, W: Write, L: LinkStore, A: Adapter, H: Listener>(
@@ -114,7 +115,7 @@ pub fn live_over<R: Read, W: Write, L: LinkStore, A: Adapter, H: Listener>(
     ensures end { OnOk result (OnSome (reader_remaining R.remaining reader.old) (IsAtEnd (reader_remaining R.remaining reader.new))) }
     // Whatever stops the run, a prefix of the output of the first lines was written.
     ensures stopped { OnErr result (PrintsInputLiveFront (reader_remaining R.remaining reader.old) (session_with A.heard repository.old boxes.items) (W.contents writer.old) (W.contents writer.new)) }
-    // `TooLong` is returned only if a line is too long, or there are too many.
+    // `TooLong` is returned only if a line is too long, or if there are too many lines.
     ensures long { IsErrOf result RunFault.TooLong → IfSome (reader_remaining R.remaining reader.old) IsTooLong }
 {
     let Ok(mut pool) = Pool::new(alloc, boxes) else {
@@ -126,9 +127,9 @@ pub fn live_over<R: Read, W: Write, L: LinkStore, A: Adapter, H: Listener>(
 /// Runs a script as `run` does, but answers each line before it reads the next: the text that a line prints is written with an empty line
 /// after it, and for a line that is skipped only an empty line is written. Before a read that may wait, the writer is flushed.
 ///
-/// Fails with `Read` if a read fails, with `TooLong` if a line has more than `INPUT_BYTES` bytes or the script more than `u64::MAX - 1`
-/// lines, with `Write` if a write or a flush fails or a write takes no byte, and with `Memory` if memory is refused to the run itself: then
-/// a prefix of the output of the first lines was written. If memory is refused to the repository, the line prints `refused 28 MEMORY`, and
+/// Fails with `Read` if a read fails, with `TooLong` if a line has more than `INPUT_BYTES` bytes or if the script has `u64::MAX` newlines,
+/// with `Write` if a write or a flush fails or a write takes no byte, and with `Memory` if memory is refused to the run itself: then a
+/// prefix of the output of the first lines was written. If memory is refused to the repository, the line prints `refused 28 MEMORY`, and
 /// the run goes on.
 pub fn run_live<R: Read, W: Write, L: LinkStore, A: Adapter>(
     alloc: Global,
@@ -142,7 +143,7 @@ pub fn run_live<R: Read, W: Write, L: LinkStore, A: Adapter>(
     ensures end { OnOk result (OnSome (reader_remaining R.remaining reader.old) (IsAtEnd (reader_remaining R.remaining reader.new))) }
     // Whatever stops the run, a prefix of the output of the first lines was written.
     ensures stopped { OnErr result (PrintsInputLiveFront (reader_remaining R.remaining reader.old) (first_session A.heard meta boxes.items) (W.contents writer.old) (W.contents writer.new)) }
-    // `TooLong` is returned only if a line is too long, or there are too many.
+    // `TooLong` is returned only if a line is too long, or if there are too many lines.
     ensures long { IsErrOf result RunFault.TooLong → IfSome (reader_remaining R.remaining reader.old) IsTooLong }
 {
     let mut repository: Repository<L, A> = Repository::new(alloc, meta);

@@ -19,7 +19,7 @@ fn resource_in(answer: &Answer) -> Option<ResourceNo>
     }
 }
 
-/// Loads a document into a resource; refused with `NoResource` if there is no resource.
+/// Loads a document into a resource; refused with `NoResource` if no resource is given.
 fn load_into<L: LinkStore, A: Adapter>(
     repository: &mut Repository<L, A>,
     resource: Option<ResourceNo>,

@@ -20,10 +20,10 @@ use script_streams::{RunFault, write_all};
 use std::alloc::Global;
 use std::io::Write;
 
-/// The number of bytes of answers that are written at once.
+/// A block of answers is written once it has at least this many bytes.
 const BLOCK_BYTES: usize = 8192;
 
-/// Writes a block, and empties it. Fails with `Write` as `write_all` does.
+/// Writes a block, and empties it. Fails with `Write` if a write fails or takes no byte.
 fn write_block<W: Write>(writer: &mut W, block: &mut Output) -> Result<(), RunFault>
     ensures ok { OnOk result (Appends (W.contents writer.old) (W.contents writer.new) block.old) }
     ensures empty { OnOk result (block.new ≡ []) }
@@ -36,7 +36,7 @@ fn write_block<W: Write>(writer: &mut W, block: &mut Output) -> Result<(), RunFa
 }
 
 /// Runs the lines of a script in turn, and writes their output. If memory is refused to the run, the answers that wait in the block are not
-/// written, since the call that was refused may have added a part of its text to them.
+/// written: the call to which memory was refused may have added only a part of its text to the block.
 pub(crate) fn run_plain<W: Write, L: LinkStore, A: Adapter>(
     alloc: Global,
     writer: &mut W,

@@ -11,7 +11,8 @@ use std::alloc::{AllocError, Global};
 use std::marker::Model;
 use std::mem;
 
-/// The adapters that a script can attach. Their names are A1, A2 and so on, in their order. An adapter that is attached is out of the pool.
+/// The adapters that a script can attach. The adapters have the names A1, A2 and so on, in the order of `boxes`. An adapter that is
+/// attached is out of the pool, and has the entry `None`.
 #[derive(Drop)]
 pub(crate) struct Pool<A: Adapter> {
     boxes: Vec<Option<A>>,
@@ -26,7 +27,7 @@ impl<A: Adapter> Model for Pool<A> {
     ghost view = { λ p. map (λ o. option_map A.heard o) p.boxes.items };
 }
 
-/// The index of the adapter that has this number; A0 has no index.
+/// The index of the adapter with a given number; A0 has no index.
 fn index(no: AdapterNo) -> Option<usize>
     ensures { result ≡ p.index no }
 {
@@ -49,8 +50,8 @@ impl<A: Adapter> Pool<A> {
         Ok(Pool { boxes: slots })
     }
 
-    /// Puts `entry` under the number of an adapter, and returns the entry that was there. Returns `None` if the pool has no entry of the
-    /// number.
+    /// Puts `entry` under the number of an adapter, and returns the entry that was there. Returns `None` if the pool has no entry under
+    /// this number.
     fn replaced(&mut self, no: AdapterNo, entry: Option<A>) -> Option<Option<A>>
         ensures before { option_map (λ o. option_map A.heard o) result ≡ option_and_then (slice_get self.old) (p.index no) }
         ensures after { self.new ≡ p.with_entry (option_map A.heard entry) self.old no }
@@ -62,8 +63,8 @@ impl<A: Adapter> Pool<A> {
         Some(mem::replace(&mut self.boxes[index], entry))
     }
 
-    /// Takes the adapter of a number out. Refused with `NoAdapter` if no adapter has the number, and with `AdapterTaken` if the adapter is
-    /// out of the pool.
+    /// Takes the adapter with a given number out of the pool. Refused with `NoAdapter` if no adapter has the number, and with
+    /// `AdapterTaken` if the adapter is out of the pool.
     pub(crate) fn take(&mut self, no: AdapterNo) -> Result<A, Refused>
         ensures ok { IfOk result (λ a. p.box_of self.old no ≡ Ok (A.heard a)) }
         ensures err { IfErr result (λ r. p.box_of self.old no ≡ Err r) }
@@ -77,15 +78,15 @@ impl<A: Adapter> Pool<A> {
         }
     }
 
-    /// Puts an adapter back.
+    /// Puts an adapter back into the pool, under its number.
     fn put(&mut self, no: AdapterNo, adapter: A)
         ensures { self.new ≡ p.with_box self.old (no, A.heard adapter) }
     {
         let _ = self.replaced(no, Some(adapter));
     }
 
-    /// Puts back the adapters of an outcome: the adapters that the reply released; or the adapter that a failed command did not attach,
-    /// which has the number `no`.
+    /// Puts the adapters of an outcome back into the pool: the adapters that the reply released; or, if the command failed, the adapter
+    /// with the number `no` that the command was to attach.
     pub(crate) fn give_back(&mut self, no: Option<AdapterNo>, outcome: Result<Reply<A>, Failure<A>>)
         ensures { self.new ≡ pool_after_return self.old no (outcome_view A.heard outcome) }
     {

@@ -132,9 +132,10 @@ fn run_input<W: Write, L: LinkStore, A: Adapter, H: Listener>(
     run_lines(alloc, writer, repository, &mut pool, listener, dress, input)
 }
 
-/// Runs a script as `run_dressed` does, over a repository that the caller lends. The listener is called with each line.
+/// Reads a whole script, runs it over a repository that the caller lends, and writes the output of its lines, as the output options say.
+/// The listener is called with each line that was run. The repository is not closed.
 ///
-/// Fails as `run` does. The script is read to its end before its first line is run, even if the run ends earlier.
+/// Fails as `run` does. The script is read to its end before its first line is run, even if the option `stop` ends the run early.
 pub fn run_over<R: Read, W: Write, L: LinkStore, A: Adapter, H: Listener>(
     alloc: Global,
     reader: &mut R,
@@ -172,10 +173,10 @@ pub fn run_over<R: Read, W: Write, L: LinkStore, A: Adapter, H: Listener>(
     }
 }
 
-/// Runs a script as `run` does, and writes the output of its lines, as the output options say. With the option `stop`, the run ends after
-/// the first line that is refused or bad.
+/// Reads a whole script and runs it over an empty repository, as `run` does, but writes the output of its lines as the output options say.
+/// With the option `stop`, the run ends after the first line that is refused or bad.
 ///
-/// Fails as `run` does. The script is read to its end before its first line is run, even if the run ends earlier.
+/// Fails as `run` does. The script is read to its end before its first line is run, even if the option `stop` ends the run early.
 pub fn run_dressed<R: Read, W: Write, L: LinkStore, A: Adapter>(
     alloc: Global,
     reader: &mut R,

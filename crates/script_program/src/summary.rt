@@ -13,7 +13,7 @@ pub struct Summary {
     pub refused: u64,
     /// How many of the lines printed `bad line`.
     pub bad: u64,
-    /// How many of the refused lines were out of memory.
+    /// How many of the refused lines were refused with `Memory`.
     pub no_memory: u64,
 }
 

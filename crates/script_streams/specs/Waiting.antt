@@ -6,7 +6,7 @@ use Rattle.script_streams.specs.declared.run_fault.RunFault.{RunFault}
 use Rattle.script_streams.specs.declared.run_fault.RunFault.TheVariants.{Read, Write, TooLong, Memory, Journal}
 
 module _ {X : Type 0} (can_wait is_ready : X → Type 0) (becomes : X → X → Type 0) (fails : X → RunFault → X → Type 0) where
-  -- Some of the caller's calls before waits succeeded, and the next call failed.
+  -- Any number of the caller's calls before waits succeeded, perhaps none, and the next of these calls failed.
   pub record FailsToWait (old : X) (fault : RunFault) (new : X) : Type 0 where
     pub before : X
     pub became : becomes old before

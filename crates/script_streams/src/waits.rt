@@ -19,13 +19,13 @@ pub trait Waits {
     /// Nothing is left to do before a wait.
     ghost is_ready: { Self → Type 0 };
 
-    /// The state after any number of calls that succeeded, or after none.
+    /// The second state may follow from the first state by any number of calls of `before_wait` that succeed, or by no call.
     ghost becomes: { Self → Self → Type 0 };
 
-    /// The state after a call that failed with a fault.
+    /// The second state may follow from the first state by a call of `before_wait` that fails with this fault.
     ghost fails: { Self → RunFault → Self → Type 0 };
 
-    /// Does the work before a wait.
+    /// Does the work that has to be done before a wait.
     fn before_wait(&mut self) -> Result<(), RunFault>
         requires { can_wait self.old }
         ensures ok { OnOk result (becomes self.old self.new) }
@@ -40,7 +40,8 @@ pub trait Waits {
     ghost goes_on: { (x y z : Self) → becomes x y → becomes y z → becomes x z };
 }
 
-/// Appends the next piece of a line. If the reader has nothing read ahead, its next read may wait, so `before_wait` is called before.
+/// Appends the next piece of a line. If the reader has nothing read ahead, its next read may wait, so `before_wait` is called before this
+/// read.
 #[inline(always)]
 fn wait_and_read<R: Read, X: Waits>(
     reader: &mut BufReader<R>,
@@ -62,9 +63,11 @@ fn wait_and_read<R: Read, X: Waits>(
     read_piece(reader, line)
 }
 
-/// Reads a line as `read_line` does, but calls `before_wait` before each read that may wait, and flushes nothing.
+/// Reads a line, without its newline, into the vector, whose old content is replaced. Returns what ended the line. If the input ends and
+/// the line is empty, there was no line. Before each read that may wait, `before_wait` is called.
 ///
-/// Fails as `read_line` does, and as `before_wait` does.
+/// Fails with `Read` if a read fails, with `TooLong` if the line has more than `INPUT_BYTES` bytes, with `Memory` if memory is refused, and
+/// with the fault of `before_wait` if that call fails.
 pub fn read_line_waiting<R: Read, X: Waits>(
     reader: &mut BufReader<R>,
     waits: &mut X,

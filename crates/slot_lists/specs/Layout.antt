@@ -1,4 +1,4 @@
--- Pieces one after another, and how many values lie in them.
+-- The layout of a long list in pieces: its values, its capacity for more values, and the conditions for the pieces.
 use Rattle.std.specs.Prelude.{ℕ, ◌-◌, ◌*◌, ◌^◌, ◌≤◌, List, length}
 use Rattle.slot_lists.specs.Pieces.{joined_values, IsFilled}
 use Rattle.slot_lists.specs.Places.{Places}

@@ -1,10 +1,11 @@
-//! The hole in a list of pieces.
+//! The hole in a list of pieces: one piece has one value less than it would have if each piece were filled before the next.
 ghost use Rattle.std.specs.Prelude.{◌≡◌, ◌+◌, ◌*◌, ◌<◌, ◌≤◌, length};
 ghost use Rattle.slot_lists.specs.Pieces.{joined_values, HasHole};
 
 use crate::piece::Piece;
 
-/// Moves the hole among `len` slots from one piece to another, and keeps the values in their order.
+/// The pieces have the lengths that `len` values give them if each piece is filled before the next, except that the piece `from` has one
+/// value less. Moves this hole to the piece `to`, and keeps the values in their order.
 pub(crate) fn move_hole<T: Drop>(pieces: &mut Vec<Piece<T>>, len: usize, from: usize, to: usize)
     requires from { HasHole len from pieces.old.items }
     requires to { 1024 * to < len }

@@ -83,7 +83,7 @@ impl<T: Drop> Piece<T> {
         self.ring.pop_back().unwrap()
     }
 
-    /// Puts a value before the value at an index, or last.
+    /// Inserts a value before the value at an index, or at the end if the index is the number of values.
     pub fn insert(&mut self, index: usize, value: T)
         requires room { length self.old < 1024 }
         requires in_range { index ≤ length self.old }

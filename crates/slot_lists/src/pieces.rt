@@ -1,4 +1,4 @@
-//! A long list in pieces. Each piece is full, except the last piece that holds values.
+//! A long list in pieces. All pieces before the last piece that holds values are full, and all pieces after that piece are empty.
 ghost use Rattle.std.specs.Prelude.{◌≡◌, ◌+◌, ◌<◌, ◌≤◌, [], ◌++◌, length, Some, slice_get, position, IsOk, OnOk, OnErr, vec_len};
 ghost use Rattle.std.specs.List.{insert, remove};
 ghost use Rattle.slot_lists.specs.Moved.{list_after_move};
@@ -57,7 +57,7 @@ impl<T: Drop> Pieces<T> {
         PLACES * self.pieces.len() - self.len
     }
 
-    /// Adds an empty piece. Fails only if memory is refused.
+    /// Adds an empty piece. Fails only if memory is refused, or if there are `MOST_PIECES` pieces.
     fn add_piece(&mut self) -> Result<(), AllocError>
         ensures items { self.new.items ≡ self.old.items }
         ensures ok { OnOk result (self.new.spare ≡ self.old.spare + 1024) }
@@ -71,7 +71,7 @@ impl<T: Drop> Pieces<T> {
         Ok(())
     }
 
-    /// Reserves capacity for more values. Fails only if memory is refused.
+    /// Reserves capacity for more values. Fails only if memory is refused, or if more than `MOST_PIECES` pieces would be needed.
     pub fn reserve(&mut self, additional: usize) -> Result<(), AllocError>
         ensures items { self.new.items ≡ self.old.items }
         ensures spare { self.old.spare ≤ self.new.spare }
@@ -84,7 +84,7 @@ impl<T: Drop> Pieces<T> {
         Ok(())
     }
 
-    /// Puts values after the others. Takes no memory.
+    /// Puts values, for which there is capacity, after the others. Takes no memory.
     pub fn append(&mut self, values: Vec<T>)
         requires { vec_len values ≤ self.old.spare }
         ensures items { self.new.items ≡ self.old.items ++ values.items }

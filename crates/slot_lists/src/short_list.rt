@@ -8,7 +8,7 @@ use std::alloc::{AllocError, Global};
 use std::marker::Model;
 use std::mem;
 
-/// How a list lies in memory. If it has more than one value, the values are in a `Box`, so that a list of at most one value is small.
+/// How a list is laid out in memory. A list that got capacity for more than one value is in a `Box`, so that all other lists are small.
 #[derive(Drop)]
 enum Layout<T> {
     Empty,
@@ -16,7 +16,8 @@ enum Layout<T> {
     Many(Box<SlotList<T>>),
 }
 
-/// A list, and capacity for more values. One value is in the list itself, and takes no block of memory.
+/// A list, and capacity for more values. A list that never had capacity for more than one value keeps its value in itself, and takes no
+/// block of memory.
 #[derive(Drop)]
 pub struct ShortList<T> {
     layout: Layout<T>,
@@ -156,14 +157,14 @@ impl<T: Drop> ShortList<T> {
         ensures spare { self.new.spare ≡ self.old.spare }
     {
         let Layout::Many(list) = &mut self.layout else {
-            // The only value of a list has no other position.
+            // A list of one value has only the index 0, so the value stays.
             return;
         };
         list.move_to(to, from);
     }
 }
 
-/// An empty list in a `Box`, with capacity for some values. Fails only if memory is refused.
+/// An empty list in a `Box`, with capacity for `places` values. Fails only if memory is refused.
 fn in_box<T: Drop>(alloc: Global, places: usize) -> Result<Box<SlotList<T>>, AllocError>
     ensures items { IfOk result (λ b. b.value.items ≡ []) }
     ensures spare { IfOk result (λ b. places ≤ b.value.spare) }

@@ -9,7 +9,8 @@ use std::alloc::{AllocError, AllocFailed, Global};
 use std::marker::Model;
 use std::mem;
 
-/// A short list lies in one block, of the size that it needs, and a long one in pieces.
+/// A short list is in one block, and a long list is in pieces. A long list that was made from a `Vec` is in the block of the `Vec` until
+/// `reserve` moves it into pieces.
 #[derive(Drop)]
 enum Layout<T> {
     Short(Vec<T>),
@@ -17,7 +18,7 @@ enum Layout<T> {
 }
 
 /// A list, and capacity for more values. An insert or a removal at any index takes at most about as many steps as a piece can hold values,
-/// plus one step for each piece of the list.
+/// plus one step for each piece of the list. Only a long list that is still in the block of a `Vec` takes more steps.
 #[derive(Drop)]
 pub struct SlotList<T> {
     layout: Layout<T>,
@@ -45,7 +46,7 @@ impl<T: Drop> SlotList<T> {
         }
     }
 
-    /// The values of a `Vec`, of any length. Takes no memory.
+    /// A list of the values of a `Vec` of any length. The values stay in the block of the `Vec`. Takes no memory.
     pub fn from_vec(values: Vec<T>) -> Self
         ensures { result.items ≡ values.items }
     {
@@ -104,8 +105,8 @@ impl<T: Drop> SlotList<T> {
         }
     }
 
-    /// Reserves capacity for more values, and moves a list that is longer than a piece into pieces. Fails only if memory is refused, and
-    /// then the values stay and no capacity is lost.
+    /// Reserves capacity for more values. If the list together with these values is longer than one piece, moves the list into pieces.
+    /// Fails only if memory is refused, and then the values stay and no capacity is lost.
     pub fn reserve(&mut self, additional: usize) -> Result<(), AllocError>
         ensures items { self.new.items ≡ self.old.items }
         ensures ok { OnOk result (additional ≤ self.new.spare) }
@@ -172,8 +173,8 @@ impl<T: Drop> SlotList<T> {
         }
     }
 
-    /// Replaces the values by the values of a `Vec`, of any length. The capacity stays if it is greater than the new values need. Takes no
-    /// memory.
+    /// Replaces the values by the values of a `Vec` of any length. If there is capacity for more values than the `Vec` has, the list keeps
+    /// its block or its pieces; otherwise it takes the block of the `Vec`. Takes no memory.
     pub fn replace(&mut self, values: Vec<T>)
         ensures items { self.new.items ≡ values.items }
         ensures spare { self.old.spare ≤ self.new.spare + vec_len values }
@@ -196,7 +197,7 @@ impl<T: Drop> SlotList<T> {
         }
     }
 
-    /// Puts values after the others. Takes no memory.
+    /// Puts values, for which there is capacity, after the others. Takes no memory.
     fn append(&mut self, values: Vec<T>)
         requires { vec_len values ≤ self.old.spare }
         ensures items { self.new.items ≡ self.old.items ++ values.items }
@@ -211,8 +212,8 @@ impl<T: Drop> SlotList<T> {
     }
 }
 
-/// Reserves capacity in the block of a short list. If the block grows, its capacity grows by at least a half, but not above `PLACES`
-/// values, even if it has no values yet.
+/// Reserves capacity in the block of a short list. If the block has to grow, its capacity grows by at least a half of its old capacity,
+/// however few values it has, but not above `PLACES` values.
 fn reserve_in_block<T: Drop>(values: &mut Vec<T>, additional: usize) -> Result<(), AllocError>
     requires { vec_len values.old + additional ≤ 1024 }
     ensures items { values.new.items ≡ values.old.items }
@@ -228,7 +229,7 @@ fn reserve_in_block<T: Drop>(values: &mut Vec<T>, additional: usize) -> Result<(
     values.reserve_exact(additional.max(grown).min(free))
 }
 
-/// Moves the values of a block into pieces, with capacity for more. If memory is refused, the values stay in the block.
+/// Moves the values of a block into pieces, with capacity for `additional` more values. If memory is refused, the values stay in the block.
 fn in_pieces<T: Drop>(values: &mut Vec<T>, additional: usize) -> Result<Box<Pieces<T>>, AllocError>
     ensures items { IfOk result (λ p. p.value.items ≡ values.old.items) }
     ensures spare { IfOk result (λ p. additional ≤ p.value.spare) }
@@ -242,7 +243,7 @@ fn in_pieces<T: Drop>(values: &mut Vec<T>, additional: usize) -> Result<Box<Piec
     Ok(pieces)
 }
 
-/// Moves a value of a block.
+/// Moves the value at `from` in a block, so that it is then at `to`.
 fn move_in_block<T: Drop>(values: &mut Vec<T>, to: usize, from: usize)
     requires to { to < vec_len values.old }
     requires from { from < vec_len values.old }

@@ -1,4 +1,5 @@
--- The links that the lists of values at ends represent, and the conditions under which lists, holders and entries agree.
+-- The links that the lists of values at ends represent, and the conditions under which lists, holders and entries agree. The holder of a
+-- node is the end that contains the node; the entries of an object are the ends without opposite that have the object as a value.
 use Rattle.std.specs.Prelude.{◌≡◌, ◌↔◌, ℕ, zero, suc, ◌≤◌, true, List, [], ◌∷◌, ◌++◌, length, slice_get, Option, Some, None}
 use Rattle.std.specs.FinSet as set
 use Rattle.mm_types.specs.Ends.{index_in}
@@ -27,7 +28,7 @@ abbrev pub link_to : Cells → End → ℕ → ObjectNo → Option FeatureNo →
 link_to c e k o None = record { end = e; index = k; far = Alone o; container = (c.pairing e).container }
 link_to c e k o (Some g) = joined_link e k (far_end o g) (index_in (c.vals (far_end o g)) (node_value e.node)) (c.pairing e).container
 
--- the link of a value at k in e; only objects and proxies are in an end
+-- the link of a value at position k in e; since only objects and proxies are in an end, the link of any other value doesn't matter
 abbrev pub link_from : Cells → End → ℕ → Value → Link
 link_from c e k (value.Object o) = link_to c e k o (c.pairing e).opposite
 link_from c e k (value.Proxy t) = record { end = e; index = k; far = Proxy t; container = None }
@@ -55,8 +56,8 @@ IsReference (value.Object o) = Unit {0}
 IsReference (value.Proxy t) = Unit {0}
 IsReference _ = ⊥
 
--- the far end of the link from e to the object o has e's node as a value; the far end names e's feature as its opposite, and both ends have
--- the same containing feature
+-- of the link from e to the object o, whose opposite feature is g: g is not e's feature, and e's node is an object; the far end has e's
+-- node as a value, and names e's feature as its opposite; and both ends have the same containing feature
 pub record IsMutual (c : Cells) (e : End) (o : ObjectNo) (g : FeatureNo) : Type 0 where
   pub apart : (g.0 ≡ e.feature.0) → ⊥
   pub object : IsObject e.node
@@ -64,7 +65,8 @@ pub record IsMutual (c : Cells) (e : End) (o : ObjectNo) (g : FeatureNo) : Type 
   pub opposite : (c.pairing (far_end o g)).opposite ≡ Some e.feature
   pub container : (c.pairing (far_end o g)).container ≡ (c.pairing e).container
 
--- the ends are lists of objects and proxies without repeats; for a feature with an opposite, each link is in the lists of both ends
+-- each end that has a value is among es; each end is a list of objects and proxies without repeats, with at most as many values as an end
+-- may have; for a feature with an opposite, each link is in the lists of both ends
 pub record AreLists (c : Cells) (es : List End) : Type 0 where
   pub keys : HasKeys c es
   pub references : (e : End) (k : ℕ) (v : Value) → slice_get (c.vals e) k ≡ Some v → IsReference v
@@ -85,7 +87,8 @@ pub record RepeatNothing (c : Cells) : Type 0 where
   pub values : (e : End) → IsDistinct (c.vals e)
   pub entries : (o : ObjectNo) → IsOnce (c.entered (node.Object o))
 
--- the lists agree, the holders agree with the links, and each object has as entries exactly the ends without opposite that have it
+-- the lists agree with each other; no node is contained twice, and the holders agree with the links; each object has as entries exactly the
+-- ends without opposite that have the object, each of them once
 pub record IsKept (c : Cells) (es : List End) : Type 0 where
   pub lists : AreLists c es
   pub held : IsHeldOnce (cell_links c es)
@@ -102,6 +105,6 @@ IsStore t = IsKept (cells t) (ends_of t)
 unfoldable pub store_links : NodeSlots → Links
 store_links t = cell_links (cells t) (ends_of t)
 
--- the links agree with the kinds of a metamodel's features
+-- m are kinds that features can have, and the links agree with them
 abbrev pub IsStoreOfKind : NodeSlots → Kinds → Type 0
 IsStoreOfKind t m = AreKinds m × AreOfKind m (store_links t)

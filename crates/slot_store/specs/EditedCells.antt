@@ -1,4 +1,5 @@
--- The cells after each edit of links.
+-- The cells after each edit of links: the values of each end, the end that contains each node, and the entries of each object. The entries
+-- of an object are the ends without opposite that have the object as a value.
 use Rattle.std.specs.Prelude.{◌≡◌, ℕ, ◌+◌, ◌≤◌, true, position, Option, Some, None, if◌then◌else◌}
 use Rattle.std.specs.Option.{option_map_or}
 use Rattle.mm_types.specs.Same.{node_value, same_end, same_feature, same_value}
@@ -24,14 +25,14 @@ abbrev pub held_far : End → ObjectNo → Option FeatureNo → FeatureNo → Op
 held_far e o None h = None
 held_far e o (Some g) h = if same_feature g h then Some (e.node, far_end o g) else None
 
--- the node that a link from e to an object contains, with the end that contains it; g is the opposite, and h the containing feature of the
--- pair
+-- the node that is contained through a link from e to the object o, with the end that contains this node; g is the opposite of e's feature,
+-- and h is the containing feature: one of the two, if one is a containment
 abbrev pub held_node : End → ObjectNo → Option FeatureNo → Option FeatureNo → Option (Node × End)
 held_node e o g None = None
 held_node e o g (Some h) = if same_feature e.feature h then Some (node.Object o, e) else held_far e o g h
 
--- the index of the row of the node that a link contains: the row of the far node if e's feature is the containing feature h, else the row
--- of the near node
+-- the index of the row of the node that is contained through a link: the row of the far node if e's feature is the containing feature h,
+-- else the row of the near node
 abbrev pub held_row_index : PutPlaces → End → Option FeatureNo → ℕ
 held_row_index p e None = p.near
 held_row_index p e (Some h) = if same_feature e.feature h then p.far else p.near
@@ -46,8 +47,8 @@ cells_after_release (Some p) c = cell_edit p.0 (Hold None) c
 
 ---------------------------------------------------------------- puts
 
--- the cells after a put at its far side: the far end gains e's node as its last value; if e's feature has no opposite, the object gains e
--- as an entry instead
+-- the cells after a link is put in at its far side: if e's feature has the opposite g, the far end gains e's node as its last value;
+-- otherwise the object gains e as its last entry
 abbrev pub put_far : End → ObjectNo → Option FeatureNo → Option FeatureNo → Cells → Cells
 put_far e o None h c = cell_edit (node.Object o) (Enter e) c
 put_far e o (Some g) h c = cell_edit (node.Object o) (Change g (Push (node_value e.node) (record { opposite = Some e.feature; container = h }))) c
@@ -88,8 +89,8 @@ cells_after (edit.Put l) c = put_cells l.end l.index l.object l.opposite l.conta
 cells_after (edit.Shift e to from) c = cell_edit e.node (Change e.feature (Move to from)) c
 cells_after (edit.PutProxy e i t) c = put_near e i (value.Proxy t) None c
 
--- a change takes at most `values e` of the capacity for the values of each end e, and at most `ends n` of the capacity for the ends that
--- hold each node n
+-- a change takes at most `values e` of the capacity for the values of each end e, and at most `ends n` of the capacity for the entries of
+-- each node n; the ends that may have values other than objects, and the nodes that have a row, stay the same
 pub record TakesAtMost (values : End → ℕ) (ends : Node → ℕ) (old new : Room) : Type 0 where
   pub places : (e : End) → old.places e ≤ new.places e + values e
   pub mixed : (e : End) → new.mixed e ≡ old.mixed e

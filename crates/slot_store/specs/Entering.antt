@@ -1,4 +1,5 @@
--- The ends that have an object, found from the object's own lists and its entries; and the object's position in each.
+-- The ends that have an object as a value, found from the object's own lists and its entries; and the object's position in each of these
+-- ends. The entries of an object are the ends without opposite that have the object as a value.
 use Rattle.std.specs.Prelude.{ℕ, ◌≤◌, List, [], ◌∷◌, ◌++◌, length, position, Option, Some, None}
 use Rattle.mm_types.specs.Same.{same_value}
 use Rattle.mm_types.specs.declared.numbers.FeatureNo.{FeatureNo}
@@ -11,7 +12,7 @@ use Rattle.links.specs.Links.{far_end, object_of}
 use Rattle.node_slots.specs.declared.slot.Slot.{Slot}
 use Rattle.node_slots.specs.Cells.{Cells}
 
--- the end of a feature at an object's node
+-- the end of a feature at an object; none if there is no object
 abbrev pub far_of : FeatureNo → Option ObjectNo → List End
 far_of f None = []
 far_of f (Some o) = far_end o f ∷ []
@@ -28,7 +29,7 @@ far_ends_of (Some f) vs = far_ends f vs
 abbrev pub ends_at : Cells → End → List End
 ends_at c e = far_ends_of (c.pairing e).opposite (c.vals e)
 
--- the far ends of the links of an object's features
+-- for each of the object's slots whose feature has an opposite, the far ends of the links of that feature
 abbrev pub paired_ends : Cells → ObjectNo → List Slot → List End
 paired_ends c o [] = []
 paired_ends c o (s ∷ ss) = ends_at c (far_end o s.feature) ++ paired_ends c o ss

@@ -28,8 +28,8 @@ pub(crate) fn value_of(node: Node) -> Value
     }
 }
 
-/// The node of `end`, and the end of `object` that contains this node. `None` if there is no opposite, or if the opposite is not the
-/// containing feature of the link.
+/// For a link from `end` to `object` whose containing feature is the opposite: the node of `end`, and the end of `object` that contains
+/// this node. `None` if there is no opposite, or if the opposite is not the containing feature.
 fn held_by_far(
     end: End,
     object: ObjectNo,
@@ -49,7 +49,8 @@ fn held_by_far(
     Some((end.node, far))
 }
 
-/// The node that a link from an end to an object contains, and the end that contains it.
+/// The node that is contained through a link from an end to an object, and the end that contains this node. `None` if nothing is contained
+/// through the link.
 fn held_by(end: End, object: ObjectNo, pairing: Pairing) -> Option<(Node, End)>
     ensures { result ≡ held_node end object pairing.opposite pairing.container }
 {
@@ -74,7 +75,8 @@ fn take_out(rows: &mut NodeSlots, end: End, value: &Value)
     }
 }
 
-/// Takes an end out of the ends with no opposite that hold an object, if the end is among them.
+/// Takes an end out of the entries of an object, if the end is among them. The entries of an object are the ends without opposite that have
+/// the object as a value. The end is first looked for at the index `guess`.
 fn take_out_entry(rows: &mut NodeSlots, end: End, object: ObjectNo, guess: usize)
     requires { IsOnce ((cells rows.old).entered (node.Object object)) }
     ensures cells { cells rows.new ≡ without_entry end object (cells rows.old) }
@@ -85,7 +87,8 @@ fn take_out_entry(rows: &mut NodeSlots, end: End, object: ObjectNo, guess: usize
     }
 }
 
-/// Takes a link out of its far side.
+/// Takes a link out of its far side: with an opposite, takes the node of `end` out of the opposite end at `object`; without an opposite,
+/// takes `end` out of the entries of `object`.
 fn take_out_far(
     rows: &mut NodeSlots,
     end: End,
@@ -104,7 +107,7 @@ fn take_out_far(
     }
 }
 
-/// Records that nothing contains a node.
+/// Records that no end contains the node of `pair`. Without a pair nothing changes.
 fn release(rows: &mut NodeSlots, pair: Option<(Node, End)>)
     ensures cells { cells rows.new ≡ cells_after_release pair (cells rows.old) }
     ensures room { TakesAtMost no_values no_ends (room rows.old) (room rows.new) }
@@ -114,7 +117,8 @@ fn release(rows: &mut NodeSlots, pair: Option<(Node, End)>)
     }
 }
 
-/// Cuts the link of an object in an end. The far side of the link is removed first, since the far side is found by means of the end.
+/// Cuts the link of an object in an end: takes the link out of its far side and then out of the end, and records that the node that the
+/// link contained, if any, is contained no more.
 fn cut(rows: &mut NodeSlots, end: End, object: ObjectNo, guess: usize)
     requires { RepeatNothing (cells rows.old) }
     ensures cells { cells rows.new ≡ cells_after_cut end (value.Object object) (cells rows.old) }
@@ -138,7 +142,8 @@ fn cut_value(rows: &mut NodeSlots, end: End, value: &Value, guess: usize)
     }
 }
 
-/// The row index of the node that a link contains; `places` has the row indexes of both nodes.
+/// The row index of the node that is contained through a link; `places` has the row indexes of both nodes of the link. If nothing is
+/// contained through the link, the result is the row index of the near node.
 fn held_row_index(places: PutPlaces, end: End, container: Option<FeatureNo>) -> usize
     ensures { result ≡ held_row_index places end container }
 {
@@ -148,7 +153,8 @@ fn held_row_index(places: PutPlaces, end: End, container: Option<FeatureNo>) -> 
     }
 }
 
-/// Records the end that contains a node, whose row is at an index.
+/// Records which end contains a node: `pair` is the node and that end, and `row_index` is the index of the node's row. Without a pair
+/// nothing changes.
 fn hold(rows: &mut NodeSlots, row_index: usize, pair: Option<(Node, End)>)
     requires row { HasHeldRow pair (room rows.old) }
     requires at { IfSome pair (λ p. row_index_of rows.old p.0 ≡ Some row_index) }
@@ -160,7 +166,7 @@ fn hold(rows: &mut NodeSlots, row_index: usize, pair: Option<(Node, End)>)
     }
 }
 
-/// Puts a link in at its far side, whose row is at an index.
+/// Puts a link in at its far side; `row_index` is the index of the row of the link's object.
 fn put_in_far(rows: &mut NodeSlots, row_index: usize, link: NewLink)
     requires object { PairsObject link.end link.opposite }
     requires room { FarHasRoom link.object link.opposite (room rows.old) }
@@ -243,7 +249,8 @@ fn put(rows: &mut NodeSlots, places: PutPlaces, link: NewLink)
     );
 }
 
-/// The row indexes of the two nodes of a put; there is capacity for the put.
+/// The row indexes of the two nodes of a put: of the node of `end`, and of `object`. Both nodes have a row, since capacity was reserved for
+/// the put.
 fn places_of(rows: &NodeSlots, end: End, object: ObjectNo) -> PutPlaces
     requires near { (room rows.now).rows end.node ≡ true }
     requires far { (room rows.now).rows (node.Object object) ≡ true }
@@ -266,7 +273,7 @@ pub(crate) fn put_with_room(rows: &mut NodeSlots, link: NewLink) -> Result<(), A
     Ok(())
 }
 
-/// Moves the value at an index of an end.
+/// Moves the value at the index `from` of an end to the index `to`.
 fn shift(rows: &mut NodeSlots, end: End, to: u32, from: u32)
     ensures cells { cells rows.new ≡ cells_after (edit.Shift end to from) (cells rows.old) }
     ensures room { TakesAtMost no_values no_ends (room rows.old) (room rows.new) }
@@ -278,8 +285,8 @@ fn shift(rows: &mut NodeSlots, end: End, to: u32, from: u32)
     rows.edit(end.node, RowEdit::Change(end.feature, edit));
 }
 
-/// Makes one edit, for which there is capacity. If the edit takes an end out of the ends with no opposite that hold an object, that end is
-/// first looked for at the index `guess`. Takes no memory.
+/// Makes one edit, for which there is capacity. If the edit takes an end out of the entries of an object, that end is first looked for at
+/// the index `guess`. Takes no memory.
 pub(crate) fn edit_rows(rows: &mut NodeSlots, edit: Edit, guess: usize)
     requires object { PutsObject edit }
     requires room { HasRoom (room rows.old) (edit ∷ []) }

@@ -1,4 +1,5 @@
-//! The entries of an object, read from its own lists and from the ends that are kept for it.
+//! The ends that have an object as a value, and its position in each of them. An end whose feature has an opposite is found from the
+//! object's own lists of values. An end without opposite is an entry, and is kept in the row of the object.
 ghost use Rattle.std.specs.Prelude.{◌≡◌, ◌++◌, IfOk, OnOk};
 ghost use Rattle.std.specs.Option.{option_copied, option_to_list};
 ghost use Rattle.mm_types.specs.declared.numbers.Node.TheVariants as node;
@@ -32,7 +33,7 @@ fn push_far(
     Ok(())
 }
 
-/// Adds the ends of a feature at the objects of an end.
+/// Adds the end of `feature` at each object that `end` has as a value.
 fn push_far_ends(
     rows: &NodeSlots,
     end: End,
@@ -57,7 +58,7 @@ fn push_ends(rows: &NodeSlots, end: End, out: &mut Vec<End>) -> Result<(), Alloc
     }
 }
 
-/// Adds the far ends of the links of an object's features.
+/// Adds, for each slot of an object whose feature has an opposite, the far ends of the links of that feature.
 fn push_paired(
     rows: &NodeSlots,
     object: ObjectNo,
@@ -86,7 +87,7 @@ fn push_end(end: Option<&End>, out: &mut Vec<End>) -> Result<(), AllocError>
     Ok(())
 }
 
-/// Adds the ends with no opposite that hold a node.
+/// Adds the ends without opposite that have a node as a value.
 fn push_entered(rows: &NodeSlots, node: Node, out: &mut Vec<End>) -> Result<(), AllocError>
     ensures { OnOk result (out.new.items ≡ out.old.items ++ (cells rows.now).entered node) }
 {
@@ -96,7 +97,7 @@ fn push_entered(rows: &NodeSlots, node: Node, out: &mut Vec<End>) -> Result<(), 
     Ok(())
 }
 
-/// The ends that have an object, in no order.
+/// The ends that have an object as a value, in no order.
 pub(crate) fn entering(
     alloc: Global,
     rows: &NodeSlots,
@@ -132,7 +133,7 @@ fn push_place(
     Ok(())
 }
 
-/// The position of a value in each of the ends that have it.
+/// For each of `ends` that has `value`: the position of `value` there.
 pub(crate) fn places_of(
     alloc: Global,
     rows: &NodeSlots,

@@ -1,9 +1,10 @@
-//! The position of a value in an end, and of an end among the ends that hold an object.
+//! The position of a value in an end, and the index of an end among the entries of an object. The entries of an object are the ends without
+//! opposite that have the object as a value.
 //!
-//! Most lists are made in the order of their objects' numbers. So the guess of a position assumes that order; the last and the first
-//! position are tried first. A long list in another order has labels, from which the position is guessed. The list is searched only if the
-//! guess is wrong. The ends that hold an object may be in any order. If an end that is cut is not at its guessed position, these ends are
-//! sorted by their ranks, so that the next guesses are right.
+//! Most lists of values are made in the order of their objects' numbers. So the guess of a position assumes that order; the last and the
+//! first position are tried first. A long list in another order gets labels, from which the position is guessed. The list is searched only
+//! if the guess is wrong. Entries may be in any order. If an end that is cut is not at its guessed index among the entries, the entries are
+//! sorted by `entry_rank`, so that the next guesses are right.
 ghost use Rattle.std.specs.Prelude.{◌≡◌, position};
 ghost use Rattle.mm_types.specs.Same.{same_end};
 ghost use Rattle.mm_types.specs.declared.numbers.Node.TheVariants as node;
@@ -35,8 +36,8 @@ pub(crate) fn found(rows: &NodeSlots, end: End, value: &Value) -> Option<usize>
     rows.position(end, value)
 }
 
-/// A guess at the position of an end among the ends with no opposite that hold an object. If these ends are sorted, the guess is the
-/// position of the end; otherwise it may be any position.
+/// A guess at the index of an end among the entries of an object. If the entries are sorted by `entry_rank` and the end is one of them, the
+/// guess is right; otherwise it may be any index.
 fn entry_guess(rows: &NodeSlots, object: ObjectNo, end: End) -> usize {
     let node = Node::Object(object);
     by_rank(rows.entered_len(node), entry_rank(end), |index| {
@@ -44,8 +45,8 @@ fn entry_guess(rows: &NodeSlots, object: ObjectNo, end: End) -> usize {
     })
 }
 
-/// The index of an end among the ends with no opposite that hold an object; `None` if the end is not there. No end comes twice among them.
-/// The index `guess` is tried first.
+/// The index of an end among the entries of an object; `None` if the end is not there. No end comes twice among the entries. The index
+/// `guess` is tried first.
 pub(crate) fn entry_from(
     rows: &NodeSlots,
     object: ObjectNo,
@@ -62,8 +63,8 @@ pub(crate) fn entry_from(
     }
 }
 
-/// The index of an end among the ends with no opposite that hold an object; `None` if the end is not there. This function computes the
-/// guess that `entry_from` needs.
+/// The index of an end among the entries of an object; `None` if the end is not there. This function computes the guess that `entry_from`
+/// needs.
 pub(crate) fn entry_found(rows: &NodeSlots, object: ObjectNo, end: End) -> Option<usize>
     requires { IsOnce ((cells rows.now).entered (node.Object object)) }
     ensures { result ≡ position (same_end end) ((cells rows.now).entered (node.Object object)) }
@@ -71,9 +72,9 @@ pub(crate) fn entry_found(rows: &NodeSlots, object: ObjectNo, end: End) -> Optio
     entry_from(rows, object, end, entry_guess(rows, object, end))
 }
 
-/// A guess at the position of an end among the ends with no opposite that hold an object. If the end is not at the first guess, these ends
-/// are sorted, and the position is guessed again. Sorting moves each end at most once, so many cuts together take no longer than a sort.
-/// Takes no memory.
+/// A guess at the index of an end among the entries of an object. If the end is not at the guessed index, the entries are sorted by
+/// `entry_rank`, and the index is guessed again. Sorting moves each entry at most once, and after a cut sorted entries are still sorted. So
+/// many cuts of one object's entries need only one sort. Takes no memory.
 pub(crate) fn ordered_guess(rows: &mut NodeSlots, object: ObjectNo, end: End) -> usize
     ensures cells { AreReordered (cells rows.old) (cells rows.new) }
     ensures room { room rows.new ≡ room rows.old }

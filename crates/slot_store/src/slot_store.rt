@@ -1,4 +1,4 @@
-//! The store of lists.
+//! The store of links that keeps a list at both ends of each link.
 ghost use Rattle.std.specs.Prelude.{◌≡◌, true};
 ghost use Rattle.mm_types.specs.declared.value.Value.TheVariants as value;
 ghost use Rattle.links.specs.Plans.{HasPlanOfKind, PlanFits, links_after_edits};
@@ -14,8 +14,8 @@ use mm_types::{End, Node, ObjectNo, Value};
 use node_slots::NodeSlots;
 use std::alloc::{AllocError, Global};
 
-/// Links as lists at both their ends, with the end that contains each node. The values of an end and the container of a node are read
-/// without a search, however many links there are.
+/// Links, kept as a list at both ends of each link, and for each node the end that contains the node. The values of an end and the
+/// container of a node are read without a search, however many links there are.
 #[derive(Drop)]
 pub struct SlotStore {
     rows: NodeSlots,
@@ -110,8 +110,8 @@ fn far_lacks(rows: &NodeSlots, end: End, object: ObjectNo) -> bool
     }
 }
 
-/// If an edit takes an end out of the ends with no opposite that hold an object, a guess at the position of that end among them; otherwise
-/// 0. Making the guess may sort these ends.
+/// If an edit takes an end out of the entries of an object, a guess at the index of that end among the entries; otherwise 0. The entries of
+/// an object are the ends without opposite that have the object as a value. Making the guess may sort them.
 fn make_guess(rows: &mut NodeSlots, edit: &Edit) -> usize
     requires kept { ∥ IsStore rows.old ∥₁ }
     ensures kept { ∥ IsStore rows.new ∥₁ }

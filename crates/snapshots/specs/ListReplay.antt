@@ -1,4 +1,4 @@
--- A list of values after a notification, computed as in the code.
+-- The values of an end after a notification, and the set flag of the end after a notification: two definitions, as in the code.
 use Rattle.std.specs.Prelude.{ℕ, ℤ, pos, negsuc, Bool, true, false, nat_lt, List, [], ◌∷◌, Option, Some, None, option_map, if◌then◌else◌}
 use Rattle.mm_types.specs.declared.value.Value.{Value}
 use Rattle.notice_chain.specs.Replay.{list_after_add, list_after_move_notice, list_after_remove, list_after_resolve}

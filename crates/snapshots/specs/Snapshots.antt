@@ -27,7 +27,8 @@ class_at r (node.Resource k) = None
 abbrev pub node_state : Reading → Node → NodeState
 node_state r n = record { node = n; class = class_at r n; features = map (feature_state r n) (all_features_of r n) }
 
--- all nodes that could be in a snapshot: the resources by number, and then the objects that were made
+-- all nodes that could be in a snapshot: the resources, and then all objects that were made, destroyed ones included; both in the order of
+-- their numbers
 abbrev pub nodes : Reading → List Node
 nodes r = map resource_node (range_with_len 0 (length r.uris)) ++ map object_node (range_with_len 0 r.next)
 
@@ -39,9 +40,9 @@ is_taken r target n = is_node_live r n && is_within r target n
 abbrev pub snapshot_of : Reading → Node → List NodeState
 snapshot_of r target = map (node_state r) (filter (is_taken r target) (nodes r))
 
----------------------------------------------------------------- as it is taken
+---------------------------------------------------------------- the parts from which the code makes a snapshot
 
--- the target itself, if it is a resource
+-- the target alone, if it is a resource that exists; else no nodes
 abbrev pub own_resource : Reading → Node → List Node
 own_resource r (node.Object o) = []
 own_resource r (node.Resource k) = if has_resource r k then node.Resource k ∷ [] else []
@@ -53,13 +54,13 @@ objects_as_nodes os = map node.Object os
 abbrev pub live_states : Reading → List ObjectNo → List NodeState
 live_states r os = map (node_state r) (filter (is_node_live r) (objects_as_nodes os))
 
--- objects by number, each once
+-- the objects are in the order of their numbers, each once
 abbrev pub AreAscending : List ObjectNo → Type 0
 AreAscending [] = Unit {0}
 AreAscending (o ∷ []) = Unit {0}
 AreAscending (o ∷ p ∷ ps) = (o.0 < p.0) × AreAscending (p ∷ ps)
 
--- the objects below a node, by number; if the node is an object, it is among them
+-- os are the objects below the target, and the target itself if it is an object, in the order of their numbers
 pub record AreBelow (r : Reading) (target : Node) (os : List ObjectNo) : Type 0 where
   pub ascending : AreAscending os
   pub below : (o : ObjectNo) → list_any (same_object o) os ≡ is_within r target (node.Object o)

@@ -7,7 +7,7 @@ use mm_types::Value;
 use notice_chain::{NO_INDEX, Notice, NoticeKind};
 use std::alloc::AllocError;
 
-/// Changes values as a notification does. Fails only if memory is refused; then the values may be any.
+/// Replays a notification on the values of the end that it names. Fails only if memory is refused; then the values may be any.
 pub(crate) fn edit(values: &mut Vec<Value>, notice: &Notice) -> Result<(), AllocError>
     ensures { OnOk result (values.new.items ≡ values_after_notice notice.now.kind notice.now values.old.items) }
 {

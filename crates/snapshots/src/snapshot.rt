@@ -25,7 +25,8 @@ pub struct NodeState {
     pub features: Seq<FeatureState>,
 }
 
-/// The state of a node and of each node below it at some time: the nodes in order, resources before objects, each once.
+/// The state of a node and of each node below it at some time. Resources come before objects, each in the order of their numbers, and each
+/// node once.
 #[derive(Debug, Drop)]
 pub struct Snapshot {
     nodes: Vec<NodeState>,
@@ -44,7 +45,7 @@ impl Model for Snapshot {
 }
 
 impl Snapshot {
-    /// The snapshot of some nodes, which are in order. Takes no memory.
+    /// The snapshot that has these states of nodes, which are in order. Takes no memory.
     pub(crate) fn from_vec(nodes: Vec<NodeState>) -> Self
         requires in_order { AreInOrder nodes.items }
         ensures { result ≡ nodes.items }

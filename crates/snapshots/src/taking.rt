@@ -30,7 +30,7 @@ impl Snapshot {
     }
 }
 
-/// The objects below a node, by number; if the node is an object, it is among them.
+/// The objects below a node, and the node itself if it is an object, in the order of their numbers.
 fn objects_below<L: LinkStore>(
     alloc: Global,
     model: &ModelRef<L>,
@@ -44,7 +44,7 @@ fn objects_below<L: LinkStore>(
     Ok(objects)
 }
 
-/// The state of the target if it is a resource, and then the states of the live objects among some objects.
+/// The state of the target, if it is a resource that exists, and then the states of those of `objects` that live.
 fn states_of<L: LinkStore>(
     alloc: Global,
     model: &ModelRef<L>,
@@ -61,7 +61,7 @@ fn states_of<L: LinkStore>(
     Ok(out)
 }
 
-/// Adds the state of a node, if it is a resource that is there.
+/// Adds the state of a node, if the node is a resource that exists.
 fn push_resource<L: LinkStore>(
     alloc: Global,
     model: &ModelRef<L>,

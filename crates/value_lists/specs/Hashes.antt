@@ -35,7 +35,7 @@ count_of (Some c) = c.count
 abbrev pub count_in : HashCounts → ℕ → ℕ
 count_in t h = count_of (get nat_eq t.counts h)
 
--- the table counts the values of the list
+-- the table counts, for each hash, the values of the list that have the hash
 abbrev pub Counts : HashCounts → List Value → Type 0
 Counts t vs = (h : ℕ) → count_in t h ≡ count_by (has_hash h) vs
 
@@ -47,6 +47,6 @@ is_at v i vs = option_map_or (same_value v) (slice_get vs i) false
 abbrev pub ValuePlaces : Type 0
 ValuePlaces = Places Value
 
--- the view of a list and its table: each insert needs capacity in both
+-- the view of a list and its table; the capacity is the smaller one of the two, since each insert needs capacity in both
 abbrev pub places_in_both : ValuePlaces → HashCounts → ValuePlaces
 places_in_both p t = record { items = p.items; spare = min p.spare (spare t.counts) }

@@ -14,8 +14,8 @@ use std::alloc::{AllocError, Global};
 use std::marker::Model;
 use std::mem;
 
-/// A list, and how many of its values have each hash. Contracts see it as the list, with the capacity for more values that the list and its
-/// table both have.
+/// A list, and how many of its values have each hash. Contracts see the values and one capacity: the smaller one of the capacities of the
+/// list and of the table.
 #[derive(Drop)]
 pub(crate) struct CountedList {
     list: SlotList<Value>,
@@ -118,7 +118,7 @@ impl CountedList {
         self.list.position(value).is_some()
     }
 
-    /// An index of a value, which is searched by its label; `None` if the label does not lead to the value.
+    /// An index at which the value is, guessed by the label of its hash; `None` if the value is at no guessed index.
     fn find(&self, label: u64, value: &Value) -> Option<usize>
         ensures { IfSome result (λ i. is_at value.now i self.now.items ≡ true) }
     {
@@ -129,8 +129,8 @@ impl CountedList {
         self.find_farther(label, value)
     }
 
-    /// An index of a value, which is searched by its label; `None` if the label does not lead to the value. `find` calls this function if
-    /// its first guess is wrong. That guess assumes that the labels before this label are evenly spread.
+    /// An index at which the value is, guessed by the label of its hash; `None` if the value is at no guessed index. `find` calls this
+    /// function if its own guess is wrong. That guess assumes that the labels up to this label are evenly spread.
     #[cold]
     fn find_farther(&self, label: u64, value: &Value) -> Option<usize>
         ensures { IfSome result (λ i. is_at value.now i self.now.items ≡ true) }
@@ -213,8 +213,8 @@ impl CountedList {
         self.labels.near(index)
     }
 
-    /// A label between the label of the value before `index` and the label of the value at `next`. If one of the two values is missing, the
-    /// label is before or after all other labels.
+    /// A label between the label of the value before `index` and the label of the value at `next`. If there is no value at `next`, the
+    /// label is after the last label. Otherwise, if there is no value before `index`, the label is before the first label.
     #[cold]
     fn label_amid(&self, index: usize, next: usize) -> u64 {
         if next >= self.list.len() {
@@ -238,8 +238,8 @@ impl CountedList {
         self.labels.take(index, self.list.len());
     }
 
-    /// At some removals, checks whether the value at the index is found by its label. If the value is not found, all values get new labels,
-    /// and labels are kept from then on.
+    /// If a removal at the index tests the guess there (`is_tried`), checks whether the value at the index is found by its label. If the
+    /// value is not found, all values get new labels, and `is_labelled` is set.
     fn try_label(&mut self, index: usize)
         ensures items { self.new.items ≡ self.old.items }
         ensures spare { self.new.spare ≡ self.old.spare }
@@ -261,7 +261,7 @@ impl CountedList {
         }
     }
 
-    /// Gives all values new labels.
+    /// Gives all values new labels, and sets `is_labelled`.
     #[cold]
     fn label_all(&mut self)
         ensures items { self.new.items ≡ self.old.items }
@@ -287,7 +287,7 @@ impl CountedList {
         self.label_moved(to);
     }
 
-    /// Gives the value at an index, which was moved there, a label between those of its neighbours, if labels are kept.
+    /// Gives the value at an index, which was moved there, a label between those of its neighbours, if `is_labelled` is set.
     fn label_moved(&mut self, index: usize)
         ensures items { self.new.items ≡ self.old.items }
         ensures spare { self.new.spare ≡ self.old.spare }
@@ -312,7 +312,8 @@ impl CountedList {
     }
 }
 
-/// Counts the hashes of a list, in a table that has capacity for as many more values as the list has. Fails only if memory is refused.
+/// A table that counts the hashes of a list, and has capacity for as many more values as the list can take without memory. Fails only if
+/// memory is refused.
 fn counted(alloc: Global, list: &SlotList<Value>) -> Result<HashCounts, AllocError>
     ensures counts { IfOk result (λ t. Counts t list.now.items) }
     ensures room { IfOk result (λ t. list.now.spare ≤ room_of t.counts) }

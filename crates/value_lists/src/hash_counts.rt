@@ -16,7 +16,7 @@ pub(crate) struct Counted {
     pub label: u64,
 }
 
-/// For each hash that any value has, how many values have that hash.
+/// For each hash that some value of a list has: how many values of the list have it, and a label.
 #[derive(Drop)]
 pub(crate) struct HashCounts {
     counts: IndexMap<u64, Counted>,
@@ -32,7 +32,7 @@ impl HashCounts {
         }
     }
 
-    /// No values, with capacity for some. Fails only if memory is refused.
+    /// No values, with capacity for `capacity` values. Fails only if memory is refused.
     pub fn with_capacity(alloc: Global, capacity: usize) -> Result<Self, AllocError>
         ensures none { IfOk result (λ t. (h : ℕ) → count_in t h ≡ 0) }
         ensures spare { IfOk result (λ t. capacity ≤ spare t.counts) }
@@ -68,7 +68,7 @@ impl HashCounts {
         self.counts.reserve(additional)
     }
 
-    /// Counts one more value, which has a label. Takes no memory.
+    /// Counts one more value of a hash, and makes the label of this value the label of the hash. Takes no memory.
     pub fn add(&mut self, hash: u64, label: u64)
         requires room { 0 < spare self.old.counts }
         requires fits { count_in self.old hash + 1 < 2 ^ 64 }
@@ -85,7 +85,7 @@ impl HashCounts {
         }
     }
 
-    /// Gives the values of a hash, if there are any, another label. Takes no memory.
+    /// Replaces the label of a hash, if any value has the hash. Takes no memory.
     pub fn label(&mut self, hash: u64, label: u64)
         ensures counts { (h : ℕ) → count_in self.new h ≡ count_in self.old h }
         ensures spare { spare self.new.counts ≡ spare self.old.counts }
@@ -95,7 +95,7 @@ impl HashCounts {
         }
     }
 
-    /// Counts one value less. Takes no memory.
+    /// Takes one value of a hash out of the count. Takes no memory.
     pub fn take(&mut self, hash: u64)
         ensures counts { (h : ℕ) → count_in self.new h ≡ count_in self.old h - (if nat_eq hash h then 1 else 0) }
         ensures spare { spare self.old.counts ≤ spare self.new.counts }

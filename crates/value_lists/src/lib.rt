@@ -1,7 +1,9 @@
-//! Lists of values. A long list that is looked up by value finds fast whether it has a value, and where.
+//! Lists of values. A long list that is looked up by value, and repeats no value, mostly finds fast whether it has a value, and at which
+//! index.
 //!
-//! A long list counts how many of its values have each hash, so that a look-up finds without a search that a value is new. Beside each
-//! count is a label, by which a value is found: labels are numbers that go up along the list. The table has no copies of values.
+//! For this the list has a table with the number of its values for each hash. If no value of the list has the hash of a given value, the
+//! given value is not there, and the list is not searched. Beside each number the table has a label, by which a value with that hash is
+//! found: labels are numbers that go up along the list. The table has no copies of values.
 #![tactic(auto)]
 
 mod counted_list;

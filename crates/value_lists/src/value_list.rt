@@ -26,8 +26,8 @@ enum Layout {
     Counted(Box<CountedList>),
 }
 
-/// A list, and if it is long and is looked up by value, how many of its values have each hash. Contracts see it as the list, and its
-/// capacity for more values.
+/// A list, and if it is long and is looked up by value, how many of its values have each hash. Contracts see the values, and the capacity
+/// for more values.
 #[derive(Drop)]
 pub struct ValueList {
     layout: Layout,
@@ -66,7 +66,7 @@ impl ValueList {
         }
     }
 
-    /// The values of a `Vec`. Two or more values stay in the block of the `Vec`. Takes no memory.
+    /// A list of the values of a `Vec`. Two or more values stay in the block of the `Vec`. Takes no memory.
     pub fn from_vec(values: Vec<Value>) -> Self
         ensures { result.items ≡ values.items }
     {
@@ -154,7 +154,8 @@ impl ValueList {
         Ok(())
     }
 
-    /// Counts the hashes of a list that is long, or will be. Fails only if memory is refused, and then nothing has changed.
+    /// Counts the hashes of the list, if the list has more than `SHORT` values, or would have them after `additional` inserts. Fails only
+    /// if memory is refused, and then nothing has changed.
     fn count_hashes(&mut self, alloc: Global, additional: usize) -> Result<(), AllocError>
         ensures items { self.new.items ≡ self.old.items }
         ensures spare { self.old.spare ≤ self.new.spare }
@@ -216,8 +217,8 @@ impl ValueList {
         }
     }
 
-    /// Replaces the values by the values of a `Vec`. Their hashes are not counted before the list is looked up by value again. Takes no
-    /// memory.
+    /// Replaces the values by the values of a `Vec`. The hashes of the new values are not counted before a call of `reserve` with
+    /// `is_asked`. Takes no memory.
     pub fn replace(&mut self, values: Vec<Value>)
         ensures items { self.new.items ≡ values.items }
         ensures spare { self.old.spare ≤ self.new.spare + vec_len values }
@@ -233,7 +234,7 @@ impl ValueList {
         }
     }
 
-    /// Replaces the values by one. Takes no memory.
+    /// Replaces the values by one value. Takes no memory.
     pub fn replace_by_one(&mut self, alloc: Global, value: Value)
         ensures items { self.new.items ≡ value ∷ [] }
         ensures spare { self.old.spare ≤ self.new.spare + 1 }
@@ -252,7 +253,7 @@ impl ValueList {
     }
 }
 
-/// The values of a `Vec`. Two or more values stay in the block of the `Vec`.
+/// The layout of the values of a `Vec`. Two or more values stay in the block of the `Vec`.
 fn layout_of(mut values: Vec<Value>) -> Layout
     ensures items { (places_of result).items ≡ values.items }
     ensures spare { 1 ≤ (places_of result).spare + vec_len values }
@@ -266,7 +267,7 @@ fn layout_of(mut values: Vec<Value>) -> Layout
     }
 }
 
-/// Replaces the values of a list by one value; the list keeps its block only if the block has capacity for at least two more values.
+/// Replaces the values of a list by one value; the list keeps its memory only if it has capacity for at least two more values.
 fn layout_of_one(alloc: Global, mut list: SlotList<Value>, value: Value) -> Layout
     ensures items { (places_of result).items ≡ value ∷ [] }
     ensures spare { list.spare ≤ (places_of result).spare + 1 }
@@ -281,7 +282,7 @@ fn layout_of_one(alloc: Global, mut list: SlotList<Value>, value: Value) -> Layo
     }
 }
 
-/// A list of no values, with capacity for some. Fails only if memory is refused.
+/// A list of no values, with capacity for `places` values. Fails only if memory is refused.
 fn with_places(alloc: Global, places: usize) -> Result<SlotList<Value>, AllocError>
     ensures items { IfOk result (λ l. l.items ≡ []) }
     ensures spare { IfOk result (λ l. places ≤ l.spare) }
@@ -291,7 +292,8 @@ fn with_places(alloc: Global, places: usize) -> Result<SlotList<Value>, AllocErr
     Ok(list)
 }
 
-/// Moves a value into a list with capacity for more. Fails only if memory is refused, and then the value stays where it is.
+/// Moves a value into a list with capacity for `additional` more values. Fails only if memory is refused, and then the value stays where it
+/// is.
 fn in_block(
     alloc: Global,
     value: &mut Value,

@@ -32,11 +32,11 @@ is_mark c = c == 35
 abbrev pub web_text : Parts → Option (List ℕ)
 web_text u = if is_web u then (if list_any is_mark (serialize u) then None else Some (serialize u)) else None
 
--- the text of a URL that is read by itself
+-- the text of the URL that a text gives by itself, without a base, if the URL's scheme is http or https and the URL has no fragment
 abbrev pub own_text : List ℕ → Option (List ℕ)
 own_text u = option_and_then web_text (if_parsed (parse_url None u))
 
--- a URI is normalised: it is written as `url` writes it, so joining it with any base gives it back
+-- a URI is normalised: it is written as the crate `url` writes it, so joining the URI with any base gives the same URI
 abbrev pub IsWebUri : List ℕ → Type 0
 IsWebUri u = own_text u ≡ Some u
 

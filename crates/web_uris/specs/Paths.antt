@@ -29,7 +29,7 @@ index_text (Some i) = 46 ∷ decimal i
 abbrev pub step_text : Step → List ℕ
 step_text s = 47 ∷ 64 ∷ (s.name ++ index_text s.index)
 
--- the text of a path, in which the root's segment is empty, or is the index of the root
+-- the text of a path; the root's segment is empty if `empty` is true, and is the index of the root otherwise
 abbrev pub path_text : Bool → Path → List ℕ
 path_text empty p = 47 ∷ ((if empty then [] else decimal p.root) ++ flat_map step_text p.steps)
 
@@ -70,7 +70,7 @@ abbrev pub path_of_segments : List (List ℕ) → Option Path
 path_of_segments ([] ∷ root ∷ steps) = option_and_then (λ i. option_map (new_path i) (steps_of steps)) (root_of root)
 path_of_segments _ = None
 
--- the segments of the text after a slash; no segments without a slash
+-- the segments into which slashes separate an optional text; no segments if there is no text
 abbrev pub segments : Option (List ℕ) → List (List ℕ)
 segments None = []
 segments (Some text) = slice_split is_slash text
@@ -79,7 +79,7 @@ segments (Some text) = slice_split is_slash text
 abbrev pub parse : List ℕ → Option Path
 parse text = path_of_segments (slice_split is_slash text)
 
----------------------------------------------------------------- when two are the same
+---------------------------------------------------------------- when two paths are the same
 
 abbrev pub same_index : Option ℕ → Option ℕ → Bool
 same_index None None = true
@@ -108,6 +108,6 @@ pub record IsWritable (p : Path) : Type 0 where
   pub root : p.root < 10000000
   pub steps : AreWritten p.steps
 
--- a text is written for a path: by its root's index, or by an empty segment for root 0
+-- a text is written for a path that can be written; the root's segment is the root's index, or may be empty for root 0
 abbrev pub Writes : List ℕ → Path → Type 0
 Writes t p = IsWritable p × ((t ≡ path_text false p) ⊎ ((t ≡ path_text true p) × (p.root ≡ 0)))

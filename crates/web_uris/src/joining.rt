@@ -29,7 +29,7 @@ fn own_url(alloc: Global, text: &str) -> Result<Option<Url>, UriFault>
     }
 }
 
-/// The URL that a reference gives with a base URL, if there is one.
+/// The URL that a reference gives relative to a base URL; `None` if it gives no URL.
 fn based_url(base: &Url, reference: &str) -> Result<Option<Url>, UriFault>
     ensures { MatchResult result (λ u. u ≡ if_parsed (parse_url (Some base.now) reference.now)) (λ e. e ≡ Memory) }
 {
@@ -64,7 +64,7 @@ fn is_web(url: &Url) -> bool
     url.scheme() == "http" || url.scheme() == "https"
 }
 
-/// A copy of a URL's text, if its scheme is http or https and it has no fragment.
+/// A copy of a URL's text. `Bad` if the URL's scheme is neither http nor https, or the URL has a fragment; `Memory` if memory is refused.
 fn text_of(alloc: Global, url: &Url) -> Result<String, UriFault>
     ensures text { GivesText result (web_text url.now) }
     ensures web { IfOk result (λ t. IsWebUri (string_bytes t)) }
@@ -75,7 +75,7 @@ fn text_of(alloc: Global, url: &Url) -> Result<String, UriFault>
     String::from_str(alloc, url.as_str()).map_err(|_| UriFault::Memory)
 }
 
-/// The URI of a reference, as `url` writes it: the reference itself if it is a URI, otherwise the reference joined with a base.
+/// The URI of a reference, as the crate `url` writes it: the reference itself if it is a URI, otherwise the reference joined with a base.
 ///
 /// `Bad` if neither the reference nor the joined reference is a URI, if the URI's scheme is neither http nor https, or if the URI has a
 /// `#`. `Memory` if memory is refused, or the URI would be longer than URIs can be.

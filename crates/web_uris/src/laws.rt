@@ -7,12 +7,12 @@ ghost use Rattle.web_uris.specs.Joined.{IsWebUri, joined_uri, web_text};
 ghost use Rattle.web_uris.specs.Paths.{Writes, parse};
 ghost use Rattle.web_uris.specs.declared.path.Path.{Path};
 
-/// A URI that is written as `url` writes it is normalised: joining it with any base gives it back.
+/// A URI that is written as the crate `url` writes it is normalised: joining the URI with any base gives the same URI.
 pub fn web_uris_join_to_themselves()
     ensures { (base uri : List ℕ) → IsWebUri uri → joined_uri base uri ≡ Some uri }
 {}
 
-/// The text of a valid URL of http or https without a fragment is normalised: `url` reads it, and writes it as it was.
+/// The text of a valid URL of http or https without a fragment is normalised: the crate `url` reads the text, and writes the same text.
 pub fn urls_of_the_web_are_web_uris()
     ensures { (url : Parts) → IsValid url → kind_of url ≡ SpecialNotFile → web_text url ≡ Some (serialize url) → IsWebUri (serialize url) }
 {}

@@ -1,4 +1,4 @@
-//! Paths of fragments, and their texts.
+//! The path to an object of a resource, and the text of a path, which is a fragment.
 ghost use Rattle.std.specs.Prelude.{◌≡◌, ◌++◌, ◌∷◌, [], IfOk, OnOk, decimal, flat_map, string_bytes, if◌then◌else◌};
 ghost use Rattle.web_uris.specs.Paths.{index_text, path_text, step_text};
 
@@ -59,7 +59,8 @@ fn push_steps(text: &mut String, steps: &[Step]) -> Result<(), AllocError>
 }
 
 impl Path {
-    /// The text of the path, with an empty root segment or the root's position. Fails only if memory is refused.
+    /// The text of the path. The root's segment is empty if `is_root_left_out` is true, and is the root's position otherwise. Fails only if
+    /// memory is refused.
     pub fn text(&self, alloc: Global, is_root_left_out: bool) -> Result<String, AllocError>
         ensures { IfOk result (λ t. string_bytes t ≡ path_text is_root_left_out self.now) }
     {

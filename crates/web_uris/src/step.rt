@@ -13,7 +13,7 @@ use std::alloc::{AllocError, Global};
 /// The greatest number of digits of an index.
 const INDEX_DIGITS: usize = 7;
 
-/// The index of some digits, below 10,000,000 and without a zero in front.
+/// The index that a text writes as `0`, or as a digit 1 to 9 and at most six further digits; `None` for any other text.
 fn index_of(digits: &str) -> Option<u32>
     ensures { result ≡ index_meant digits.now }
 {
@@ -23,7 +23,8 @@ fn index_of(digits: &str) -> Option<u32>
     natural_of(digits)
 }
 
-/// The position of the root that the first segment names; 0 if the segment is empty. Takes no memory.
+/// The position of the root that the first segment names: 0 if the segment is empty, `None` if it is neither empty nor an index. Takes no
+/// memory.
 pub(crate) fn root_of(segment: &str) -> Option<u32>
     ensures { result ≡ root_meant segment.now }
 {
@@ -52,7 +53,8 @@ fn numbered<'a>(name: &'a str, digits: &str) -> Option<(&'a str, Option<u32>)>
     }
 }
 
-/// The name and the index of a step, from the text after its `@`.
+/// The name and the index of a step, from the text after the step's `@`; `None` if the text is neither a name, nor a name, a dot and an
+/// index.
 fn parts_of(text: &str) -> Option<(&str, Option<u32>)>
     ensures { option_map (λ s. new_step s.0.now s.1) result ≡ step_of_parts (slice_split is_dot text.now) }
 {

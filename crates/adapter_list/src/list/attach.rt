@@ -16,9 +16,9 @@ use std::collections::VecDeque;
 impl<A: Adapter> AdapterList<A> {
     /// Attaches an adapter last in attach order, and reserves capacity for its last notification (EMF: `eAdapters().add`).
     ///
-    /// Refused, in this order, with Limit if there are 100,000 targets, AdapterTaken if the number is attached and AdapterFull if the
-    /// adapter can't count its last notification; or with Memory if memory is refused. A refused adapter is given back with its
-    /// notifications unchanged, and the list is unchanged too.
+    /// Refused, in this order, with Limit if there are 100,000 targets, AdapterTaken if an adapter with this number is attached already and
+    /// AdapterFull if the adapter can't count its last notification; or with Memory if memory is refused. A refused adapter is given back
+    /// with its notifications unchanged, and the list is unchanged too.
     pub fn attach(
         &mut self,
         no: AdapterNo,
@@ -84,7 +84,7 @@ impl<A: Adapter> AdapterList<A> {
     }
 }
 
-/// Gives an adapter back.
+/// The result of `attach` that gives an adapter back, with the reason.
 fn refuse<A>(reason: Refused, adapter: A) -> Result<(), AttachRefused<A>>
     ensures { result ≡ Err (record { reason = reason; adapter = adapter }) }
 {

@@ -1,16 +1,20 @@
-//! Releasing targets, and closing.
-ghost use Rattle.std.specs.Prelude.{◌≡◌, ◌≤◌, ◌∷◌, [], None, is_some, length, map, vec_len, vec_capacity};
+//! Taking targets from adapters, and closing.
+ghost use Rattle.std.specs.Prelude.{◌≡◌, ◌≤◌, ◌++◌, ◌∷◌, [], IfSome, None, is_some, length, map, vec_len, vec_capacity};
 ghost use Rattle.notice_chain.specs.Listed.{HaveTargets, is_target};
 ghost use Rattle.notice_chain.specs.View.{hear_all};
 ghost use Rattle.notice_chain.specs.Released.{all_released, released_adapters as released_of, removing_notice};
 ghost use Rattle.adapter_list.specs.Attached.{IsRoomFor, views_of};
 ghost use Rattle.adapter_list.specs.Detached.{told_in, views_in};
+ghost use Rattle.adapter_list.specs.Leaving.{HasRoom, leavers, spots_in};
+ghost use Rattle.adapter_list.specs.Rounds.{RoundFits};
 
 use super::AdapterList;
 use crate::attached::Attached;
 use crate::detached::Detached;
 use crate::going::{Going, last_notice};
+use crate::leaving::Leaving;
 use crate::release::Release;
+use crate::round::Round;
 use adapters::Adapter;
 use mm_types::{AdapterNo, Node};
 use notice_chain::{Notice, Target};
@@ -38,9 +42,9 @@ impl<A: Adapter> AdapterList<A> {
         detached
     }
 
-    /// Releases targets, one after another: the adapter of a target gets its last notification from the target, and then no longer has the
-    /// target. A node that is no target is skipped. Then the adapters whose last target was taken away are given back, in attach order.
-    /// Returns which adapter was notified of what, and the adapters that are given back. Takes no memory.
+    /// Takes targets from adapters, one after another: the adapter of a target gets its last notification from the target, and then no
+    /// longer has the target. A node that is no target of the adapter is skipped. Then the adapters whose last target was taken away are
+    /// given back, in attach order. Returns which adapter was notified of what, and the adapters that are given back. Takes no memory.
     pub fn release(
         &mut self,
         release: Release<A>,
@@ -56,6 +60,27 @@ impl<A: Adapter> AdapterList<A> {
         (told, released)
     }
 
+    /// Delivers a round as `deliver` does, and then takes away the targets of `leaving`, if there are any, as `release` does. Returns which
+    /// adapter was notified of what, and the adapters that are given back. Takes no memory.
+    #[inline(always)]
+    pub fn deliver_and_release(
+        &mut self,
+        round: Round,
+        leaving: Option<Box<Leaving<A>>>,
+    ) -> (Vec<(AdapterNo, Notice)>, Vec<(AdapterNo, A)>)
+        requires fits { RoundFits self.old.0 self.old.1 round }
+        requires room { IfSome leaving (λ x. HasRoom (length round.told) x.value) }
+        ensures others { self.new.0 ≡ (leavers (spots_in leaving) round.copies self.old.0).others }
+        ensures told { result.0.items ≡ round.told ++ (leavers (spots_in leaving) round.copies self.old.0).told }
+        ensures released { views_of A.heard result.1.items ≡ (leavers (spots_in leaving) round.copies self.old.0).views }
+    {
+        let told = self.deliver(round);
+        match leaving {
+            Some(leaving) => Box::into_inner(leaving).let_go(self, told),
+            None => (told, Vec::new(self.alloc)),
+        }
+    }
+
     /// Takes the parts out of the list, with the capacity for giving back all of its adapters. The list is empty until the parts are put
     /// back.
     fn take_apart(&mut self) -> (Going<A>, Vec<(AdapterNo, A)>)
@@ -67,8 +92,8 @@ impl<A: Adapter> AdapterList<A> {
         Going::of(mem::replace(self, empty))
     }
 
-    /// Gives every adapter back, in attach order. Each adapter is notified of its release from each of its targets, in the order in which
-    /// it got these targets. The adapter is gone before the next adapter is notified. Takes no memory.
+    /// Gives every adapter back, in attach order. Each adapter gets its last notification from each of its targets, in the order in which
+    /// it got these targets, and is gone before the next adapter is notified. Takes no memory.
     pub fn close(self) -> Vec<(AdapterNo, A)>
         ensures { views_of A.heard result.items ≡ all_released self.0 }
     {
@@ -94,7 +119,8 @@ impl<A: Adapter> AdapterList<A> {
     }
 }
 
-/// Notifies an adapter of its release from each of its targets. No other adapter has these targets any more.
+/// Notifies an adapter for the last time from each of its targets. The index in these notifications is 0, since the adapters that were
+/// attached before this one are gone.
 fn tell_all_last<A: Adapter>(adapter: &mut A, no: AdapterNo, targets: &VecDeque<Target>)
     requires reserve { length targets.now.items ≤ A.places adapter.old }
     ensures { A.heard adapter.new ≡ hear_all (A.heard adapter.old) (map (λ t. removing_notice no t.node 0) targets.now.items) }

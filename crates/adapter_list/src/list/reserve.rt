@@ -37,8 +37,8 @@ impl<A: Adapter> AdapterList<A> {
         Ok(())
     }
 
-    /// Does the work of `reserve_places` for copies that are in attach order, with at most one copy for each adapter. Only the adapters
-    /// take memory.
+    /// Makes sure that each adapter has the capacity that `reserve_places` says, for copies that are in attach order, with at most one copy
+    /// for each adapter. Only the adapters take memory.
     fn reserve_each(&mut self, copies: &[(usize, Notice)]) -> Result<(), NoRoom>
         requires within { AllByRecursion (λ c. c.0 < length self.old.1) copies.now }
         requires ascending { ascends None (ordinals copies.now) ≡ true }

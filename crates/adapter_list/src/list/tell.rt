@@ -63,8 +63,10 @@ impl<A: Adapter> AdapterList<A> {
     }
 
     /// Reserves, for each adapter, capacity for the copies of a round that the adapter gets, and for a last notification from each of its
-    /// targets. The round must be the round of a chain, as `round` makes it. Only the adapters allocate, in attach order. The refusals are
-    /// those of `reserve_all`.
+    /// targets. The round must be the round of a chain, as `round` makes it. Adapters are asked in attach order. If the indexes of the
+    /// copies do not rise from each copy to the next, the copies for each adapter are counted first, which takes memory too. Refused with
+    /// AdapterFull if an adapter can't count the notifications that it gets, or with Memory if memory is refused; the first adapter that
+    /// refuses decides the refusal.
     pub fn reserve_round(&mut self, round: &Round) -> Result<(), Refused>
         requires round { (up : Above) × (chain : List Notice) × (round.now ≡ round_of up chain self.old.0) }
         ensures { (up : Above) (chain : List Notice) → round.now ≡ round_of up chain self.old.0 → IsReserved up chain self.old self.new (reserved_round round.now result) }
@@ -76,8 +78,8 @@ impl<A: Adapter> AdapterList<A> {
         }
     }
 
-    /// Delivers a round that fits the adapters: notifies each adapter of its own notifications in turn. Returns which adapter was notified
-    /// of what: the notifications in the order of the chain, each with its adapters in attach order. Takes no memory.
+    /// Delivers a round that fits the adapters: notifies the adapter of each copy, in the order of the copies. Returns which adapter was
+    /// notified of what: the notifications in the order of the chain, each with the adapters that got it, in attach order. Takes no memory.
     ///
     /// A round fits the adapters for which it was reserved. A round names the adapters by number and by index in attach order, so it
     /// need not fit after an adapter was attached or detached.
@@ -96,7 +98,7 @@ impl<A: Adapter> AdapterList<A> {
         told
     }
 
-    /// Notifies the adapters of some copies, in their order.
+    /// Notifies the adapter of each copy, in the order of the copies.
     fn tell_each(&mut self, copies: Vec<(usize, Notice)>)
         requires fits { CopiesFit self.old.0 self.old.1 copies.items }
         ensures heard { self.new.0 ≡ adapters_after_copies copies.items self.old.0 }
@@ -118,8 +120,8 @@ impl<A: Adapter> AdapterList<A> {
     }
 
     /// The round of a chain: a copy of each notification for each adapter that gets it. If successive notifications have the same notifier,
-    /// the adapters of this notifier are found once. The adapters of the node in `hearers` are not looked for again. Afterwards `hearers`
-    /// has the adapters of the node of the last notification. Fails only if memory is refused.
+    /// the adapters of this notifier are found once. If `hearers` has the adapters of a node, the adapters of this node are not looked for
+    /// again. Afterwards `hearers` has the adapters of the last notifier. Fails only if memory is refused.
     #[inline(always)]
     pub fn round<L: LinkStore>(
         &self,

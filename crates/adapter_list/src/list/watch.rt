@@ -19,9 +19,9 @@ impl<A: Adapter> AdapterList<A> {
     /// Gives an adapter one more target, the last in order, and reserves capacity for its last notification from that target. If the node
     /// is a target of the adapter already, returns false, and nothing changes: the target stays deep, or not deep, as it was.
     ///
-    /// Refused, in this order, with Limit if there are 100,000 targets, NoAdapter if the number is not attached and AdapterFull if the
-    /// adapter can't count a last notification from each target; or with Memory if memory is refused. After a refusal the adapters were
-    /// notified of nothing, and no adapter has less capacity.
+    /// Refused, in this order, with Limit if there are 100,000 targets, NoAdapter if no adapter with this number is attached and
+    /// AdapterFull if the adapter can't count a last notification from each of its targets and from the new one; or with Memory if memory
+    /// is refused. After a refusal the adapters were notified of nothing, and no adapter has less capacity.
     pub fn watch(&mut self, no: AdapterNo, node: Node, deep: bool) -> Result<bool, Refused>
         ensures added { IfOk result (λ added. added ≡ not (is_target no node self.old.0)) }
         ensures ok { OnOk result (self.new.0 ≡ (if is_target no node self.old.0 then self.old.0 else adapters_after_watch no (record { node = node; deep = deep }) self.old.0)) }
@@ -111,7 +111,7 @@ impl<A: Adapter> AdapterList<A> {
         Ok(())
     }
 
-    /// How many of the adapters before `ordinal` have a node as a target. Only the adapters of that node are looked at.
+    /// How many of the adapters before the index `ordinal` have a node as a target. Only the adapters of that node are looked at.
     fn index_before(&self, ordinal: usize, node: Node) -> usize
         ensures { result ≡ length (entries node (take ordinal self.now.0)) }
     {
@@ -124,7 +124,7 @@ impl<A: Adapter> AdapterList<A> {
         index
     }
 
-    /// Whether the adapter of a number comes before `ordinal`.
+    /// Whether the adapter of a number is attached, and its index is before `ordinal`.
     fn is_before(&self, no: AdapterNo, ordinal: usize) -> bool
         ensures { result ≡ option_map_or (λ k. nat_lt k ordinal) (position (has_no no) self.now.0) false }
     {

@@ -16,10 +16,10 @@ pub(super) const FIRST: Node = Node::Object(ObjectNo(0));
 
 pub(super) const NAME: FeatureNo = FeatureNo(0);
 
-/// The adapter that is attached before the list of commands is done.
+/// The number of the adapter that is attached before the list of commands is done.
 pub(super) const THERE: AdapterNo = AdapterNo(1);
 
-/// The adapter that the list attaches.
+/// The number of the adapter that the list attaches.
 pub(super) const BROUGHT: AdapterNo = AdapterNo(2);
 
 /// The outcome of a command, without its reply.
@@ -42,7 +42,7 @@ pub(super) fn emma(alloc: Global) -> Result<Value, AllocError> {
     Ok(Value::Text(Text::from_str(alloc, "Emma")?))
 }
 
-/// The notification that the first book is named.
+/// The notification of the change that names the first book.
 fn named(alloc: Global) -> Result<Notice, AllocError> {
     Ok(Notice {
         notifier: FIRST,
@@ -55,7 +55,7 @@ fn named(alloc: Global) -> Result<Notice, AllocError> {
     })
 }
 
-/// The snapshot of the first book, after a replay of the notification that the book is named.
+/// A snapshot of the first book, on which the notification that the book is named was replayed.
 pub(super) fn renamed<L: LinkStore, A: Adapter>(
     alloc: Global,
     repository: &Repository<L, A>,
@@ -65,7 +65,7 @@ pub(super) fn renamed<L: LinkStore, A: Adapter>(
     Ok(view_of(alloc, snapshot, notices.as_slice())?)
 }
 
-/// Attaches the first adapter; a refused adapter is dropped.
+/// Attaches an adapter with the number `THERE`. If the attach is refused, the adapter is dropped.
 pub(super) fn watch<L: LinkStore, A: Adapter>(
     repository: &mut Repository<L, A>,
     target: Node,
@@ -78,7 +78,8 @@ pub(super) fn watch<L: LinkStore, A: Adapter>(
     }
 }
 
-/// The commands that make another book, name the first book, attach an adapter to the first book, read its name, and take its snapshot.
+/// The commands that make another book, name the first book, attach an adapter to the first book, and read the name and a snapshot of this
+/// book.
 pub(super) fn commands<A: Adapter>(
     alloc: Global,
     adapter: A,

@@ -29,7 +29,7 @@ fn print_outcome<A: Adapter, W: Write>(
     }
 }
 
-/// Prints what each command gives.
+/// Prints the outcome of each command.
 pub(super) fn print_outcomes<A: Adapter, W: Write>(
     writer: &mut W,
     outcomes: &[Result<Reply<A>, Failure<A>>],
@@ -40,7 +40,7 @@ pub(super) fn print_outcomes<A: Adapter, W: Write>(
     Ok(())
 }
 
-/// Prints a command that is given back, and how many notifications its adapter got.
+/// Prints a command that is given back and, if the command attaches an adapter, how many notifications the adapter got.
 fn print_command<A: Adapter, W: Write>(
     writer: &mut W,
     command: &Command<A>,
@@ -63,7 +63,7 @@ fn print_command<A: Adapter, W: Write>(
     }
 }
 
-/// Prints commands that come back.
+/// Prints commands that are given back.
 pub(super) fn print_commands<A: Adapter, W: Write>(
     writer: &mut W,
     commands: &[Command<A>],
@@ -74,7 +74,7 @@ pub(super) fn print_commands<A: Adapter, W: Write>(
     Ok(())
 }
 
-/// Prints whether the first book has a name, the class of the second, and how many notifications the two adapters got.
+/// Prints whether the first book has a name, the class of the second book, and how many notifications each of the two adapters got.
 pub(super) fn print_state<L: LinkStore, A: Adapter, W: Write>(
     writer: &mut W,
     repository: &Repository<L, A>,

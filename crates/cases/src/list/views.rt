@@ -1,4 +1,4 @@
-//! Snapshots that follow notifications, and a resource with many books for `bench/measure`.
+//! Snapshots on which notifications are replayed, and a resource with many books for `bench/measure`.
 use crate::fault::Fault;
 use crate::list::commands::{NAME, done, emma, make_book, watch};
 use adapters::Adapter;
@@ -35,7 +35,7 @@ fn fill<L: LinkStore, A: Adapter>(
     Ok(())
 }
 
-/// Moves the notifications in `told` to `notices`.
+/// Moves the notifications in `told` to the end of `notices`.
 fn keep(told: Vec<(AdapterNo, Notice)>, notices: &mut Vec<Notice>) -> Result<(), Fault> {
     for (_no, notice) in told {
         notices.push(notice)?;
@@ -43,7 +43,7 @@ fn keep(told: Vec<(AdapterNo, Notice)>, notices: &mut Vec<Notice>) -> Result<(),
     Ok(())
 }
 
-/// Names a book, and adds the notifications of this change.
+/// Names a book, and adds the notifications of this change to `notices`.
 fn name_book<L: LinkStore, A: Adapter>(
     alloc: Global,
     repository: &mut Repository<L, A>,
@@ -57,7 +57,7 @@ fn name_book<L: LinkStore, A: Adapter>(
     }
 }
 
-/// Names all books, and adds the notifications of these changes.
+/// Names all books, and adds the notifications of these changes to `notices`.
 fn name_all<L: LinkStore, A: Adapter>(
     alloc: Global,
     repository: &mut Repository<L, A>,
@@ -70,7 +70,7 @@ fn name_all<L: LinkStore, A: Adapter>(
     Ok(())
 }
 
-/// The snapshot after a replay of notifications.
+/// A snapshot, after the notifications were replayed on it.
 pub(super) fn view_of(
     alloc: Global,
     snapshot: Snapshot,
@@ -80,7 +80,7 @@ pub(super) fn view_of(
     Ok(Box::new(alloc, view)?)
 }
 
-/// How many nodes a view has, if it is the same as a new snapshot.
+/// How many nodes the replayed snapshot `view` has, if it is the same as a new snapshot; else `None`.
 fn nodes_of<L: LinkStore, A: Adapter>(
     repository: &Repository<L, A>,
     view: &Snapshot,
@@ -91,8 +91,8 @@ fn nodes_of<L: LinkStore, A: Adapter>(
     }
 }
 
-/// Names all books, adds the notifications of these changes, and replays the notifications on a snapshot from before the changes. The
-/// result is the view. Returns how many nodes the view has, if the view is the same as a new snapshot.
+/// Takes a snapshot, names all books, adds the notifications of these changes to `notices`, and replays the notifications on the snapshot.
+/// Returns how many nodes the snapshot then has, if it is the same as a new snapshot; else `None`.
 fn viewed<L: LinkStore, A: Adapter>(
     alloc: Global,
     repository: &mut Repository<L, A>,
@@ -105,8 +105,9 @@ fn viewed<L: LinkStore, A: Adapter>(
     Ok(nodes_of(repository, &view)?)
 }
 
-/// Makes `count` books in a resource, names them, and replays their notifications on a snapshot from before they were named. The result is
-/// the view. Returns how many nodes the view has, if the view is the same as a new snapshot.
+/// Makes `count` books in a resource, attaches a deep adapter to the resource, takes a snapshot of it, and names the books. Replays the
+/// notifications of these changes on the snapshot. Returns how many nodes the snapshot then has, if it is the same as a new snapshot; else
+/// `None`.
 pub(super) fn followed<L: LinkStore, A: Adapter>(
     alloc: Global,
     repository: &mut Repository<L, A>,

@@ -1,11 +1,11 @@
-//! What each kind of adapter keeps of three notifications, by its own type and in a `Box`, and a counter that can't count any further.
+//! What adapters of each kind keep of three notifications; two of them are called in a `Box`. And a counter that can't count any further.
 use crate::fixtures::latest::Latest;
 use crate::fixtures::notices::added;
 use adapters::{Adapter, Counter, NoRoom, Recorder, Window};
 use std::process::Abort;
 use std::test::Fail;
 
-/// Notifies an adapter three times, at the positions 0 to 2, if it has capacity for that.
+/// Notifies an adapter three times, at the positions 0 to 2, if it has capacity for three notifications.
 fn notify_three<A: Adapter>(adapter: &mut A) -> Result<(), NoRoom> {
     match adapter.reserve(3) {
         Err(reason) => Err(reason),
@@ -18,7 +18,7 @@ fn notify_three<A: Adapter>(adapter: &mut A) -> Result<(), NoRoom> {
     }
 }
 
-/// The position in the notification that an adapter keeps at `i`.
+/// The position in the notification that an adapter keeps at index `i`.
 fn position_at<A: Adapter>(adapter: &A, i: u64) -> Option<i64> {
     match adapter.kept(i) {
         Some(notice) => Some(notice.position),

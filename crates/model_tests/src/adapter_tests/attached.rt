@@ -18,7 +18,7 @@ fn told_of_three<A: Adapter>(list: &AdapterList<A>) -> [Option<u64>; 3] {
     ]
 }
 
-/// Why three notifications are not delivered to a list of three adapters at object 1, and how many each adapter got.
+/// Why three notifications are not delivered to a list of three adapters at object 1, and how many notifications each adapter has counted.
 fn refused_to_three<A: Adapter>(
     alloc: Global,
     first: A,
@@ -32,7 +32,8 @@ fn refused_to_three<A: Adapter>(
     Ok((refused, told_of_three(&*list)))
 }
 
-/// Three adapters, some of which can't be notified of a chain, and why the chain is refused: the first adapter that refuses decides.
+/// Three adapters, some of which can't be notified of a chain, and why the chain is refused: the first of these adapters in attach order
+/// decides.
 const REFUSED: [(Kind, Kind, Kind, Refused); 3] = [
     (
         Kind::Recorder,
@@ -54,7 +55,7 @@ const REFUSED: [(Kind, Kind, Kind, Refused); 3] = [
     ),
 ];
 
-/// The counts if no adapter was notified.
+/// How many notifications each adapter has counted if none was notified. The second adapter is nearly full in each case.
 const NONE_TOLD: [Option<u64>; 3] = [Some(0), Some(NEARLY_FULL), Some(0)];
 
 #[test]
@@ -79,7 +80,7 @@ fn counters(alloc: Global) -> Result<Box<AdapterList<Counter>>, Fail> {
     )
 }
 
-/// The number and the first target of the adapter at each index, and at the index past the last.
+/// The number and the first target of the adapter at each index, and `None` at the index past the last.
 const PLACES: [Option<(AdapterNo, Node)>; 4] = [
     Some((AdapterNo(5), Node::Object(ObjectNo(1)))),
     Some((AdapterNo(6), Node::Object(ObjectNo(2)))),
@@ -94,7 +95,7 @@ fn first_at<A: Adapter>(list: &AdapterList<A>, i: usize) -> Option<(AdapterNo, N
     Some((no, target.node))
 }
 
-/// Which adapters get a notification.
+/// The numbers of the adapters that get the notification `notice`.
 fn audience<A: Adapter>(
     alloc: Global,
     list: &AdapterList<A>,
@@ -128,8 +129,8 @@ fn told(alloc: Global, told: &[(AdapterNo, Notice)]) -> Result<String, AllocErro
     Ok(shown)
 }
 
-/// Delivers three notifications to a list of two adapters at object 1 and one at object 2 between them. Shows which adapter is
-/// notified of what, how many notifications each got, and how many the first keeps.
+/// Delivers three notifications to a list of two adapters at object 1 and one at object 2 between them. Returns which adapter is notified
+/// of what, how many notifications each adapter got, and how many the first adapter keeps.
 fn delivered<A: Adapter>(alloc: Global, first: A, second: A, third: A) -> Result<String, Fail> {
     let mut list = three(alloc, [1, 2, 1], first, second, third)?;
     let chain = three_notices(alloc)?;

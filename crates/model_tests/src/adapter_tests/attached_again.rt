@@ -10,13 +10,13 @@ use std::cell::Cell;
 use std::rc::Rc;
 use std::test::Fail;
 
-/// A case in which an adapter can't be attached. The adapter was attached to a book before, and got the notifications of a change and of
-/// its release. The number 6 is taken.
+/// A case in which an adapter can't be attached. The adapter was attached to a book before: it got a notification of a change, and
+/// REMOVING_ADAPTER when it was detached. The number 6 is taken by a different adapter.
 struct Again {
     kind: Kind,
     no: u32,
     target: Node,
-    /// The refusal, and the notifications of the adapter that is given back.
+    /// The refusal, and the notifications of the adapter that is given back, as `failure_text` gives them.
     wanted: &'static str,
 }
 
@@ -46,7 +46,7 @@ const AGAIN: [Again; 5] = [
         target: Node::Object(ObjectNo(0)),
         wanted: "refused 27, back, 18446744073709551615 told",
     },
-    // The first two reserves of the adapter succeeded: when it was first attached, and for the change.
+    // The adapter is refused memory at its third reserve. The first two reserves succeeded: when it was first attached, and for the change.
     Again {
         kind: Kind::PoorRecorder,
         no: 5,
@@ -55,7 +55,7 @@ const AGAIN: [Again; 5] = [
     },
 ];
 
-/// Detaches the adapter 5.
+/// Detaches adapter 5, and returns it.
 fn released<A: Adapter>(repository: &mut RowRepository<A>) -> Result<A, Fail> {
     let mut released = repository.detach(AdapterNo(5))?.released.into_vec();
     match released.pop() {
@@ -64,7 +64,7 @@ fn released<A: Adapter>(repository: &mut RowRepository<A>) -> Result<A, Fail> {
     }
 }
 
-/// An adapter that was at a book, and was notified when the book was named.
+/// Attaches an adapter to a book, names the book, and detaches the adapter. Returns the adapter.
 fn heard<A: Adapter>(
     alloc: Global,
     repository: &mut RowRepository<A>,
@@ -76,8 +76,8 @@ fn heard<A: Adapter>(
     released(repository)
 }
 
-/// Attaches an adapter, which has to be refused. Shows the refusal, the notifications of the adapter that is given back, and how many
-/// adapters were dropped by then.
+/// Attaches an adapter; the attach has to be refused. Returns the refusal, the notifications of the adapter that is given back, and how
+/// many adapters were dropped by then.
 fn refused<A: Adapter>(
     alloc: Global,
     repository: &mut RowRepository<A>,
@@ -91,7 +91,7 @@ fn refused<A: Adapter>(
     }
 }
 
-/// What `refused` shows in a repository of one book, with another adapter of the number 6 at the book.
+/// What `refused` returns in a repository of one book, to which a different adapter is attached as number 6.
 fn refused_at_a_book<A: Adapter>(
     alloc: Global,
     again: &Again,

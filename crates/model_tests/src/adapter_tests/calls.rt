@@ -1,4 +1,4 @@
-//! The calls that concern a repository's adapters, each done and refused.
+//! The calls that concern a repository's adapters. Each call is done in one test, and refused in another.
 use crate::fixtures::books::{BOOK, NAME, RowRepository, attach, object, one_book, text};
 use crate::fixtures::replies::{given, made, outcome_text};
 use crate::fixtures::telling::{Kind, adapter};
@@ -21,7 +21,7 @@ fn attached<A: Adapter>(
     text
 }
 
-/// Names the book, and takes the name back.
+/// Names the book, and unsets its name.
 fn name_and_unname<A: Adapter>(
     alloc: Global,
     repository: &mut RowRepository<A>,
@@ -42,8 +42,8 @@ fn detached<A: Adapter>(alloc: Global, repository: &mut RowRepository<A>) -> Res
     given(alloc, repository.detach(NO))
 }
 
-/// What the calls give when an adapter is attached to a book, the book is named and unnamed, the notifications of the
-/// adapter are counted, and the adapter is detached.
+/// What the calls give that attach an adapter to a book, count its notifications, and detach it. Before its notifications are counted, the
+/// book is named, and the name is unset.
 fn calls<A: Adapter>(
     alloc: Global,
     repository: &mut RowRepository<A>,
@@ -73,7 +73,8 @@ fn an_adapter_is_attached_counted_and_detached(rt: HostRuntime) -> Result<(), Fa
     Ok(())
 }
 
-/// What the calls for one target of an adapter give; the adapter is at a book and gets a second book as a target.
+/// What the calls give that attach an adapter to a first book, give it a second book as a target, twice, take the first book from it,
+/// twice, and take the second book from it.
 fn calls_of_targets<A: Adapter>(
     alloc: Global,
     repository: &mut RowRepository<A>,
@@ -89,7 +90,7 @@ fn calls_of_targets<A: Adapter>(
     Ok(format!(in alloc; "{attached}\n{watched}\n{again}\n{first}\n{none}\n{last}")?)
 }
 
-/// What `calls_of_targets` gives in a new repository of books.
+/// What `calls_of_targets` gives in a new repository of one book.
 fn targets_at_a_book<A: Adapter>(alloc: Global, adapter: A) -> Result<String, Fail> {
     let mut repository = one_book(alloc)?;
     calls_of_targets(alloc, &mut repository, adapter)
@@ -145,7 +146,7 @@ fn command_outcome<A: Adapter>(
     text
 }
 
-/// What commands give over a repository, each on a line.
+/// The outcomes of commands in a repository, each on a line of its own.
 fn executed<A: Adapter>(
     alloc: Global,
     repository: &mut RowRepository<A>,
@@ -159,7 +160,7 @@ fn executed<A: Adapter>(
     Ok(text)
 }
 
-/// What these commands give in a new repository of one book.
+/// The outcomes of `commands` in a new repository of one book.
 fn called_by_commands<A: Adapter>(alloc: Global, adapter: A) -> Result<String, Fail> {
     let mut repository = one_book(alloc)?;
     let commands = commands(alloc, adapter)?;
@@ -177,7 +178,7 @@ fn commands_attach_count_and_detach(rt: HostRuntime) -> Result<(), Fail> {
     Ok(())
 }
 
-/// Commands that are refused if an adapter has the number 5 and none has the number 9.
+/// Commands that are refused in a repository of one book in which an adapter has the number 5 and none has the number 9.
 fn refused_commands(alloc: Global) -> Result<Vec<Command<Counter>>, AllocError> {
     let heard = || Counter::starting_at(41);
     let full = Counter::starting_at(18446744073709551615);
@@ -193,11 +194,11 @@ fn refused_commands(alloc: Global) -> Result<Vec<Command<Counter>>, AllocError> 
     Ok(commands)
 }
 
-/// No object, no resource, a taken number, a full adapter, and three times no adapter.
+/// The refusals of these commands: no object, no resource, a taken number, a full adapter, and three times no adapter.
 const REFUSED: &str =
     "refused 1, back, 41 told\nrefused 2, back, 41 told\nrefused 26, back, 41 told\nrefused 27, back, 18446744073709551615 told\nrefused 25\nrefused 25\nrefused 25\n";
 
-/// What these commands give.
+/// The outcomes of `refused_commands`, after an adapter was attached as number 5.
 fn refused(alloc: Global, repository: &mut RowRepository<Counter>) -> Result<String, Fail> {
     attach(repository, 5, Counter::new())?;
     let commands = refused_commands(alloc)?;

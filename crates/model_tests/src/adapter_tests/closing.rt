@@ -13,7 +13,8 @@ fn closed_with_two<A: Adapter>(alloc: Global, first: A, second: A) -> Result<Str
     Ok(closed(alloc, repository)?)
 }
 
-/// The adapters come back in attach order. Each one has the index 0 among the adapters that are left then.
+/// The adapters come back in attach order. When an adapter is taken from the book, it has the index 0 among the adapters that the book
+/// still has.
 const CLOSED: &str = "; A6 back, 1 told, REMOVING_ADAPTER 0; A5 back, 1 told, REMOVING_ADAPTER 0";
 
 #[test]

@@ -9,7 +9,7 @@ use notice_chain::Chain;
 use std::alloc::Global;
 use std::test::Fail;
 
-/// Why a chain is refused by two adapters at two objects. The chain reaches the object of the second adapter first.
+/// Why a chain is refused by two adapters at two objects. The first notification of the chain is for the object of the second adapter.
 fn refused_to_two<A: Adapter>(alloc: Global, first: A, second: A) -> Result<Option<Refused>, Fail> {
     let mut list = Box::new(alloc, AdapterList::new(alloc))?;
     attach(&mut *list, 5, 1, first)?;

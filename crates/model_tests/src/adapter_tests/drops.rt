@@ -1,5 +1,5 @@
 //! Each adapter is dropped once: after it was detached, after its target was destroyed, after its owner was closed, or with its owner. The
-//! owner is a list or a repository. Each adapter has a part, and the drops of these parts are counted.
+//! owner is a list, a repository, or a command that was not run. Each adapter has a part, and the drops of these parts are counted.
 use crate::fixtures::books::{object, watched};
 use crate::fixtures::counted::{Counted, Drops, NO_DROPS, counted_box};
 use crate::fixtures::telling::{Kind, three};
@@ -11,7 +11,7 @@ use std::cell::Cell;
 use std::rc::Rc;
 use std::test::Fail;
 
-/// How many parts are dropped when a list of three adapters is closed, and at the end.
+/// How many parts were dropped after a list of three adapters was closed, and how many after the adapters that it gave back were dropped.
 fn drops_on_the_way<A: Adapter>(
     alloc: Global,
     first: A,
@@ -38,8 +38,8 @@ fn each_part_is_dropped_once(rt: HostRuntime) -> Result<(), Fail> {
     Ok(())
 }
 
-/// How many parts are dropped when one of a repository's three adapters is detached, when the adapter that came back is dropped, when the
-/// repository is closed, and at the end.
+/// How many parts were dropped, in all, after each of four steps: one of a repository's three adapters is detached; this adapter is
+/// dropped; the repository is closed; the two adapters that it gave back are dropped.
 fn drops_of_a_repository<A: Adapter>(
     alloc: Global,
     first: A,
@@ -70,8 +70,8 @@ fn each_part_of_a_repository_is_dropped_once(rt: HostRuntime) -> Result<(), Fail
     Ok(())
 }
 
-/// How many parts are dropped when a book with three adapters is destroyed, when the adapters that were given back are dropped, and when
-/// the repository is dropped.
+/// How many parts were dropped, in all, after each of three steps: a book with three adapters is destroyed; the adapters that were given
+/// back are dropped; the repository is dropped.
 fn drops_of_a_deletion<A: Adapter>(
     alloc: Global,
     first: A,
@@ -113,7 +113,7 @@ fn a_dropped_list_drops_its_adapters(rt: HostRuntime) -> Result<(), Fail> {
     assert_eq!(rt; drops.get().all, 0);
     drop(list);
     assert_eq!(rt; drops.get().all, 3);
-    // No adapter was notified: only `detach`, `release` and `close` notify.
+    // No adapter was notified of REMOVING_ADAPTER: of the calls of a list, only `detach`, `release` and `close` do that.
     assert_eq!(rt; drops.get().removed, 0);
     Ok(())
 }

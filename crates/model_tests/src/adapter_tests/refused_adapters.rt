@@ -1,4 +1,4 @@
-//! Changes of which an adapter can't be notified.
+//! Changes that are refused since an adapter can't be notified of them.
 use crate::fixtures::books::{NAME, RowRepository, closed, name_book, object, watched};
 use crate::fixtures::counted::{Drops, NO_DROPS, counted_box};
 use crate::fixtures::replies::{given, made};
@@ -16,7 +16,7 @@ fn counts<A: Adapter>(repository: &RowRepository<A>, no: u32) -> Result<(u64, u6
     Ok((told, repository.adapter_kept(AdapterNo(no))?))
 }
 
-/// How many notifications each of three adapters got and keeps, and the name of the book.
+/// How many notifications each of the adapters 5, 6 and 7 got and keeps, and the name of the book.
 fn state<A: Adapter>(alloc: Global, repository: &RowRepository<A>) -> Result<String, AllocError> {
     let counts = (
         counts(repository, 5),
@@ -34,11 +34,11 @@ const BEFORE: &str = "(Ok((0, 0)), Ok((0, 0)), Ok((0, 0))) Ok(One(Null))";
 const TOLD: &str =
     "Done; A5 SET Null Text(\"Emma\") -1 false; A6 SET Null Text(\"Emma\") -1 false; A7 SET Null Text(\"Emma\") -1 false";
 
-/// Three adapters of a book, in attach order. One of them is refused memory when the book is named.
+/// Three adapters of a book, in attach order. One of them is refused memory when the book is named for the first time.
 struct Watched {
     kinds: [Kind; 3],
-    /// How many notifications each adapter got and keeps, and the book's name, after the second call. The adapter that was refused memory
-    /// keeps no notification.
+    /// How many notifications each adapter got and keeps, and the book's name, after the second attempt to name the book. The adapter that
+    /// was refused memory is a counter, so it keeps no notification.
     after: &'static str,
     /// The adapters that are given back when the repository is closed, with their notifications.
     closed: &'static str,
@@ -70,13 +70,13 @@ fn refusal<A: Adapter>(alloc: Global, repository: &mut RowRepository<A>) -> Resu
     Ok(format!(in alloc; "{before}; {refused:?}; {after}")?)
 }
 
-/// What naming the book gives.
+/// The reply of the call that names the book, as a text.
 fn named<A: Adapter>(alloc: Global, repository: &mut RowRepository<A>) -> Result<String, Fail> {
     given(alloc, name_book(alloc, repository, 0)?)
 }
 
-/// Names a book with three adapters, twice. Shows the refusal of the first call, the outcome of the second, and the state before, between
-/// and after.
+/// Names a book with three adapters, twice. Returns three texts: the refusal of the first call between the states before and after it, the
+/// reply of the second call, and the state at the end.
 fn named_twice<A: Adapter>(
     alloc: Global,
     repository: &mut RowRepository<A>,
@@ -87,7 +87,7 @@ fn named_twice<A: Adapter>(
     Ok([refused, told, after])
 }
 
-/// What `named_twice` shows in a new repository of one book, and the adapters that are given back when the repository is closed.
+/// What `named_twice` returns in a new repository of one book, and the adapters that are given back when the repository is closed.
 fn twice_at_a_book<A: Adapter>(
     alloc: Global,
     first: A,
@@ -100,7 +100,7 @@ fn twice_at_a_book<A: Adapter>(
     Ok((found, closed))
 }
 
-/// What `twice_at_a_book` shows with three adapters, each in a `Box` and with a part whose drop is counted.
+/// What `twice_at_a_book` returns with three adapters. Each adapter is in a `Box`, and has a part whose drop is counted.
 fn twice_by(
     alloc: Global,
     drops: &Rc<Cell<Drops>>,

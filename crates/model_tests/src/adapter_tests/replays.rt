@@ -1,4 +1,4 @@
-//! Lists of steps that change a model, with views that replay the notifications of these steps.
+//! Lists of steps that change a model, and views: snapshots on which the notifications of these steps are replayed.
 use crate::fixtures::books::{empty, metamodel};
 use crate::fixtures::library::{
     A_BOOK, A_FOLDER, A_LIBRARY, A_PERSON, BOOKS, FAVOURITE, LIBRARY, LIKES, NEXT, NOTE, PAGES,
@@ -189,8 +189,8 @@ fn flags_and_values_are_followed(rt: HostRuntime) -> Result<(), Fail> {
     Ok(())
 }
 
-/// A book is put into a library and taken out again. The library's snapshot from before, after a replay of the three notifications, is the
-/// snapshot from afterwards.
+/// Puts a book into a library, and takes the book out again. Returns whether this gives three notifications, and whether the replay of
+/// these on the library's snapshot from before gives the library's snapshot from afterwards.
 fn come_and_go(alloc: Global) -> Result<bool, Fail> {
     let mut repository: Box<Store<RowStore>> = empty(alloc, metamodel(alloc, LIBRARY)?)?;
     let mut told = Vec::new(alloc);
@@ -206,7 +206,7 @@ fn come_and_go(alloc: Global) -> Result<bool, Fail> {
     Ok(told.len() == 3 && *replayed == *after)
 }
 
-/// Does a step that is not refused, and keeps the notifications of adapter 1.
+/// Does a step, which must not be refused, and adds the notifications of adapter 1 to `told`.
 fn execute<L: LinkStore>(
     alloc: Global,
     repository: &mut Store<L>,

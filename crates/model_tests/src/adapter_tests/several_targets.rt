@@ -1,5 +1,5 @@
-//! Adapters with two targets: refused memory at each of their reserves, too full for another notification or another target, and taken from
-//! one target after the other.
+//! Adapters with two targets. Some are refused memory for a notification or for a target, some are too full for one more notification or
+//! for one more target, and some lose one target after the other.
 use crate::fixtures::books::{
     BOOK, NAME, RowRepository, attach, closed, name_book, object, one_book,
 };
@@ -14,7 +14,7 @@ use std::cell::Cell;
 use std::rc::Rc;
 use std::test::Fail;
 
-/// Two books.
+/// A repository of two books.
 fn two_books<A: Adapter>(alloc: Global) -> Result<Box<RowRepository<A>>, Fail> {
     let mut repository = one_book(alloc)?;
     made(repository.create(BOOK))?;
@@ -54,7 +54,7 @@ fn calls<A: Adapter>(alloc: Global, repository: &mut RowRepository<A>) -> Result
     )?)
 }
 
-/// What `calls` shows with three adapters of two targets each, and the adapters that are given back when the repository is closed.
+/// What `calls` returns with three adapters of two targets each, and the adapters that are given back when the repository is closed.
 fn calls_by<A: Adapter>(
     alloc: Global,
     first: A,
@@ -70,8 +70,8 @@ fn calls_by<A: Adapter>(
     Ok((found, closed))
 }
 
-/// What the calls give, whichever adapter is refused memory. After the first book is taken from adapter 6, the second one is its last
-/// target.
+/// What the calls give, whichever adapter is refused memory. After the first book is taken from adapter 6, the second book is the last
+/// target of this adapter.
 const CALLS: &str = "Some(Memory) [Ok(0), Ok(0), Ok(0)] Ok(One(Null))
 Done; A5 SET Null Text(\"Emma\") -1 false; A6 SET Null Text(\"Emma\") -1 false; A7 SET Null Text(\"Emma\") -1 false
 Flag(true); A6 REMOVING_ADAPTER Null Null 1 false
@@ -100,7 +100,8 @@ fn a_set_that_one_of_three_cannot_hear_at_its_second_target_notifies_none(
     Ok(())
 }
 
-/// Why adapter 5 doesn't get the second book as a target, what naming that book gives, and why the adapter doesn't get it at a second try.
+/// Three outcomes: of giving adapter 5 the second book as a target, of naming that book, and of giving the adapter that target once more.
+/// The first and the last outcome are the refusal, or `None` if the call was done.
 fn named_between_refusals<A: Adapter>(
     alloc: Global,
     repository: &mut RowRepository<A>,
@@ -111,7 +112,7 @@ fn named_between_refusals<A: Adapter>(
     Ok(format!(in alloc; "{first:?} {named} {second:?}")?)
 }
 
-/// What `named_between_refusals` shows for an adapter at the first book, and the adapter that is given back at the end.
+/// What `named_between_refusals` returns for an adapter at the first book, and the adapter that is given back at the end.
 fn refused_twice<A: Adapter>(alloc: Global, adapter: A) -> Result<String, Fail> {
     let mut repository = two_books(alloc)?;
     attach(&mut repository, 5, adapter)?;
@@ -139,7 +140,7 @@ fn a_refused_target_leaves_the_others_as_they_are(rt: HostRuntime) -> Result<(),
     Ok(())
 }
 
-/// Why the first book is not named, with two adapters that have it, or both books, as targets.
+/// Why the first book is not named if two adapters have it as a target. If `has_both` is true, they have the second book as a target too.
 fn refused_to_two<A: Adapter>(
     alloc: Global,
     has_both: bool,
@@ -182,8 +183,8 @@ fn the_first_adapter_that_refuses_decides(rt: HostRuntime) -> Result<(), Fail> {
     Ok(())
 }
 
-/// What taking a target from the second adapter of a list gives, as `REMOVING_ADAPTER 1`, with `, back` if this target was the adapter's
-/// last one.
+/// The notification that the second adapter of a list gets when a target is taken from it, as `REMOVING_ADAPTER 1`, with `, back` after it
+/// if the adapter has no target left; `none` if the object is no target of the adapter.
 fn detached<A: Adapter>(
     alloc: Global,
     list: &mut AdapterList<A>,
@@ -203,8 +204,8 @@ fn detached<A: Adapter>(
     }
 }
 
-/// What `detached` shows for an object that is no target, and for each of two targets; then how many adapters are left, and how many
-/// notifications adapter 6 got if it is left.
+/// What `detached` returns for an object that is no target of adapter 6, and then for each of its two targets; then how many adapters are
+/// left, and how many notifications adapter 6 got, if it is left.
 fn detached_in_turn<A: Adapter>(
     alloc: Global,
     first: A,

@@ -1,4 +1,5 @@
-//! Values that no script can name are refused for lists, and a list can't be read or set as a single value.
+//! Values that no script can name are refused for lists, and so are features and resources that do not exist. A list can't be read or set
+//! as a single value.
 use crate::fixtures::books::{RowRepository, object, text};
 use crate::fixtures::boxes::{LIKES, MARKS, PARTS, boxes};
 use crate::fixtures::replies::made;
@@ -7,7 +8,7 @@ use mm_types::{FeatureNo, Node, Refused, ResourceNo, Text, Value};
 use std::alloc::{AllocError, Global};
 use std::test::Fail;
 
-/// Why a value is neither added to a list of a box nor taken out of it.
+/// Why the value `first` is not added to a list of a node, and why the value `second` is not removed from the list.
 fn refusals<A: Adapter>(
     repository: &mut RowRepository<A>,
     node: Node,

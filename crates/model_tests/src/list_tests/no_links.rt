@@ -1,4 +1,4 @@
-//! What a store without links returns of an object.
+//! What a store without links returns for an object.
 use crate::fixtures::no_links::without_links;
 use link_store::LinkStore;
 use mm_types::ObjectNo;

@@ -9,7 +9,7 @@ use repository::Reply;
 use std::alloc::{AllocError, Global};
 use std::test::Fail;
 
-/// Attaches an adapter to a box, under the number of the box; a refused adapter is dropped.
+/// Attaches an adapter to a box, under the number of the box. If the attach is refused, the adapter is dropped.
 fn attach<A: Adapter>(
     repository: &mut RowRepository<A>,
     at: u32,
@@ -18,7 +18,7 @@ fn attach<A: Adapter>(
     made_attached(repository.attach(AdapterNo(at), object(at), false, adapter))
 }
 
-/// The contents of the first box and of the last, and how many notifications the adapters of the first two boxes got.
+/// The parts of the first box and of the last box, and how many notifications the adapters of the first two boxes got.
 fn state<A: Adapter>(alloc: Global, repository: &RowRepository<A>) -> Result<String, AllocError> {
     let first = repository.e_get(object(0), PARTS);
     let last = repository.e_get(object(3), PARTS);
@@ -34,7 +34,7 @@ fn put<A: Adapter>(repository: &mut RowRepository<A>, into: u32) -> Result<Reply
     repository.add(object(into), PARTS, Value::Object(ObjectNo(1)), None)
 }
 
-/// A repository of four boxes, the second in the first, with an adapter at each of the two.
+/// A repository of four boxes, of which the second is in the first. An adapter is attached to each of these two boxes.
 fn packed<A: Adapter>(alloc: Global, first: A, second: A) -> Result<Box<RowRepository<A>>, Fail> {
     let mut repository = boxes(alloc, 4)?;
     made(put(&mut repository, 0))?;
@@ -43,7 +43,8 @@ fn packed<A: Adapter>(alloc: Global, first: A, second: A) -> Result<Box<RowRepos
     Ok(repository)
 }
 
-/// Why the second box is not put into the last one at first, what the second try gives, and the state before, between and after.
+/// Puts the second box into the last box, twice. Returns why the first call is refused, the reply of the second call, and the state before,
+/// between and after the calls.
 fn put_twice<A: Adapter>(alloc: Global, repository: &mut RowRepository<A>) -> Result<String, Fail> {
     let before = state(alloc, repository)?;
     let refused = made(put(repository, 3)).err();
@@ -53,7 +54,7 @@ fn put_twice<A: Adapter>(alloc: Global, repository: &mut RowRepository<A>) -> Re
     Ok(format!(in alloc; "{before}\n{refused:?}\n{between}\n{told}\n{after}")?)
 }
 
-/// What `put_twice` shows in a new repository of boxes.
+/// What `put_twice` returns in a new repository of boxes.
 fn put_twice_at_boxes<A: Adapter>(alloc: Global, first: A, second: A) -> Result<String, Fail> {
     let mut repository = packed(alloc, first, second)?;
     put_twice(alloc, &mut repository)

@@ -1,4 +1,4 @@
-//! Plans, and the expected state after them, written by hand.
+//! Plans of edits of attribute values, and the expected state after these plans, written by hand.
 use crate::fixtures::values::{empty, put_many, remove, shift};
 use mm_types::{ClassNo, FeatureNo, ObjectNo, ResourceNo, Seq, Text, Value};
 use mm_values::{NewValues, ValueEdit, ValuePlan, Values};
@@ -18,7 +18,7 @@ fn put(object: u32, feature: u32, number: i64) -> ValueEdit {
     }
 }
 
-/// Puts a number and null under feature 3 of object 0, with the flag on.
+/// The edit that puts a number and null under feature 3 of object 0, and sets the flag of this feature.
 fn put_two(alloc: Global) -> Result<ValueEdit, AllocError> {
     let list = Seq::from_vec(vec![in alloc; Value::Int(4), Value::Null]?);
     Ok(ValueEdit::PutList {
@@ -55,7 +55,7 @@ fn listed(
     Ok(Some(list))
 }
 
-/// The class of an object, and what it holds under two features.
+/// The class of an object, and the values and the flags that the object has for two features.
 fn held(
     alloc: Global,
     values: &Values,
@@ -73,8 +73,8 @@ fn held(
     format!(in alloc; "{class:?} {lists:?} {flags:?}\n")
 }
 
-/// How many resources there are, their URIs, and which resource has a URI; how many objects were made, and what the
-/// first three objects hold under two features.
+/// How many resources there are, the URIs of the first two, and which resources have the URIs `a.xmi` and `b.xmi`; how many objects were
+/// made; and what `held` gives for each of the first three objects.
 fn seen(alloc: Global, values: &Values, features: [u32; 2]) -> Result<String, AllocError> {
     let uris = (values.uri(ResourceNo(0)), values.uri(ResourceNo(1)));
     let found = (values.resource_of("a.xmi"), values.resource_of("b.xmi"));
@@ -87,7 +87,7 @@ fn seen(alloc: Global, values: &Values, features: [u32; 2]) -> Result<String, Al
     Ok(seen)
 }
 
-/// The state after two plans.
+/// The state, as `seen` gives it, after two plans were carried out in an empty store.
 fn seen_after(
     alloc: Global,
     first: ValuePlan,
@@ -105,7 +105,8 @@ fn planned(edits: Vec<ValueEdit>) -> ValuePlan {
     ValuePlan::from_seq(Seq::from_vec(edits))
 }
 
-/// An object that holds two values, a resource, and an object that is gone.
+/// The plan of an object that gets two values, of a resource, and of an object that is destroyed again. The last edit is for the destroyed
+/// object, and changes nothing.
 fn each_edit(alloc: Global) -> Result<ValuePlan, AllocError> {
     let (uri, two) = (new_uri(alloc, "a.xmi")?, put_two(alloc)?);
     Ok(planned(vec![in alloc;
@@ -188,7 +189,7 @@ fn insert(object: u32, feature: u32, index: u32, number: i64) -> ValueEdit {
     }
 }
 
-/// Edits of two lists of one object, some of them past the end, and of a list of an object that was never made.
+/// The plan of edits of two lists of one object, some of them at indexes past the end, and of a list of an object that was never made.
 fn list_edits(alloc: Global) -> Result<ValuePlan, AllocError> {
     Ok(planned(vec![in alloc;
         insert(0, 3, 0, 1),
@@ -220,7 +221,8 @@ fn lists_are_edited(rt: HostRuntime) -> Result<(), Fail> {
     Ok(())
 }
 
-/// Edits of a list of one value, which grows and shrinks.
+/// The plan of edits of two lists of one object. Each list has mostly one value, grows to two values or shrinks to none, and has one value
+/// at the end.
 fn edits_of_one(alloc: Global) -> Result<ValuePlan, AllocError> {
     Ok(planned(vec![in alloc;
         put(0, 3, 30),

@@ -1,4 +1,5 @@
-//! Tests of whether a list has a value: with a short list, a list of the length from which hashes are counted, and a long list.
+//! Tests of whether a list has a value: with short lists, lists just below and above the length from which hashes are counted, and long
+//! lists.
 use crate::fixtures::values::{empty, put_many, remove, shift};
 use mm_types::{ClassNo, FeatureNo, ObjectNo, Text, Value};
 use mm_values::{ValueEdit, ValuePlan, Values};
@@ -9,11 +10,11 @@ const OBJECT: ObjectNo = ObjectNo(0);
 
 const FEATURE: FeatureNo = FeatureNo(3);
 
-/// A short length, the greatest length at which a list looks at its values one by one, the first length at which it does not, and longer
-/// lengths.
+/// A short length, the greatest length at which a list looks at its values one by one to find a value, the first length at which it counts
+/// hashes instead, and longer lengths.
 const LENGTHS: [u32; 5] = [10, 64, 65, 200, 10_000];
 
-/// Puts a value into a unique list, in which values are looked up.
+/// The edit that inserts a value into the list, which is unique: in such a list values are looked up.
 fn insert(index: u32, value: Value) -> ValueEdit {
     ValueEdit::InsertValue {
         object: OBJECT,
@@ -38,7 +39,7 @@ fn run(values: &mut Values, edit: ValueEdit) -> Result<(), AllocError> {
     Ok(())
 }
 
-/// Puts the numbers from 0 on into the list, each at the end.
+/// Inserts `count` numbers, from 0 on, into the list, each at the end.
 fn fill(values: &mut Values, count: u32) -> Result<(), AllocError> {
     for at in 0..count {
         run(values, insert(at, number(at)))?;
@@ -46,7 +47,7 @@ fn fill(values: &mut Values, count: u32) -> Result<(), AllocError> {
     Ok(())
 }
 
-/// Values without an object; if memory is refused, tries once more.
+/// A store of attribute values that has no object. If memory is refused, tries once more.
 fn no_values(alloc: Global) -> Result<Box<Values>, Fail> {
     match Box::new(alloc, Values::new(alloc)) {
         Ok(values) => Ok(values),
@@ -54,7 +55,7 @@ fn no_values(alloc: Global) -> Result<Box<Values>, Fail> {
     }
 }
 
-/// An object whose list has the numbers from 0 on. If memory is refused, tries once more.
+/// A store with one object, whose list has `count` numbers from 0 on. If memory is refused, tries once more.
 fn filled(alloc: Global, count: u32) -> Result<Box<Values>, Fail> {
     let mut values = no_values(alloc)?;
     run(&mut values, ValueEdit::NewObject(ClassNo(1)))?;
@@ -71,7 +72,7 @@ fn check_number(values: &Values, at: u32, first: u32, before: u32) -> Result<(),
     Err(Fail::new(format_args!("{at}, of {first} to {before}: {has:?}")))
 }
 
-/// Checks the numbers at both ends of the range.
+/// Checks the numbers at both ends of the range from `first` to below `before`, and the numbers beside the range.
 fn check_edges(values: &Values, first: u32, before: u32) -> Result<(), Fail> {
     let edges = [
         first.saturating_sub(1),
@@ -96,7 +97,7 @@ fn check(values: &Values, first: u32, before: u32) -> Result<(), Fail> {
     Ok(())
 }
 
-/// Edits a list of the numbers from 0 on, one value at a time.
+/// Edits a list of `count` numbers from 0 on, one value at a time, and checks the list after each edit.
 fn check_edits(values: &mut Values, count: u32) -> Result<(), Fail> {
     check(values, 0, count)?;
     run(values, remove(3, 0))?;
@@ -109,7 +110,8 @@ fn check_edits(values: &mut Values, count: u32) -> Result<(), Fail> {
     check(values, 1, count)
 }
 
-/// Replaces a list by a short list, and then by a list of the numbers from 0 on; adds one more value each time.
+/// Replaces a list by a short list, and then by a list of `count` numbers from 0 on; adds one more value each time. Checks the list after
+/// each edit.
 fn check_replaced(alloc: Global, values: &mut Values, count: u32) -> Result<(), Fail> {
     run(values, put_many(alloc, 3)?)?;
     check(values, 0, 3)?;
@@ -158,7 +160,8 @@ fn kinds(alloc: Global) -> Result<Vec<Value>, AllocError> {
     ]?)
 }
 
-/// Other values of the same kinds. Some of them have the content that a value of another kind has in `kinds`.
+/// Values that are not in `kinds`, of the same kinds except null. Some of them have the same content as a value of a different kind in
+/// `kinds`.
 fn others(alloc: Global) -> Result<Vec<Value>, AllocError> {
     Ok(vec![in alloc;
         Value::Bool(false),

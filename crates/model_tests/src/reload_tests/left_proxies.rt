@@ -1,4 +1,4 @@
-//! Proxies that can't be resolved are left, and notify no adapter.
+//! Proxies that can't be resolved are left as they are, and no adapter is notified.
 use crate::fixtures::books::object;
 use crate::fixtures::network::{Network, Order, SEES, network, reload, resource, snapshots};
 use crate::fixtures::replies::{given, made, made_attached};
@@ -8,14 +8,14 @@ use mm_types::{AdapterNo, Node, ObjectNo, Refused, Text, Value};
 use std::alloc::{AllocError, Global};
 use std::test::Fail;
 
-/// The references of the first root of the first resource, and how many proxies are left after the attempt to resolve all. One of these
-/// proxies is in the second resource.
+/// The references of the first root of the first resource, and how many proxies are left in both resources after the attempt to resolve
+/// all. One of these proxies is in the second resource.
 const LEFT: [(&str, u64); 8] = [
     // No object is at the fragment.
     (r#""sees":["1#/7"]"#, 2),
     // No resource has the URI.
     (r#""top":"9#/""#, 2),
-    // An object of a wrong class is there.
+    // The object at the address is of a wrong class.
     (r#""top":"1#/1""#, 2),
     (r#""next":"1#/1""#, 2),
     // The list has the object already.
@@ -30,11 +30,11 @@ const LEFT: [(&str, u64); 8] = [
     ),
 ];
 
-/// Two items and an object of a different class. The second item has a proxy for the second root of the first resource.
+/// Two items and an object of a different class. The second item has a proxy that leads to the second root of the first resource.
 const SECOND: &str =
     r#"{"format":2,"roots":[{"class":"Item","features":{}},{"class":"Mark","features":{}},{"class":"Item","features":{"fans":["0#/1"]}}]}"#;
 
-/// Two documents; the first item of the first one has the given features.
+/// Two documents. The first item of the first document has the given features; the second document is `SECOND`.
 fn documents(alloc: Global, features: &str) -> Result<Vec<Text>, AllocError> {
     let first = format!(in alloc;
         r#"{{"format":2,"roots":[{{"class":"Item","features":{{{features}}}}},{{"class":"Item","features":{{}}}}]}}"#
@@ -61,7 +61,8 @@ fn attach<L: LinkStore>(
     made_attached(repository.attach(AdapterNo(no), target, deep, Counter::new()))
 }
 
-/// Loads the documents, adds the first item of the second document to a list, and attaches the adapters.
+/// Loads the documents, adds the first item of the second document to the list `sees` of the first item of the first document, and attaches
+/// the adapters.
 fn fill<L: LinkStore>(
     alloc: Global,
     repository: &mut Network<L>,
@@ -78,7 +79,7 @@ fn fill<L: LinkStore>(
     Ok(())
 }
 
-/// What resolving all proxies gives: the answer, and which adapter was notified of what. Fails unless all else is as it was.
+/// Resolves all proxies, and returns the answer, and which adapter was notified of what. Fails unless both resources are as they were.
 fn resolved<L: LinkStore>(alloc: Global, repository: &mut Network<L>) -> Result<String, Fail> {
     let before = snapshots(alloc, repository, 2)?;
     let found = given(alloc, repository.resolve_all())?;

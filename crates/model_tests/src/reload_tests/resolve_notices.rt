@@ -1,4 +1,4 @@
-//! Which adapters are notified when all proxies are resolved, and an adapter that can't be notified.
+//! Which adapters are notified when all proxies are resolved, and the refusal if an adapter can't be notified.
 use crate::fixtures::network::{
     Network, Order, check_resolved, check_saved, network, reload, resource, snapshots,
 };
@@ -25,8 +25,8 @@ fn attach<L: LinkStore>(
     made_attached(repository.attach(AdapterNo(no), target, deep, counter))
 }
 
-/// Each loaded node, with the numbers of notifications that a flat and a deep adapter there get. A proxy gives one notification at its own
-/// end; if its reference has an opposite, it gives another one at the other end.
+/// Each loaded object and each resource, and how many notifications a flat and a deep adapter of this node get. When a proxy is resolved,
+/// there is one notification at its end and, if its reference has an opposite, one at the opposite end.
 const HEARD: [(Node, u64, u64); 11] = [
     (Node::Object(ObjectNo(0)), 5, 6),
     (Node::Object(ObjectNo(1)), 1, 1),
@@ -46,7 +46,7 @@ fn deep_beside(no: u32) -> u32 {
     no.wrapping_add(100)
 }
 
-/// Attaches two adapters to each node; the second one is deep.
+/// Attaches a flat and a deep adapter to each node.
 fn attach_to_each<L: LinkStore>(repository: &mut Network<L>) -> Result<(), Refused> {
     let mut no = 0;
     for (node, _, _) in &HEARD {
@@ -70,7 +70,8 @@ fn check_heard<L: LinkStore>(repository: &Network<L>) -> Result<(), Fail> {
     Ok(())
 }
 
-/// Resolves all proxies, twice, and gives the second answer.
+/// Loads the three documents, attaches the adapters, and resolves all proxies, twice. Checks the notifications of the first time, and
+/// returns the second answer.
 fn resolved_twice<L: LinkStore>(
     alloc: Global,
     repository: &mut Network<L>,
@@ -120,7 +121,7 @@ fn check_untold<L: LinkStore>(repository: &Network<L>, room: u64) -> Result<(), 
     Err(Fail::new(format_args!("{told:?} with room for {room}")))
 }
 
-/// Fails unless the command is refused for lack of capacity, nothing changes, and no adapter is notified.
+/// Resolves all proxies. Fails unless the command is refused for lack of capacity, nothing changes, and no adapter is notified.
 fn check_refused<L: LinkStore>(
     alloc: Global,
     repository: &mut Network<L>,
@@ -138,8 +139,9 @@ fn check_refused<L: LinkStore>(
     Ok(())
 }
 
-/// The adapter of the first resource is notified six times, and once more when it is detached. With capacity for fewer notifications, the
-/// command is refused.
+/// If all proxies are resolved, the adapter of the first resource is notified six times, and it must still be able to get REMOVING_ADAPTER.
+/// Checks that the command is refused if this adapter has capacity for fewer than seven notifications, and is done if it has capacity for
+/// seven.
 fn check_rooms<L: LinkStore>(alloc: Global, repository: &mut Network<L>) -> Result<(), Fail> {
     let texts = documents(alloc)?;
     reload(alloc, repository, texts.as_slice(), IN_ORDER)?;

@@ -21,7 +21,7 @@ struct Site {
     index: u32,
 }
 
-/// Adds the locations of the proxies of a feature.
+/// Adds the locations of the proxies in a feature of an object.
 fn push_sites(
     sites: &mut Vec<Site>,
     resource: u32,
@@ -105,7 +105,7 @@ fn attach_to_resources<L: LinkStore>(repository: &mut Network<L>) -> Result<(), 
     Ok(())
 }
 
-/// Fails unless the adapter of each resource was notified once of each proxy there.
+/// Fails unless the adapter of each resource was notified once of each proxy in this resource.
 fn check_told<L: LinkStore>(repository: &Network<L>, sites: &[Site]) -> Result<(), Fail> {
     for number in 0..RESOURCES {
         let told = repository.adapter_told(AdapterNo(number))?;
@@ -116,7 +116,7 @@ fn check_told<L: LinkStore>(repository: &Network<L>, sites: &[Site]) -> Result<(
     Ok(())
 }
 
-/// Resolves all proxies by one command.
+/// Loads the texts, and resolves all proxies by one command. Checks the notifications, and that each resource is saved as its text again.
 fn check_at_once<L: LinkStore>(
     alloc: Global,
     repository: &mut Network<L>,
@@ -131,7 +131,7 @@ fn check_at_once<L: LinkStore>(
     check_saved(repository, texts, order)
 }
 
-/// Resolves the proxy at a location, and returns whether there was one. There is none if the proxy at the other end of the same link was
+/// Resolves the proxy at a location, and returns whether there was one. There is none if the proxy at the opposite end of the same link was
 /// resolved before.
 fn is_resolved<L: LinkStore>(repository: &mut Network<L>, site: Site) -> Result<bool, Refused> {
     match made(repository.resolve(site.object, site.feature, site.index)) {
@@ -141,7 +141,7 @@ fn is_resolved<L: LinkStore>(repository: &mut Network<L>, site: Site) -> Result<
     }
 }
 
-/// Resolves proxies one by one, in an order of their locations; returns how many were resolved.
+/// Resolves the proxies at the locations one by one, in the given order of the locations. Returns how many were resolved.
 fn resolve_each<L: LinkStore>(
     repository: &mut Network<L>,
     sites: &[Site],
@@ -155,7 +155,8 @@ fn resolve_each<L: LinkStore>(
     Ok(done)
 }
 
-/// Resolves all proxies one by one, in an order that a seed gives.
+/// Loads the texts, and resolves all proxies one by one, in an order that is chosen by a seed. Checks that none is left, and that each
+/// resource is saved as its text again.
 fn check_one_by_one<L: LinkStore>(
     alloc: Global,
     repository: &mut Network<L>,
@@ -179,14 +180,15 @@ const MANY: u32 = 300;
 
 const FEW: u32 = 60;
 
-/// The saved texts of the model of `items` items that a seed gives.
+/// The saved texts of a model of `items` items, which is chosen by a seed.
 fn texts_of<L: LinkStore>(alloc: Global, items: u32, seed: u32) -> Result<Vec<Text>, Fail> {
     let mut repository = network::<L>(alloc)?;
     fill(alloc, &mut repository, items, seed)?;
     saved(alloc, &repository)
 }
 
-/// Loads texts in an order that a seed gives.
+/// Makes and loads the resources in two orders that are chosen by a seed. Resolves all proxies by one command, and checks what
+/// `check_at_once` checks.
 fn check_order<L: LinkStore>(alloc: Global, texts: &[Text], seed: u32) -> Result<(), Fail> {
     let making = shuffled(alloc, RESOURCES, seed)?;
     let loading = shuffled(alloc, RESOURCES, !seed)?;
@@ -198,7 +200,7 @@ fn check_order<L: LinkStore>(alloc: Global, texts: &[Text], seed: u32) -> Result
     check_at_once(alloc, &mut repository, texts, order)
 }
 
-/// Saves the model that a seed gives, and loads it in three orders.
+/// Saves the model that is chosen by a seed. Loads it in three orders, and resolves all proxies by one command each time.
 fn check_seed<L: LinkStore>(alloc: Global, items: u32, seed: u32) -> Result<(), Fail> {
     let texts = texts_of::<L>(alloc, items, seed)?;
     for order in 10..13 {
@@ -216,7 +218,7 @@ fn models_of_three_seeds_are_had_again(rt: HostRuntime) -> Result<(), Fail> {
     Ok(())
 }
 
-/// Saves the model that a seed gives, and loads it; the proxies are resolved one by one.
+/// Saves the model that is chosen by a seed. Loads it, and resolves the proxies one by one.
 fn check_seed_one_by_one<L: LinkStore>(alloc: Global, items: u32, seed: u32) -> Result<(), Fail> {
     let texts = texts_of::<L>(alloc, items, seed)?;
     let order = Order {

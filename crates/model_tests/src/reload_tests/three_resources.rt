@@ -6,11 +6,13 @@ use mm_types::Text;
 use std::alloc::Global;
 use std::test::Fail;
 
-/// The numbers of the resources: the resource that was made last comes first.
+/// The order in which the resources are loaded, by the numbers that the repository gives them: the resource that was made last is loaded
+/// first.
 const LAST_FIRST: [u32; 3] = [2, 1, 0];
 
-/// For each case: the order in which the resources are made; then, after each load, how many proxies are resolved and how many are left.
-/// The resource that is made last is loaded first. In the first case the first document is loaded first, then the second, then the third.
+/// For each case: the order in which the resources are made, by the numbers in their URIs; then, after each load, how many proxies are
+/// resolved (the two proxies of one link count as one) and how many are left. The resource that is made last is loaded first. So in the
+/// first case the first document is loaded first, then the second, then the third.
 const LOADS: [([u32; 3], [(u64, u64); 3]); 6] = [
     ([2, 1, 0], [(0, 6), (3, 6), (7, 0)]),
     ([1, 2, 0], [(0, 6), (4, 5), (6, 0)]),
@@ -20,7 +22,7 @@ const LOADS: [([u32; 3], [(u64, u64); 3]); 6] = [
     ([0, 1, 2], [(0, 5), (3, 5), (7, 0)]),
 ];
 
-/// Loads all documents, and then resolves all proxies.
+/// Loads all documents, then resolves all proxies, and checks that each resource is saved as its document again.
 fn check_at_once<L: LinkStore>(
     alloc: Global,
     texts: &[Text],
@@ -32,7 +34,8 @@ fn check_at_once<L: LinkStore>(
     check_saved(&repository, texts, order)
 }
 
-/// Resolves all proxies after each load.
+/// Loads the documents one after the other, and resolves all proxies after each load. Checks the numbers of proxies, and that each resource
+/// is saved as its document again.
 fn check_in_turn<L: LinkStore>(
     alloc: Global,
     texts: &[Text],

@@ -1,4 +1,4 @@
-//! Command lines that the program accepts, and others.
+//! Command lines that give the options of a run, and command lines for which `clap` returns an error.
 use clap::error::ErrorKind;
 use command_line::{meta_file, options_of};
 use std::alloc::Global;

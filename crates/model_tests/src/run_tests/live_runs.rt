@@ -1,4 +1,4 @@
-//! Live runs over streams that give or take a byte at a time, and that fail.
+//! Live runs over streams that give or take one byte at a time, that fail, or that never end.
 use crate::fixtures::books::books;
 use crate::fixtures::faulty_streams::{Endless, Narrow, OneByte};
 use adapters::Recorder;

@@ -1,11 +1,11 @@
-//! Texts that no script can cause to be printed, and the names of faults.
+//! How values, nodes and refusals are printed, some of them such as no script can cause to be printed; and the names of faults.
 use mm_types::{DocFault, Node, ObjectNo, Refused, ResourceNo, Text, Value};
 use script_output::Output;
 use script_streams::RunFault;
 use std::alloc::{AllocError, Global};
 use std::test::Fail;
 
-/// Whether a value is printed as a given text, after a text that is there already.
+/// Whether the output is `text` after the text `= ` and then the value were printed.
 fn is_value(alloc: Global, value: &Value, text: &str) -> Result<bool, AllocError> {
     let mut output = Output::new(alloc);
     output.text("= ")?;
@@ -20,7 +20,7 @@ fn objects_are_printed_by_number(rt: HostRuntime) -> Result<(), Fail> {
     Ok(())
 }
 
-/// Addresses, and proxies of them as they are printed.
+/// Addresses, and what `is_value` expects for a proxy with each address.
 const PROXIES: [(&str, &str); 2] = [
     ("http://m.example/b#/0", "= proxy \"http://m.example/b#/0\""),
     ("a\"\\\n\u{1}é/", "= proxy \"a\\\"\\\\\\n\\u0001é/\""),

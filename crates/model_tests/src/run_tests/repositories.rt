@@ -20,10 +20,10 @@ fn commands<A: Adapter>(alloc: Global) -> Result<Vec<Command<A>>, AllocError> {
     Ok(commands)
 }
 
-/// What these commands give: no adapter is notified, and none is given back.
+/// The outcomes of these commands: no adapter is notified, and none is given back.
 const OUTCOMES: &str = "Object(ObjectNo(0))\nDone\nValue(Text(\"Emma\"))\n";
 
-/// What these commands give in an empty repository.
+/// The outcomes of `commands` in an empty repository.
 fn outcomes<A: Adapter>(alloc: Global) -> Result<String, Fail> {
     let mut repository: Box<RowRepository<A>> = repository(alloc)?;
     let commands = commands(alloc)?;

@@ -9,7 +9,7 @@ use std::cell::Cell;
 use std::rc::Rc;
 use std::test::Fail;
 
-/// Two of three adapters are attached to a book, which is changed.
+/// A script that attaches two of three adapters to a book, and then changes the book.
 const SCRIPT: &str = "new Book\nattach A1 #0 flat\nattach A2 #0 flat\nset #0 pages 7";
 
 /// Runs the script over an empty repository of books.

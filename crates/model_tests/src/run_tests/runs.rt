@@ -1,4 +1,4 @@
-//! Runs over streams that give or take a byte at a time, and that fail.
+//! Runs over streams that give or take one byte at a time, that fail, or that never end.
 use crate::fixtures::books::books;
 use crate::fixtures::faulty_streams::{Endless, Narrow, OneByte};
 use adapters::Recorder;
@@ -52,7 +52,7 @@ told A2 REMOVING_ADAPTER #0 A2 null 0
 released A2 told 2 kept 2
 "#;
 
-/// Runs the script with a store of links; each read and write moves one byte.
+/// Runs the script with a store of links; each read gives one byte, and each write takes one. Checks that the run prints `PRINTED`.
 fn check_narrow<L: LinkStore, H: Abort>(rt: &H, alloc: Global) -> Result<(), Fail> {
     let mut reader = OneByte::new(SCRIPT, SCRIPT.len() + 1);
     let mut writer = Narrow::new(alloc, PRINTED.len(), true);

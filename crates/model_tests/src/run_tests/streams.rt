@@ -1,4 +1,4 @@
-//! Streams that give or take little, that fail, and that never end.
+//! Texts that are read and written over streams that give or take one byte at a time, that fail, or that never end.
 use crate::fixtures::faulty_streams::{Endless, Narrow, OneByte};
 use script_streams::{RunFault, read_all, write_all};
 use std::alloc::Global;

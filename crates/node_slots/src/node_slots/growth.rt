@@ -1,4 +1,4 @@
-//! Capacity for edits, which is reserved before they are made.
+//! Capacity for edits, which is reserved before the edits are made.
 ghost use Rattle.std.specs.Prelude.{◌≡◌, true, ℕ, [], ◌∷◌, IfOk, OnOk, Some};
 ghost use Rattle.links.specs.declared.plan.Edit.TheVariants as edit;
 ghost use Rattle.mm_types.specs.Same.{same_end};
@@ -17,14 +17,14 @@ use std::alloc::AllocError;
 /// The indexes of the rows of both nodes of a put.
 #[derive(Clone, Copy)]
 pub struct PutPlaces {
-    /// The row of the node of the end.
+    /// The index of the row of the node that gets the object: the node of the link's end.
     pub near: usize,
-    /// The row of the object.
+    /// The index of the row of the object.
     pub far: usize,
 }
 
 impl NodeSlots {
-    /// How many more values an end can take without memory.
+    /// How many more values can be added to an end in reserved capacity.
     #[tactic(auto, unfolding(crate::specs::Cells::room))]
     fn places(&self, end: End) -> usize
         ensures { result ≡ (room self.now).places end }
@@ -35,7 +35,7 @@ impl NodeSlots {
         }
     }
 
-    /// How many more ends that hold a node can be kept without memory.
+    /// How many more ends can be added, in reserved capacity, to the ends with no opposite that have a node as a value.
     #[tactic(auto, unfolding(crate::specs::Cells::room))]
     fn entries(&self, node: Node) -> usize
         ensures { result ≡ (room self.now).entries node }
@@ -46,7 +46,7 @@ impl NodeSlots {
         }
     }
 
-    /// Takes back the capacity that is reserved for an end.
+    /// Takes back the capacity that is reserved for values of an end.
     fn forget(&mut self, end: End)
         ensures { cells self.new ≡ cells self.old }
     {
@@ -60,7 +60,8 @@ impl NodeSlots {
         );
     }
 
-    /// Takes back the capacity that is reserved for the far side of a put.
+    /// Takes back the capacity that is reserved for the far side of a put: for values of the opposite end, or, if there is no opposite, for
+    /// ends that have the object as a value.
     fn forget_far(&mut self, object: ObjectNo, opposite: Option<FeatureNo>)
         ensures { cells self.new ≡ cells self.old }
     {
@@ -82,8 +83,8 @@ impl NodeSlots {
         }
     }
 
-    /// Gives labels to the values of an end, if they are to get labels and there is memory. The labels are made when capacity is reserved,
-    /// and that capacity is then taken back.
+    /// Gives labels to the values of an end, if they are to get labels and there is memory. The labels are made when capacity is reserved.
+    /// After that, all capacity that is reserved for values of the end is taken back.
     fn label(&mut self, end: End)
         ensures { cells self.new ≡ cells self.old }
     {
@@ -92,9 +93,9 @@ impl NodeSlots {
         }
     }
 
-    /// Takes back the capacity that is reserved at each end to which an edit adds something. If `is_done`, the edit before it is at the
-    /// same end, and the capacity at this end is not taken back here. An end from which a cut takes a value may get labels, so that the cut
-    /// finds the value.
+    /// Takes back the capacity that is reserved at each end to which an edit adds something. If `is_done`, an earlier edit has already
+    /// taken back the capacity at the end that `edit` names, and this capacity is not taken back again. An end from which a cut takes a
+    /// value may get labels, so that the cut finds the value.
     fn forget_edit(&mut self, edit: &Edit, is_done: bool)
         ensures { cells self.new ≡ cells self.old }
     {
@@ -117,7 +118,7 @@ impl NodeSlots {
     {
         let mut forgotten = None;
         for edit in plan {
-            // Of consecutive edits that add something to one end, the first edit takes back the capacity of that end.
+            // If consecutive puts, of objects or proxies, name the same end, the first of them takes back the capacity of that end.
             let end = edit.end();
             self.forget_edit(edit, forgotten == Some(end));
             if matches!(edit, Edit::Put(_) | Edit::PutProxy { .. }) {
@@ -139,7 +140,7 @@ impl NodeSlots {
         }
     }
 
-    /// Reserves capacity for one more value of an end, for an object or for any value, in the row of the end's node.
+    /// Reserves capacity for one more value of an end, in the row of the end's node: for any value if `is_mixed`, otherwise for an object.
     fn promise_at(&mut self, end: End, row_index: usize, is_mixed: bool) -> Result<(), AllocError>
         requires at { row_index_of self.old end.node ≡ Some row_index }
         ensures cells { cells self.new ≡ cells self.old }
@@ -159,7 +160,8 @@ impl NodeSlots {
         }
     }
 
-    /// Reserves capacity for the far side of a put, in the row of the object.
+    /// Reserves capacity for the far side of a put, in the row of the object: for a value of the opposite end, or, if there is no opposite,
+    /// for an end that has the object as a value.
     fn promise_far_at(
         &mut self,
         object: ObjectNo,
@@ -178,7 +180,7 @@ impl NodeSlots {
         }
     }
 
-    /// Reserves capacity for one more value of an end, for an object or for any value.
+    /// Reserves capacity for one more value of an end: for any value if `is_mixed`, otherwise for an object.
     fn promise(&mut self, end: End, is_mixed: bool) -> Result<(), AllocError>
         ensures cells { cells self.new ≡ cells self.old }
         ensures ok { OnOk result (HasGained (λ e. one_if (same_end end e)) no_ends (room self.old) (room self.new)) }
@@ -188,7 +190,8 @@ impl NodeSlots {
         self.promise_at(end, row_index, is_mixed)
     }
 
-    /// Reserves capacity for the far side of a put.
+    /// Reserves capacity for the far side of a put: for a value of the opposite end, or, if there is no opposite, for an end that has the
+    /// object as a value.
     fn promise_far(
         &mut self,
         object: ObjectNo,
@@ -201,7 +204,7 @@ impl NodeSlots {
         self.promise_far_at(object, row_index, opposite)
     }
 
-    /// Reserves capacity for an edit at each end to which it adds something.
+    /// Reserves capacity at each end to which an edit adds something.
     fn promise_edit(&mut self, edit: &Edit) -> Result<(), AllocError>
         ensures cells { cells self.new ≡ cells self.old }
         ensures ok { OnOk result (HasGained (λ e. gain e edit.now) (λ n. entry n edit.now) (room self.old) (room self.new)) }
@@ -232,7 +235,8 @@ impl NodeSlots {
     }
 
     /// Reserves capacity for one link, in addition to the capacity that was reserved before, and returns the indexes of the rows of both
-    /// nodes. Fails only if memory is refused; no value changes.
+    /// nodes. Fails only if memory is refused; no value changes. If memory is refused for the far side, all capacity that is reserved for
+    /// values of the link's end is taken back.
     pub fn reserve_put(&mut self, link: NewLink) -> Result<PutPlaces, AllocError>
         ensures cells { cells self.new ≡ cells self.old }
         ensures near { IfOk result (λ p. row_index_of self.new link.end.node ≡ Some p.near) }

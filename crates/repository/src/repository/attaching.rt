@@ -11,10 +11,9 @@ ghost use Rattle.repository.specs.Leaving.{LetsGo};
 ghost use Rattle.repository.specs.declared.reply.Answer.TheVariants as answer;
 
 use super::Repository;
-use crate::leaving::{one_spot, own_spots};
 use crate::replies::reply;
 use crate::reply::{Answer, Failure, Reply};
-use adapter_list::{AttachRefused, Release};
+use adapter_list::{Release, one_spot, own_spots};
 use adapters::Adapter;
 use links::LinkStore;
 use mm_types::{AdapterNo, Node, Refused, Seq};
@@ -43,7 +42,10 @@ impl<L: LinkStore, A: Adapter> Repository<L, A> {
             });
         }
         if let Err(refused) = self.adapters.attach(no, target, deep, adapter) {
-            return Err(failure(refused));
+            return Err(Failure {
+                refused: refused.reason,
+                given_back: Some(refused.adapter),
+            });
         }
         self.hearers.forget();
         Ok(reply(self.alloc, Answer::Done))
@@ -160,8 +162,9 @@ impl<L: LinkStore, A: Adapter> Repository<L, A> {
         adapters.close()
     }
 
-    /// Gives every adapter back as `close` does, for a process that is about to end. The memory of objects, values and links is not freed,
-    /// since freeing it block by block takes about as long as allocating it. Takes no memory.
+    /// Every adapter is notified of REMOVING_ADAPTER and given back, in the order in which `close` does this. The call is for a process
+    /// that is about to end. The memory of objects, values and links is not freed, since freeing it block by block takes about as long as
+    /// allocating it. Takes no memory.
     pub fn close_at_exit(self) -> Vec<(AdapterNo, A)>
         ensures { map (λ b. (b.0, A.heard b.1)) result.items ≡ adapters_at_close self }
     {
@@ -174,15 +177,5 @@ impl<L: LinkStore, A: Adapter> Repository<L, A> {
         mem::forget(values);
         mem::forget(store);
         adapters.close()
-    }
-}
-
-/// The failure of the command whose adapter was refused. The failure gives the adapter back.
-fn failure<A>(refused: AttachRefused<A>) -> Failure<A>
-    ensures { result ≡ record { refused = refused.reason; given_back = Some refused.adapter } }
-{
-    Failure {
-        refused: refused.reason,
-        given_back: Some(refused.adapter),
     }
 }

@@ -2,8 +2,10 @@
 ghost use Rattle.std.specs.Prelude.{◌≡◌, ◌<◌, ℕ, List, [], None, Some, false, length, true};
 ghost use Rattle.mm_types.specs.Shapes.{shape};
 ghost use Rattle.adapter_list.specs.Hearing.{IsUnheard};
+ghost use Rattle.notice_chain.specs.Listed.{Above};
+ghost use Rattle.notice_chain.specs.declared.notice.Notice.{Notice};
 ghost use Rattle.handshake.specs.FeatureChanges.{chain};
-ghost use Rattle.handshake.specs.Changes.{edits_links_alone, edits_values_alone};
+ghost use Rattle.handshake.specs.Changes.{edits_values_alone};
 ghost use Rattle.handshake.specs.declared.change.Change.{Change};
 ghost use Rattle.handshake.specs.Refusals.{early_refusal as early_refusal_of};
 ghost use Rattle.repository.specs.Run.{Executed, brief_outcome, change_outcome};
@@ -16,17 +18,16 @@ ghost use Rattle.handshake.specs.declared.act.Act.TheVariants.{Set};
 ghost use Rattle.repository.specs.Proper.{IsProper};
 
 use super::Repository;
-use crate::preparing::{
-    Prepared, prepare, prepare_edits, prepare_link_edits, prepare_links, prepare_values,
-};
-use crate::replies::{replied, replied_object, reply};
+use crate::edits::AllEdits;
+use crate::prepared::{Planned, Prepared};
+use crate::replies::{replied, reply};
 use crate::reply::{Answer, Brief, Reply};
 use adapters::Adapter;
 use change_plans::{attribute_refusal, plan_set};
 use handshake::{Act, Change, early_refusal};
-use links::LinkStore;
+use links::{LinkStore, Plan};
 use mm_types::{ClassNo, End, FeatureNo, Node, ObjectNo, Refused, Value};
-use notice_chain::Chain;
+use mm_values::ValuePlan;
 
 impl<L: LinkStore, A: Adapter> Repository<L, A> {
     /// Makes an object of a class; each of its attributes has its default (EMF: EFactory.create). Notifies no adapter.
@@ -35,13 +36,15 @@ impl<L: LinkStore, A: Adapter> Repository<L, A> {
     pub fn create(&mut self, class: ClassNo) -> Result<Reply<A>, Refused>
         ensures { Executed self.old (Create class) (change_outcome (changed_view A.heard result)) self.new }
     {
-        replied_object(self.alloc, self.create_object(class))
+        let object = self.create_object(class)?;
+        Ok(reply(self.alloc, Answer::Object(object)))
     }
 
     /// Sets a single feature of an object (EMF: EObject.eSet). If the feature has an opposite, the opposite ends change too. Links that the
     /// new link displaces are cut at both ends, and an object that is put into a container leaves its former container. Notifies the
     /// adapters at each end that changes, and the deep adapters above that end: of the losses of displaced links, of the gain at the
-    /// opposite end, and of SET at the feature itself. They are notified of SET even if the feature had the value already.
+    /// opposite end, and of SET at the feature itself. The adapters at the feature are notified of SET even if the feature had the value
+    /// already.
     ///
     /// Refused, the first that applies: `NoObject` if the node or the value is an object that does not live, `NoResource`, `NoFeature`,
     /// `NotSingle` if the feature is many-valued, `WrongType`, `TextLength` above 65,535 bytes, `Bound` if the opposite list has as many
@@ -64,8 +67,8 @@ impl<L: LinkStore, A: Adapter> Repository<L, A> {
 
     /// Unsets a feature of an object (EMF: EObject.eUnset): a single attribute gets its default, a single reference becomes null, a list
     /// becomes empty, and the opposite ends change too. Notifies the adapters at each opposite end, and then the adapters at the feature.
-    /// If the feature is single, they are notified of UNSET, whether it was set or not. If the feature is a list, they are notified of one
-    /// REMOVE for each value, from the last value to the first.
+    /// If the feature is single, the adapters at the feature are notified of UNSET, whether the feature was set or not. If the feature is a
+    /// list, they are notified of one REMOVE for each value, from the last value to the first.
     ///
     /// Refused, the first that applies: `NoObject`, `NoResource`, `NoFeature`, `AdapterFull`, `Memory`.
     pub fn e_unset(&mut self, node: Node, feature: FeatureNo) -> Result<Reply<A>, Refused>
@@ -74,11 +77,11 @@ impl<L: LinkStore, A: Adapter> Repository<L, A> {
         self.change(Change::At(End { node, feature }, Act::Unset))
     }
 
-    /// Destroys an object and all objects below it, and takes them out of every end that holds them (EMF: EcoreUtil.delete, recursively).
-    /// No other object ever gets their numbers. If ends of other nodes lose values, the adapters at these ends are notified: in the order
-    /// of feature numbers, then of nodes, then of positions, and last at the end that contained the object. Then each adapter loses its
-    /// targets that were destroyed. It is notified of REMOVING_ADAPTER from each of these targets, and is given back if it has no other
-    /// target. Returns how many objects were destroyed.
+    /// Destroys an object and all objects below it, and takes each of them out of every end that has it as a value (EMF: EcoreUtil.delete,
+    /// recursively). No other object ever gets the number of a destroyed object. If ends of other nodes lose values, the adapters at these
+    /// ends are notified: in the order of feature numbers, then of nodes, then of positions, and last at the end that contained the object.
+    /// Then each adapter loses its targets that were destroyed. The adapter is notified of REMOVING_ADAPTER from each of these targets, and
+    /// is given back if it has no other target. Returns how many objects were destroyed.
     ///
     /// Refused, the first that applies: `NoObject`, `AdapterFull`, `Memory`.
     pub fn delete(&mut self, object: ObjectNo) -> Result<Reply<A>, Refused>
@@ -97,52 +100,13 @@ impl<L: LinkStore, A: Adapter> Repository<L, A> {
             return Err(refused);
         }
         if change.edits_values_alone(&self.meta) {
-            return self.change_values(change);
+            let is_heard = self.hears_values(&change);
+            return self.carry_out::<ValuePlan>(change, is_heard);
         }
         if change.edits_links_alone(&self.meta) {
-            return self.change_links(change);
+            return self.carry_out::<Plan>(change, self.has_adapters());
         }
-        self.carry_out(change)
-    }
-
-    /// Makes a change that edits only values. If the change notifies no adapter, no notification is made, and the memory for the edits is
-    /// taken while they are made.
-    #[inline(never)]
-    fn change_values(&mut self, change: Change) -> Result<Reply<A>, Refused>
-        requires proper { IsProper (reads self.old) [] change }
-        requires asked { early_refusal_of (reads self.old) change ≡ None }
-        requires values { edits_values_alone self.old.model.metamodel change ≡ true }
-        ensures { Executed self.old (command_of [] change) (change_outcome (changed_view A.heard result)) self.new }
-    {
-        if self.hears_values(&change) {
-            return self.change_heard_values(change);
-        }
-        let model = self.model();
-        let (answer, values) = match prepare_edits(self.alloc, &model, change) {
-            Ok(prepared) => prepared,
-            Err(refused) => return Err(refused),
-        };
-        match self.values.try_apply(values) {
-            Ok(()) => {}
-            Err(_) => return Err(Refused::Memory),
-        }
-        Ok(reply(self.alloc, answer))
-    }
-
-    /// Makes a change that edits only values and may notify an adapter.
-    #[inline(never)]
-    fn change_heard_values(&mut self, change: Change) -> Result<Reply<A>, Refused>
-        requires proper { IsProper (reads self.old) [] change }
-        requires asked { early_refusal_of (reads self.old) change ≡ None }
-        requires values { edits_values_alone self.old.model.metamodel change ≡ true }
-        ensures { Executed self.old (command_of [] change) (change_outcome (changed_view A.heard result)) self.new }
-    {
-        let model = self.model();
-        let prepared = match prepare_values(self.alloc, &model, change) {
-            Ok(prepared) => prepared,
-            Err(refused) => return Err(refused),
-        };
-        self.tell_values(prepared.answer, prepared.values, prepared.chain)
+        self.carry_out::<AllEdits>(change, self.has_adapters())
     }
 
     /// Sets an attribute; an adapter may have to be notified of the change. The function is never inlined into the code of a set that
@@ -157,12 +121,18 @@ impl<L: LinkStore, A: Adapter> Repository<L, A> {
             return Brief::Unheard(Err(refused));
         }
         match plan_set(self.alloc, &model, end, value) {
-            Ok((values, chain)) => Brief::Replied(self.tell_values(Answer::Done, values, chain)),
+            Ok((edits, chain)) => Brief::Replied(self.finish(Prepared {
+                answer: Answer::Done,
+                edits,
+                chain,
+                spots: Vec::new(self.alloc),
+            })),
             Err(_) => Brief::Unheard(Err(Refused::Memory)),
         }
     }
 
-    /// Whether an adapter is notified of a change that edits only values. A change that makes an object notifies no adapter.
+    /// Whether an adapter may have to be notified of a change that edits only values: whether the change is at a feature of a node, and
+    /// some adapter is notified of changes at this node. A change that makes an object notifies no adapter.
     fn hears_values(&self, change: &Change) -> bool
         requires values { edits_values_alone self.now.model.metamodel change.now ≡ true }
         ensures { result ≡ false → IsUnheard (reads self.now).above (chain (reads self.now) change.now) self.now.adapters }
@@ -173,61 +143,47 @@ impl<L: LinkStore, A: Adapter> Repository<L, A> {
         }
     }
 
-    /// Makes a change that edits only links: a change of one reference of one node. This change destroys nothing, so no target is taken
-    /// away. If no adapter is attached, no notification is made.
-    #[inline(never)]
-    pub(super) fn change_links(&mut self, change: Change) -> Result<Reply<A>, Refused>
-        requires proper { IsProper (reads self.old) [] change }
-        requires asked { early_refusal_of (reads self.old) change ≡ None }
-        requires links { edits_links_alone self.old.model.metamodel change ≡ true }
-        ensures { Executed self.old (command_of [] change) (change_outcome (changed_view A.heard result)) self.new }
+    /// Whether any adapter is attached. Takes no memory.
+    pub(super) fn has_adapters(&self) -> bool
+        ensures { result ≡ false → (up : Above) (ns : List Notice) → IsUnheard up ns self.now.adapters }
     {
-        if self.adapters.len() > 0 {
-            return self.change_heard_links(change);
-        }
-        let model = self.model();
-        let (answer, edits) = match prepare_link_edits(self.alloc, &model, &change) {
-            Ok(prepared) => prepared,
-            Err(refused) => return Err(refused),
-        };
-        self.tell_links(answer, edits, Chain::new(self.alloc))
+        self.adapters.len() > 0
     }
 
-    /// Makes a change that edits only links and may notify an adapter.
+    /// Carries out a change that is not refused early, from its plan to its reply. In `is_heard` the caller passes whether an adapter may
+    /// have to be notified; if not, no notification is made. If the change loads a document, its effect is that of `load` for any text that
+    /// is read as this document. The function is never inlined: else its callers would zero the stack slots of all kinds of edits.
     #[inline(never)]
-    fn change_heard_links(&mut self, change: Change) -> Result<Reply<A>, Refused>
-        requires proper { IsProper (reads self.old) [] change }
-        requires asked { early_refusal_of (reads self.old) change ≡ None }
-        requires links { edits_links_alone self.old.model.metamodel change ≡ true }
-        requires heard { 0 < length self.old.adapters }
-        ensures { Executed self.old (command_of [] change) (change_outcome (changed_view A.heard result)) self.new }
-    {
-        let model = self.model();
-        let prepared = match prepare_links(self.alloc, &model, &change) {
-            Ok(prepared) => prepared,
-            Err(refused) => return Err(refused),
-        };
-        self.tell_links(prepared.answer, prepared.edits, prepared.chain)
-    }
-
-    /// Plans a change, and makes it. If the change loads a document, its effect is that of `load` for any text that is read as this
-    /// document. This function is never inlined into `change`: else `change` would zero a large stack frame for each change of attributes.
-    #[inline(never)]
-    pub(super) fn carry_out(&mut self, change: Change) -> Result<Reply<A>, Refused>
+    pub(super) fn carry_out<E: Planned>(
+        &mut self,
+        change: Change,
+        is_heard: bool,
+    ) -> Result<Reply<A>, Refused>
         requires proper { (text : List ℕ) × IsProper (reads self.old) text change }
         requires asked { early_refusal_of (reads self.old) change ≡ None }
+        requires covered { E.covers self.old.model.metamodel change }
+        requires heard { is_heard ≡ false → IsUnheard (reads self.old).above (chain (reads self.old) change) self.old.adapters }
         ensures { (text : List ℕ) → IsProper (reads self.old) text change → Executed self.old (command_of text change) (change_outcome (changed_view A.heard result)) self.new }
     {
         let model = self.model();
-        let prepared = match prepare(self.alloc, &model, &self.adapters, change) {
+        let Prepared {
+            answer,
+            edits,
+            chain,
+            spots,
+        } = match E::prepare(self.alloc, &model, &self.adapters, change, is_heard) {
             Ok(prepared) => prepared,
             Err(refused) => return Err(refused),
         };
-        let Prepared {
+        if chain.is_empty() && spots.is_empty() {
+            let done = self.edit(edits);
+            return replied(self.alloc, done, answer);
+        }
+        self.finish(Prepared {
             answer,
+            edits,
+            chain,
             spots,
-            planned,
-        } = prepared;
-        self.finish(answer, planned.edits, planned.values, planned.chain, spots)
+        })
     }
 }

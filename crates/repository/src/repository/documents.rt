@@ -1,4 +1,4 @@
-//! Fragments, addresses and the texts of resources.
+//! Fragments, addresses and the documents of resources.
 ghost use Rattle.std.specs.Prelude.{◌≡◌, IfOk, Some, true};
 ghost use Rattle.std.specs.Str.{is_utf8};
 ghost use Rattle.doc_writer.specs.Saved.{IsReadAs};
@@ -54,8 +54,8 @@ impl<L: LinkStore, A: Adapter> Repository<L, A> {
         }
     }
 
-    /// The fragment of an object, as `fragment` returns it. The answer is remembered for up to 1,024 objects, until a containing link
-    /// changes. Refused as `fragment` is.
+    /// The fragment of an object, as `fragment` returns it. The fragments of up to 1,024 objects are remembered, until a change edits a
+    /// containing link. Refused as `fragment` is: with `NoObject`, `Dangling` or `Memory`.
     pub fn remembered_fragment(&mut self, object: ObjectNo) -> Result<Text, Refused>
         ensures { Executed self.old (commands.fragment object) (read_outcome answer.Fragment result) self.new }
     {
@@ -66,7 +66,7 @@ impl<L: LinkStore, A: Adapter> Repository<L, A> {
         Ok(fragment)
     }
 
-    /// The result of `remembered_fragment`, as a reply.
+    /// Reads a fragment by `remembered_fragment`, and returns a reply with the fragment, or the refusal.
     pub(super) fn fragment_reply(&mut self, object: ObjectNo) -> Result<Reply<A>, Refused>
         ensures { Executed self.old (commands.fragment object) (change_outcome (changed_view A.heard result)) self.new }
     {

@@ -1,4 +1,4 @@
-//! Changes of the lists of objects.
+//! Changes of the lists at the many-valued features of nodes.
 ghost use Rattle.repository.specs.Run.{Executed, change_outcome};
 ghost use Rattle.repository.specs.Views.{changed_view};
 ghost use Rattle.repository.specs.Commands as commands;
@@ -12,15 +12,17 @@ use links::LinkStore;
 use mm_types::{End, FeatureNo, Node, Refused, Value};
 
 impl<L: LinkStore, A: Adapter> Repository<L, A> {
-    /// Adds a value to a list, before the value at an index, or at the end (EMF: EList.add). If the feature has an opposite, the opposite
-    /// ends change too. Links that the new link displaces are cut at both ends, and an object that is put into a container leaves its
-    /// former container. Returns whether the list changed: if a unique list has the value already, adding it at the end changes nothing and
-    /// notifies no adapter. Notifies as `e_set` does, at the feature itself with ADD.
+    /// Adds a value to a list, at an index, or after the last value if no index is given (EMF: EList.add). If the feature has an opposite,
+    /// the opposite ends change too. Links that the new link displaces are cut at both ends, and an object that is put into a container
+    /// leaves its former container. Returns whether the list changed: if a unique list has the value already, adding it without an index
+    /// changes nothing and notifies no adapter. Otherwise notifies the adapters at each end that changes, and the deep adapters above that
+    /// end: of the losses of displaced links, of the gain at the opposite end, and last of ADD at the list.
     ///
     /// Refused, the first that applies: `NoObject` if the node or the value is an object that does not live, `NoResource`, `NoFeature`,
     /// `NotMany` if the feature is single, `WrongType`, `TextLength` above 65,535 bytes, `Index` above the length, `Duplicate` if a unique
     /// list already has the value that is added at an index, `Bound` if the list or the opposite list has as many values as its upper
-    /// bound, `Recursive` if an object would contain itself, `Limit` if one of the two lists has 1,000,000 values, `AdapterFull`, `Memory`.
+    /// bound, `Recursive` if an object would contain itself, directly or not, `Limit` if one of the two lists has 1,000,000 values,
+    /// `AdapterFull`, `Memory`.
     pub fn add(
         &mut self,
         node: Node,
@@ -36,8 +38,8 @@ impl<L: LinkStore, A: Adapter> Repository<L, A> {
         }
     }
 
-    /// Takes the value at an index out of a list, and returns it (EMF: EList.remove). A link is cut at both ends. Notifies the adapters at
-    /// the opposite end, and the adapters at the list with REMOVE.
+    /// Takes the value at an index out of a list, and returns it (EMF: EList.remove). A link is cut at both ends. First the adapters at the
+    /// opposite end are notified, of SET to null or of REMOVE, and then the adapters at the list, of REMOVE.
     ///
     /// Refused, the first that applies: `NoObject`, `NoResource`, `NoFeature`, `NotMany`, `Index` if there is no such value, `AdapterFull`,
     /// `Memory`.
@@ -53,7 +55,8 @@ impl<L: LinkStore, A: Adapter> Repository<L, A> {
     }
 
     /// Takes the first occurrence of a value out of a list, and returns whether there was one (EMF: EList.remove). If there was none,
-    /// nothing changes and no adapter is notified. Notifies as `remove` does.
+    /// nothing changes and no adapter is notified. Otherwise first the adapters at the opposite end are notified, of SET to null or of
+    /// REMOVE, and then the adapters at the list, of REMOVE.
     ///
     /// Refused, the first that applies: `NoObject` if the node or the value is an object that does not live, `NoResource`, `NoFeature`,
     /// `NotMany`, `WrongType`, `TextLength`, `AdapterFull`, `Memory`.
@@ -69,7 +72,7 @@ impl<L: LinkStore, A: Adapter> Repository<L, A> {
     }
 
     /// Moves the value at the index `from` of a list, so that the value is then at the index `to`, and returns the value (EMF: EList.move).
-    /// Notifies the adapters at the list with MOVE, even if both indexes are the same; the opposite ends stay as they are.
+    /// The adapters at the list are notified of MOVE, even if both indexes are the same. The opposite ends stay as they are.
     ///
     /// Refused, the first that applies: `NoObject`, `NoResource`, `NoFeature`, `NotMany`, `Index` if one of the two indexes is past the
     /// last value, `AdapterFull`, `Memory`.

@@ -1,4 +1,4 @@
-//! Resources that are loaded.
+//! Loads documents into resources.
 ghost use Rattle.std.specs.Prelude.{◌≡◌, ℕ, List, Err, None, Some};
 ghost use Rattle.mm_types.specs.declared.numbers.Node.TheVariants as node;
 ghost use Rattle.resource_docs.specs.Causes.{Answers};
@@ -11,6 +11,7 @@ ghost use Rattle.repository.specs.Views.{changed_view};
 ghost use Rattle.repository.specs.declared.command.Command.TheVariants.{Load};
 
 use super::Repository;
+use crate::edits::AllEdits;
 use crate::reply::Reply;
 use adapters::Adapter;
 use handshake::Change;
@@ -23,8 +24,8 @@ impl<L: LinkStore, A: Adapter> Repository<L, A> {
     /// Loads a document, `bytes` as JSON, into an empty resource (EMF: Resource.load): all objects of the document with their values, links
     /// and proxies, or none. The objects get the next numbers, root by root, each object before its contents. The contents of an object are
     /// in the order of all features of its class, and then by position. At both ends of a pair of opposite references, the links have the
-    /// order that the document gives. Returns how many objects were made. Notifies the adapters at the resource with one ADD on `contents`
-    /// for each root.
+    /// order that the document gives. Returns how many objects were made. The adapters at the resource are notified of one ADD on
+    /// `contents` for each root.
     ///
     /// Refused, the first that applies: `NoResource`; `Limit` if the document has no fault and more objects than can be made; `NotEmpty` if
     /// the resource has roots; `Document` with the cause for which the document can't be read; `AdapterFull`, `Memory`.
@@ -51,7 +52,7 @@ impl<L: LinkStore, A: Adapter> Repository<L, A> {
         self.load_read(resource, read)
     }
 
-    /// Loads a document that was read; `read` is the document, or why it can't be read.
+    /// Loads a document that was read. `read` is the document, or the refusal if it can't be read.
     fn load_read(
         &mut self,
         resource: ResourceNo,
@@ -62,7 +63,9 @@ impl<L: LinkStore, A: Adapter> Repository<L, A> {
         ensures { (text : List ℕ) → Answers read (reads_into (reads self.old) resource text) → Executed self.old (Load resource text) (change_outcome (changed_view A.heard result)) self.new }
     {
         match read {
-            Ok(doc) => self.carry_out(Change::Load(resource, doc)),
+            Ok(doc) => {
+                self.carry_out::<AllEdits>(Change::Load(resource, doc), self.has_adapters())
+            }
             Err(Refused::Document(fault)) => Err(fault_refusal(&self.model(), resource, fault)),
             Err(_) => Err(Refused::Memory),
         }

@@ -22,8 +22,8 @@ use snapshots::Snapshot;
 use validation::short_features;
 
 impl<L: LinkStore, A: Adapter> Repository<L, A> {
-    /// What a feature of an object holds (EMF: EObject.eGet): for a single attribute the value that was set or the default, for a single
-    /// reference its object, and for a many-valued feature its list.
+    /// What a feature of a node holds (EMF: EObject.eGet): for a single attribute the value that was set or the default; for a single
+    /// reference its object or its proxy, or null if it is empty; for a many-valued feature its list. A proxy is not resolved.
     ///
     /// Refused, the first that applies: `NoObject`, `NoResource`, `NoFeature`, `Memory`.
     #[tactic(auto, using(crate::proofs::QuietLemmas::get_done))]
@@ -43,8 +43,7 @@ impl<L: LinkStore, A: Adapter> Repository<L, A> {
         Ok(FeatureValue::Many(values))
     }
 
-    /// The value that `e_get` returns for a single feature, borrowed from the place in which it is kept; `None` stands for null. Takes no
-    /// memory.
+    /// The value that `e_get` returns for a single feature, borrowed from where it is kept; `None` stands for null. Takes no memory.
     ///
     /// Refused, the first that applies: `NoObject`, `NoResource`, `NoFeature`, `NotSingle` if the feature is many-valued.
     #[tactic(auto, using(crate::proofs::QuietLemmas::get_done))]
@@ -63,9 +62,9 @@ impl<L: LinkStore, A: Adapter> Repository<L, A> {
         Ok(model.value_at(end))
     }
 
-    /// Whether a feature of an object is set (EMF: EObject.eIsSet). A list is set if it has values. A single feature that is unsettable is
-    /// set if `e_set` or a load was the last call that changed it. Any other single feature is set if its value differs from its default.
-    /// Takes no memory.
+    /// Whether a feature of a node is set (EMF: EObject.eIsSet). A list is set if it has values. A single unsettable attribute is set if
+    /// `e_set` or a load gave it a value and `e_unset` has not unset it since. Any other single feature is set if its value differs from
+    /// its default. Takes no memory.
     ///
     /// Refused, the first that applies: `NoObject`, `NoResource`, `NoFeature`.
     #[tactic(auto, using(crate::proofs::QuietLemmas::is_set_done))]
@@ -109,8 +108,8 @@ impl<L: LinkStore, A: Adapter> Repository<L, A> {
         Ok(holder_resource(model.store(), object))
     }
 
-    /// The objects that a node directly contains, by feature in the order of all features of its class, and then by position (EMF:
-    /// EObject.eContents).
+    /// The objects that a node directly contains (EMF: EObject.eContents): for an object by feature in the order of all features of its
+    /// class, and then by position; for a resource its roots, by position.
     ///
     /// Refused, the first that applies: `NoObject`, `NoResource`, `Memory`.
     #[tactic(auto, using(crate::proofs::QuietLemmas::contents_done))]

@@ -1,4 +1,4 @@
-//! Proxies, and the objects that they find.
+//! Replaces proxies by the objects at their addresses.
 ghost use Rattle.repository.specs.Run.{Executed, change_outcome};
 ghost use Rattle.repository.specs.Views.{changed_view};
 ghost use Rattle.repository.specs.Commands as commands;
@@ -13,14 +13,15 @@ use mm_types::{End, FeatureNo, Node, ObjectNo, Refused};
 
 impl<L: LinkStore, A: Adapter> Repository<L, A> {
     /// Replaces the proxy at an index of a reference by the object at the proxy's address (EMF: EcoreUtil.resolve). The index of a single
-    /// reference is 0. If the reference has an opposite, the referring object replaces the first proxy at the opposite end that has the
-    /// address of the referring object. Returns the object at the proxy's address. Notifies the adapters with RESOLVE, at the opposite end
-    /// first.
+    /// reference is 0. If the reference has an opposite, a proxy at the opposite end is replaced by the referring object: the first proxy
+    /// there that has the referring object at its address. Returns the object at the proxy's address. The adapters are notified of RESOLVE,
+    /// first at the opposite end and then at the reference.
     ///
     /// Refused, the first that applies: `NoObject`, `NoFeature`, `WrongType` if the feature is an attribute or doesn't take the object at
-    /// the proxy's address, `Index` if there is no such value, `Duplicate` if the list has the object already, `NotProxy` if an object is
-    /// there, `Unloaded` if no resource has the URI in the proxy's text, `Unresolved` if no object is at the proxy's address, `Unmatched`
-    /// if no proxy at the opposite end has the address of the referring object, `AdapterFull`, `Memory`.
+    /// the proxy's address, `Index` if there is no such value, `Duplicate` if the list has the object already, `NotProxy` if the value at
+    /// the index is an object, `Unloaded` if no resource has the URI in the proxy's text, `Unresolved` if no object is at the proxy's
+    /// address, `Unmatched` if the reference has an opposite and no proxy at the opposite end has the referring object at its address,
+    /// `AdapterFull`, `Memory`.
     pub fn resolve(
         &mut self,
         object: ObjectNo,
@@ -33,10 +34,11 @@ impl<L: LinkStore, A: Adapter> Repository<L, A> {
         self.change(Change::At(End { node, feature }, Act::Resolve(index)))
     }
 
-    /// Resolves all proxies, one after another, by object number, by feature in the order of all features, and by index (EMF:
-    /// EcoreUtil.resolveAll). Each proxy is resolved as `resolve` does it, in the state that the earlier resolves left, and is skipped if
-    /// `resolve` would refuse it. Returns how many proxies were resolved (two at the ends of one link count as one), and how many are left.
-    /// Notifies the adapters with RESOLVE for each proxy that is resolved, at the opposite end first.
+    /// Resolves all proxies, one after another (EMF: EcoreUtil.resolveAll). They are ordered by the number of the referring object, then by
+    /// feature in the order of all features, then by index. Each proxy is resolved as `resolve` does it, in the state as it is after the
+    /// earlier resolves, and is skipped if `resolve` would refuse it. Returns how many proxies were resolved (two at the ends of one link
+    /// count as one), and how many are left. The adapters are notified of RESOLVE for each proxy that is resolved, first at the opposite
+    /// end and then at the reference.
     ///
     /// Refused, the first that applies: `AdapterFull`, `Memory`.
     pub fn resolve_all(&mut self) -> Result<Reply<A>, Refused>

@@ -1,16 +1,18 @@
 //! Changes that notify no adapter. Most commands of a script are such changes, and a reply with lists of notified adapters takes longer to
-//! make than the change itself. Each call here does the same as a call that returns a reply; its docstring names that call.
-ghost use Rattle.std.specs.Prelude.{◌≡◌, ◌&&◌, ◌||◌, [], None, false, true, MatchOption, is_some};
+//! make than the change itself. Each public call here does the same as a call that returns a reply; the docstring of the call here names
+//! the other one.
+ghost use Rattle.std.specs.Prelude.{◌≡◌, ◌&&◌, ◌||◌, [], None, false, true, MatchOption, is_some, ◌∷◌, OnOk, OnErr};
 ghost use Rattle.mm_types.specs.Shapes.{shape};
+ghost use Rattle.mm_values.specs.Room.{values_of};
+ghost use Rattle.mm_values.specs.Values.{values_after_edits};
+ghost use Rattle.handshake.specs.Effects.{put_values};
 ghost use Rattle.handshake.specs.Changes.{edits_one_kind};
 ghost use Rattle.handshake.specs.Refusals.{early_refusal as early_refusal_of};
-ghost use Rattle.handshake.specs.declared.change.Change.{Change};
 ghost use Rattle.handshake.specs.declared.change.Change.TheVariants as change;
 ghost use Rattle.adapter_list.specs.Hearing.{is_heard as is_heard_by};
-ghost use Rattle.repository.specs.Puts.{IsPutAlone, is_put_heard};
+ghost use Rattle.repository.specs.Puts.{is_put_heard};
 ghost use Rattle.repository.specs.Run.{Executed, brief_outcome, read_outcome};
 ghost use Rattle.repository.specs.State.{reads};
-ghost use Rattle.repository.specs.Views.{command_of};
 ghost use Rattle.handshake.specs.declared.act.Act.TheVariants.{Add, Set};
 ghost use Rattle.repository.specs.Commands as commands;
 ghost use Rattle.repository.specs.declared.command.Command.TheVariants.{At, Create};
@@ -18,14 +20,16 @@ ghost use Rattle.repository.specs.declared.reply.Answer.{Answer};
 ghost use Rattle.repository.specs.declared.reply.Answer.TheVariants as answer;
 
 use super::Repository;
-use crate::lone_puts::{forget_put, put_value};
-use crate::preparing::next_object;
+use crate::answering::next_object;
+use crate::edits::NewObjectOf;
 use crate::reply::Brief;
 use adapters::Adapter;
 use change_plans::{attribute_refusal, create_refusal, lone_add, lone_set};
 use handshake::{Act, Change, list_early_refusal, set_early_refusal};
-use links::{LinkStore, NewLink};
+use links::{LinkStore, NewLink, Plan};
 use mm_types::{ClassNo, End, FeatureNo, Node, ObjectNo, Refused, Value};
+use mm_values::{NewValues, Values};
+use std::alloc::AllocError;
 
 impl<L: LinkStore, A: Adapter> Repository<L, A> {
     /// Makes an object as `create` does. Returns the object, or the refusal.
@@ -33,16 +37,16 @@ impl<L: LinkStore, A: Adapter> Repository<L, A> {
     pub fn create_object(&mut self, class: ClassNo) -> Result<ObjectNo, Refused>
         ensures { Executed self.old (Create class) (read_outcome answer.Object result) self.new }
     {
+        self.lemma_is_legal();
         let model = self.model();
         if let Some(refused) = create_refusal(&model, class) {
             return Err(refused);
         }
         let object = next_object(&model);
-        match self.values.try_create(class) {
-            Ok(()) => {}
-            Err(_) => return Err(Refused::Memory),
+        match self.edit(NewObjectOf(class)) {
+            Ok(()) => Ok(object),
+            Err(refused) => Err(refused),
         }
-        Ok(object)
     }
 
     /// Sets a single feature as `e_set` does. The outcome has a reply only if an adapter may be notified, or if a set of a reference does
@@ -104,10 +108,10 @@ impl<L: LinkStore, A: Adapter> Repository<L, A> {
         requires asked { early_refusal_of (reads self.old) (change.At end act) ≡ None }
         ensures { (a : Answer) → Executed self.old (At end act) (brief_outcome A.heard a result) self.new }
     {
-        Brief::Replied(self.change_links(Change::At(end, act)))
+        Brief::Replied(self.carry_out::<Plan>(Change::At(end, act), self.has_adapters()))
     }
 
-    /// Whether an adapter gets the notifications of a node. Takes no memory.
+    /// Whether some adapter is notified of changes at a node. Takes no memory.
     #[inline(always)]
     pub(super) fn is_heard(&self, node: Node) -> bool
         ensures { result ≡ is_heard_by (reads self.now).above node self.now.adapters }
@@ -147,8 +151,9 @@ impl<L: LinkStore, A: Adapter> Repository<L, A> {
         Ok(())
     }
 
-    /// Sets a reference as `e_set` does, if the set only puts one link and notifies no adapter. Returns `None` if the set does more. Then
-    /// nothing was done, and the set has no refusal that is found without memory.
+    /// Sets a reference as `e_set` does, if the set only puts one link and notifies no adapter, and returns the refusal if the set is
+    /// refused before planning. In any other case returns `None`: nothing was done, and planning has to find out what the set does or why
+    /// it is refused.
     #[inline(always)]
     pub(super) fn set_lone_link(&mut self, end: End, value: &Value) -> Option<Result<(), Refused>>
         ensures { MatchOption result
@@ -163,11 +168,12 @@ impl<L: LinkStore, A: Adapter> Repository<L, A> {
         if self.is_put_heard(put) {
             return None;
         }
-        Some(self.put_alone(put))
+        Some(self.edit(put))
     }
 
-    /// Adds to a reference as `add` does, if the addition only puts one link and notifies no adapter. Returns `None` if the addition does
-    /// more. Then nothing was done, and the addition has no refusal that is found without memory.
+    /// Adds to a reference as `add` does, if the addition only puts one link and notifies no adapter, and returns the refusal if the
+    /// addition is refused before planning. In any other case returns `None`: nothing was done, and planning has to find out what the
+    /// addition does or why it is refused.
     #[inline(always)]
     pub(super) fn add_lone_link(
         &mut self,
@@ -187,21 +193,19 @@ impl<L: LinkStore, A: Adapter> Repository<L, A> {
         if self.is_put_heard(put) {
             return None;
         }
-        Some(self.put_alone(put))
+        Some(self.edit(put))
     }
+}
 
-    /// Makes a change that notifies no adapter and whose plan is one put. The store takes the memory and puts the link in one step, and no
-    /// plan is made. Most new links displace no other link, so most are made here.
-    #[inline(always)]
-    fn put_alone(&mut self, put: NewLink) -> Result<(), Refused>
-        requires alone { (c : Change) × (a : Answer) × IsPutAlone self.old c put a }
-        ensures { (c : Change) (a : Answer) → IsPutAlone self.old c put a → Executed self.old (command_of [] c) (read_outcome (λ u. a) result) self.new }
-    {
-        match self.store.put(put) {
-            Ok(()) => {}
-            Err(_) => return Err(Refused::Memory),
-        }
-        forget_put(&mut self.paths, &mut self.hearers, put);
-        Ok(())
+/// Replaces the values of an attribute of a node by one value. Does nothing if the node is a resource, since resources have no attributes.
+/// Fails only if memory is refused, and then nothing that contracts see has changed.
+#[inline(always)]
+fn put_value(values: &mut Values, end: End, value: Value, flag: bool) -> Result<(), AllocError>
+    ensures ok { OnOk result (values_of values.new ≡ values_after_edits (values_of values.old) (put_values end (value ∷ []) flag)) }
+    ensures err { OnErr result (values_of values.new ≡ values_of values.old) }
+{
+    match end.node {
+        Node::Object(object) => values.try_put(object, end.feature, NewValues::one(value), flag),
+        Node::Resource(_) => Ok(()),
     }
 }

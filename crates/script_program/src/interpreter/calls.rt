@@ -39,8 +39,8 @@ impl<L: LinkStore, A: Adapter> Interpreter<L, A> {
         }
     }
 
-    /// Reads the value at an index of a list, and returns how the read is counted. From then on `text` returns the value, as `get` prints a
-    /// value, or the refusal.
+    /// Reads the value at an index of a list, and returns how the read is counted. From then on `text` returns the value, as `get` prints
+    /// the value of a single feature, or the refusal.
     ///
     /// Fails only if memory is refused for the text.
     pub fn list_value(&mut self, node: Node, feature: &str, index: u32) -> Result<Turn, AllocError>
@@ -66,8 +66,8 @@ impl<L: LinkStore, A: Adapter> Interpreter<L, A> {
         }
     }
 
-    /// Loads a document into a resource, as a line with `load` does, but from bytes of any length, newlines among them. From then on `text`
-    /// returns the output of the load.
+    /// Loads a document into a resource, as a line with `load` does. The document may have any length, and newlines. Returns how the load
+    /// is counted. From then on `text` returns the output of the load.
     ///
     /// Fails only if memory is refused for the text; then no contract determines the state of the interpreter.
     pub fn load(&mut self, resource: ResourceNo, document: &[u8]) -> Result<Turn, AllocError>

@@ -1,4 +1,4 @@
-use Rattle.std.proofs.Common.{◌∙◌, sym, true}
+use Rattle.std.proofs.Common.{◌∙◌, sym}
 use Rattle.models.specs.Model.{reading}
 use Rattle.change_plans.proofs.RefusalLemmas.{late-refused}
 use Rattle.change_plans.proofs.ValueLemmas.{is-plain-link, links-planned, plain-allowed}
@@ -15,4 +15,4 @@ links_and_notices-requires g c = plain-allowed (reading c.args.model.now) c.args
 
 pub returns-clause-planned : goal.returns-clause-planned
 returns-clause-planned g c =
-    links-planned true c.args.model.now c.args.change.now _ _ c.requires.links c.lemma_is_legal.ensures c.requires.asked (sym c.late_refusal.ensures ∙ c.in_default.is) c.in_ok-edits.ensures.edits c.in_ok-edits.ensures.chain
+    links-planned c.args.is_heard c.args.model.now c.args.change.now _ _ c.requires.links c.lemma_is_legal.ensures c.requires.asked (sym c.late_refusal.ensures ∙ c.in_default.is) c.in_ok-edits.ensures.edits c.in_ok-edits.ensures.chain

@@ -1,7 +1,7 @@
 use Rattle.std.proofs.Common.{◌∙◌, sym}
 use Rattle.models.specs.Model.{reading}
 use Rattle.change_plans.proofs.RefusalLemmas.{late-refused}
-use Rattle.change_plans.proofs.ValueLemmas.{is-plain, no-cuts, plain-allowed}
+use Rattle.change_plans.proofs.ValueLemmas.{is-plain, no-cuts, plain-allowed, values-planned}
 use Rattle.change_plans.proofs.value_planning.plan_values.Goals as goal
 
 pub late_refusal-requires : goal.late_refusal-requires
@@ -22,3 +22,7 @@ pub value_edits-requires : goal.value_edits-requires
 value_edits-requires g c =
     let plain = is-plain (reading c.args.model.now) c.args.change c.requires.values in
     record { removal = record { whose = plain.whose; found = tt }; fits = plain.fits }
+
+pub returns-clause-planned : goal.returns-clause-planned
+returns-clause-planned g c =
+    values-planned c.args.is_heard c.args.model.now c.args.change _ _ c.requires.values c.lemma_is_legal.ensures c.requires.asked (sym c.late_refusal.ensures ∙ c.in_default.is) c.in_ok-values.ensures c.in_ok-chain.ensures

@@ -19,7 +19,7 @@ returns-in-Err g c =
     let s : State = state g.L.LinkStore.links c.self.inside in
     let there = found-refusal s a.self.now c.model.result a.target c.node_refusal.result None c.self.view_is c.model.ensures c.node_refusal.ensures c.in_default.is in
     let done = c.in-Err.ensures in
-    rw (← c.self.view_is, c.failure.ensures, done.given_back, done.unchanged) (not_attached s a.no a.target a.deep (g.A.Adapter.heard a.adapter) c.in-Err.refused.reason there done.reason)
+    rw (← c.self.view_is, done.given_back, done.unchanged) (not_attached s a.no a.target a.deep (g.A.Adapter.heard a.adapter) c.in-Err.refused.reason there done.reason)
 
 pub returns : goal.returns
 returns g c =

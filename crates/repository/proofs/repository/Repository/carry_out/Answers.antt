@@ -1,51 +1,67 @@
-use Rattle.std.proofs.Common.{◌≡◌, ◌∙◌, ℕ, List, None, ap, nat_lt, length, sym, subst}
+use Rattle.std.proofs.Common.{◌≡◌, ◌∙◌, ℕ, Bool, true, false, List, [], ◌∷◌, None, length, ap, refl, sym, subst, eqb-true, arith}
+use Rattle.std.specs.Prelude.{◌==◌}
+use Rattle.links.specs.declared.plan.Edit.{Edit}
+use Rattle.mm_values.specs.declared.value_edit.ValueEdit.{ValueEdit}
 use Rattle.models.specs.Model.{Model, reading}
-use Rattle.notice_chain.specs.Listed.{Listed}
-use Rattle.change_plans.specs.Plans.{IsPlanOf}
+use Rattle.notice_chain.specs.Released.{Spot}
+use Rattle.notice_chain.specs.declared.notice.Notice.{Notice}
+use Rattle.adapter_list.specs.Hearing.{IsUnheard}
+use Rattle.handshake.specs.FeatureChanges.{chain}
 use Rattle.handshake.specs.Refusals.{early_refusal}
 use Rattle.handshake.specs.declared.change.Change.{Change}
-use Rattle.repository.specs.Answers.{answer_of}
 use Rattle.repository.specs.Leaving.{going_with}
-use Rattle.repository.specs.Prepared.{IsReady}
+use Rattle.repository.specs.Prepared.{IsPlanned, IsReady}
 use Rattle.repository.specs.Proper.{IsProper}
-use Rattle.repository.specs.declared.preparing.Prepared.{Prepared}
 use Rattle.repository.specs.Refusals.{IsPlanRefusal}
 use Rattle.repository.specs.Repository.{state}
+use Rattle.repository.specs.Run.{Executed}
 use Rattle.repository.specs.State.{State, reads}
-use Rattle.repository.specs.Views.{command_of}
-use Rattle.repository.proofs.AdapterLemmas.{heard_where_attached}
-use Rattle.repository.proofs.PlanLemmas.{asked-of, planned_err}
-use Rattle.repository.proofs.ValueLemmas.{ready-of}
+use Rattle.repository.specs.Views.{Outcome, command_of}
+use Rattle.repository.specs.declared.reply.Answer.{Answer}
+use Rattle.repository.proofs.PlanLemmas.{planned_err}
+use Rattle.repository.proofs.ValueLemmas.{IsAnswerOf, ready-of}
 use Rattle.repository.proofs.repository.Repository.carry_out.Goals as goal
 
--- the preparation, by the abstract model
-ready : (s v : State) (x : Model) (text : List ℕ) (c : Change) (p : Prepared) → s ≡ v → x ≡ s.model → early_refusal (reads v) c ≡ None → IsProper (reads v) text c → ((rs : List Listed) (u : List ℕ) → IsProper (reading x) u c → p.answer ≡ answer_of (reading x) rs (command_of u c)) → p.spots.items ≡ going_with (reading x) s.adapters c
-    → IsPlanOf (nat_lt 0 (length s.adapters)) x c p.planned → IsReady v text c p.answer p.spots.items p.planned.edits p.planned.values p.planned.chain
-ready s v x text c p seen is early proper answers spots plan =
-    let asked = asked-of s v text c seen early proper in
-    let made = subst (λ (m : Model). IsPlanOf (nat_lt 0 (length s.adapters)) m c p.planned) is plan in
-    subst (λ (t : State). IsReady t text c p.answer p.spots.items p.planned.edits p.planned.values p.planned.chain) seen
-    (ready-of s text c p.answer p.spots.items (nat_lt 0 (length s.adapters)) p.planned asked.early asked.proper
-    (subst (λ (m : Model). p.answer ≡ answer_of (reading m) s.adapters (command_of text c)) is (answers s.adapters text (subst (λ (m : Model). IsProper (reading m) text c) (sym is) asked.proper)))
-    (spots ∙ ap (λ (m : Model). going_with (reading m) s.adapters c) is) made (heard_where_attached (reads s).above _ _ s.adapters made.tells))
+nothing-in : {T : Type 0} (xs : List T) → (length xs == 0) ≡ true → xs ≡ []
+nothing-in [] h = refl
+nothing-in (x ∷ xs) h = let e = eqb-true (length (x ∷ xs)) 0 h in absurd (omega (arith, e))
+
+-- the preparation, by the abstract state
+ready : (s v : State) (x : Model) (text : List ℕ) (c : Change) (a : Answer) (ss : List Spot) (es : List Edit) (vs : List ValueEdit) (ns : List Notice) (is_heard : Bool) → s ≡ v → x ≡ v.model → early_refusal (reads v) c ≡ None → IsProper (reads v) text c → IsAnswerOf x c a → ss ≡ going_with (reading x) s.adapters c
+    → IsPlanned is_heard x c es vs ns → (is_heard ≡ false → IsUnheard (reads v).above (chain (reads v) c) v.adapters) → IsReady v text c a ss es vs ns
+ready s v x text c a ss es vs ns is_heard seen is early proper answers goes planned unheard =
+    ready-of v x text c a ss es vs ns is_heard is early proper answers (goes ∙ ap (λ (t : State). going_with (reading x) t.adapters c) seen) planned unheard
 
 pub returns-in-Err : goal.returns-in-Err
-returns-in-Err g c =
+returns-in-Err g c = λ text own. planned_err c.args.self.now text c.args.change c.in-Err.refused own c.requires.asked (subst (λ (m : Model). IsPlanRefusal m c.args.change c.in-Err.refused) c.model-model.ensures c.in-Err.ensures.refused)
+
+pub edit-done-requires : goal.edit-done-requires
+edit-done-requires g c =
     let s : State = state g.L.LinkStore.links c.self.inside in
-    let is : c.model-model.result ≡ s.model = c.model-model.ensures ∙ ap (λ (t : State). t.model) (sym c.self.view_is) in
-    λ text own.
-    let asked = asked-of s c.args.self.now text c.args.change c.self.view_is c.requires.asked own in
-    rw (← c.self.view_is) (planned_err s text c.args.change c.in-Err.refused asked.proper asked.early (subst (λ (m : Model). IsPlanRefusal m c.args.change c.in-Err.refused) is c.in-Err.ensures.refused))
+    let p = c.in-Ok.prepared in
+    let quiet : p.chain ≡ [] = nothing-in p.chain (sym c.is_empty.ensures ∙ c.if-is_empty.true) in
+    let none : p.spots.items ≡ [] = nothing-in p.spots.items (ap (λ (n : ℕ). n == 0) (sym p.spots.ok.0) ∙ sym c.is_empty-then-is_empty.ensures ∙ c.if-is_empty-2.true) in
+    let text = c.requires.proper.0 in
+    record { ready = (text, c.args.change, p.answer, ready s c.args.self.now c.model-model.result text c.args.change p.answer [] (g.E.Edits.edits_of_links p.edits) (g.E.Edits.edits_of_values p.edits) [] c.args.is_heard c.self.view_is c.model-model.ensures c.requires.asked c.requires.proper.1 c.in-Ok.ensures.answer (sym none ∙ c.in-Ok.ensures.spots) (subst (λ (ns : List Notice). IsPlanned c.args.is_heard c.model-model.result c.args.change (g.E.Edits.edits_of_links p.edits) (g.E.Edits.edits_of_values p.edits) ns) quiet c.in-Ok.ensures.planned) c.requires.heard) }
+
+pub returns-then-is_empty-2 : goal.returns-then-is_empty-2
+returns-then-is_empty-2 g c = λ text own.
+    let s : State = state g.L.LinkStore.links c.self.inside in
+    let p = c.in-Ok.prepared in
+    let quiet : p.chain ≡ [] = nothing-in p.chain (sym c.is_empty.ensures ∙ c.if-is_empty.true) in
+    let none : p.spots.items ≡ [] = nothing-in p.spots.items (ap (λ (n : ℕ). n == 0) (sym p.spots.ok.0) ∙ sym c.is_empty-then-is_empty.ensures ∙ c.if-is_empty-2.true) in
+    subst (λ (o : Outcome). Executed c.args.self.now (command_of text c.args.change) o c.edit-done.new.self) (sym (c.replied.ensures g.A.Adapter.heard))
+    (c.edit-done.ensures text c.args.change p.answer (ready s c.args.self.now c.model-model.result text c.args.change p.answer [] (g.E.Edits.edits_of_links p.edits) (g.E.Edits.edits_of_values p.edits) [] c.args.is_heard c.self.view_is c.model-model.ensures c.requires.asked own c.in-Ok.ensures.answer (sym none ∙ c.in-Ok.ensures.spots) (subst (λ (ns : List Notice). IsPlanned c.args.is_heard c.model-model.result c.args.change (g.E.Edits.edits_of_links p.edits) (g.E.Edits.edits_of_values p.edits) ns) quiet c.in-Ok.ensures.planned) c.requires.heard))
 
 pub finish-requires : goal.finish-requires
 finish-requires g c =
     let s : State = state g.L.LinkStore.links c.self.inside in
-    let is : c.model-model.result ≡ s.model = c.model-model.ensures ∙ ap (λ (t : State). t.model) (sym c.self.view_is) in
+    let p = c.in-Ok.prepared in
     let text = c.requires.proper.0 in
-    record { ready = (text, c.args.change, ready s c.args.self.now c.model-model.result text c.args.change c.in-Ok.prepared c.self.view_is is c.requires.asked c.requires.proper.1 c.in-Ok.ensures.answer c.in-Ok.ensures.spots c.in-Ok.ensures.planned) }
+    record { ready = (text, c.args.change, ready s c.args.self.now c.model-model.result text c.args.change p.answer p.spots.items (g.E.Edits.edits_of_links p.edits) (g.E.Edits.edits_of_values p.edits) p.chain c.args.is_heard c.self.view_is c.model-model.ensures c.requires.asked c.requires.proper.1 c.in-Ok.ensures.answer c.in-Ok.ensures.spots c.in-Ok.ensures.planned c.requires.heard) }
 
 pub returns : goal.returns
-returns g c =
+returns g c = λ text own.
     let s : State = state g.L.LinkStore.links c.self.inside in
-    let is : c.model-model.result ≡ s.model = c.model-model.ensures ∙ ap (λ (t : State). t.model) (sym c.self.view_is) in
-    λ text own. c.finish.ensures text c.args.change (ready s c.args.self.now c.model-model.result text c.args.change c.in-Ok.prepared c.self.view_is is c.requires.asked own c.in-Ok.ensures.answer c.in-Ok.ensures.spots c.in-Ok.ensures.planned)
+    let p = c.in-Ok.prepared in
+    c.finish.ensures text c.args.change (ready s c.args.self.now c.model-model.result text c.args.change p.answer p.spots.items (g.E.Edits.edits_of_links p.edits) (g.E.Edits.edits_of_values p.edits) p.chain c.args.is_heard c.self.view_is c.model-model.ensures c.requires.asked own c.in-Ok.ensures.answer c.in-Ok.ensures.spots c.in-Ok.ensures.planned c.requires.heard)

@@ -1,4 +1,5 @@
 use Rattle.std.proofs.Common.{◌≡◌, ◌∙◌, ◌++◌, ℕ, true, false, List, [], Option, Some, None, is_some, refl, sym, ap, subst}
+use Rattle.std.specs.Prelude.{Box, IfSome}
 use Rattle.mm_values.specs.Values.{ValuesState, values_after_edits}
 use Rattle.mm_values.specs.Room.{values_of}
 use Rattle.notice_chain.specs.Listed.{Listed, tell_chain, told_list}
@@ -6,125 +7,167 @@ use Rattle.notice_chain.specs.Released.{Released, Spot, released_adapters}
 use Rattle.notice_chain.specs.declared.notice.Notice.{Notice}
 use Rattle.adapter_list.specs.Attached.{views_of}
 use Rattle.adapter_list.specs.Hearing.{AreKnown}
-use Rattle.adapter_list.specs.Rounds.{RoundView, adapters_after_copies, round_copies}
-use Rattle.links.specs.Holders.{above}
-use Rattle.repository.specs.declared.leaving.Leaving.{Leaving}
+use Rattle.adapter_list.specs.declared.hearers.Hearers.{Hearers}
+use Rattle.adapter_list.specs.Rounds.{RoundView, adapters_after_copies, round_copies, round_of}
 use Rattle.adapter_list.proofs.RoundLemmas.{adapters_after_copies-round_copies}
-use Rattle.links.specs.Links.{Links}
-use Rattle.links.specs.declared.plan.Edit.{Edit}
-use Rattle.mm_values.specs.declared.value_edit.ValueEdit.{ValueEdit}
-use Rattle.links.specs.Plans as links
-use Rattle.std.specs.FinMap as map
-use Rattle.std.specs.Prelude.{if◌then◌else◌}
+use Rattle.links.specs.Holders.{HasNoCycle, above}
 use Rattle.links.specs.Laws.{touches_containment}
-use Rattle.models.specs.Legal as models
+use Rattle.links.specs.LegalSets.{IsLegalSet}
+use Rattle.links.specs.Links.{Links}
+use Rattle.links.specs.Plans as links
 use Rattle.models.specs.Legal.{kinds_of}
-use Rattle.models.specs.Model.{Model, model_of, reading}
-use Rattle.models.specs.Steady.{HasSteadyTexts}
-use Rattle.handshake.specs.Effects.{model_after}
+use Rattle.models.specs.Model.{model_of}
 use Rattle.handshake.specs.declared.change.Change.{Change}
-use Rattle.handshake.proofs.ProxyLemmas.{change-keeps-steady}
-use Rattle.repository.specs.Leaving.{going_with, leavers, spots_in}
-use Rattle.repository.specs.Prepared.{IsReady}
-use Rattle.repository.specs.declared.reply.Answer.{Answer}
+use Rattle.adapter_list.specs.declared.leaving.Leaving.{Leaving}
+use Rattle.adapter_list.specs.Leaving.{HasRoom, leavers, spots_in}
+use Rattle.repository.specs.Leaving.{going_with}
 use Rattle.repository.specs.Views.{command_of}
 use Rattle.repository.specs.Repository.{KeepsFragments, state}
 use Rattle.repository.specs.State.{IsLegal, State, reads}
-use Rattle.repository.proofs.RememberedLemmas.{hearers-kept, kept-after, known-adapters_after_copies}
+use Rattle.repository.proofs.InsideLemmas.{known-after, made, no-memory, seen, unchanged}
+use Rattle.repository.proofs.RememberedLemmas.{known-adapters_after_copies, some-kept}
 use Rattle.repository.proofs.PlanLemmas.{chain_err, changed_to, releases_of}
 use Rattle.repository.proofs.LegalLemmas.{stepped-legal}
-use Rattle.repository.proofs.LoadLemmas.{proper-steady}
 use Rattle.repository.proofs.repository.Repository.finish.Goals as goal
 
-none-go : {A : Type 0} (q : Option (Leaving A)) → is_some q ≡ false → spots_in q ≡ []
+none-go : {A B : Type 0} (q : Option (Box (Leaving A) B)) → is_some q ≡ false → spots_in q ≡ []
 none-go None h = refl
 none-go (Some x) h = absurd (let no : true ≡ false = h in cc)
 
--- a change that is ready for the abstract state is ready for the state of the repository
-seen : (s v : State) (text : List ℕ) (change : Change) (a : Answer) (ss : List Spot) (es : List Edit) (vs : List ValueEdit) (ns : List Notice) → s ≡ v → IsReady v text change a ss es vs ns → IsReady s text change a ss es vs ns
-seen s v text change a ss es vs ns is h = subst (λ (t : State). IsReady t text change a ss es vs ns) (sym is) h
+-- the round of a chain, and the adapters that are remembered, by links that are the same
+made-round : (l m : Links) (ns : List Notice) (rs : List Listed) (r : RoundView) → r ≡ round_of (above l) ns rs → l ≡ m → r ≡ round_of (above m) ns rs
+made-round l m ns rs r is same = is ∙ ap (λ (k : Links). round_of (above k) ns rs) same
 
-pub reserve-requires-clause-no_cycle : goal.reserve-requires-clause-no_cycle
-reserve-requires-clause-no_cycle g c = c.self.invariant.legal.model.links.forest
+known-here : (l m : Links) (rs : List Listed) (h : Hearers) → l ≡ m → AreKnown (above l) rs h → AreKnown (above m) rs h
+known-here l m rs h same known = subst (λ (k : Links). AreKnown (above k) rs h) same known
 
-pub returns-in-Err : goal.returns-in-Err
-returns-in-Err g c =
+pub round-requires : goal.round-requires
+round-requires g c =
+    let legal = c.self.invariant.legal.model.links in
+    record {
+      legal = subst IsLegalSet (sym c.reserve.ensures.links) legal.set;
+      no_cycle = subst HasNoCycle (sym c.reserve.ensures.links) legal.forest;
+      known = subst (λ (l : Links). AreKnown (above l) c.self.inside.adapters.0 c.self.inside.hearers) (sym c.reserve.ensures.links) c.self.invariant.hearers;
+    }
+
+pub reserve_round-requires : goal.reserve_round-requires
+reserve_round-requires g c =
     let s : State = state g.L.LinkStore.links c.self.inside in
+    record { round = ((reads s).above, c.args.prepared.chain, made-round _ _ c.args.prepared.chain c.self.inside.adapters.0 _ c.in-Ok-round.ensures.round c.reserve.ensures.links) }
+
+-- if memory or capacity is refused, the view has not changed
+pub returns-in-Err : goal.returns-in-Err
+returns-in-Err g c = λ text change given. rw (← c.self.view_is, c.reserve.ensures.links, c.reserve.ensures.values) (no-memory _ _ text change _ _ _ _ _ c.self.view_is given)
+
+pub invariant_of-self : goal.invariant_of-self
+invariant_of-self g c =
+    unchanged g.L.LinkStore.links g.L.LinkStore.kinds c.self.inside c.reserve.new.store c.reserve.new.values c.self.inside.adapters c.self.inside.paths c.self.inside.hearers c.reserve.ensures.links (c.reserve.ensures.kinds (kinds_of c.self.inside.meta) c.self.invariant.kinds_are) c.reserve.ensures.values refl c.self.invariant.paths c.self.invariant.hearers c.self.invariant
+
+pub returns-in-Err-round : goal.returns-in-Err-round
+returns-in-Err-round g c = λ text change given. rw (← c.self.view_is, c.reserve.ensures.links, c.reserve.ensures.values) (no-memory _ _ text change _ _ _ _ _ c.self.view_is given)
+
+pub invariant_of-self-in-Err-round : goal.invariant_of-self-in-Err-round
+invariant_of-self-in-Err-round g c =
+    unchanged g.L.LinkStore.links g.L.LinkStore.kinds c.self.inside c.reserve.new.store c.reserve.new.values c.self.inside.adapters c.self.inside.paths c.round.new.hearers c.reserve.ensures.links (c.reserve.ensures.kinds (kinds_of c.self.inside.meta) c.self.invariant.kinds_are) c.reserve.ensures.values refl c.self.invariant.paths (known-here _ _ c.self.inside.adapters.0 c.round.new.hearers c.reserve.ensures.links c.round.ensures.known) c.self.invariant
+
+pub returns-in-Err-with_room : goal.returns-in-Err-with_room
+returns-in-Err-with_room g c = λ text change given. rw (← c.self.view_is, c.reserve.ensures.links, c.reserve.ensures.values) (no-memory _ _ text change _ _ _ _ _ c.self.view_is given)
+
+pub invariant_of-self-in-Err-with_room : goal.invariant_of-self-in-Err-with_room
+invariant_of-self-in-Err-with_room g c =
+    unchanged g.L.LinkStore.links g.L.LinkStore.kinds c.self.inside c.reserve.new.store c.reserve.new.values c.self.inside.adapters c.self.inside.paths c.round.new.hearers c.reserve.ensures.links (c.reserve.ensures.kinds (kinds_of c.self.inside.meta) c.self.invariant.kinds_are) c.reserve.ensures.values refl c.self.invariant.paths (known-here _ _ c.self.inside.adapters.0 c.round.new.hearers c.reserve.ensures.links c.round.ensures.known) c.self.invariant
+
+pub returns-in-Err-reserve_round : goal.returns-in-Err-reserve_round
+returns-in-Err-reserve_round g c =
+    let s : State = state g.L.LinkStore.links c.self.inside in
+    let reserved = c.in-Err-reserve_round.ensures (reads s).above c.args.prepared.chain (made-round _ _ c.args.prepared.chain c.self.inside.adapters.0 _ c.in-Ok-round.ensures.round c.reserve.ensures.links) in
     λ text change given.
-    let p = seen s c.args.self.now text change c.args.answer c.args.spots.items c.args.edits c.args.values c.args.chain c.self.view_is given in
-    rw (← c.self.view_is, c.reserve.ensures.links, c.reserve.ensures.values, c.reserve.ensures.adapters)
-    (chain_err s text change c.args.chain c.in-Err.refused p.proper p.asked p.allowed p.tells c.in-Err.ensures.reason)
+    let p = seen s _ text change _ _ _ _ _ c.self.view_is given in
+    rw (← c.self.view_is, c.reserve.ensures.links, c.reserve.ensures.values, reserved.kept) (chain_err s text change _ c.in-Err-reserve_round.refused p.proper p.asked p.allowed p.tells reserved.reason)
+
+pub invariant_of-self-in-Err-reserve_round : goal.invariant_of-self-in-Err-reserve_round
+invariant_of-self-in-Err-reserve_round g c =
+    let s : State = state g.L.LinkStore.links c.self.inside in
+    let reserved = c.in-Err-reserve_round.ensures (reads s).above c.args.prepared.chain (made-round _ _ c.args.prepared.chain c.self.inside.adapters.0 _ c.in-Ok-round.ensures.round c.reserve.ensures.links) in
+    unchanged g.L.LinkStore.links g.L.LinkStore.kinds c.self.inside c.reserve.new.store c.reserve.new.values c.reserve_round.new.self c.self.inside.paths c.round.new.hearers c.reserve.ensures.links (c.reserve.ensures.kinds (kinds_of c.self.inside.meta) c.self.invariant.kinds_are) c.reserve.ensures.values reserved.kept c.self.invariant.paths (known-here _ _ c.self.inside.adapters.0 c.round.new.hearers c.reserve.ensures.links c.round.ensures.known) c.self.invariant
+
+pub returns-in-Err-apply : goal.returns-in-Err-apply
+returns-in-Err-apply g c =
+    let s : State = state g.L.LinkStore.links c.self.inside in
+    let reserved = c.in-Ok-reserve_round.ensures (reads s).above c.args.prepared.chain (made-round _ _ c.args.prepared.chain c.self.inside.adapters.0 _ c.in-Ok-round.ensures.round c.reserve.ensures.links) in
+    λ text change given. rw (← c.self.view_is, c.in-Err-apply.ensures.links_kept, c.in-Err-apply.ensures.values_kept, c.reserve.ensures.links, c.reserve.ensures.values, reserved.kept) (no-memory _ _ text change _ _ _ _ _ c.self.view_is given)
+
+pub invariant_of-self-in-Err-apply : goal.invariant_of-self-in-Err-apply
+invariant_of-self-in-Err-apply g c =
+    let s : State = state g.L.LinkStore.links c.self.inside in
+    let p = seen s _ c.requires.ready.0 c.requires.ready.1 _ _ _ _ _ c.self.view_is c.requires.ready.2 in
+    let m = c.self.inside.meta in
+    let reserved = c.in-Ok-reserve_round.ensures (reads s).above c.args.prepared.chain (made-round _ _ c.args.prepared.chain c.self.inside.adapters.0 _ c.in-Ok-round.ensures.round c.reserve.ensures.links) in
+    let old = above (g.L.LinkStore.links c.self.inside.store) in
+    unchanged g.L.LinkStore.links g.L.LinkStore.kinds c.self.inside c.apply.new.store c.apply.new.values c.reserve_round.new.self c.forget.new.paths c.forget_if.new.self
+    (c.in-Err-apply.ensures.links_kept ∙ c.reserve.ensures.links) (c.apply.ensures.kinds (kinds_of m) (c.reserve.ensures.kinds (kinds_of c.self.inside.meta) c.self.invariant.kinds_are) p.of_kind) (c.in-Err-apply.ensures.values_kept ∙ c.reserve.ensures.values) reserved.kept
+    (subst (KeepsFragments (reads s)) (sym c.forget.ensures.paths) (some-kept (reads s) c.self.inside.paths (touches_containment (kinds_of m) (g.E.Edits.edits_of_links c.args.prepared.edits)) c.self.invariant.paths))
+    (c.forget_if.ensures old c.self.inside.adapters.0 (λ stay. c.forget.ensures.hearers old c.self.inside.adapters.0 (λ out. known-here _ _ c.self.inside.adapters.0 c.round.new.hearers c.reserve.ensures.links c.round.ensures.known))) c.self.invariant
+
+pub deliver_and_release-told-requires : goal.deliver_and_release-told-requires
+deliver_and_release-told-requires g c =
+    let s : State = state g.L.LinkStore.links c.self.inside in
+    record {
+      fits = (c.in-Ok-reserve_round.ensures (reads s).above c.args.prepared.chain (made-round _ _ c.args.prepared.chain c.self.inside.adapters.0 _ c.in-Ok-round.ensures.round c.reserve.ensures.links)).fits;
+      room = subst (λ (n : ℕ). IfSome c.in-Ok-with_room.leaving (λ x. HasRoom n x.value)) c.told_len.ensures.len c.in-Ok-with_room.ensures.room;
+    }
 
 pub returns : goal.returns
 returns g c =
     let s : State = state g.L.LinkStore.links c.self.inside in
-    λ text change given.
-    let p = seen s c.args.self.now text change c.args.answer c.args.spots.items c.args.edits c.args.values c.args.chain c.self.view_is given in
+    let q = c.args.prepared in
+    let es = g.E.Edits.edits_of_links q.edits in
+    let vs = g.E.Edits.edits_of_values q.edits in
     let up = (reads s).above in
-    let ns : List Notice = c.args.chain in
-    let values = c.apply-2.ensures ∙ ap (λ (v : ValuesState). values_after_edits v c.args.values) c.reserve.ensures.values ∙ p.values_made in
-    let made_links = c.apply.ensures.links ∙ ap (λ (l : Links). links.links_after_edits l c.args.edits) c.reserve.ensures.links ∙ p.links_made in
-    let answered = p.answered in
-    let rs : List Listed = c.reserve.new.adapters.0 in
-    let round : RoundView = c.in-Ok.reserved.0 in
-    let delivery : adapters_after_copies round.copies rs ≡ tell_chain up ns s.adapters = ap (λ (r : RoundView). adapters_after_copies r.copies rs) c.in-Ok.ensures.round ∙ ap (adapters_after_copies (round_copies up ns s.adapters)) c.reserve.ensures.adapters ∙ adapters_after_copies-round_copies up ns s.adapters in
-    let ss = spots_in c.in-Ok.reserved.1 in
-    let go : ss ≡ going_with (reads s) s.adapters change = c.in-Ok.ensures.spots ∙ p.spots in
+    let ns : List Notice = q.chain in
+    let is = made-round _ _ ns s.adapters _ c.in-Ok-round.ensures.round c.reserve.ensures.links in
+    let reserved = c.in-Ok-reserve_round.ensures up ns is in
+    λ text change given.
+    let p = seen s _ text change _ _ _ _ _ c.self.view_is given in
+    let values = c.in-Ok-apply.ensures.values ∙ ap (λ (v : ValuesState). values_after_edits v vs) c.reserve.ensures.values ∙ p.values_made in
+    let made_links = c.in-Ok-apply.ensures.links ∙ ap (λ (l : Links). links.links_after_edits l es) c.reserve.ensures.links ∙ p.links_made in
+    let rs : List Listed = c.reserve_round.new.self.0 in
+    let round : RoundView = c.in-Ok-round.round in
+    let delivery : adapters_after_copies round.copies rs ≡ tell_chain up ns s.adapters = ap (λ (r : RoundView). adapters_after_copies r.copies rs) is ∙ ap (adapters_after_copies (round_copies up ns s.adapters)) reserved.kept ∙ adapters_after_copies-round_copies up ns s.adapters in
+    let ss = spots_in c.in-Ok-with_room.leaving in
+    let go : ss ≡ going_with (reads s) s.adapters change = c.in-Ok-with_room.ensures.spots ∙ p.spots in
     let left : leavers ss round.copies rs ≡ releases_of s change ns = λ i. released_adapters (go i) (delivery i) in
-    let told = c.from_vec.ensures ∙ c.notify-told.ensures.told ∙ ap (λ (r : RoundView). r.told ++ (leavers ss round.copies rs).told) c.in-Ok.ensures.round ∙ ap (λ (x : Released). told_list up ns s.adapters ++ x.told) left in
-    let views = ap (views_of g.A.Adapter.heard) c.from_vec-2.ensures ∙ c.notify-told.ensures.released ∙ ap (λ (x : Released). x.views) left in
-    let adapters = c.notify-told.ensures.others ∙ ap (λ (x : Released). x.others) left in
-    let t : State = record { model = model_of c.self.inside.meta (values_of c.apply-2.new.self) (g.L.LinkStore.links c.apply.new.self); adapters = c.notify-told.new.adapters.0 } in
+    let told = c.from_vec.ensures ∙ c.deliver_and_release-told.ensures.told ∙ ap (λ (r : RoundView). r.told ++ (leavers ss round.copies rs).told) is ∙ ap (λ (x : Released). told_list up ns s.adapters ++ x.told) left in
+    let views = ap (views_of g.A.Adapter.heard) c.from_vec-2.ensures ∙ c.deliver_and_release-told.ensures.released ∙ ap (λ (x : Released). x.views) left in
+    let adapters = c.deliver_and_release-told.ensures.others ∙ ap (λ (x : Released). x.others) left in
+    let t : State = record { model = model_of c.self.inside.meta (values_of c.apply.new.values) (g.L.LinkStore.links c.apply.new.store); adapters = c.deliver_and_release-told.new.self.0 } in
     rw (← c.self.view_is)
-    (changed_to s t text change ns c.args.answer c.from_vec.result (views_of g.A.Adapter.heard c.from_vec-2.result) p.proper p.asked p.allowed p.tells c.in-Ok.ensures.counted answered told views
+    (changed_to s t text change ns q.answer c.from_vec.result (views_of g.A.Adapter.heard c.from_vec-2.result) p.proper p.asked p.allowed p.tells reserved.counted p.answered told views
     (λ i. model_of c.self.inside.meta (values i) (made_links i)) adapters)
-
--- if capacity is refused, the view has not changed
-pub invariant_of-self : goal.invariant_of-self
-invariant_of-self g c =
-    let m = c.self.inside.meta in
-    let same : model_of m (values_of c.self.inside.values) (g.L.LinkStore.links c.self.inside.store) ≡ model_of m (values_of c.reserve.new.values) (g.L.LinkStore.links c.reserve.new.store) =
-    λ i. model_of m (sym c.reserve.ensures.values i) (sym c.reserve.ensures.links i) in
-    record {
-      legal = subst IsLegal (λ i. record { model = same i; adapters = sym c.reserve.ensures.adapters i }) c.self.invariant.legal;
-      steady = subst HasSteadyTexts same c.self.invariant.steady;
-      kinds_are = c.reserve.ensures.kinds (kinds_of m) c.self.invariant.kinds_are;
-      paths = subst (λ (x : Model). KeepsFragments (reading x) c.self.inside.paths) same c.self.invariant.paths;
-      hearers = subst (λ (l : Links). AreKnown (above l) c.reserve.new.adapters.0 c.reserve.new.hearers) (sym c.reserve.ensures.links) (subst (λ (rs : List Listed). AreKnown (above (g.L.LinkStore.links c.self.inside.store)) rs c.reserve.new.hearers) (sym c.reserve.ensures.adapters) c.reserve.ensures.known);
-    }
 
 pub invariant_of-self-2 : goal.invariant_of-self-2
 invariant_of-self-2 g c =
     let s : State = state g.L.LinkStore.links c.self.inside in
-    let text : List ℕ = c.requires.ready.0 in
-    let change : Change = c.requires.ready.1 in
-    let p = seen s c.args.self.now text change c.args.answer c.args.spots.items c.args.edits c.args.values c.args.chain c.self.view_is c.requires.ready.2 in
-    let proper = p.proper in
-    let edits = c.args.edits in
+    let q = c.args.prepared in
+    let es = g.E.Edits.edits_of_links q.edits in
+    let vs = g.E.Edits.edits_of_values q.edits in
+    let p = seen s _ c.requires.ready.0 c.requires.ready.1 q.answer q.spots.items es vs q.chain c.self.view_is c.requires.ready.2 in
     let m = c.self.inside.meta in
-    let w = values_of c.apply-2.new.self in
-    let applied_links = c.apply.ensures.links ∙ ap (λ (l : Links). links.links_after_edits l edits) c.reserve.ensures.links in
-    let values = c.apply-2.ensures ∙ ap (λ (v : ValuesState). values_after_edits v c.args.values) c.reserve.ensures.values ∙ p.values_made in
-    let made_links = applied_links ∙ p.links_made in
-    let made : model_of m w (g.L.LinkStore.links c.apply.new.self) ≡ model_after s.model change = λ i. model_of m (values i) (made_links i) in
+    let text = c.requires.ready.0 in
+    let change : Change = c.requires.ready.1 in
+    let reserved = c.in-Ok-reserve_round.ensures (reads s).above q.chain (made-round _ _ c.args.prepared.chain c.self.inside.adapters.0 _ c.in-Ok-round.ensures.round c.reserve.ensures.links) in
+    let new = above (g.L.LinkStore.links c.apply.new.store) in
+    let rs : List Listed = c.reserve_round.new.self.0 in
+    let copies = c.in-Ok-round.round.copies in
+    let edited = c.in-Ok-apply.ensures.links ∙ ap (λ (l : Links). links.links_after_edits l es) c.reserve.ensures.links in
+    let valued = c.in-Ok-apply.ensures.values ∙ ap (λ (v : ValuesState). values_after_edits v vs) c.reserve.ensures.values in
     let legal = stepped-legal _ _ (command_of text change) _ (subst IsLegal c.self.view_is c.self.invariant.legal) (returns g c text change c.requires.ready.2) in
-    let legal_after = subst (λ (l : Links). models.IsLegal (model_of m w l)) applied_links legal.model in
-    record {
-      legal = legal;
-      steady = subst HasSteadyTexts (sym made) (change-keeps-steady s.model change c.self.invariant.steady (proper-steady (reads s) text change proper));
-      kinds_are = c.apply.ensures.kinds (kinds_of m) (c.reserve.ensures.kinds (kinds_of m) c.self.invariant.kinds_are) p.of_kind;
-      paths = subst (KeepsFragments (reading (model_of m w (g.L.LinkStore.links c.apply.new.self)))) (sym c.forget_touched.ensures.paths)
-          (subst (λ (l : Links). KeepsFragments (reading (model_of m w l)) (if touches_containment (kinds_of m) edits then map.empty else c.self.inside.paths)) (sym applied_links)
-          (kept-after m (values_of c.self.inside.values) w (g.L.LinkStore.links c.self.inside.store) edits c.self.invariant.legal.model legal_after p.fits p.of_kind c.self.inside.paths c.self.invariant.paths));
-      hearers = c.forget_touched.ensures.hearers (above (g.L.LinkStore.links c.apply.new.self)) c.notify-told.new.adapters.0 (λ out stay.
-          let old = g.L.LinkStore.links c.self.inside.store in
-          let rs : List Listed = c.reserve.new.adapters.0 in
-          let copies = c.in-Ok.reserved.0.copies in
-          let known : AreKnown (above old) rs c.reserve.new.hearers = subst (λ (qs : List Listed). AreKnown (above old) qs c.reserve.new.hearers) (sym c.reserve.ensures.adapters) c.reserve.ensures.known in
-          let told = known-adapters_after_copies (above old) copies rs c.reserve.new.hearers known in
-          let moved = hearers-kept m (values_of c.self.inside.values) w old edits c.self.invariant.legal.model legal_after p.fits p.of_kind (adapters_after_copies copies rs) c.reserve.new.hearers told out in
-          let nobody : spots_in c.in-Ok.reserved.1 ≡ [] = none-go c.in-Ok.reserved.1 (sym c.is_some-targets_go.ensures ∙ stay) in
-          let others : c.notify-told.new.adapters.0 ≡ adapters_after_copies copies rs = c.notify-told.ensures.others ∙ ap (λ (ss : List Spot). (leavers ss copies rs).others) nobody in
-          subst (λ (l : Links). AreKnown (above l) c.notify-told.new.adapters.0 c.reserve.new.hearers) (sym applied_links)
-          (subst (λ (qs : List Listed). AreKnown (above (links.links_after_edits old edits)) qs c.reserve.new.hearers) (sym others) moved));
-    }
+    let told = known-adapters_after_copies (above (g.L.LinkStore.links c.self.inside.store)) copies c.self.inside.adapters.0 c.round.new.hearers (known-here _ _ c.self.inside.adapters.0 c.round.new.hearers c.reserve.ensures.links c.round.ensures.known) in
+    let stays = known-after g.L.LinkStore.links g.L.LinkStore.kinds c.self.inside c.apply.new.store c.apply.new.values c.deliver_and_release-told.new.self c.forget.new.paths c.forget_if.new.self text change q.answer q.spots.items es vs q.chain p edited legal c.self.invariant
+    (adapters_after_copies copies c.self.inside.adapters.0) c.round.new.hearers told in
+    made g.L.LinkStore.links g.L.LinkStore.kinds c.self.inside c.apply.new.store c.apply.new.values c.deliver_and_release-told.new.self c.forget.new.paths c.forget_if.new.self text change q.answer q.spots.items es vs q.chain p edited legal c.self.invariant
+    (c.apply.ensures.kinds (kinds_of m) (c.reserve.ensures.kinds (kinds_of c.self.inside.meta) c.self.invariant.kinds_are) p.of_kind) valued c.forget.ensures.paths
+    (c.forget_if.ensures new c.deliver_and_release-told.new.self.0 (λ stay. c.forget.ensures.hearers new c.deliver_and_release-told.new.self.0 (λ out.
+    let nobody : spots_in c.in-Ok-with_room.leaving ≡ [] = none-go c.in-Ok-with_room.leaving (sym c.is_some.ensures ∙ stay) in
+    let others : c.deliver_and_release-told.new.self.0 ≡ adapters_after_copies copies c.self.inside.adapters.0 = c.deliver_and_release-told.ensures.others ∙ ap (λ (ss : List Spot). (leavers ss copies rs).others) nobody ∙ ap (adapters_after_copies copies) reserved.kept in
+    subst (λ (qs : List Listed). AreKnown new qs c.round.new.hearers) (sym others) (stays out))))

@@ -1,4 +1,4 @@
-use Rattle.std.proofs.Common.{◌≡◌, ◌∙◌, [], None, true, false, not, ap, refl, sym, subst}
+use Rattle.std.proofs.Common.{◌≡◌, ◌∙◌, [], List, None, true, false, not, ap, refl, sym, subst}
 use Rattle.mm_types.specs.Shapes.{shape}
 use Rattle.std.proofs.lemmas.Bool.{false≢true}
 use Rattle.models.specs.Model.{Model, reading}
@@ -7,9 +7,19 @@ use Rattle.handshake.specs.Refusals.{early_refusal}
 use Rattle.handshake.specs.declared.act.Act.TheVariants.{Set}
 use Rattle.handshake.specs.declared.change.Change.{Change}
 use Rattle.handshake.specs.declared.change.Change.TheVariants.{At}
+use Rattle.notice_chain.specs.Released.{Spot}
+use Rattle.notice_chain.specs.declared.notice.Notice.{Notice}
+use Rattle.mm_types.specs.declared.end.End.{End}
+use Rattle.mm_types.specs.declared.value.Value.{Value}
+use Rattle.mm_values.specs.declared.value_edit.ValueEdit.{ValueEdit}
+use Rattle.change_plans.specs.Plans.{IsPlanOf, of_values}
+use Rattle.change_plans.specs.declared.planned.Finding.TheVariants as finding
+use Rattle.change_plans.proofs.ValueLemmas.{is-plain}
+use Rattle.repository.specs.State.{State, reads}
+use Rattle.repository.specs.Prepared.{IsReady}
 use Rattle.repository.proofs.PlanLemmas.{free-as-found, out_of_memory, refused-as-found}
 use Rattle.repository.specs.declared.reply.Answer.TheVariants as answer
-use Rattle.repository.proofs.ValueLemmas.{values-ready}
+use Rattle.repository.proofs.ValueLemmas.{none-goes, ready-of}
 use Rattle.repository.proofs.repository.Repository.set_heard.Goals as goal
 
 pub returns-in-Some : goal.returns-in-Some
@@ -30,14 +40,19 @@ returns-in-Err g c =
     let free = free-as-found c.args.self.now c.model-model.result change _ c.model-model.ensures c.attribute_refusal.ensures c.in_default.is in
     out_of_memory c.args.self.now [] change tt free.0
 
-pub tell_values-requires : goal.tell_values-requires
-tell_values-requires g c =
-    let change : Change = At c.args.end (Set c.args.value) in
-    let asked = subst (λ (m : Model). early_refusal (reading m) change ≡ None) c.model-model.ensures (none-else_by _ _ (sym c.attribute_refusal.ensures ∙ c.in_default.is)).0 in
-    record { ready = (change, values-ready c.args.self.now c.model-model.result change answer.Done c.model-model.ensures asked tt (λ rs text _. refl) true c.in-Ok.values c.in-Ok.chain (ap not c.requires.attribute) c.in-Ok.ensures (λ (no : true ≡ false). absurd (false≢true (sym no)))) }
+-- the plan of the set is ready
+ready : (s : State) (x : Model) (e : End) (v : Value) (ss : List Spot) (vs : List ValueEdit) (ns : List Notice) → x ≡ s.model → early_refusal (reads s) (At e (Set v)) ≡ None → (shape s.model.metamodel e.feature).is_reference ≡ false → ss ≡ [] → IsPlanOf true x (At e (Set v)) (of_values vs ns) → IsReady s [] (At e (Set v)) answer.Done ss [] vs ns
+ready s x e v ss vs ns is early attribute none plan =
+    let c : Change = At e (Set v) in
+    ready-of s x [] c answer.Done ss [] vs ns true is early tt (λ rs text _. refl) (none ∙ none-goes (reading x) s.adapters c (is-plain (reading x) c (ap (λ (m : Model). not (shape m.metamodel e.feature).is_reference) is ∙ ap not attribute)))
+    (finding.Nothing, plan) (λ (no : true ≡ false). absurd (false≢true (sym no)))
+
+pub finish-requires : goal.finish-requires
+finish-requires g c =
+    let asked = subst (λ (m : Model). early_refusal (reading m) (At c.args.end (Set c.args.value)) ≡ None) c.model-model.ensures (none-else_by _ _ (sym c.attribute_refusal.ensures ∙ c.in_default.is)).0 in
+    record { ready = ([], At c.args.end (Set c.args.value), ready c.args.self.now c.model-model.result c.args.end c.args.value c.new.result.items c.in-Ok.edits c.in-Ok.chain c.model-model.ensures asked c.requires.attribute c.new.ensures.items c.in-Ok.ensures) }
 
 pub returns-in-Ok : goal.returns-in-Ok
 returns-in-Ok g c =
-    let change : Change = At c.args.end (Set c.args.value) in
-    let asked = subst (λ (m : Model). early_refusal (reading m) change ≡ None) c.model-model.ensures (none-else_by _ _ (sym c.attribute_refusal.ensures ∙ c.in_default.is)).0 in
-    c.tell_values.ensures change (values-ready c.args.self.now c.model-model.result change answer.Done c.model-model.ensures asked tt (λ rs text _. refl) true c.in-Ok.values c.in-Ok.chain (ap not c.requires.attribute) c.in-Ok.ensures (λ (no : true ≡ false). absurd (false≢true (sym no))))
+    let asked = subst (λ (m : Model). early_refusal (reading m) (At c.args.end (Set c.args.value)) ≡ None) c.model-model.ensures (none-else_by _ _ (sym c.attribute_refusal.ensures ∙ c.in_default.is)).0 in
+    c.finish-in-Ok.ensures [] (At c.args.end (Set c.args.value)) (ready c.args.self.now c.model-model.result c.args.end c.args.value c.new.result.items c.in-Ok.edits c.in-Ok.chain c.model-model.ensures asked c.requires.attribute c.new.ensures.items c.in-Ok.ensures)

@@ -1,0 +1,139 @@
+//! Preparing a change: its answer, its edits and its notifications.
+ghost use Rattle.std.specs.Prelude.{◌≡◌, ⊤, ℕ, [], true, List, None, IfErr, IfOk};
+ghost use Rattle.mm_types.specs.Resolved.{Metamodel};
+ghost use Rattle.models.specs.Model.{reading};
+ghost use Rattle.notice_chain.specs.Listed.{Listed};
+ghost use Rattle.handshake.specs.Changes.{edits_links_alone, edits_values_alone};
+ghost use Rattle.handshake.specs.Refusals.{early_refusal};
+ghost use Rattle.handshake.specs.declared.change.Change.{Change as ChangeView};
+ghost use Rattle.repository.specs.Answers.{answer_of};
+ghost use Rattle.repository.specs.Leaving.{going_with};
+ghost use Rattle.repository.specs.Prepared.{IsPlanned};
+ghost use Rattle.repository.specs.Proper.{IsProper};
+ghost use Rattle.repository.specs.Refusals.{IsPlanRefusal};
+ghost use Rattle.repository.specs.Views.{command_of};
+
+use crate::answering::{early_answer, known_answer, planned_answer};
+use crate::edits::{AllEdits, Edits};
+use crate::leaving::spots_gone;
+use crate::reply::Answer;
+use adapter_list::AdapterList;
+use adapters::Adapter;
+use change_plans::{plan, plan_links, plan_values};
+use handshake::Change;
+use links::{LinkStore, Plan};
+use mm_types::{AdapterNo, Node, Refused};
+use mm_values::ValuePlan;
+use models::ModelRef;
+use notice_chain::Chain;
+use std::alloc::Global;
+
+/// A change that is prepared: its answer, its edits and its notifications, and the targets that are taken away with the objects that it
+/// destroys.
+#[derive(Drop)]
+pub(crate) struct Prepared<E> {
+    pub answer: Answer,
+    pub edits: E,
+    pub chain: Chain,
+    /// The targets that are taken away, adapter by adapter in attach order. The targets of one adapter have the order in which the adapter
+    /// got them.
+    pub spots: Vec<(AdapterNo, Node)>,
+}
+
+/// Edits that are planned: a change is prepared with them before anything changes.
+pub(crate) trait Planned: Edits {
+    /// The changes whose edits are of this type.
+    ghost covers: { Metamodel → ChangeView → Type 0 };
+
+    /// Prepares a change, or gives the refusal that planning finds. Notifications are made only if an adapter may have to get them.
+    fn prepare<L: LinkStore, A: Adapter>(
+        alloc: Global,
+        model: &ModelRef<L>,
+        adapters: &AdapterList<A>,
+        change: Change,
+        is_heard: bool,
+    ) -> Result<Prepared<Self>, Refused>
+        requires asked { early_refusal (reading model.now) change ≡ None }
+        requires proper { (text : List ℕ) × IsProper (reading model.now) text change }
+        requires covered { covers model.now.metamodel change }
+        ensures answer { IfOk result (λ p. (rs : List Listed) (text : List ℕ) → IsProper (reading model.now) text change → p.answer ≡ answer_of (reading model.now) rs (command_of text change)) }
+        ensures spots { IfOk result (λ p. p.spots.items ≡ going_with (reading model.now) adapters.now.0 change) }
+        ensures planned { IfOk result (λ p. IsPlanned is_heard model.now change (Self.edits_of_links p.edits) (Self.edits_of_values p.edits) p.chain) }
+        ensures refused { IfErr result (λ r. IsPlanRefusal model.now change r) };
+}
+
+/// Changes that edit only values.
+impl Planned for ValuePlan {
+    ghost covers = { λ m c. edits_values_alone m c ≡ true };
+
+    #[inline(always)]
+    fn prepare<L: LinkStore, A: Adapter>(
+        alloc: Global,
+        model: &ModelRef<L>,
+        _adapters: &AdapterList<A>,
+        change: Change,
+        is_heard: bool,
+    ) -> Result<Prepared<Self>, Refused> {
+        let answer = known_answer(alloc, model, &change)?;
+        let (edits, chain) = plan_values(alloc, model, change, is_heard)?;
+        Ok(Prepared {
+            answer,
+            edits,
+            chain,
+            spots: Vec::new(alloc),
+        })
+    }
+}
+
+/// Changes that edit only links.
+impl Planned for Plan {
+    ghost covers = { λ m c. edits_links_alone m c ≡ true };
+
+    #[inline(always)]
+    fn prepare<L: LinkStore, A: Adapter>(
+        alloc: Global,
+        model: &ModelRef<L>,
+        _adapters: &AdapterList<A>,
+        change: Change,
+        is_heard: bool,
+    ) -> Result<Prepared<Self>, Refused> {
+        let answer = known_answer(alloc, model, &change)?;
+        let (edits, chain) = plan_links(alloc, model, &change, is_heard)?;
+        Ok(Prepared {
+            answer,
+            edits,
+            chain,
+            spots: Vec::new(alloc),
+        })
+    }
+}
+
+/// All changes.
+impl Planned for AllEdits {
+    ghost covers = { λ m c. ⊤ };
+
+    fn prepare<L: LinkStore, A: Adapter>(
+        alloc: Global,
+        model: &ModelRef<L>,
+        adapters: &AdapterList<A>,
+        change: Change,
+        is_heard: bool,
+    ) -> Result<Prepared<Self>, Refused> {
+        let early = early_answer(alloc, model, &change)?;
+        let planned = plan(alloc, model, change, is_heard)?;
+        let spots = spots_gone(alloc, adapters, &planned.finding)?;
+        let answer = match early {
+            Some(answer) => answer,
+            None => planned_answer(&planned.finding),
+        };
+        Ok(Prepared {
+            answer,
+            edits: AllEdits {
+                links: planned.edits,
+                values: planned.values,
+            },
+            chain: planned.chain,
+            spots,
+        })
+    }
+}
