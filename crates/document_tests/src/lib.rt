@@ -5,34 +5,10 @@
 #![tactic(auto)]
 
 #[cfg(test)]
-mod bad_bytes;
+mod fixtures;
 #[cfg(test)]
-mod causes;
+mod metamodel_tests;
 #[cfg(test)]
-mod edges;
+mod resource_tests;
 #[cfg(test)]
-mod fragments;
-#[cfg(test)]
-mod graphs;
-#[cfg(test)]
-mod hostile_bytes;
-#[cfg(test)]
-mod joining;
-#[cfg(test)]
-mod library;
-#[cfg(test)]
-mod look_ups;
-#[cfg(test)]
-mod metamodel_keys;
-#[cfg(test)]
-mod printed;
-#[cfg(test)]
-mod raw_metamodels;
-#[cfg(test)]
-mod readings;
-#[cfg(test)]
-mod resource;
-#[cfg(test)]
-mod values;
-#[cfg(test)]
-mod words;
+mod text_tests;

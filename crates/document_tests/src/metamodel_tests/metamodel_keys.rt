@@ -1,5 +1,5 @@
 //! What is read from a metamodel document, key by key.
-use crate::library::{LIBRARY, loaded};
+use crate::fixtures::library::{LIBRARY, loaded};
 use mm_types::{RawClass, RawFeature, RawKind, RawMeta, Text};
 use std::alloc::{AllocError, Global};
 use std::test::Fail;

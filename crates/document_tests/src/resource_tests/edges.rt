@@ -1,5 +1,5 @@
 //! Documents at their limits: long texts, deep objects and many objects.
-use crate::resource::{library, of_roots, refusal};
+use crate::fixtures::resource::{library, of_roots, refusal};
 use mm_meta::Meta;
 use mm_types::{DocFault, Refused};
 use std::alloc::{AllocError, Global};

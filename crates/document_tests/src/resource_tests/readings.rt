@@ -1,5 +1,5 @@
 //! What documents are read as. The expected texts are written by hand, and not taken from a run.
-use crate::resource::{library, of_roots, told};
+use crate::fixtures::resource::{library, of_roots, told};
 use std::test::Fail;
 
 /// Roots of documents, and what they are read as.

@@ -1,5 +1,5 @@
 //! Documents with a byte replaced are read, or refused with a cause; documents that are cut are refused with the cause SYNTAX.
-use crate::resource::{library, refusal};
+use crate::fixtures::resource::{library, refusal};
 use mm_meta::Meta;
 use mm_types::{DocFault, Refused};
 use std::alloc::{AllocError, Global};

@@ -1,5 +1,5 @@
 //! A metamodel with its names unresolved.
-use crate::library::loaded;
+use crate::fixtures::library::loaded;
 use mm_types::{Enumeration, RawClass, RawMeta, laws};
 use std::alloc::{AllocError, Global};
 use std::test::Fail;

@@ -1,5 +1,5 @@
 //! The look-ups in the library's metamodel: by each number of a feature or a class, by the number past the last, and by names.
-use crate::library::library;
+use crate::fixtures::library::library;
 use mm_meta::Meta;
 use mm_types::{ClassNo, FeatureNo};
 use std::alloc::{AllocError, Global};

@@ -3,8 +3,8 @@
 //!
 //! The expected counts follow from the grammar of JSON. None of the three texts has a backslash. A text that is cut before its last brace
 //! is no JSON. Neither is a text with a byte 0, which JSON never has, with a byte 255, which is not UTF-8, or with an odd number of quotes.
-use crate::library::{LIBRARY, library};
-use crate::resource::refusal;
+use crate::fixtures::library::{LIBRARY, library};
+use crate::fixtures::resource::refusal;
 use mm_check::check_document;
 use mm_meta::Meta;
 use mm_types::{MetaFault, Refused};

@@ -1,5 +1,5 @@
 //! Why documents are refused: for each cause except DEPTH, documents to which this cause applies and no cause with a lower number.
-use crate::resource::{library, of_new_roots, of_roots, told};
+use crate::fixtures::resource::{library, of_new_roots, of_roots, told};
 use std::test::Fail;
 
 /// Whole documents, and their refusals.
