@@ -61,10 +61,16 @@ impl<L: LinkStore, A: Adapter> Scene<'_, L, A> {
         found
     }
 
-    /// Explains that an adapter can't count the notifications that it would get. The attached adapter that got the most notifications is
-    /// named.
-    pub(crate) fn explain_full(&self, out: &mut String) -> Written {
+    /// Explains that an adapter can't count the notifications that it would get. Names the adapter of the line; if the line names none, the
+    /// attached adapter that got the most notifications.
+    pub(crate) fn explain_full(&self, out: &mut String, form: &Form<'_>) -> Written {
         let prefix = self.prefix;
+        if let Some(AdapterNo(number)) = adapter_in(form) {
+            return writeln!(
+                out,
+                "{prefix}: A{number} can't count one last notice from each of its targets; attach another adapter"
+            );
+        }
         match self.fullest() {
             Some((number, told)) => writeln!(
                 out,

@@ -97,7 +97,7 @@ impl<L: LinkStore, A: Adapter> Scene<'_, L, A> {
             }
             Refused::NoAdapter => self.explain_no_adapter(out, form),
             Refused::AdapterTaken => self.explain_taken(out, form),
-            Refused::AdapterFull => self.explain_full(out),
+            Refused::AdapterFull => self.explain_full(out, form),
             Refused::Document(_) | Refused::Memory => Ok(()),
             refused => self.explain_end(out, form, &named, refused),
         }
