@@ -49,7 +49,7 @@ impl<'a> Case<'a> {
         script.strip_suffix(b"\n".as_slice()).unwrap_or(script)
     }
 
-    /// Adds a line to the part of the case for which it is: the beginning of the line says which part that is.
+    /// Adds a line to the part of the case to which the line belongs. The beginning of the line says which part that is.
     fn push(&mut self, line: &'a str) -> Result<(), Fault> {
         if let Some(name) = line.strip_prefix("metamodel ") {
             self.metamodel = Some(name);

@@ -12,7 +12,7 @@ pub enum Fault {
     Unreadable,
     /// The arguments can't be read, or nothing can be written.
     Stream,
-    /// The metamodel of books is refused, or a command before the list, or a command on the books of the snapshot: the program is wrong.
+    /// The metamodel of books, a command before the list, or a command on the books of the snapshot is refused: the program is wrong.
     Refused,
     /// Memory was refused.
     Memory,

@@ -28,7 +28,8 @@ impl<'s, L: LinkStore, A: Adapter> Scene<'s, L, A> {
 }
 
 impl<L: LinkStore, A: Adapter> Scene<'_, L, A> {
-    /// An object with its class and its name, as `#3 (Book "Emma")`; only the number, as `#3`, if there is no such object.
+    /// An object with its class and its name, as `#3 (Book "Emma")`. Without the name, as `#3 (Book)`, if the object has no text as `name`;
+    /// only the number, as `#3`, if there is no such object.
     pub(crate) fn object_called(&self, object: ObjectNo) -> Result<String, AllocError> {
         let number = object.0;
         let Ok(class) = self.repository.e_class(object) else {

@@ -9,15 +9,15 @@ use script_lines::{FeatureForm, Form, WrittenValue};
 use script_output::literal_name;
 use std::alloc::{AllocError, Global};
 
-/// An index of a line that is too high, and the greatest index that the command accepts in its place. `last` is `None` if the command
-/// accepts no index.
+/// An index that a line gives and that is too high, and the greatest index that the command accepts instead. `last` is `None` if the
+/// command accepts no index.
 #[derive(Clone, Copy)]
 struct TooHigh {
     index: u32,
     last: Option<u32>,
 }
 
-/// An index of a line, if it is not below a count.
+/// The index `index` as too high, if it is not below `count`; otherwise `None`. The command accepts the indexes below `count`.
 fn above(index: u32, count: u32) -> Option<TooHigh> {
     if index < count {
         return None;
@@ -28,8 +28,8 @@ fn above(index: u32, count: u32) -> Option<TooHigh> {
     })
 }
 
-/// An index of a line that is too high for a list of `len` values. If both indexes of `move` are too high, it is the index from which the
-/// value is moved.
+/// The index that a line gives, if it is too high for a list of `len` values; otherwise `None`. If both indexes of `move` are too high, it
+/// is the index from which the value is moved.
 fn too_high(form: &Form<'_>, len: u32) -> Option<TooHigh> {
     let Form::At { form, .. } = form else {
         return None;

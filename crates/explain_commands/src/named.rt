@@ -39,11 +39,6 @@ fn feature_in<'a>(form: &Form<'a>) -> Option<&'a str> {
 /// The object that a line names first, if the line can name only an object there.
 fn object_in(form: &Form<'_>) -> Option<ObjectNo> {
     match form {
-        Form::At {
-            node: Node::Object(object),
-            form: FeatureForm::Resolve(_),
-            ..
-        } => Some(*object),
         Form::Delete(object) | Form::Read(Read::Of(object, _)) => Some(*object),
         _ => None,
     }

@@ -62,7 +62,7 @@ impl<L: LinkStore, A: Adapter> Scene<'_, L, A> {
         }
     }
 
-    /// Explains a refusal of a line that names only a node.
+    /// Explains a refusal of a line that names a node and no feature.
     fn explain_node(&self, out: &mut String, named: &Named<'_>, refused: Refused) -> Written {
         match (named.node, refused) {
             (Some(node), Refused::Dangling) => self.explain_dangling(out, node),

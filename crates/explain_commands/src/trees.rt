@@ -53,7 +53,7 @@ impl<L: LinkStore, A: Adapter> Scene<'_, L, A> {
         matches!(self.repository.e_resource(object), Ok(None))
     }
 
-    /// The first value of a feature of an object that is an object in no resource.
+    /// The first object in no resource among the values of a feature.
     fn outside_at(&self, end: End) -> Option<ObjectNo> {
         if let Ok(found) = self.repository.value(end.node, end.feature) {
             return match found {
@@ -73,8 +73,7 @@ impl<L: LinkStore, A: Adapter> Scene<'_, L, A> {
         None
     }
 
-    /// The first reference of an object that has an object in no resource as a value, and the first value of this reference that is in no
-    /// resource.
+    /// The first reference of the object `object` with an object in no resource among its values, and the first such value.
     fn outside_of(&self, object: ObjectNo) -> Option<(End, ObjectNo)> {
         let meta = self.repository.meta();
         let node = Node::Object(object);

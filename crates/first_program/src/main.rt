@@ -1,5 +1,5 @@
-//! A first program over `mmrepo_lib`. It makes a library with a book, counts the notifications of these changes, and prints the saved
-//! library. docs/LIBRARY.md shows it.
+//! A first program over `mmrepo_lib`. It makes a library with a book, counts the notifications of these changes, prints the saved library,
+//! and loads it again into a second repository. docs/LIBRARY.md shows it.
 #![tactic(auto)]
 
 ghost use Rattle.mmrepo_lib.specs.Commands.{set};
@@ -73,7 +73,8 @@ fn print_counts<W: Write>(
     Ok(())
 }
 
-/// Prints the notifications of a call, and the counts of the adapter that it gave back. Here the program acts on them.
+/// Prints the notifications of a call, and the counts of the adapter, if the call gave it back. This function is where the program acts on
+/// notifications.
 fn print_reply<W: Write>(writer: &mut W, reply: Reply<Tally>) -> Result<(), io::Error> {
     print_told(writer, reply.told.as_slice())?;
     print_counts(writer, reply.released.as_slice())

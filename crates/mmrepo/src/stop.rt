@@ -14,7 +14,7 @@ pub(crate) enum JournalRefusal {
     InUse,
     /// The file is no journal.
     NoJournal,
-    /// The journal was begun with another metamodel.
+    /// The journal was begun with a different metamodel.
     OtherMetamodel,
     /// The line of this number was run again, and was refused, or is bad, or is no line that a journal keeps. The head is line 1.
     Line(u64),

@@ -25,8 +25,8 @@ use Rattle.repository.specs.declared.command.Command.TheVariants.{Detach}
 use Rattle.snapshots.specs.Replayed.{replayed_notices, state_at}
 use Rattle.snapshots.specs.Snapshots.{node_state, snapshot_of}
 
--- the notifications of a command that is not refused, replayed on the values and the set flag that an end has before the command, give the
--- values and the set flag that the end has after the command, if the end's node exists before and after the command
+-- Take the values and the set flag that an end has before a command, and replay the notifications of the command on them. The result is the
+-- values and the set flag that the end has after the command, if the command is not refused and the end's node exists before and after it.
 abbrev pub ChainReplays : State → Command View → Type 0
 ChainReplays s c =
     IsLegal s → refusal_of s c ≡ None
@@ -76,7 +76,8 @@ OfWatched s cs number target a n Holds =
 abbrev pub ToldIsEnough : State → List (Command View) → AdapterNo → Node → Listed → Node → Type 0
 ToldIsEnough s cs number target a n = OfWatched s cs number target a n (AreEnough s cs target n (told_to number (told_by_all (run s cs).outcomes)))
 
--- if the adapter of an earlier view v keeps all notifications, the notifications that its later view w has kept after those of v are enough
+-- v is an earlier view of an adapter, and w a later one: if the adapter keeps all notifications, the notifications in w that come after
+-- those of v are enough
 abbrev pub KeepsEnough : State → List (Command View) → Node → Node → View → View → Type 0
 KeepsEnough s cs target n v w = v.room ≡ None → AreEnough s cs target n (drop (length v.kept) w.kept)
 

@@ -76,7 +76,7 @@ abbrev pub OfSaved : ((s : State) → (ResourceNo → List ℕ) → List Task �
 OfSaved P s =
     IsLegal s → HasSteadyTexts s.model → IsSaved (reads s) → (texts : ResourceNo → List ℕ) → AreTexts (reads s) texts → (ts : List Task) → IsOrder (reads s) [] [] ts → P s texts ts
 
--- `AreLoads` holds for the tasks in any order
+-- `AreLoads` is true under the conditions of `OfSaved`
 abbrev pub LoadsGiveBetween : State → Type 0
 LoadsGiveBetween = OfSaved AreLoads
 
@@ -104,8 +104,8 @@ pub record IsAllResolved (r : Reading) (t : State) : Type 0 where
   pub none : HasNoProxy (reads (step t command.ResolveAll).after)
   pub alike : Alike r (reads (step t command.ResolveAll).after)
 
--- P is true of a state s and a state t without adapters, if both are legal, s has no proxies, and t is a partly resolved copy of s; t has
--- the metamodel of s, the objects and URIs of w, and the links of b
+-- P is true of the states s and t, if both are legal, s has no proxies, and t is a partly resolved copy of s. t has no adapters; it has the
+-- metamodel of s, the objects, values and URIs of w, and the links b.
 abbrev pub OfBetween : (Reading → State → Type 0) → State → ValuesState → Links → Type 0
 OfBetween P s w b =
     let t = state_of_model (model_of s.model.metamodel w b) in

@@ -55,7 +55,7 @@ fn named(alloc: Global) -> Result<Notice, AllocError> {
     })
 }
 
-/// A snapshot of the first book, on which the notification that the book is named was replayed.
+/// A snapshot of the first book, after the notification `named` was replayed on it.
 pub(super) fn renamed<L: LinkStore, A: Adapter>(
     alloc: Global,
     repository: &Repository<L, A>,
@@ -78,7 +78,7 @@ pub(super) fn watch<L: LinkStore, A: Adapter>(
     }
 }
 
-/// The commands that make another book, name the first book, attach an adapter to the first book, and read the name and a snapshot of this
+/// The commands that make a second book, name the first book, attach an adapter to the first book, and read the name and a snapshot of this
 /// book.
 pub(super) fn commands<A: Adapter>(
     alloc: Global,

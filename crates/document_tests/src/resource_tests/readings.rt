@@ -44,7 +44,7 @@ const READINGS: [(&str, &str); 16] = [
            {"class":"Folder","features":{"friends_of":["/2","/0"],"friends":["/2"]}}"#,
         "4[ 19: #2 #1; ] 4[ 20: #0; ] 4[ 19: #2; 20: #2 #0; ] roots #0 #1 #2",
     ),
-    // References into other resources are proxies, by the joined URI, and their fragments as written.
+    // A reference into another resource is a proxy. Its address is the joined URI, `#`, and the fragment as it is written.
     (
         r#"{"class":"Person","features":{"likes":["b#/","b#/0","HTTP://N.example/x#//@books.3"]}}"#,
         "3[ 15: <http://m.example/b#/> <http://m.example/b#/0> <http://n.example/x#//@books.3>; ] roots #0",

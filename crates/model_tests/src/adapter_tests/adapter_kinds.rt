@@ -1,4 +1,5 @@
-//! What adapters of each kind keep of three notifications; two of them are called in a `Box`. And a counter that can't count any further.
+//! What adapters of each kind keep of three notifications; two of the adapters are called in a `Box`. And a counter that can't count any
+//! further.
 use crate::fixtures::latest::Latest;
 use crate::fixtures::notices::added;
 use adapters::{Adapter, Counter, NoRoom, Recorder, Window};

@@ -32,8 +32,8 @@ fn refused_to_three<A: Adapter>(
     Ok((refused, told_of_three(&*list)))
 }
 
-/// Three adapters, some of which can't be notified of a chain, and why the chain is refused: the first of these adapters in attach order
-/// decides.
+/// Three adapters in attach order, and why a chain is refused. Some of the adapters can't be notified of the chain; the first one that
+/// can't decides.
 const REFUSED: [(Kind, Kind, Kind, Refused); 3] = [
     (
         Kind::Recorder,

@@ -42,8 +42,8 @@ fn detached<A: Adapter>(alloc: Global, repository: &mut RowRepository<A>) -> Res
     given(alloc, repository.detach(NO))
 }
 
-/// What the calls give that attach an adapter to a book, count its notifications, and detach it. Before its notifications are counted, the
-/// book is named, and the name is unset.
+/// Attaches an adapter to a book, names the book, unsets the name, counts the notifications of the adapter, and detaches it. Returns the
+/// outcome of the attach, the counts, and the outcome of the detach, each on a line of its own.
 fn calls<A: Adapter>(
     alloc: Global,
     repository: &mut RowRepository<A>,
@@ -73,8 +73,8 @@ fn an_adapter_is_attached_counted_and_detached(rt: HostRuntime) -> Result<(), Fa
     Ok(())
 }
 
-/// What the calls give that attach an adapter to a first book, give it a second book as a target, twice, take the first book from it,
-/// twice, and take the second book from it.
+/// Attaches an adapter to a first book, gives it a second book as a target twice, takes the first book from it twice, and takes the second
+/// book from it. Returns the outcomes of these calls, each on a line of its own.
 fn calls_of_targets<A: Adapter>(
     alloc: Global,
     repository: &mut RowRepository<A>,

@@ -113,7 +113,8 @@ fn a_dropped_list_drops_its_adapters(rt: HostRuntime) -> Result<(), Fail> {
     assert_eq!(rt; drops.get().all, 0);
     drop(list);
     assert_eq!(rt; drops.get().all, 3);
-    // No adapter was notified of REMOVING_ADAPTER: of the calls of a list, only `detach`, `release` and `close` do that.
+    // No adapter was notified of REMOVING_ADAPTER: of the calls of a list, only `detach`, `release`, `deliver_and_release` and `close` do
+    // that.
     assert_eq!(rt; drops.get().removed, 0);
     Ok(())
 }

@@ -190,7 +190,7 @@ fn flags_and_values_are_followed(rt: HostRuntime) -> Result<(), Fail> {
 }
 
 /// Puts a book into a library, and takes the book out again. Returns whether this gives three notifications, and whether the replay of
-/// these on the library's snapshot from before gives the library's snapshot from afterwards.
+/// these notifications on the library's snapshot from before gives the library's snapshot from afterwards.
 fn come_and_go(alloc: Global) -> Result<bool, Fail> {
     let mut repository: Box<Store<RowStore>> = empty(alloc, metamodel(alloc, LIBRARY)?)?;
     let mut told = Vec::new(alloc);

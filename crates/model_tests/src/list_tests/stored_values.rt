@@ -221,8 +221,8 @@ fn lists_are_edited(rt: HostRuntime) -> Result<(), Fail> {
     Ok(())
 }
 
-/// The plan of edits of two lists of one object. Each list has mostly one value, grows to two values or shrinks to none, and has one value
-/// at the end.
+/// The plan of edits of two lists of one object. Each list has one value after most of its edits, and at the end. In between one list grows
+/// to two values, and the other list shrinks to none.
 fn edits_of_one(alloc: Global) -> Result<ValuePlan, AllocError> {
     Ok(planned(vec![in alloc;
         put(0, 3, 30),

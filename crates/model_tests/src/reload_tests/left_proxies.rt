@@ -8,8 +8,8 @@ use mm_types::{AdapterNo, Node, ObjectNo, Refused, Text, Value};
 use std::alloc::{AllocError, Global};
 use std::test::Fail;
 
-/// The references of the first root of the first resource, and how many proxies are left in both resources after the attempt to resolve
-/// all. One of these proxies is in the second resource.
+/// The references of the first root of the first resource, and how many proxies are left in both resources after the attempt to resolve all
+/// proxies. One of the proxies that are left is in the second resource.
 const LEFT: [(&str, u64); 8] = [
     // No object is at the fragment.
     (r#""sees":["1#/7"]"#, 2),

@@ -121,7 +121,8 @@ fn check_untold<L: LinkStore>(repository: &Network<L>, room: u64) -> Result<(), 
     Err(Fail::new(format_args!("{told:?} with room for {room}")))
 }
 
-/// Resolves all proxies. Fails unless the command is refused for lack of capacity, nothing changes, and no adapter is notified.
+/// Attaches the two counters, resolves all proxies, and detaches the counters. Fails unless the resolve is refused for lack of capacity,
+/// nothing changes, and no adapter is notified of it.
 fn check_refused<L: LinkStore>(
     alloc: Global,
     repository: &mut Network<L>,

@@ -1,4 +1,4 @@
-//! How values, nodes and refusals are printed, some of them such as no script can cause to be printed; and the names of faults.
+//! How values, nodes and refusals are printed, also some that no script can cause to be printed; and the names of faults.
 use mm_types::{DocFault, Node, ObjectNo, Refused, ResourceNo, Text, Value};
 use script_output::Output;
 use script_streams::RunFault;
