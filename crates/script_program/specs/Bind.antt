@@ -62,7 +62,7 @@ named_value s n name v = value_in s.model.metamodel (feature_number s n name) v
 abbrev pub create_command : {A : Type 0} → Metamodel → List ℕ → Command A
 create_command m name = command.Create (class_number m name)
 
--- the end of a named feature of a node
+-- the end that consists of a node and of its feature with a given name; the feature has the number NOTHING if the node has no such feature
 abbrev pub named_end : State → Node → List ℕ → End
 named_end s n name = at_end n (feature_number s n name)
 

@@ -121,8 +121,8 @@ pub record EndsJournaled (m : Metamodel) (s : Session) (ls : List (List ℕ)) (o
   pub written : Appends old new (live_text printed)
   pub recalled : model_of m kept ≡ Some t.state.model
 
--- A run stopped for a fault. Answers to the first lines were written; the next lines were run but not answered. A file that a crash leaves
--- is a journal of the model after the first lines, or after the next lines too.
+-- A run stopped for a fault. The answers to the first lines were written, but after a failed write only a prefix of them; the next lines
+-- were run but not answered. A file that a crash leaves is a journal of the model after the first lines, or after the next lines too.
 pub record StopsJournaled (m : Metamodel) (fault : RunFault) (s : Session) (ls : List (List ℕ)) (old new : Option (List ℕ)) (may_leave : List ℕ → Type 0) : Type 0 where
   pub first : List (List ℕ)
   pub next : List (List ℕ)
@@ -137,7 +137,7 @@ pub record StopsJournaled (m : Metamodel) (fault : RunFault) (s : Session) (ls :
   pub written : WritesUntil fault next old new (live_text printed)
   pub left : (c : List ℕ) → may_leave c → Recalls m after.state.model c ⊎ Recalls m after_next.state.model c
 
--- A file is a journal of the model that the first lines left.
+-- A file is a journal of the model that the first lines of `ls` left, however many these are.
 pub record LeavesJournaled (m : Metamodel) (s : Session) (ls : List (List ℕ)) (file : List ℕ) : Type 0 where
   pub first : List (List ℕ)
   pub rest : List (List ℕ)

@@ -109,7 +109,8 @@ fn at_command<L: LinkStore, A: Adapter>(
     }
 }
 
-/// The end of a named feature of a node.
+/// The end that consists of `node` and of its feature with the name `name`. The feature has the number `NOTHING` if the node has no such
+/// feature.
 fn named_end<L: LinkStore, A: Adapter>(
     repository: &Repository<L, A>,
     node: Node,

@@ -1,5 +1,5 @@
-//! Runs lines of the most frequent forms. The functions here call the repository directly, and print the answer of a change that notifies
-//! no adapter without making a reply. Binding a line to a command and taking a reply apart would take longer than the change itself.
+//! Runs lines of the most frequent forms. The functions here call the repository directly. If a change notifies no adapter, they print its
+//! answer, and no reply is made. Binding a line to a command and taking a reply apart would take longer than the change itself.
 ghost use Rattle.std.specs.Prelude.{◌≡◌, Err, IfOk, MatchOption, None, Ok, OnErr, Some};
 ghost use Rattle.mm_types.specs.Resolved.{Metamodel};
 ghost use Rattle.mm_types.specs.declared.numbers.Node.TheVariants as node;

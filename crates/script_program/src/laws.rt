@@ -34,8 +34,8 @@ pub fn with_no_line_lost_the_script_is_a_function()
         → (summary_of printed).no_memory ≡ 0 → printed ≡ script s bytes [] }
 {}
 
-/// The output of a run with output options is what `script` gives for all lines of the script, given the lost lines of the run, written as
-/// the output options say. This also holds if the option `stop` ended the run before the last line.
+/// Take what `script` gives for all lines of the script and for the lost lines of a run, and write it as the output options say. The result
+/// is the output of the run with these options. This also holds if the option `stop` ended the run before the last line.
 pub fn a_run_writes_the_dressed_script()
     ensures { (d : Dress) (s t : Session) (bytes : List ℕ) (first : List (List ℕ)) (printed : List Printed) → RunsBatch d s bytes first printed t
         → dressed_output d (lines bytes) (script s bytes (lost_lines printed)) ≡ dressed_output d first printed }
@@ -50,8 +50,8 @@ pub fn a_live_run_writes_the_script_with_empty_lines()
 {}
 
 /// What was kept comes back. Of the lines of a run, a journal keeps some. If the kept lines are run again, without adapters, from the model
-/// before the run, then all of them are done, and they leave the model that all lines of the run left. A session that has this model and no
-/// adapters refuses one of the kept lines only if memory is refused.
+/// before the run, then all of them are done, and they leave the model that all lines of the run left. A session that has the model before
+/// the run and no adapters refuses one of the kept lines only if memory is refused.
 pub fn what_was_kept_comes_back()
     ensures again { (s t : Session) (ls : List (List ℕ)) (printed : List Printed) → RunsLines s ls printed t
         → model_after_lines s.state.model (kept_lines ls printed) ≡ Some t.state.model }

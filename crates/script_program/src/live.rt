@@ -29,12 +29,12 @@ const BEHIND: &[u8] = b"\n";
 /// Fails with `Memory` if memory is refused to the run itself, and with `Write` if a write fails or takes no byte.
 fn answer_live<W: Write, L: LinkStore, A: Adapter, H: Listener>(
     alloc: Global,
+    line: &[u8],
     writer: &mut W,
     repository: &mut Repository<L, A>,
     pool: &mut Pool<A>,
     output: &mut Output,
     listener: &mut H,
-    line: &[u8],
 ) -> Result<Turn, RunFault>
     ensures ok { IfOk result (λ t. AnswersLive line.now (session repository.old pool.old) (W.contents writer.old) (W.contents writer.new) t
         (session repository.new pool.new)) }
@@ -82,12 +82,12 @@ fn answer_lines<R: Read, W: Write, L: LinkStore, A: Adapter, H: Listener>(
         }
         let turn = answer_live(
             alloc,
+            line.as_slice(),
             writer,
             repository,
             pool,
             &mut output,
             listener,
-            line.as_slice(),
         )?;
         summary = summary.with(turn);
         if end == LineEnd::Input {
@@ -127,10 +127,10 @@ pub fn live_over<R: Read, W: Write, L: LinkStore, A: Adapter, H: Listener>(
 /// Runs a script as `run` does, but answers each line before it reads the next: the text that a line prints is written with an empty line
 /// after it, and for a line that is skipped only an empty line is written. Before a read that may wait, the writer is flushed.
 ///
-/// Fails with `Read` if a read fails, with `TooLong` if a line has more than `INPUT_BYTES` bytes or if the script has `u64::MAX` newlines,
-/// with `Write` if a write or a flush fails or a write takes no byte, and with `Memory` if memory is refused to the run itself: then a
-/// prefix of the output of the first lines was written. If memory is refused to the repository, the line prints `refused 28 MEMORY`, and
-/// the run goes on.
+/// Fails with `Read` if a read fails, with `TooLong` if a line has more than `INPUT_BYTES` bytes or if the script has `u64::MAX` newlines
+/// or more, with `Write` if a write or a flush fails or a write takes no byte, and with `Memory` if memory is refused to the run itself:
+/// then a prefix of the output of the first lines was written. If memory is refused to the repository, the line prints `refused 28 MEMORY`,
+/// and the run goes on.
 pub fn run_live<R: Read, W: Write, L: LinkStore, A: Adapter>(
     alloc: Global,
     reader: &mut BufReader<R>,

@@ -27,17 +27,6 @@ impl<A: Adapter> Model for Pool<A> {
     ghost view = { λ p. map (λ o. option_map A.heard o) p.boxes.items };
 }
 
-/// The index of the adapter with a given number; A0 has no index.
-fn index(no: AdapterNo) -> Option<usize>
-    ensures { result ≡ p.index no }
-{
-    if no.0 == 0 {
-        None
-    } else {
-        Some(no.0 as usize - 1)
-    }
-}
-
 impl<A: Adapter> Pool<A> {
     /// A pool that has all adapters. Fails only if memory is refused.
     pub(crate) fn new(alloc: Global, boxes: Vec<A>) -> Result<Self, AllocError>
@@ -56,7 +45,10 @@ impl<A: Adapter> Pool<A> {
         ensures before { option_map (λ o. option_map A.heard o) result ≡ option_and_then (slice_get self.old) (p.index no) }
         ensures after { self.new ≡ p.with_entry (option_map A.heard entry) self.old no }
     {
-        let index = index(no)?;
+        if no.0 == 0 {
+            return None;
+        }
+        let index = no.0 as usize - 1;
         if index >= self.boxes.len() {
             return None;
         }

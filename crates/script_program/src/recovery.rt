@@ -14,10 +14,11 @@ use durable::{JournalFault, ReplayFault, behind_head, replay};
 use links::LinkStore;
 use std::alloc::Global;
 
-/// Runs the lines of a file again, over an empty repository. If the file has no line, nothing is run: the journal is still to be begun.
+/// Runs the lines of a file again, over an empty repository. If the file is empty, or is what a crash may leave while a journal is begun,
+/// nothing is run: the journal is still to be begun.
 ///
-/// Fails with `NoJournal` or `OtherMetamodel` if the file does not begin with the head, with `Line` if a line, run again, is refused or bad
-/// or is no line that a journal keeps, and with `Memory` if memory is refused.
+/// Fails with `NoJournal` or `OtherMetamodel` if any other file does not begin with the head, with `Line` if a line, run again, is refused
+/// or bad or is no line that a journal keeps, and with `Memory` if memory is refused.
 pub fn run_again<L: LinkStore, A: Adapter, H: Listener>(
     alloc: Global,
     session: &mut Journaled<L, A, H>,
@@ -28,7 +29,7 @@ pub fn run_again<L: LinkStore, A: Adapter, H: Listener>(
     ensures model { (m : Metamodel) → (session_of session.old).state ≡ empty_state m
         → OnOk result (model_of m (begun_lines head.now (recovered_lines bytes.now)) ≡ Some (session_of session.new).state.model) }
     // `NoJournal` and `OtherMetamodel` are returned only if the file does not begin with the head. If the file begins with the head, and
-    // the lines after the head leave a model, then only `Memory` is returned.
+    // the lines after the head leave a model, then `Memory` is the only fault that is returned.
     ensures head { IfErr result (λ fault. IsOfHead fault → (rest : List (List ℕ)) → recovered_lines bytes.now ≢ head.now ∷ rest) }
     ensures taken { (m : Metamodel) (model : Model) → (session_of session.old).state ≡ empty_state m → IsJournalOf m head.now bytes.now model
         → IfErr result (λ fault. fault ≡ JournalFault.Memory) }

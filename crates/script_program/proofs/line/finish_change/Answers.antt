@@ -1,8 +1,6 @@
-use Rattle.std.proofs.Common.{◌≡◌, ◌∙◌, ◌++◌, List, Ok, Err, ap, ap₂, fold, map, refl, sym}
+use Rattle.std.proofs.Common.{◌≡◌, ◌∙◌, ◌++◌, Ok, Err, ap, ap₂, fold, map, refl, sym}
 use Rattle.mm_types.specs.Resolved.{Metamodel}
-use Rattle.mm_types.specs.declared.numbers.AdapterNo.{AdapterNo}
 use Rattle.mm_types.specs.declared.numbers.FeatureNo.{FeatureNo}
-use Rattle.notice_chain.specs.View.{View}
 use Rattle.repository.specs.Run.{change_outcome}
 use Rattle.repository.specs.Views.{Outcome, reply_view}
 use Rattle.repository.proofs.RunLemmas.{executed-metamodel}

@@ -27,11 +27,7 @@ returns-in_err-end-clause-long g c =
 pub returns-in_err-turn-clause-err : goal.returns-in_err-turn-clause-err
 returns-in_err-turn-clause-err g c =
     let line = c.read_line.new.line.items in
-    let some : c.in_ok-end.end ≡ Input → 0 < length line =
-    elim c.else-eq.branch [
-      | else-eq-via-then-eq+else-is_empty w ↦ λ is. search rules
-      | else-eq-via-else-eq w ↦ λ is. search rules
-    ] in
+    let some : c.in_ok-end.end ≡ Input → 0 < length line = elim c.else-eq.branch [ else-eq-via-then-eq+else-is_empty w ↦ λ is. search rules | else-eq-via-else-eq w ↦ λ is. search rules ] in
     let remaining = reader_remaining g.R.Read.remaining in
     let first : Session = record { state = c.args.repository.now; pool = c.args.pool.now } in
     let now : Session = record { state = c.lines.repository; pool = c.lines.pool } in
@@ -44,43 +40,18 @@ returns-in_err-turn-clause-err g c =
 pub returns-then-eq-2-clause-ok : goal.returns-then-eq-2-clause-ok
 returns-then-eq-2-clause-ok g c =
     let last : c.in_ok-end.end ≡ Input = search rules in
-    let line = c.read_line.new.line.items in
-    let some : c.in_ok-end.end ≡ Input → 0 < length line =
-    elim c.else-eq.branch [
-      | else-eq-via-then-eq+else-is_empty w ↦ λ is. search rules
-      | else-eq-via-else-eq w ↦ λ is. search rules
-    ] in
-    let remaining = reader_remaining g.R.Read.remaining in
-    let contents = g.W.Write.contents in
-    let first : Session = record { state = c.args.repository.now; pool = c.args.pool.now } in
-    let now : Session = record { state = c.lines.repository; pool = c.lines.pool } in
-    let after : Session = record { state = c.answer_live.new.repository; pool = c.answer_live.new.pool } in
+    let some : c.in_ok-end.end ≡ Input → 0 < length c.read_line.new.line.items = elim c.else-eq.branch [ else-eq-via-then-eq+else-is_empty w ↦ λ is. search rules | else-eq-via-else-eq w ↦ λ is. search rules ] in
     let i = c.lines.invariant in
-    let one : AnswersLive line now (contents c.read_line.new.writer) (contents c.answer_live.new.writer) c.in_ok-turn.turn after = rw c.as_slice.ensures.value at c.in_ok-turn.ensures.ok in
-    let goes = next first (remaining c.args.reader.now) (contents c.args.writer.now) (remaining c.lines.reader) now c.lines.number i.0 c.lines.summary (contents c.lines.writer)
-    (contents c.read_line.new.writer) (remaining c.read_line.new.reader) after line c.in_ok-end.end c.in_ok-turn.turn (contents c.answer_live.new.writer) i.1
-    c.in_ok-end.ensures.keeps c.in_ok-end.ensures.ok some one in
-    rw c.with-summary.ensures (finish first (remaining c.args.reader.now) (remaining c.read_line.new.reader) after _ _ _ _ _ goes
-    (at_end (remaining c.args.reader.now) (remaining c.lines.reader) (remaining c.read_line.new.reader) i.1.done line i.1.read (rw last at c.in_ok-end.ensures.ok)))
+    let one : AnswersLive c.read_line.new.line.items (record { state = c.lines.repository; pool = c.lines.pool }) (g.W.Write.contents c.read_line.new.writer) (g.W.Write.contents c.answer_live.new.writer) c.in_ok-turn.turn (record { state = c.answer_live.new.repository; pool = c.answer_live.new.pool }) = rw c.as_slice.ensures.value at c.in_ok-turn.ensures.ok in
+    let goes = next _ _ _ _ _ _ _ _ _ _ _ _ _ _ _ _ i.1 c.in_ok-end.ensures.keeps c.in_ok-end.ensures.ok some one in
+    rw c.with-summary.ensures (finish _ _ _ _ _ _ _ _ _ goes (at_end _ _ _ i.1.done c.read_line.new.line.items i.1.read (rw last at c.in_ok-end.ensures.ok)))
 
 pub lines-preserved : goal.lines-preserved
 lines-preserved g c =
-    let line = c.read_line.new.line.items in
-    let some : c.in_ok-end.end ≡ Input → 0 < length line =
-    elim c.else-eq.branch [
-      | else-eq-via-then-eq+else-is_empty w ↦ λ is. search rules
-      | else-eq-via-else-eq w ↦ λ is. search rules
-    ] in
-    let remaining = reader_remaining g.R.Read.remaining in
-    let contents = g.W.Write.contents in
-    let first : Session = record { state = c.args.repository.now; pool = c.args.pool.now } in
-    let now : Session = record { state = c.lines.repository; pool = c.lines.pool } in
-    let after : Session = record { state = c.answer_live.new.repository; pool = c.answer_live.new.pool } in
+    let some : c.in_ok-end.end ≡ Input → 0 < length c.read_line.new.line.items = elim c.else-eq.branch [ else-eq-via-then-eq+else-is_empty w ↦ λ is. search rules | else-eq-via-else-eq w ↦ λ is. search rules ] in
     let i = c.lines.invariant in
-    let one : AnswersLive line now (contents c.read_line.new.writer) (contents c.answer_live.new.writer) c.in_ok-turn.turn after = rw c.as_slice.ensures.value at c.in_ok-turn.ensures.ok in
-    let goes = next first (remaining c.args.reader.now) (contents c.args.writer.now) (remaining c.lines.reader) now c.lines.number i.0 c.lines.summary (contents c.lines.writer)
-    (contents c.read_line.new.writer) (remaining c.read_line.new.reader) after line c.in_ok-end.end c.in_ok-turn.turn (contents c.answer_live.new.writer) i.1
-    c.in_ok-end.ensures.keeps c.in_ok-end.ensures.ok some one in
+    let one : AnswersLive c.read_line.new.line.items (record { state = c.lines.repository; pool = c.lines.pool }) (g.W.Write.contents c.read_line.new.writer) (g.W.Write.contents c.answer_live.new.writer) c.in_ok-turn.turn (record { state = c.answer_live.new.repository; pool = c.answer_live.new.pool }) = rw c.as_slice.ensures.value at c.in_ok-turn.ensures.ok in
+    let goes = next _ _ _ _ _ _ _ _ _ _ _ _ _ _ _ _ i.1 c.in_ok-end.ensures.keeps c.in_ok-end.ensures.ok some one in
     (i.0 ++ one.printed ∷ [], rw c.with-summary.ensures goes)
 
 pub returns-in_err-end-clause-err : goal.returns-in_err-end-clause-err
