@@ -45,6 +45,7 @@ class Opening(FolderTest):
             '', 'models', 'http://m.example', 'http://M.example/', 'ftp://m.example/', 'http://m.example/a', 'http://m.example/a b/',
             'http://m.example/../', 'http://m.example/./a/', 'http://m.example/#/', 'http://m.example/?/', 'http://m.example:80/',
             'http://m.example:0/', 'https://m.example:443/', 'http://m.example//', 'http://a..b/', 'http://u@m.example/', 'http://é/',
+            'http://m.example:99999/', 'http://m.example:080/', 'http://1/', 'http://127.1/', 'http://1.2.3.256/',
         ]
         for base in wrong:
             with self.subTest(base), self.assertRaises(ValueError):
@@ -183,7 +184,8 @@ class Uris(LibraryTest):
         ]
         for address, wanted in cases:
             self.assertEqual(shortened(BASE, own, address), wanted)
-        self.assertEqual(checked_base(BASE), BASE)
+        for base in (BASE, 'http://a-b.example:8080/town/', 'http://127.0.0.1/', 'http://xn--bcher-kva.example/'):
+            self.assertEqual(checked_base(base), base)
 
     def test_no_tools(self):
         with mock.patch.dict(os.environ, {'MMREPO_TOOLS': self.room.name}), self.assertRaises(ToolFailed):

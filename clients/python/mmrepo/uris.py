@@ -9,19 +9,20 @@ from functools import lru_cache
 from typing import Optional
 from urllib.parse import quote, unquote_to_bytes, urljoin
 
+from .web_urls import parse
+
 BASE = 'http://models.example/'
 
 _HOST = r'[a-z0-9]+(?:-+[a-z0-9]+)*'
-_BASE = re.compile(rf"(https?)://{_HOST}(?:\.{_HOST})*(?::([1-9][0-9]*))?/((?:[A-Za-z0-9._~!$&'()*+,;=:@-]+/)*)")
-_DEFAULT_PORTS = {'http': '80', 'https': '443'}
+_BASE = re.compile(rf"https?://{_HOST}(?:\.{_HOST})*(?::[1-9][0-9]*)?/(?:[A-Za-z0-9._~!$&'()*+,;=:@-]+/)*")
 # What the URL Standard leaves as it is in a path. It writes a percent sign and two hexadecimal digits for any other byte.
 _SAFE = "/|[]'~!$&()*+,;=:@-._"
 
 
 def checked_base(base: str) -> str:
     """A base URI. Raises a ValueError if the URL Standard writes it in another way, or if it does not end with a slash."""
-    found = _BASE.fullmatch(base)
-    if found is None or found[2] == _DEFAULT_PORTS[found[1]] or {'.', '..'} & set(found[3].split('/')):
+    url = parse(base, None) if _BASE.fullmatch(base) else None
+    if url is None or url.text() != base:
         raise ValueError(f'{base!r} is no base: a base is written as {BASE} or http://models.example/town/')
     return base
 
