@@ -23,7 +23,7 @@ class MmrepoError(Exception):
 
 
 class Refused(MmrepoError):
-    """A command was refused, and nothing has changed. docs/SCRIPT.md lists the refusals.
+    """A command was refused: it has changed nothing. docs/SCRIPT.md lists the refusals.
 
     `number` and `name` identify the refusal, as 8 and `TYPE`. `cause` has the number and the name of the cause if a document
     was refused, else it is None. `explained` has a line for each thing to fix in the document, in the words of `--explain`.
