@@ -1,4 +1,4 @@
--- How many copies each adapter gets, whether the adapter is ready for its copies, and which adapter refuses its copies.
+-- How many copies (`Rounds`) each adapter gets, whether the adapter is ready for its copies, and which adapter refuses its copies.
 use Rattle.std.specs.Prelude.{◌≡◌, ◌&&◌, ℕ, Bool, true, nat_eq, nat_lt, [], ◌∷◌, ◌+◌, ◌^◌, ◌<◌, ◌≤◌, List, length, map, slice_index, Option, Some, None}
 use Rattle.std.specs.List.{list_any}
 use Rattle.notice_chain.specs.Listed.{Listed}
@@ -37,12 +37,13 @@ pub record IsFullFor (rs : List Listed) (cs : List (ℕ × Notice)) (k : ℕ) : 
   pub some : 0 < copies_len cs k
   pub full : 2 ^ 64 ≤ told_at_ordinal rs k + (copies_len cs k + targets_at rs k)
 
--- the adapter at index k is the first in attach order that can't count its copies: each adapter before it is ready for its own copies
+-- the adapter at index k is the first in attach order that is full for its copies (`IsFullFor`): each adapter before it is ready for its
+-- own copies (`IsReadyFor`)
 pub record IsFirstFull (rs : List Listed) (ps : List ℕ) (cs : List (ℕ × Notice)) (k : ℕ) : Type 0 where
   pub full : IsFullFor rs cs k
   pub earlier : (j : ℕ) → j < k → IsReadyFor rs ps j (copies_len cs j)
 
--- the indexes of the adapters that copies are for
+-- for each copy, in order, the index of its adapter
 abbrev pub ordinals : List (ℕ × Notice) → List ℕ
 ordinals cs = map (λ c. c.0) cs
 

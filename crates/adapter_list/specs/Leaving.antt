@@ -12,11 +12,12 @@ use Rattle.adapter_list.specs.declared.leaving.Leaving.{Leaving}
 abbrev pub spots_in : {A B : Type 0} → Option (Box (Leaving A) B) → List Spot
 spots_in q = option_map_or (λ x. x.value.release) q []
 
--- the release of targets after the copies of a round were delivered
+-- what taking the targets ss away does (`Released`), after the copies of a round were delivered
 abbrev pub leavers : List Spot → List (ℕ × Notice) → List Listed → Released
 leavers ss copies rs = released_adapters ss (adapters_after_copies copies rs)
 
--- there is capacity for a number of notifications, and for the last notification from each target that is taken away
+-- the list `told` of x is empty, and has capacity for `chain_told` notifications and for the last notification from each target that is
+-- taken away
 pub record HasRoom {A : Type 0} (chain_told : ℕ) (x : Leaving A) : Type 0 where
   pub nothing_told : vec_len x.told ≡ 0
   pub told : chain_told + length x.release ≤ vec_capacity x.told

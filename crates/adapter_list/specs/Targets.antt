@@ -65,11 +65,11 @@ is_marked bs (node.Resource k) = true
 abbrev pub AreSameMarks : List Bool → List Bool → Type 0
 AreSameMarks old new = (i : ℕ) → get_or new i false ≡ get_or old i false
 
--- the new marks are the old marks, except that the mark of the node x is b
+-- the new marks are the old marks, except that the mark of x is b if the node x is an object
 abbrev pub AreSetAt : List Bool → Node → Bool → List Bool → Type 0
 AreSetAt old x b new = (o : ObjectNo) → get_or new o.0 false ≡ (if same_node x (node.Object o) then b else get_or old o.0 false)
 
--- there is capacity for the mark of a node
+-- the list of marks is long enough to have a mark for a node; a resource needs no mark
 abbrev pub HasMarkRoom : List Bool → Node → Type 0
 HasMarkRoom bs (node.Object o) = o.0 < length bs
 HasMarkRoom bs (node.Resource k) = ⊤

@@ -9,8 +9,8 @@ use std::collections::VecDeque;
 pub struct Attached<A = Box<dyn Adapter>> {
     /// The number under which the adapter is attached.
     pub no: AdapterNo,
-    /// The targets of the adapter: the nodes whose changes it is notified of. Each target comes once, in the order in which the adapter got
-    /// its targets. The targets are in a ring buffer, since a deletion takes many of them out in that order.
+    /// The targets of the adapter: the nodes to which it is attached. Each target comes once, in the order in which the adapter got its
+    /// targets. The targets are in a ring buffer, since a deletion takes many of them out in that order.
     pub targets: VecDeque<Target>,
     /// The adapter itself.
     pub adapter: A,

@@ -42,8 +42,8 @@ impl<A: Adapter> Leaving<A> {
         Ok(Some(Box::new(alloc, Leaving { release, told })?))
     }
 
-    /// Takes the targets from their adapters. In the result, the last notifications from these targets come after `chain_told`, the
-    /// notifications of a chain. Takes no memory.
+    /// Takes the targets from their adapters. Returns the notifications `chain_told` of a chain with the last notifications from these
+    /// targets after them, and the adapters that have no target left. Takes no memory.
     pub(crate) fn let_go(
         self,
         adapters: &mut AdapterList<A>,

@@ -16,7 +16,7 @@ pub(crate) fn is_marked(marks: &[bool], node: Node) -> bool
     }
 }
 
-/// Whether the object of a number is marked.
+/// Whether the object with the number `number` is marked.
 fn is_marked_at(marks: &[bool], number: usize) -> bool
     ensures { result ≡ get_or marks.now number false }
 {
@@ -27,7 +27,8 @@ fn is_marked_at(marks: &[bool], number: usize) -> bool
     false
 }
 
-/// Reserves capacity for the mark of a node. No mark changes. Fails only if memory is refused.
+/// Makes the list of marks long enough to have a mark for a node; a resource needs no mark. No mark changes. Fails only if memory is
+/// refused.
 pub(crate) fn reserve_mark(marks: &mut Vec<bool>, node: Node) -> Result<(), AllocError>
     ensures same { AreSameMarks marks.old.items marks.new.items }
     ensures room { OnOk result (HasMarkRoom marks.new.items node) }
@@ -50,7 +51,7 @@ fn lengthen(marks: &mut Vec<bool>, len: usize) -> Result<(), AllocError>
     Ok(())
 }
 
-/// Marks a node, or takes its mark away.
+/// Marks an object if `value` is true, or else takes its mark away. If the node is a resource, no mark changes.
 pub(crate) fn set_mark(marks: &mut Vec<bool>, node: Node, value: bool)
     requires { value ≡ true → HasMarkRoom marks.old.items node }
     ensures { AreSetAt marks.old.items node value marks.new.items }
@@ -60,7 +61,7 @@ pub(crate) fn set_mark(marks: &mut Vec<bool>, node: Node, value: bool)
     }
 }
 
-/// Marks the object of a number, or takes its mark away.
+/// Marks the object with the number `number`, or takes its mark away.
 fn set_mark_at(marks: &mut Vec<bool>, number: usize, value: bool)
     requires { value ≡ true → number < length marks.old.items }
     ensures { (i : ℕ) → get_or marks.new.items i false ≡ (if nat_eq number i then value else get_or marks.old.items i false) }

@@ -12,7 +12,7 @@ use std::alloc::AllocError;
 /// each key once, however often the key is written.
 const SEARCHED: usize = 256;
 
-/// The index of the last member that has a key; `None` if this member is not among the last `SEARCHED` members.
+/// The index of the last member that has a key; `None` if none of the last `SEARCHED` members has the key.
 fn last_of(members: Members, key: &str) -> Option<usize>
     ensures { IfSome result (λ i. (i < length members.now) × (list_all (λ m. not (bytes_eq m.0.now key.now)) (drop (i + 1) members.now) ≡ true)) }
 {

@@ -1,4 +1,5 @@
-//! A list of commands, done by one call of a repository, which no script makes; and notifications that are replayed on a snapshot.
+//! A list of commands that is done by one call of a repository; no script makes this call. Also notifications that are replayed on a
+//! snapshot.
 mod commands;
 mod printed;
 mod views;
@@ -45,9 +46,9 @@ fn do_list<L: LinkStore, A: Adapter, W: Write>(
     Ok(())
 }
 
-/// Makes a book, attaches the adapter `first` to the book, and takes a snapshot of the book. Replays on this snapshot the notification that
-/// the book is named. Then does the list of commands, which names the book and attaches the adapter `second`. At the end prints the
-/// snapshot.
+/// Makes a book, attaches the adapter `first` to the book, and takes a snapshot of the book. Replays on this snapshot a notification that
+/// says that the book gets a name; the book itself has none yet. Then does the list of commands, which names the book and attaches the
+/// adapter `second`. At the end prints the snapshot.
 fn session<L: LinkStore, A: Adapter, W: Write>(
     alloc: Global,
     writer: &mut W,
@@ -86,8 +87,8 @@ pub(crate) fn run_list<W: Write>(alloc: Global, writer: &mut W) -> Result<(), Fa
     run::<SlotStore, _, W>(alloc, writer, first, second)
 }
 
-/// Makes `count` books, takes a snapshot of them, and names the books. Replays the notifications on the snapshot. If the snapshot is then
-/// the same as a new snapshot, prints how many nodes it has, else `None`.
+/// Makes `count` books in a resource, takes a snapshot of the resource, and names the books. Replays the notifications of these changes on
+/// the snapshot. If the snapshot is then the same as a new snapshot, prints how many nodes it has, else `None`.
 pub(crate) fn follow<W: Write>(alloc: Global, writer: &mut W, count: u32) -> Result<(), Fault> {
     let meta = check_document(alloc, BOOKS.as_bytes())?;
     let mut repository: Repository<SlotStore, Counter> = Repository::new(alloc, meta);

@@ -57,8 +57,8 @@ fn read_file(rt: &HostRuntime, path: &str) -> Result<Vec<u8>, Fault> {
     }
 }
 
-/// Whether a case gives what it expects. If not, writes the difference; `part` is the name of the store over which the script ran, or `no
-/// store`.
+/// Whether a case gives what it expects. If not, writes what was expected and what was given; `part` is the name of the store over which
+/// the script ran, or `no store`.
 fn gives_expected<W: Write>(
     writer: &mut W,
     case: &Case<'_>,

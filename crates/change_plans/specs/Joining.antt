@@ -1,5 +1,5 @@
--- The proxies of a model are resolved one after another. Each is resolved by tables that were made of all proxies beforehand, and by the
--- sets of what was resolved so far.
+-- The proxies of a model are resolved one after another. The target of each proxy is found by tables that were made of all proxies
+-- beforehand, and by sets that record what was resolved so far (`Progress`).
 use Rattle.std.specs.Prelude.{◌≡◌, ◌&&◌, ◌||◌, Bool, false, not, List, [], ◌∷◌, ◌++◌, map, Option, Some, None, option_and_then, option_map, if◌then◌else◌}
 use Rattle.std.specs.Option.{option_map_or}
 use Rattle.mm_types.specs.Ends.{has_value}
@@ -57,7 +57,8 @@ target_by r g t x = option_and_then (λ o. unless_refused r g x.site (found_by r
 abbrev pub joint : ProxySite → ResolvedProxy → Joint
 joint p x = record { site = p; target = x }
 
--- whether k is the key of the counterpart's location; and `is_far_link`, whether k is the key of the object that is there after the resolve
+-- whether k is the key of the counterpart's location; and `is_far_link`, whether k is the key of the object that is at this location after
+-- the resolve
 abbrev pub is_far_site : ResolvedProxy → Counterpart → ReferenceKey → Bool
 is_far_site x c k = same_reference_key k (reference_key x.object c.end.feature c.index)
 

@@ -28,8 +28,8 @@ use removal::{LinkEnd, Removal};
 use resource_docs::Doc;
 use std::alloc::{AllocError, Global};
 
-/// The edits of links that make a change, given the links that the change cuts. The change must not resolve all proxies: the module
-/// `resolving_all` makes the edits for that.
+/// The edits of links that make a change, given the links that the change cuts. The change must not be a resolve of all proxies, whose
+/// edits are made in the module `resolving_all`.
 pub(crate) fn link_edits<L: LinkStore>(
     alloc: Global,
     model: &ModelRef<L>,
@@ -74,7 +74,7 @@ fn push_made<L: LinkStore>(
     Ok(())
 }
 
-/// Adds the edits that put a link in the place of a proxy and of its counterpart, after both are cut. Adds no edit without a target.
+/// Adds the edits that put a link in the place of a proxy and of its counterpart, after both are cut. If `target` is `None`, adds no edit.
 pub(crate) fn push_joining<L: LinkStore>(
     model: &ModelRef<L>,
     end: End,
@@ -105,7 +105,7 @@ fn back_edit<L: LinkStore>(model: &ModelRef<L>, other: Counterpart) -> Edit
     }
 }
 
-/// The edit after the cuts of a set, an addition or a move at a reference, if there is one; `None` for any other change.
+/// The edit that a set, an addition or a move at a reference makes after its cuts, if it makes one; `None` for any other change.
 fn made_edit<L: LinkStore>(model: &ModelRef<L>, change: &Change) -> Option<Edit>
     ensures { result ≡ e.made_edit (reading model.now) change.now }
 {
@@ -160,7 +160,7 @@ fn new_put<L: LinkStore>(model: &ModelRef<L>, end: End, index: u32, value: &Valu
     }
 }
 
-/// The edits of values that a change makes.
+/// The edits that a change makes of objects, attribute values and URIs.
 pub(crate) fn value_edits<L: LinkStore>(
     alloc: Global,
     model: &ModelRef<L>,
@@ -177,7 +177,7 @@ pub(crate) fn value_edits<L: LinkStore>(
     }
 }
 
-/// The edits of values that a change makes. The change must destroy nothing.
+/// The edits that a change makes of objects, attribute values and URIs. The change must destroy nothing.
 fn other_edits<L: LinkStore>(
     alloc: Global,
     model: &ModelRef<L>,
@@ -197,7 +197,7 @@ fn other_edits<L: LinkStore>(
     }
 }
 
-/// The edits of values that an act makes; an act at a reference makes none.
+/// The edits of attribute values that an act makes; an act at a reference makes none.
 fn edits_at<L: LinkStore>(alloc: Global, model: &ModelRef<L>, end: End, act: Act) -> ValuePlan
     ensures { result ≡ value_edits_of (reading model.now) (At end act) }
 {
@@ -222,7 +222,7 @@ fn act_edits<L: LinkStore>(alloc: Global, model: &ModelRef<L>, end: End, act: Ac
     }
 }
 
-/// The edits that make the objects of a document, with their values.
+/// The edits that make the objects of a document, and give each object the values of its attributes.
 fn load_edits<L: LinkStore>(
     alloc: Global,
     model: &ModelRef<L>,

@@ -1,4 +1,5 @@
-//! Finds out which proxies of a model are resolved if all are to be, one after another, and to what. The model is not changed.
+//! Plans a resolve of all proxies of a model, one after another: finds out which proxies are resolved, and the target of each resolved
+//! proxy. The model is not changed.
 ghost use Rattle.std.specs.Prelude.{◌≡◌, IfOk};
 ghost use Rattle.models.specs.Model.{reading};
 ghost use Rattle.change_plans.specs.Joining as spec;

@@ -1,4 +1,4 @@
-//! The plans of changes that edit only links; and changes that put one link, and edit nothing else.
+//! The plans of changes that edit only links. For a change that puts one link and edits nothing else, the plan is the link alone.
 ghost use Rattle.std.specs.Prelude.{◌≡◌, [], false, true, IfErr, IfOk, IfSome, None, Some, if◌then◌else◌};
 ghost use Rattle.mm_types.specs.Shapes.{shape};
 ghost use Rattle.mm_types.specs.declared.value.Value.TheVariants.{Object};
@@ -21,7 +21,7 @@ use notice_chain::Chain;
 use std::alloc::Global;
 
 /// The edits of links that a change makes, or the first refusal that planning finds. The notifications are made only if an adapter may have
-/// to get them. This is `plan` for a change that edits only links.
+/// to get them. This is `plan` for an act at a reference, other than a resolve.
 pub fn plan_links<L: LinkStore>(
     alloc: Global,
     model: &ModelRef<L>,
@@ -41,8 +41,8 @@ pub fn plan_links<L: LinkStore>(
     Ok((edits, chain))
 }
 
-/// The link that a set puts, if the plan puts this link and does nothing else: a reference is set to an object, and the set is not refused
-/// and displaces no link. Takes no memory.
+/// The link that a set puts, if the plan puts this link and does nothing else: a reference without a value is set to an object, and the set
+/// is not refused and displaces no link. Takes no memory.
 #[inline(always)]
 pub fn lone_set<L: LinkStore>(model: &ModelRef<L>, end: End, value: &Value) -> Option<NewLink>
     requires asked { early_refusal (reading model.now) (At end (Set value.now)) ≡ None }

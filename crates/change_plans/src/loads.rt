@@ -33,7 +33,7 @@ pub(crate) fn load_refusal<L: LinkStore>(
     None
 }
 
-/// The notifications that an end without values gains the roots of a document, in the order of the roots. The first object of the document
+/// The notifications when an end without values gains the roots of a document, in the order of the roots. The first object of the document
 /// gets the number `next`.
 pub(crate) fn root_notices(
     alloc: Global,
@@ -52,7 +52,7 @@ pub(crate) fn root_notices(
     Ok(chain)
 }
 
-/// The notification that an end gains a root of a document at a position. The end has the earlier roots of the document already.
+/// The notification when an end gains a root of a document at a position. The end has the earlier roots of the document already.
 fn root_notice(next: usize, end: End, position: u32, root: ObjectNo) -> Notice
     requires fits { IsNumbered next root }
     ensures { result ≡ root_notice_of next end (position, root) }

@@ -41,12 +41,16 @@ use std::alloc::{AllocError, Global};
 /// index, or if there would be a gap before a value that is put in. `Duplicate` if a unique list has the value that is added at an index.
 /// `Bound` if an end that has to gain a value is full. `Recursive` if an object would become a part of itself. `Limit` if 1,000,000 objects
 /// or 100,000 resources were made, or if an end that has to gain a value has 1,000,000 values. `ResourceExists` if a resource has the URI.
-/// For a proxy to be resolved: `WrongType` if the feature is an attribute, or the object at the address of the proxy is not of the
-/// feature's type, `Duplicate` if the end has this object already, `NotProxy` if the value at the index is no proxy, `Unloaded` if no
-/// resource has the URI of the proxy, `Unresolved` if no object is at the proxy's address, `Unmatched` if the reference has an opposite and
-/// no proxy at the opposite end has the referring object at its address. For a document: `Limit` if more than 1,000,000 objects would then
-/// have been made in all, `NotEmpty` if the resource has roots. `Memory` only if none of these applies. A resolve of one proxy is
-/// different: its target is looked for first, so `Memory` may be returned though another refusal applies.
+///
+/// For a proxy to be resolved: `WrongType` if the feature is an attribute, or if the object at the address of the proxy is not of the
+/// feature's type. `Duplicate` if the end has the object at the address already. `NotProxy` if the value at the index is no proxy.
+/// `Unloaded` if no resource has the URI of the proxy. `Unresolved` if no object is at the address. `Unmatched` if the reference has an
+/// opposite, and no proxy at the opposite end has the referring object at its address.
+///
+/// For a document: `Limit` if more than 1,000,000 objects would then have been made in all. `NotEmpty` if the resource has roots.
+///
+/// `Memory` only if no other refusal applies. A resolve of one proxy is different: its target is looked for first, so `Memory` may be
+/// returned though another refusal applies.
 pub fn plan<L: LinkStore>(
     alloc: Global,
     model: &ModelRef<L>,
@@ -95,7 +99,7 @@ fn made<L: LinkStore>(
 }
 
 /// The `Finding` of a change that doesn't resolve all proxies, made of the removal or of the target that was found. A change that destroys
-/// objects resolves no proxy, so at most one of the two is there.
+/// objects resolves no proxy, so at most one of the two arguments is `Some`.
 fn finding(removal: Option<Removal>, target: Option<ResolvedProxy>) -> Finding
     requires one { is_some removal ≡ true → target ≡ None }
     ensures removal { removal_in result ≡ removal }

@@ -21,8 +21,8 @@ use models::{ModelRef, class_refusal};
 use notice_chain::Chain;
 use std::alloc::{AllocError, Global};
 
-/// The edits of values that a change makes, or the first refusal that planning finds. The notifications are made only if an adapter may have
-/// to get them. This is `plan` for a change that edits no link.
+/// The edits that a change makes of objects and attribute values, or the first refusal that planning finds. The notifications are made only
+/// if an adapter may have to get them. This is `plan` for a change that makes an object or changes an attribute.
 pub fn plan_values<L: LinkStore>(
     alloc: Global,
     model: &ModelRef<L>,

@@ -47,7 +47,7 @@ texts = map (λ s. s.now)
 abbrev pub is_set : Text → List Row → Bool
 is_set name rows = option_map_or (λ value. bytes_eq value (codes "true")) (first_of name rows) false
 
--- the values that the words give an option, in the order of the words
+-- the values that the words give to an option, in the order of the words
 abbrev pub values : Text → List Row → List Text
 values name rows = unwrap_or (all_of name rows) []
 

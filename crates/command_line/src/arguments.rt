@@ -27,8 +27,8 @@ pub struct Options<'a> {
     pub dress: Dress,
     /// Whether the exit status is 4 if a line was refused or bad (`--strict`).
     pub strict: bool,
-    /// Whether the program holds a dialogue (`--live`): it answers each line before it reads the next line, or with a journal at the latest
-    /// before it waits for input.
+    /// Whether the program holds a dialogue (`--live`): it answers each line before it reads the next line. With a journal it answers the
+    /// lines at the latest before it waits for input.
     pub live: bool,
     /// The file that keeps the lines that change the model (`--journal`); `None` if no file keeps them.
     pub journal: Option<&'a str>,
@@ -167,7 +167,7 @@ pub fn options_of<'a>(alloc: Global, words: &'a [&'a str]) -> Result<Options<'a>
 ///
 /// Fails as `options_of` does: with the text of `--help` or `--version`, with what is wrong in the words, or if memory is refused.
 pub fn meta_file<'a>(alloc: Global, words: &'a [&'a str]) -> Result<&'a str, Error>
-    // The file is the first value that the words give `--meta`.
+    // The file is the first value that the words give to `--meta`.
     ensures value { IfOk result (λ file. first_of (codes "meta") (matches_of program (texts words.entry.now)) ≡ Some file.now) }
     // Words that fit the command line are refused only if memory is refused.
     ensures passes { IfErr result (λ e. takes program (texts words.entry.now) ≡ true → kind_of e ≡ ErrorKind.OutOfMemory) }

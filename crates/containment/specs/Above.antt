@@ -10,7 +10,7 @@ use Rattle.mm_types.specs.declared.numbers.Node.TheVariants as node
 abbrev pub root_of : (Node → List Node) → Node → Node
 root_of up n = unwrap_or (last_or (Some n) (up n)) n
 
--- the resource that a node is, if it is one
+-- the number of a node that is a resource; none for an object
 abbrev pub resource_of_node : Node → Option ResourceNo
 resource_of_node (node.Object o) = None
 resource_of_node (node.Resource r) = Some r

@@ -11,7 +11,7 @@ use mm_types::{End, FeatureNo, Node, ObjectNo};
 use models::ModelRef;
 use std::alloc::{AllocError, Global};
 
-/// The object that contains an object (EMF: EObject.eContainer); `None` if none does. Takes no memory.
+/// The object that contains an object (EMF: EObject.eContainer); `None` if no object contains it. Takes no memory.
 pub fn container<L: LinkStore>(model: &ModelRef<L>, object: ObjectNo) -> Option<ObjectNo>
     ensures { result ≡ forest.container (reading model.now) object }
 {
@@ -21,7 +21,7 @@ pub fn container<L: LinkStore>(model: &ModelRef<L>, object: ObjectNo) -> Option<
     }
 }
 
-/// Whether some feature of a node may be a containment; if the result is false, no feature of the node is one. Takes no memory.
+/// Whether some feature of a node may be a containment; if the result is false, no feature of the node is a containment. Takes no memory.
 pub(crate) fn may_contain<L: LinkStore>(model: &ModelRef<L>, node: Node) -> bool
     ensures { result ≡ false → list_any (is_containment model.now.metamodel) (all_features_of (reading model.now) node) ≡ false }
 {

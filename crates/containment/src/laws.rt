@@ -21,7 +21,7 @@ pub fn a_subtree_repeats_nothing()
     ensures subtree { (s : Model) → IsLegal s → (o : ObjectNo) → IsDistinct same_object (subtree (reading s) o) }
 {}
 
-/// An object is among all objects of a node exactly if the object is the node itself or is below the node. No object comes twice.
+/// `node_subtree` of a node has exactly the objects that are the node itself or are below the node. No object comes twice.
 pub fn all_objects_of_a_node_are_those_below_it()
     ensures below { (s : Model) → IsLegal s → (n : Node) (o : ObjectNo) → is_node_among (node_subtree (reading s) n) (node.Object o) ≡ is_within (reading s) n (node.Object o) }
     ensures once { (s : Model) → IsLegal s → (n : Node) → IsDistinct same_object (node_subtree (reading s) n) }

@@ -73,9 +73,9 @@ pub fn is_within<L: LinkStore>(model: &ModelRef<L>, above: Node, node: Node) -> 
     above == node || is_below(model, above, node)
 }
 
-/// Whether a node is below another one. A node that nothing contains is below no node, and no node is below an object that contains
-/// nothing. If an object has few objects below it, few steps show that a node is not below this object. So if a chain of objects grows at
-/// its bottom, the chain is not climbed to its top for each new object, which has few objects below it.
+/// Whether `node` is below `above`. A node that nothing contains is below no node, and no node is below an object that contains nothing. If
+/// an object has few objects below it, few steps show that a node is not below this object. So if a chain of objects grows at its bottom,
+/// the chain is not climbed to its top for each new object, which has few objects below it.
 fn is_below<L: LinkStore>(model: &ModelRef<L>, above: Node, node: Node) -> bool
     requires apart { same_node above node ≡ false }
     ensures { result ≡ list_any (same_node above) ((reading model.now).above node) }

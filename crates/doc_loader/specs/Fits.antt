@@ -30,8 +30,8 @@ IsShort c = length c.values ≤ LIST_VALUES
 abbrev pub IsShortObject : DocObject → Type 0
 IsShortObject o = All IsShort o.contents
 
--- all objects of a document, and all objects that the document names, get numbers below OBJECTS; and no list has more than LIST_VALUES
--- values
+-- if the first object of a document gets the number n, all objects of the document, and all objects that it names, get numbers below
+-- OBJECTS; and no list has more than LIST_VALUES values
 pub record IsFitting (n : ℕ) (doc : Doc) : Type 0 where
   pub room : n + length doc.objects ≤ OBJECTS
   pub objects : All (IsFittingObject n) doc.objects

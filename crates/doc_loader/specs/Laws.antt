@@ -1,4 +1,5 @@
--- The edits of a load make the links of the document, if the numbers of its objects are free and the resource is empty.
+-- The edits of a load make the links of the document, if the resource is empty, and if the numbers of the document's objects and all
+-- higher numbers are free.
 use Rattle.std.specs.Prelude.{◌≡◌, ℕ, []}
 use Rattle.mm_types.specs.Resolved.{Metamodel}
 use Rattle.mm_types.specs.declared.end.End.{End}
@@ -13,7 +14,8 @@ use Rattle.doc_loader.specs.LoadEdits.{load_edits}
 use Rattle.doc_loader.specs.Loading.{loaded_links, loaded_number, object_end, with_links}
 use Rattle.models.specs.Reading.{contents_end}
 
--- no link names a number that the document's objects get, and the resource is empty
+-- no link names the number n or a higher number of an object, and the resource k is empty; n is the number that the document's first object
+-- gets
 pub record IsRoomFor (m : Metamodel) (n : ℕ) (k : ResourceNo) (s : Links) : Type 0 where
   pub roots : end s (contents_end m k) ≡ []
   pub ends : (o : ObjectNo) (f : FeatureNo) → end s (object_end n o f) ≡ []

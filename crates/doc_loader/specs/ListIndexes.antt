@@ -1,4 +1,4 @@
--- The indexes of objects in the lists of a document. Only the lists of the lower features of pairs are needed.
+-- The indexes of objects in the lists of a document. Only the lists of the lower features of pairs (`LoadEdits`) are needed.
 use Rattle.std.specs.Prelude.{ℕ, List, [], ◌∷◌, flat_map, Option, Some, None, unwrap_or, if◌then◌else◌}
 use Rattle.std.specs.List.{enumerate_from}
 use Rattle.std.specs.Option.{option_or}
@@ -35,7 +35,7 @@ content_indexes m o c =
 abbrev pub all_indexes : Metamodel → List DocObject → List (ReferenceKey × ℕ)
 all_indexes m os = flat_map (of_object (content_indexes m)) (enumerate_from 0 os)
 
--- the last index that a list gives for a reference key
+-- the last index that a list of keys with their indexes has for a reference key
 abbrev pub last_index : List (ReferenceKey × ℕ) → ReferenceKey → Option ℕ
 last_index [] k = None
 last_index (x ∷ xs) k = option_or (last_index xs k) (if same_reference_key x.0 k then Some x.1 else None)

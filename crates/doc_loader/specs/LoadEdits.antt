@@ -37,7 +37,7 @@ put_at m n e i b = put_of e i (loaded_number n b) (shape m e.feature).opposite (
 abbrev pub root_puts : Metamodel → ℕ → ResourceNo → Doc → List Edit
 root_puts m n k doc = map (λ x. put_at m n (contents_end m k) x.0 x.1) (enumerate_from 0 doc.roots)
 
----------------------------------------------------------------- references whose links are put by edits that name their own ends
+---------------------------------------------------------------- references that are not the higher feature of a pair
 
 -- the edit that puts a value at a position; none if the value is no object and no proxy
 abbrev pub value_puts : Metamodel → ℕ → End → ℕ × Value → List Edit
@@ -57,8 +57,9 @@ is_ascending_from k [] = true
 is_ascending_from k (value.Object a ∷ vs) = nat_le k a.0 && is_ascending_from (suc a.0) vs
 is_ascending_from k (v ∷ vs) = is_ascending_from k vs
 
--- the edits that cut the link between the object a and the object b, and put the link again: in the list of a under f, b gets the index
--- that `index_of` gives; at the opposite end, which belongs to b, a becomes the last value. No edits if the value is no object.
+-- If the value is an object a: the edits that cut the link between a and the object b, and put the link again. In the list of a under f, b
+-- gets the index that `index_of` gives; at the opposite end, which belongs to b, a becomes the last value. No edits if the value is no
+-- object.
 abbrev pub puts_again : Metamodel → ℕ → (ReferenceKey → ℕ) → ObjectNo → FeatureNo → Value → List Edit
 puts_again m n index_of b f (value.Object a) =
     let e = object_end n a f in

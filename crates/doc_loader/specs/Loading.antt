@@ -36,7 +36,7 @@ loaded_value n v = v
 abbrev pub roots_loaded : ℕ → Doc → List Value
 roots_loaded n doc = map (λ o. value.Object (loaded_number n o)) doc.roots
 
--- the results of `make` for all contents of an object, in one list; x is the object with its number in the document
+-- the results of `make` for all contents of an object, in one list; x has the object's number in the document, and the object
 abbrev pub of_object : {X : Type 0} → (ObjectNo → Content → List X) → ℕ × DocObject → List X
 of_object make x = flat_map (make (record { 0 = x.0 })) x.1.contents
 

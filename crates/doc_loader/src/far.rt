@@ -1,4 +1,5 @@
-//! The edits for the higher features of pairs of opposites: they bring the values of these features into the order of the document.
+//! The edits for the higher features of pairs of opposites: they bring the values of these features into the order of the document. If two
+//! features are opposites and neither is a containment, the one with the higher number is the higher feature of the pair.
 ghost use Rattle.std.specs.Prelude.{◌≡◌, ◌≤◌, ◌+◌, ◌++◌, ℕ, OnOk, flat_map, length, unwrap_or};
 ghost use Rattle.std.specs.List.{All, enumerate_from, list_any};
 ghost use Rattle.mm_types.specs.declared.limits.TheConstants.{OBJECTS};
@@ -86,8 +87,9 @@ pub(crate) fn has_higher(meta: &Meta, objects: &[DocObject]) -> bool
         .any(|object| has_any_higher(meta, object.contents.as_slice()))
 }
 
-/// Adds the edits that bring the values under the higher features of pairs into the order of the document. Takes no memory if all these
-/// values are in this order already.
+/// Adds the edits that bring the values under the higher features of pairs into the order of the document. The edits of `Pass::Near` put
+/// the objects under these features in the order of their numbers. So if the document has them in that order, no edit is added, and no
+/// memory is taken.
 pub(crate) fn push_in_order(
     alloc: Global,
     meta: &Meta,
@@ -146,8 +148,8 @@ fn push_object(
     Ok(())
 }
 
-/// Adds the edits that bring the values of the object under `content.feature` into the order of the document, if this feature is the higher
-/// of a pair and the values are in another order.
+/// If `content.feature` is the higher feature of a pair, and the objects among its values are not in the order of their numbers, adds the
+/// edits that bring the values into the order of the document.
 fn push_content(
     source: &LoadContext,
     object: ObjectNo,

@@ -1,4 +1,4 @@
-//! The indexes of objects in the lists of a document. Only the lists of the lower features of pairs are needed.
+//! The indexes of objects in the lists of a document. Only the lists of the lower features of pairs (`specs/LoadEdits.antt`) are needed.
 ghost use Rattle.std.specs.Prelude.{◌≡◌};
 
 use crate::pairs::is_lower;
@@ -64,8 +64,7 @@ impl ListIndexes {
         Ok(())
     }
 
-    /// Adds the indexes of the objects that an object of the document names under a feature, if the feature is the
-    /// lower one of a pair.
+    /// Adds the indexes of the objects that an object of the document names under a feature, if the feature is the lower one of a pair.
     fn add_content(
         &mut self,
         meta: &Meta,

@@ -33,9 +33,9 @@ pub fn the_edits_of_a_document_are_of_kind()
     ensures { (m : Metamodel) (uri : List ℕ) (doc : Doc) (n : ℕ) (k : ResourceNo) → IsRead m uri doc → IsPlanOfKind (kinds_of m) (load_edits m n k doc) }
 {}
 
-/// Suppose that a document was read, that its objects get numbers below OBJECTS, and that these numbers are free; that the resource is
-/// empty, and that the set of links is legal and without cycles. Then the edits of the document fit, put no node below itself, and make
-/// exactly the links of the document.
+/// Suppose that a document was read, that its first object gets the number n, and that all its objects get numbers below OBJECTS. Suppose
+/// also that the set of links is legal and without cycles, that no link names the number n or a higher number of an object, and that the
+/// resource is empty. Then the edits of the document fit, put no node below itself, and make exactly the links of the document.
 pub fn the_edits_of_a_document_make_its_links()
     ensures { (m : Metamodel) (uri : List ℕ) (doc : Doc) (n : ℕ) (k : ResourceNo) (s : Links) → IsOfDocument m → IsRead m uri doc → n + length doc.objects ≤ OBJECTS → IsLegalSet s → AreOfKind (kinds_of m) s → HasNoCycle s → IsRoomFor m n k s → MakesLinks m n k doc s }
 {}

@@ -16,7 +16,7 @@ use resource_docs::Doc;
 use std::alloc::{AllocError, Global};
 
 /// The edits that put the roots of a document into a resource, and put the links and proxies of the document. The objects of the document
-/// have to be made before these edits are made; the first object gets the number `next`. Fails only if memory is refused.
+/// have to exist when these edits are applied; the first object gets the number `next`. Fails only if memory is refused.
 pub fn link_edits(
     alloc: Global,
     meta: &Meta,

@@ -1,4 +1,5 @@
-//! The edits that put values by naming the end that has the values, not the opposite end.
+//! The edits for references that are not the higher feature of a pair of opposites. Each edit puts one value, and names the end that has
+//! this value.
 ghost use Rattle.std.specs.Prelude.{◌≡◌, ◌≤◌, ◌++◌, OnOk, flat_map, length};
 ghost use Rattle.std.specs.List.{All, enumerate_from};
 ghost use Rattle.mm_types.specs.declared.limits.TheConstants.{LIST_VALUES};

@@ -1,4 +1,4 @@
-//! The edits that put the proxies under the higher features of pairs.
+//! The edits that put the proxies under the higher features of pairs of opposites. `specs/LoadEdits.antt` says what a higher feature is.
 ghost use Rattle.std.specs.Prelude.{◌≡◌, ◌≤◌, ◌++◌, OnOk, flat_map, length};
 ghost use Rattle.std.specs.List.{enumerate_from};
 ghost use Rattle.mm_types.specs.declared.limits.TheConstants.{LIST_VALUES};

@@ -28,7 +28,7 @@ abbrev pub text_value : Bool → Data → Option Value
 text_value single d =
     option_or (if single then option_map (λ x. value.Null) (as_null d) else None) (option_map value.Text (as_str d such_that is_short))
 
--- the value of a data type that JSON data gives, for a single or a many-valued attribute
+-- the value that JSON data gives an attribute of a data type; `single` says whether the attribute is single
 abbrev pub attribute_value : Metamodel → Bool → DataType → Data → Option Value
 attribute_value m single EString d = text_value single d
 attribute_value m single EInt d = option_map value.Int (whole_number d)

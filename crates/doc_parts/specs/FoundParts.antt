@@ -19,8 +19,8 @@ use Rattle.doc_parts.specs.declared.found.FoundParts.{FoundParts}
 use Rattle.doc_parts.specs.declared.found.Numbers.{Numbers}
 use Rattle.doc_parts.specs.declared.found.FoundPart.{FoundPart}
 
--- by the numbers at the keys, each path leads to the number of the first part that has the path; and under a part that is not found yet no
--- key has a number
+-- a look-up of the keys along a path gives the number of the first part that has the path, or none if no part has the path; no key under a
+-- part that is not found yet has a number
 pub record Finds (t : Numbers) (ps : List Part) : Type 0 where
   pub ways : (q : Path) → way_of (number_at t) q ≡ number_of ps q
   pub below : (n : ℕ) (w : List ℕ) (i : Option ℕ) → length ps ≤ n → number_at t (UnderKey n w i) ≡ None
@@ -37,7 +37,7 @@ pub record Seen : Type 0 where
   pub known : Option (ClassNo × Members)
   pub number : Option ℕ
 
--- a part as it was found among parts; its number is the number of the first part that has the same path
+-- the part p as it was found among the parts ps; its number is the number of the first part that has the same path
 abbrev pub seen_part : Metamodel → List Part → Part → Seen
 seen_part m ps p = record { level = level_of p; json = p.json; known = class_and_members m p.json; number = number_of ps p.path }
 
@@ -72,7 +72,8 @@ conforms_seen m target s = option_map_or (λ k. lookups.conforms m k.0 target) s
 
 ---------------------------------------------------------------- what is below a part
 
--- the parts that the data ds give under the part at `path`: ds are the values of that part's feature with the name `name`
+-- the parts directly under the part with the path `path`, for one feature of that part: `name` is the name of the feature, `single` says
+-- whether the feature is single, and ds are its values. Each value gives one part
 abbrev pub parts_under : Path → List ℕ → Bool → List Data → List Part
 parts_under path name single ds =
     map (λ v. record { path = with_step path (new_step name (if single then None else Some v.0)); json = v.1 }) (enumerate_from 0 ds)
@@ -80,17 +81,18 @@ parts_under path name single ds =
 abbrev pub parts_at : Metamodel → Path → Members → FeatureNo → List Part
 parts_at m path ms f = option_map_or (λ d. parts_in m path (new_entry f d)) (content_at m ms f) []
 
--- if part p, with the number `number`, was among the parts that were found before, and `level` is one more than the level of p, then the
--- parts that `more` gives for the path of p are found after these parts
+-- `old` are the found parts before a search, and `new` the found parts after it. For a part p of `old` with the number `number`, the search
+-- adds the parts that `more` gives for the path of p; `level` is one more than the level of p
 abbrev pub FindsBelow : Metamodel → FoundParts → FoundParts → ℕ → ℕ → (Path → List Part) → Type 0
 FindsBelow m old new number level more =
     (ps : List Part) (p : Part) → Knows m old ps → number_of ps p.path ≡ Some number → level ≡ suc (level_of p) → Knows m new (ps ++ more p.path)
 
--- after the parts that were found before, the part p at the key k is found, and the parts below p, at most n levels in all
+-- `old` are the found parts before a search, and `new` the found parts after it. The search adds the part p and the parts below p, at most
+-- n levels in all; k is the key of p, `level` its level, and d its data
 abbrev pub Walks : Metamodel → ℕ → FoundParts → FoundParts → Key → ℕ → Data → Type 0
 Walks m n old new k level d =
     (ps : List Part) (p : Part) → Knows m old ps → IsPlaced ps k p.path → level ≡ level_of p → d ≡ p.json → Knows m new (ps ++ parts_from m n p)
 
--- the roots of a document
+-- the parts of the roots of a document; ds are the data of the roots, in order
 abbrev pub roots_from : List Data → List Part
 roots_from ds = map (λ v. record { path = new_path v.0 []; json = v.1 }) (enumerate_from 0 ds)

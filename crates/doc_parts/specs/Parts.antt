@@ -26,7 +26,7 @@ list_of (item d ds) = d ∷ list_of ds
 abbrev pub class_of : Metamodel → Data → Option ClassNo
 class_of m d = written_object d >>= (λ w. lookups.class_by_name m w.class)
 
--- the value that is written under a feature
+-- a feature, and the data that is written under it
 pub record Entry : Type 0 where
   pub feature : FeatureNo
   pub content : Data
@@ -34,7 +34,7 @@ pub record Entry : Type 0 where
 abbrev pub new_entry : FeatureNo → Data → Entry
 new_entry f d = record { feature = f; content = d }
 
--- the content that is written under a feature; none if nothing is, and for a container reference
+-- the content that is written under a feature; none if no content is written, or if the feature is a container reference
 abbrev pub content_at : Metamodel → Members → FeatureNo → Option Data
 content_at m ms f = if lookups.is_container m f then None else get_member (lookups.feature_name m f) ms
 
@@ -88,8 +88,8 @@ abbrev pub root_parts : Data → List Part
 root_parts d =
     option_map_or (λ t. map (λ v. record { path = new_path v.0 []; json = v.1 }) (enumerate_from 0 (list_of t.roots))) (top d) []
 
--- all parts of a document, in loading order; no part is at a deeper level than the JSON values of the document nest, so `depth d` levels
--- are enough
+-- all parts of a document, in loading order; the level of a part is at most the depth to which the JSON values of the document nest, so
+-- `depth d` levels are enough
 unfoldable pub parts : Metamodel → Data → List Part
 parts m d = flat_map (parts_from m (depth d)) (root_parts d)
 

@@ -33,8 +33,9 @@ fn int_value(json: &Json) -> Option<Value>
     }
 }
 
-/// The value that `json` gives an attribute of a data type, which may be single or many-valued; `None` if `json` gives no value of that
-/// type. A text has at most 65,535 bytes, and null is a value only of a single EString attribute. Fails only if memory is refused.
+/// The value that `json` gives an attribute of a data type; `None` if `json` gives no value of that type. `is_single` says whether the
+/// attribute is single. A text has at most 65,535 bytes, and null is a value only of a single EString attribute. Fails only if memory is
+/// refused.
 pub fn attribute_value(
     alloc: Global,
     meta: &Meta,

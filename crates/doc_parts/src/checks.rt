@@ -44,8 +44,8 @@ fn is_any_deep(parts: &[FoundPart]) -> bool
     parts.iter().any(|part| part.level as usize > LEVELS)
 }
 
-/// Whether some root does not have the layout of an object, or some JSON object below the roots does not have it. Other JSON values below
-/// the roots are not tested here. Takes no memory.
+/// Whether some part lacks the layout of an object. Each root is tested; a part below the roots is tested only if it is a JSON object.
+/// Takes no memory.
 pub fn has_misshapen(found: &FoundParts) -> bool
     ensures { (m : Metamodel) (ps : List Part) → Knows m found.now ps → result ≡ list_any is_misshapen ps }
 {

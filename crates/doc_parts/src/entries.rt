@@ -29,7 +29,8 @@ pub fn known<'t>(meta: &Meta, json: &Json<'t>) -> Option<(ClassNo, Members<'t>)>
     Some((class, object.features))
 }
 
-/// The content of a feature; `None` if the members have none, and for a container reference. Takes no memory.
+/// The content of a feature among the members of an object; `None` if no member has the feature's name, or if the feature is a container
+/// reference. Takes no memory.
 pub fn content_at<'t>(meta: &Meta, members: Members<'t>, feature: FeatureNo) -> Option<&'t Json<'t>>
     ensures { option_map (λ v. view v.now) result ≡ content_meant meta.now (members_view members.now) feature }
 {

@@ -14,7 +14,7 @@ pub struct TopMembers<'t> {
     pub roots: &'t [Json<'t>],
 }
 
-/// The members of an object of a document: the name of its class, and the contents of its features, by their names.
+/// The members of an object of a document: the name of the object's class, and the contents of its features, by the names of the features.
 #[derive(Clone, Copy)]
 pub(crate) struct ObjectMembers<'t> {
     pub class: &'t str,

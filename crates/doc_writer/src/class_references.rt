@@ -28,7 +28,7 @@ fn push_referring(
     Ok(())
 }
 
-/// Adds those of `features` by which objects may refer to other objects to `found`.
+/// Adds to `found` those of `features` by which objects may refer to other objects.
 fn push_all_referring(
     meta: &Meta,
     features: &[FeatureNo],
@@ -64,7 +64,8 @@ impl ClassReferences {
         }
     }
 
-    /// If the features are not those of `class` already, replaces them by the features of `class`. Fails only if memory is refused.
+    /// If the features are not those of `class` already, replaces them by the features of `class`. Fails only if memory is refused; then
+    /// the features may be wrong for any class, and may not be used any more.
     #[inline(always)]
     pub fn turn_to(&mut self, meta: &Meta, class: Option<ClassNo>) -> Result<(), AllocError>
         requires { IsReferences meta.now self.old }

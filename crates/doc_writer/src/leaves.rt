@@ -38,7 +38,7 @@ pub(crate) fn write_text(text: &str, out: &mut Writer) -> Result<(), AllocError>
     out.string(text)
 }
 
-/// Writes the text by which the resource refers to an object; an empty text if the object is in no resource.
+/// Writes the text by which the resource of `source` refers to an object; an empty text if the object is in no resource.
 pub(crate) fn write_reference<L: LinkStore>(
     source: &WriteContext<L>,
     object: ObjectNo,

@@ -24,7 +24,7 @@ pub(crate) fn is_too_deep<L: LinkStore>(model: &ModelRef<L>, object: ObjectNo) -
     model.holder(at).is_some()
 }
 
-/// Whether any of some objects is at a deeper level than a document may have. Takes no memory.
+/// Whether any of `objects` is at a deeper level than a document may have. Takes no memory.
 pub(crate) fn any_too_deep<L: LinkStore>(model: &ModelRef<L>, objects: &[ObjectNo]) -> bool
     ensures { result ≡ list_any (saved.is_too_deep (reading model.now)) objects.now }
 {

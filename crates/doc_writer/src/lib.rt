@@ -1,4 +1,4 @@
-//! Resources are saved: the text of a resource's document, or the reason why the resource can't be saved (EMF: XMLResource.save, as JSON).
+//! Saves a resource: returns the text of its document, or the reason why it can't be saved (EMF: XMLResource.save, as JSON).
 //!
 //! `specs/Written.antt` says which objects and features are written, `specs/Document.antt` which JSON value they make, and
 //! `specs/Saved.antt` which resources can't be saved. The code never makes this JSON value: it writes the tokens of the value while it

@@ -199,8 +199,8 @@ fn write_if_set<L: LinkStore>(
     write_feature(source, levels, order, object, feature, out)
 }
 
-/// Writes the features of an object that are set as a JSON object, in the order of their names. `order` has the features of the object's
-/// class.
+/// Writes a JSON object whose members are those features of an object that are set, in the order of their names. `order` has the features
+/// of the object's class.
 #[cycle(object)]
 fn write_features<L: LinkStore>(
     source: &WriteContext<L>,

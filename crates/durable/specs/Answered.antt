@@ -37,9 +37,9 @@ module _ {S : Type 0} (runs : Runs S) where
     pub ran : RunsLines runs s first printed after
     pub stands : StandsFor (before ++ kept_lines first printed) file
 
-  -- A run stopped for a fault. Answers to the first lines were written; the next lines were run but not answered. A file that a crash
-  -- leaves has the lines from before the run and the lines to be kept among the first lines, and either none or all of the lines to be kept
-  -- among the next lines.
+  -- A run stopped for a fault. The answers to the first lines were written, but after a failed write only a prefix of them; the next lines
+  -- were run but not answered. A file that a crash leaves has the lines from before the run and the lines to be kept among the first lines,
+  -- and either none or all of the lines to be kept among the next lines.
   pub record Stops (fault : RunFault) (s : S) (before : List (List ℕ)) (ls : List (List ℕ)) (old new : Option (List ℕ)) (may_leave : List ℕ → Type 0) : Type 0 where
     pub first : List (List ℕ)
     pub next : List (List ℕ)

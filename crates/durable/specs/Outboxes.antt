@@ -66,7 +66,7 @@ run_fault fails.Failed = stops.Journal
 run_fault fails.Full = stops.Journal
 
 -- The answers were not given because of a fault. If a write failed, a prefix of the answers is written, and a file that a crash leaves has
--- all lines that were noted. If a call of the disk failed, the file was full, or memory was refused, nothing is written.
+-- all lines that were noted. If a call of the disk failed, the file was full, or memory was refused, no byte of an answer is written.
 abbrev pub FailsToGive : {D W : Type 0} → (W → Option (List ℕ)) → (D → List ℕ) → (D → List ℕ → Type 0) → (D → ℕ) → Outbox D W → RunFault → Outbox D W → Type 0
 FailsToGive contents seen may_leave faults old stops.Read new = ⊥
 FailsToGive contents seen may_leave faults old stops.Write new =

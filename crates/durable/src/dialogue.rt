@@ -28,7 +28,8 @@ fn is_over(end: LineEnd, line: &[u8]) -> bool
 
 /// Runs the lines of an input in turn, and answers each with the text that it prints and an empty line. Answers are held back. Before each
 /// read that may wait, and when 65,536 bytes of answers or more are held back, the lines that are to be kept are put on the disk, and then
-/// the answers are written. So lines that come in together are put on the disk together, unless their answers are longer than that.
+/// the answers are written. So the lines that the reader has read ahead are put on the disk together, unless their answers have 65,536
+/// bytes or more.
 ///
 /// Fails with `Read` if a read fails, with `TooLong` if a line has more than `INPUT_BYTES` bytes or the input more than
 /// `u64::MAX - 1` lines, with `Journal` if the disk fails or the file is full, with `Write` if a write or a flush fails or a write

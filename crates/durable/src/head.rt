@@ -43,7 +43,8 @@ fn is_unbegun(bytes: &[u8], head: &[u8]) -> bool {
 
 /// The bytes of a file after its head; `None` if the journal is still to be begun.
 ///
-/// Fails with `OtherMetamodel` if the file begins with the head of a different metamodel, and with `NoJournal` if it begins with no head.
+/// Fails with `OtherMetamodel` if the file begins with the head of a different metamodel, and with `NoJournal` if it begins with no head
+/// and is no file that a crash may leave while a journal is begun.
 pub fn behind_head<'a>(bytes: &'a [u8], head: &[u8]) -> Result<Option<&'a [u8]>, JournalFault>
     ensures found { IfOk result (λ found. FindsLines found bytes.now head.now) }
     ensures kind { IfErr result IsOfHead }

@@ -17,9 +17,9 @@ pub enum JournalFault {
     Failed,
     /// The file is no journal.
     NoJournal,
-    /// The journal was begun with another metamodel.
+    /// The journal was begun with a different metamodel.
     OtherMetamodel,
-    /// The line of this number was not done when it was run again. The head is line 1.
+    /// The line of this number was not done when it was run again, or is no line that a journal keeps. The head is line 1.
     Line(u64),
 }
 

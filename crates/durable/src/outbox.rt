@@ -96,7 +96,7 @@ impl<D: Disk, W: Write> Outbox<D, W> {
     pub fn settle(&mut self) -> Result<(), RunFault>
         requires { IsAtRest D.seen D.may_leave self.old }
         ensures ok { OnOk result (Gives W.contents D.seen D.may_leave self.old self.new) }
-        // No byte of an answer is written before all lines are on the disk.
+        // No byte of an answer is written before all noted lines are on the disk.
         ensures stopped { IfErr result (λ fault. FailsToGive W.contents D.seen D.may_leave D.faults self.old fault self.new) }
         ensures any_moment { LeavesBoth D.seen D.moment D.left_since self.old self.new }
         ensures later { D.faults (disk_under self.old) ≤ D.faults (disk_under self.new) }

@@ -12,7 +12,7 @@ pub(crate) const NEWLINE: u8 = b'\n';
 pub enum JournalTurn {
     /// The line was done, and is to be kept.
     Kept,
-    /// The line is not to be kept: it was refused or is bad, it only reads, or it concerns only this session.
+    /// The line is not to be kept: it was refused, is blank or bad, only reads, or concerns only this session.
     Other,
     /// The line was refused because memory was refused.
     Lost,
@@ -50,17 +50,19 @@ pub trait Twin: Session {
     /// The session has nothing that concerns only this session.
     ghost is_alone: { Self → Type 0 };
 
-    /// A line that is not to be kept changes only the part of the session that a journal does not bring back.
+    /// A line that is not to be kept changes nothing but things that concern only this session: if the session was the same as its twin
+    /// (`alike`), it still is.
     ghost others: { (s t x : Self) (l : List ℕ) (p : Printed) → Self.Session.runs s l p t → is_kept_turn p.turn ≡ false → alike s x → alike t x };
 
-    /// A line that is kept changes both sessions in the same way.
+    /// If a session and its twin are the same (`alike`), and both keep a line, they are still the same after the line.
     ghost kept: { (s t x y : Self) (l : List ℕ) (p q : Printed) → Self.Session.runs s l p t → is_kept_turn p.turn ≡ true → alike s x
         → Self.Session.runs x l q y → is_kept_turn q.turn ≡ true → alike t y };
 
-    /// If a line was kept, a twin that has nothing that concerns only the twin refuses this line only if memory is refused.
+    /// Let a line be kept by a session, and let its twin have nothing that concerns only the twin. Then the twin refuses this line only if
+    /// memory is refused.
     ghost done: { (s t x y : Self) (l : List ℕ) (p q : Printed) → Self.Session.runs s l p t → is_kept_turn p.turn ≡ true → alike s x → is_alone x
         → Self.Session.runs x l q y → is_kept_turn q.turn ≡ false → is_lost_turn q.turn ≡ true };
 
-    /// If a session has nothing that concerns only this session, it still has nothing of this kind after a line that is kept.
+    /// If `is_alone` is true of a session, it is still true after a line that is kept.
     ghost alone: { (x y : Self) (l : List ℕ) (q : Printed) → is_alone x → Self.Session.runs x l q y → is_kept_turn q.turn ≡ true → is_alone y };
 }

@@ -1,4 +1,4 @@
--- The layout of the values of an end in memory.
+-- What a contract sees of each layout that the values of an end can have in memory.
 use Rattle.std.specs.Prelude.{true, false}
 use Rattle.end_values.specs.declared.end_values.Layout.{Layout}
 use Rattle.end_values.specs.declared.end_values.Layout.TheVariants.{Objects, Shuffled, Labelled, Mixed}

@@ -214,7 +214,7 @@ impl EndValueList {
 
     /// Inserts a value before the value at an index or after the last value. The list has capacity for the value. Takes no memory. A value
     /// that is no object is inserted only after `mix`.
-    #[tactic(auto, using(crate::proofs::EndValueLemmas::length_objects))]
+    #[tactic(auto, using(crate::proofs::EndValueLemmas::insert_objects, crate::proofs::EndValueLemmas::length_objects))]
     #[inline(always)]
     pub fn insert(&mut self, index: usize, value: Value)
         requires room { 0 < self.old.spare }
@@ -225,9 +225,9 @@ impl EndValueList {
         ensures mixed { self.new.mixed ≡ self.old.mixed }
     {
         match &mut self.layout {
-            Layout::Objects(list) => insert_object(list, index, value),
-            Layout::Shuffled(list) => insert_shuffled(list, index, value),
-            Layout::Labelled(list) => insert_labelled(list, index, value),
+            Layout::Objects(list) => list.insert(index, into_object(value)),
+            Layout::Shuffled(list) => list.insert(index, into_object(value)),
+            Layout::Labelled(list) => list.insert(index, into_object(value)),
             Layout::Mixed(list) => list.insert(index, value),
         }
     }
@@ -249,8 +249,8 @@ impl EndValueList {
         }
     }
 
-    /// If a removal at the index tests the guess there (`is_tried`), checks whether the guess for the object at the index is right. If the
-    /// guess is wrong, the list becomes `Shuffled`, so that `reserve` gives it labels.
+    /// Checks the guess for the object at an index, which a removal is about to take out. Only the guesses at some indexes are checked
+    /// (`is_tried`). If the guess is wrong, the list becomes `Shuffled`, so that `reserve` gives it labels.
     fn try_guess(&mut self, index: usize)
         ensures { self.new ≡ self.old }
     {
@@ -327,45 +327,13 @@ fn is_number(there: Option<&ObjectNo>, object: ObjectNo) -> bool
     }
 }
 
-/// Inserts an object before the object at an index or after the last object. The list has capacity for the object.
-#[tactic(auto, using(crate::proofs::EndValueLemmas::insert_objects))]
-fn insert_object(list: &mut ShortList<ObjectNo>, index: usize, value: Value)
-    requires room { 0 < list.old.spare }
-    requires in_range { index ≤ length list.old.items }
-    requires can { CanHave false value }
-    ensures items { objects list.new.items ≡ insert (objects list.old.items) index value }
-    ensures spare { list.old.spare ≤ list.new.spare + 1 }
+/// The object that a value is.
+fn into_object(value: Value) -> ObjectNo
+    requires { CanHave false value }
+    ensures { value ≡ object_value result }
 {
     match value {
-        Value::Object(object) => list.insert(index, object),
-        _ => unreachable!(),
-    }
-}
-
-/// Inserts an object into a `Shuffled` list, before the object at an index or after the last object. The list has capacity for the object.
-#[cold]
-fn insert_shuffled(list: &mut ShortList<ObjectNo>, index: usize, value: Value)
-    requires room { 0 < list.old.spare }
-    requires in_range { index ≤ length list.old.items }
-    requires can { CanHave false value }
-    ensures items { objects list.new.items ≡ insert (objects list.old.items) index value }
-    ensures spare { list.old.spare ≤ list.new.spare + 1 }
-{
-    insert_object(list, index, value);
-}
-
-/// Inserts an object into a list with labels, before the object at an index or after the last object. The list has capacity for the object.
-#[cold]
-#[tactic(auto, using(crate::proofs::EndValueLemmas::insert_objects))]
-fn insert_labelled(list: &mut LabelledObjects, index: usize, value: Value)
-    requires room { 0 < list.old.spare }
-    requires in_range { index ≤ length list.old.items }
-    requires can { CanHave false value }
-    ensures items { objects list.new.items ≡ insert (objects list.old.items) index value }
-    ensures spare { list.old.spare ≤ list.new.spare + 1 }
-{
-    match value {
-        Value::Object(object) => list.insert(index, object),
+        Value::Object(object) => object,
         _ => unreachable!(),
     }
 }

@@ -26,9 +26,10 @@ pub(crate) fn is_out_of_order(list: &ShortList<ObjectNo>, index: usize) -> bool 
     }
 }
 
-/// A guess at the index of a value. For an object, the guess is made by the numbers of the objects. For a proxy, the guess is the index of
-/// the first proxy: if proxies are resolved in the order of their list, the proxies that are left come after the objects, and the first of
-/// them is resolved next.
+/// A guess at the index of a value. For an object, the guess is made by the numbers of the objects, and may be wrong if the list has
+/// proxies. For a proxy, the guess is the index of the first proxy, if all objects come before all proxies; otherwise the guess may be any
+/// index. If a list of proxies is resolved in its order, all objects come before the proxies that are left, and the first of these proxies
+/// is resolved next.
 #[cold]
 pub(crate) fn guess_value(list: &MixedList, value: &Value) -> usize {
     match value {

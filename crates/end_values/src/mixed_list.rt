@@ -12,8 +12,9 @@ use slot_lists::SlotList;
 use std::alloc::{AllocError, Global};
 use std::marker::Model;
 
-/// A list of values, and an index before which there is no proxy. A search for a proxy begins at this index. If no object is between the
-/// proxies, and they are resolved in the order of the list, this index is the index of the first proxy that is left.
+/// A list of values, and an index before which there is no proxy. A search for a proxy begins at this index. Until a value is removed or
+/// moved, this index is the index of the first proxy, if there is a proxy. If no object is between the proxies, that stays true while they
+/// are resolved in the order of the list. After other removals and after moves the first proxy may come later.
 #[derive(Drop)]
 pub(crate) struct MixedList {
     values: SlotList<Value>,
@@ -79,7 +80,7 @@ impl MixedList {
         self.start
     }
 
-    /// Reserves capacity for more values. Errs only if memory is refused, and then the values stay and no capacity is lost.
+    /// Reserves capacity for more values. Fails only if memory is refused, and then the values stay and no capacity is lost.
     pub fn reserve(&mut self, additional: usize) -> Result<(), AllocError>
         ensures items { self.new.items ≡ self.old.items }
         ensures spare { self.old.spare ≤ self.new.spare }
@@ -142,7 +143,8 @@ fn is_proxy_there(there: Option<&Value>) -> bool
     }
 }
 
-/// For a list that has no proxy before `start`: an index before which the list has no proxy after a value was put in at `index`.
+/// The new `start` of a list into which a value is inserted at `index`. If the list has no proxy before the index `start`, the list after
+/// the insert has none before the new index.
 fn start_after_insert(start: usize, index: usize, is_proxy: bool) -> usize
     ensures { (vs : List AnyValue) (v : AnyValue) → index ≤ length vs → proxies.is_proxy v ≡ is_proxy → proxies.HasNoProxyBefore start vs → proxies.HasNoProxyBefore result (insert vs index v) }
 {
@@ -155,7 +157,8 @@ fn start_after_insert(start: usize, index: usize, is_proxy: bool) -> usize
     start
 }
 
-/// For a list that has no proxy before `start`: an index before which the list has no proxy after the value at `index` was taken out.
+/// The new `start` of a list from which the value at `index` is taken out. If the list has no proxy before the index `start`, the list
+/// after the removal has none before the new index.
 fn start_after_remove(start: usize, index: usize) -> usize
     ensures { (vs : List AnyValue) → proxies.HasNoProxyBefore start vs → proxies.HasNoProxyBefore result (remove vs index) }
 {

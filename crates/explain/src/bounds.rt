@@ -25,7 +25,7 @@ pub(crate) fn explain_bounds(
     )
 }
 
-/// Says how a default may be written, for a type that is no enumeration.
+/// Says how a default of the type EBoolean, EInt or ELong may be written.
 fn literals_of(type_name: &str) -> &'static str {
     match type_name {
         "EBoolean" => "true or false",

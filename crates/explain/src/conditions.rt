@@ -13,7 +13,7 @@ fn is_bad(name: &str) -> bool {
     !is_name(name.as_bytes())
 }
 
-/// The first literal of an enumeration that is no name.
+/// Among the literals of an enumeration, the first that is no name.
 fn bad_literal(raw: &RawMeta, i: usize) -> Option<&str> {
     for literal in enum_at(raw, i)?.literals.as_slice() {
         if is_bad(literal.as_str()) {
@@ -23,7 +23,8 @@ fn bad_literal(raw: &RawMeta, i: usize) -> Option<&str> {
     None
 }
 
-/// The name at a place, or a literal there, that is badly written.
+/// The badly written name at a place: the name of the enumeration, class or feature there, or a literal. If an enumeration itself has a
+/// right name, returns the first of its literals that is no name.
 fn bad_name(at: Named<'_>) -> &str {
     let name = name_at(at.raw, at.place);
     match at.place {

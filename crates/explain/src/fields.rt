@@ -9,6 +9,8 @@ pub enum Sort {
     Flag,
     /// A whole number of 32 bits, signed.
     Number,
+    /// A whole number of 64 bits, signed.
+    Long,
     /// `"attribute"` or `"reference"`.
     Kind,
     /// An array of at most this number of texts, each of at most as many bytes as a name may have.
@@ -223,8 +225,8 @@ pub(crate) const MISPLACED: [Hint; 41] = [
     ("enums", "only the document has it"),
 ];
 
-/// For some keys, a text that is added to the line about a value of the key, or about an item of its array, that is not written as the
-/// field says. The text is not added to a line about the number of items.
+/// For some keys, a text that is added to a line of the explanation. It is added if the line says that a value of the key, or an item of
+/// its array, is not written as the field says. It is not added to a line about the number of items.
 pub(crate) const ADVICE: [Hint; 3] = [
     ("upper", "; -1 stands for any number"),
     (

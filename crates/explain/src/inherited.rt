@@ -73,7 +73,7 @@ fn add_features(places: &mut Vec<Place>, class: usize, count: usize) -> Result<(
     Ok(())
 }
 
-/// The classes on a path of supertypes, in words for a reader: from the last class to the first.
+/// The classes on a path of supertypes. They are printed from the last class to the first, each by its name with a comma after it.
 #[derive(Drop)]
 struct Way<'m> {
     raw: &'m RawMeta,
@@ -112,7 +112,7 @@ impl Ancestry {
         None
     }
 
-    /// The classes on the way to the reached class at a position, that class first.
+    /// The classes on the way from the class at which the search began to the reached class at a position. The reached class comes first.
     fn way_to(&self, alloc: Global, position: usize) -> Result<Vec<usize>, AllocError> {
         let mut way = Vec::new(alloc);
         let mut at = position;

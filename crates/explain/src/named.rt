@@ -9,7 +9,7 @@ pub(crate) struct Named<'m> {
     pub(crate) place: Place,
 }
 
-/// A name, written without quotation marks.
+/// A name. It is printed as `{:?}` prints it, but without the quotation marks around it.
 #[derive(Drop)]
 pub(crate) struct Bare<'m>(pub(crate) &'m str);
 

@@ -2,15 +2,16 @@
 use std::alloc::{AllocError, Global};
 use strsim::levenshtein;
 
-/// The greatest number of bytes of a word for which a near word is looked for; no key, no verb and no data type is longer.
+/// The greatest number of bytes of a word for which a near word is looked for. No key, no verb and none of the data types EString, EInt,
+/// ELong and EBoolean is longer. A name of a metamodel may be longer.
 const LONGEST: usize = 64;
 
 /// The greatest number of edits between a word and a near word.
 const MOST_EDITS: usize = 2;
 
 /// The word of a list that is the fewest edits away from a given word; of several such words, the first. An edit inserts, deletes or
-/// replaces one character. A word of the list is returned only if it is at most two edits away, and fewer edits than it has bytes. A given
-/// word of more than 64 bytes has no nearest word. Fails only if memory is refused.
+/// replaces one character. A word of the list is returned only if it is at most two edits away, and has more bytes than there are edits. A
+/// given word of more than 64 bytes has no nearest word. Fails only if memory is refused.
 pub fn nearest<'a>(
     alloc: Global,
     word: &str,

@@ -49,7 +49,7 @@ fn wrong_with<'m>(at: Named<'_>, feature: &RawFeature, other: &'m RawFeature) ->
     Wrong::IsItself
 }
 
-/// Whether a class inherits from another class. Both classes are given by their names.
+/// Whether the class with the name `name` inherits from a different class, which has the name `from`.
 fn inherits(alloc: Global, raw: &RawMeta, name: &str, from: &str) -> Result<bool, AllocError> {
     let (Some(class), Some(other)) = (class_named(raw, name), class_named(raw, from)) else {
         return Ok(false);

@@ -8,7 +8,7 @@ const SHOWN_BYTES: usize = 20;
 /// The mark that some programs write before a text in UTF-8.
 const BYTE_ORDER_MARK: &[u8] = b"\xef\xbb\xbf";
 
-/// Why bytes are no JSON from a place on.
+/// Why bytes are no JSON. `NotUtf8` and `Shown` speak of the place from which on the bytes are no JSON.
 #[derive(Clone, Copy)]
 pub(crate) enum NoJson<'b> {
     /// The bytes end before the JSON ends.
@@ -66,8 +66,8 @@ fn text_at(bytes: &[u8]) -> &str {
     }
 }
 
-/// Why bytes are no JSON from a place on, if they do not end too early. The line and the column of the place are counted from 1. If the
-/// bytes begin with a byte order mark, the mark is the reason, whatever the place.
+/// Why bytes are no JSON from a place on, if they do not end too early. The place is given by `line` and `column`, both counted from 1. If
+/// the bytes begin with a byte order mark, the mark is the reason, whatever the place.
 pub(crate) fn no_json_at(bytes: &[u8], line: usize, column: usize) -> NoJson<'_> {
     if bytes.starts_with(BYTE_ORDER_MARK) {
         return NoJson::ByteOrderMark;

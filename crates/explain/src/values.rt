@@ -132,6 +132,8 @@ pub(crate) fn explain_value(
         Sort::Flag => explain_other(out, at, "true or false"),
         Sort::Number if is_whole_number(json) => Ok(()),
         Sort::Number => explain_other(out, at, "a whole number of 32 bits"),
+        Sort::Long if json.as_i64().is_some() => Ok(()),
+        Sort::Long => explain_other(out, at, "a whole number of 64 bits"),
         Sort::Kind if is_kind(json) => Ok(()),
         Sort::Kind => explain_other(out, at, "\"attribute\" or \"reference\""),
     }

@@ -73,7 +73,8 @@ impl<L: LinkStore, A: Adapter> Scene<'_, L, A> {
         }
     }
 
-    /// A value as it is written in a line, but only the first 60 bytes of a text. An object is shown with its class and its name.
+    /// A value as it is written in a line, with two exceptions. A text is shown with at most 60 bytes, and a character that can't be
+    /// printed is shown as its number, as in `\u{1b}`. An object is shown with its class and its name.
     pub(crate) fn value_called(&self, value: &WrittenValue<'_>) -> Result<String, AllocError> {
         match value {
             WrittenValue::Null => format!(in self.alloc; "null"),

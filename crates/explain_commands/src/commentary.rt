@@ -98,8 +98,8 @@ impl Commentary {
         self.is_lost = noted.is_err();
     }
 
-    /// Notes the URI of a resource that was made, and how many objects were loaded into the resource. The same is noted after the lines
-    /// `resource` and `load`.
+    /// Notes the URI of a resource that was made without a line of the script, and how many objects were loaded into the resource. For the
+    /// lines `resource` and `load`, `line_was_run` notes both.
     pub fn resource_was_loaded(&mut self, uri: &str, objects: u64) {
         let noted = self.note_uri(uri);
         self.is_lost = self.is_lost || noted.is_err();

@@ -21,7 +21,7 @@ struct Placed {
 enum Sought {
     /// An object that refers to an object in no resource.
     Dangling,
-    /// An object below the last level.
+    /// An object below level `limits::LEVELS`, the last level that a document can have.
     TooDeep,
 }
 
@@ -53,7 +53,7 @@ impl<L: LinkStore, A: Adapter> Scene<'_, L, A> {
         matches!(self.repository.e_resource(object), Ok(None))
     }
 
-    /// The first object in no resource among the values of a feature.
+    /// The first object in no resource to which an end refers.
     fn outside_at(&self, end: End) -> Option<ObjectNo> {
         if let Ok(found) = self.repository.value(end.node, end.feature) {
             return match found {
@@ -73,7 +73,8 @@ impl<L: LinkStore, A: Adapter> Scene<'_, L, A> {
         None
     }
 
-    /// The first reference of the object `object` with an object in no resource among its values, and the first such value.
+    /// The first reference by which the object `object` refers to an object in no resource, and the first value of this reference that is
+    /// in no resource.
     fn outside_of(&self, object: ObjectNo) -> Option<(End, ObjectNo)> {
         let meta = self.repository.meta();
         let node = Node::Object(object);
@@ -172,7 +173,7 @@ impl<L: LinkStore, A: Adapter> Scene<'_, L, A> {
         }
     }
 
-    /// Explains the first object of a resource that is below the last level.
+    /// Explains the first object of a resource that is below level `limits::LEVELS`.
     pub(crate) fn explain_too_deep(&self, out: &mut String, node: Node) -> Written {
         self.explain_first(out, node, Sought::TooDeep)
     }

@@ -137,7 +137,7 @@ impl<L: LinkStore, A: Adapter> Scene<'_, L, A> {
     }
 }
 
-/// How many bytes the text of a line has; 0 if the line has no text.
+/// How many bytes the text of a line has, if the line is `resource`, is `at`, or names a text as a value; 0 for any other line.
 fn length_in(form: &Form<'_>) -> usize {
     match (form, value_in(form)) {
         (Form::Resource(text) | Form::Read(Read::ObjectAt(text)), _) => text.as_str().len(),

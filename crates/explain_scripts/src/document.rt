@@ -10,7 +10,7 @@ use mm_types::DocFault;
 use serde_json::{Error, Value};
 use std::alloc::{AllocError, Global};
 
-/// The greatest number of bytes of a document that are shown.
+/// The greatest number of bytes that are shown of a document that is no JSON.
 const SHOWN_BYTES: usize = 20;
 
 /// A document that is refused.
@@ -132,8 +132,8 @@ fn explain_json(
 }
 
 /// Explains why a document is refused. Adds a line for each place of the document at which the cause of the refusal applies; for `Syntax`
-/// and for `Depth` only one line. For `Layout`, no further object is looked at once `out` has more than 4,096 bytes. Fails only if memory
-/// is refused.
+/// and for `Depth` only one line. For `Bound`, a document with too many roots gets no line for them. For `Layout`, no further object is
+/// looked at once `out` has more than 4,096 bytes. Fails only if memory is refused.
 pub fn explain_document(
     alloc: Global,
     out: &mut String,

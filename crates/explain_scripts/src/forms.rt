@@ -92,7 +92,7 @@ static SORTS: [Sort; 9] = [
     },
 ];
 
-/// The kind of a word of a form; `REST`, the rest of a line, has none.
+/// The kind of words that a word of a form stands for; `None` for a verb, and for `REST`, the rest of a line.
 pub(crate) fn sort_of(word: &str) -> Option<&'static Sort> {
     for sort in SORTS.iter() {
         if sort.name == word {

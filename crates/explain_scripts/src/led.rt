@@ -7,7 +7,7 @@ use web_uris::{UriFault, address_of, joined, parse, split_address};
 /// What the text of a reference leads to.
 #[derive(Drop)]
 pub(crate) enum Led {
-    /// The text is neither a fragment nor a URI with a fragment.
+    /// The text is no fragment, and no URI or relative reference with a fragment.
     Bad,
     /// The text leads into the document, but to no object.
     Nowhere,

@@ -1,7 +1,8 @@
 //! Explains what to fix in the texts of a script: which words of a bad line are wrong, and what is wrong in a refused document.
 //!
-//! The functions read the line or the document once more. They know the metamodel, and no repository. No contract determines the text of an
-//! explanation. It is proved that the functions are safe and terminate; the cases of the program show the texts.
+//! `explain_bad_line` reads the line once more, and `explain_document` the document. No function gets a repository; each public function
+//! except `explain_bad_line` gets the metamodel. No contract determines the text of an explanation. It is proved that the functions are
+//! safe and terminate; the cases of the program show the texts.
 #![tactic(auto)]
 
 mod bad_line;

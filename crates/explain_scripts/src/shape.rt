@@ -11,7 +11,7 @@ use std::alloc::{AllocError, Global};
 const DOCUMENT: [Field; 2] = [
     Field {
         key: "format",
-        sort: Sort::Number,
+        sort: Sort::Long,
         is_required: true,
     },
     Field {
@@ -93,7 +93,7 @@ fn explain_key(
         return if meta.is_container(feature) {
             writeln!(
                 out,
-                "{path}.features: {key:?} leads to the container, and is left out"
+                "{path}.features: {key:?} leads to the container, and has to be left out"
             )
         } else {
             Ok(())
@@ -152,7 +152,7 @@ fn explain_names_in(
     }
 }
 
-/// Explains each name in a document that is not allowed at its place.
+/// Explains each name in a document that is not allowed at its place; `names` says whether names of classes or of features are looked at.
 pub(crate) fn explain_names(
     alloc: Global,
     out: &mut String,

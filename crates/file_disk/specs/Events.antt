@@ -4,14 +4,14 @@ use Rattle.std.specs.Coded.{Coded, code_by, coded_bool, coded_list, coded_ℕ, c
 use Rattle.std.proofs.Common.{arith, inl, inr}
 use Rattle.journal.specs.Disk.{PartlyCut, Torn}
 
--- a call, with its arguments; the truth value says whether the call succeeded
+-- a call, with its arguments; the truth value says whether the call succeeded, and `opened` is an event only after success
 pub data Event : Type 0 where
   opened : List ℕ → Event
   written : ℕ → List ℕ → Bool → Event
   cut : ℕ → Bool → Event
   synced : Bool → Event
 
--- ---- how the logic stores an event
+-- ---- how an event is coded as data
 
 abbrev Parts : Type 0
 Parts = List ℕ ⊎ ((ℕ × (List ℕ × Bool)) ⊎ ((ℕ × Bool) ⊎ Bool))
@@ -47,7 +47,7 @@ file_bytes_after (written at bytes done) old = if done then take at old ++ bytes
 file_bytes_after (cut len done) old = if done then take len old else old
 file_bytes_after (synced done) old = old
 
--- the bytes of the file, if no call has failed
+-- the bytes of the file after the events, if no call has failed
 abbrev pub file_bytes : List Event → List ℕ
 file_bytes [] = []
 file_bytes (e ∷ es) = file_bytes_after e (file_bytes es)
@@ -82,7 +82,7 @@ abbrev pub failures : List Event → ℕ
 failures [] = 0
 failures (e ∷ es) = if is_failure e then failures es + 1 else failures es
 
--- ---- the moment is the number of events
+-- ---- laws for the trait `Disk`: its `moment` is the number of the events so far
 
 pub counts : (es : List Event) (t : ℕ) (c : List ℕ) → t ≤ length es → MayLeave es c → LeftSince es t c
 counts [] t c le left = (le, left)

@@ -1,6 +1,6 @@
 //! The calls of the system on a file.
 
-/// A call of the system on a file, with its arguments. The truth value says whether the call succeeded.
+/// A call of the system on a file, with its arguments. The `bool` says whether the call succeeded; `Opened` is recorded only after success.
 #[derive(Clone, Copy)]
 pub enum Call<'a> {
     /// The file was synced and then read: it has these bytes.

@@ -12,7 +12,7 @@ use std::io::Read;
 use std::os::unix::fs::FileExt;
 use std::{fs, io};
 
-/// An open file with its lock: no other process can open the file as a disk until the `FileDisk` is dropped.
+/// An open file with its lock. Until the `FileDisk` is dropped, neither this process nor another one can open the file as a disk again.
 #[derive(Drop)]
 pub struct FileDisk {
     file: fs::File,
@@ -67,7 +67,7 @@ pub fn open(rt: &HostRuntime, path: &str) -> Result<(FileDisk, Vec<u8>), OpenFau
     Ok((FileDisk { file, record }, bytes))
 }
 
-/// The result of a call of the system, as a disk returns it.
+/// What a method of `Disk` returns, by whether its call of the system succeeded.
 fn outcome(is_done: bool) -> Result<(), DiskFault>
     ensures { result ≡ outcome_of is_done }
 {

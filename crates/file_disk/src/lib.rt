@@ -1,4 +1,4 @@
-//! A file of the operating system as the disk of a journal. Only one process at a time has the file open.
+//! A file of the operating system as the disk of a journal. While the file is open as a disk, no process can open it as a disk again.
 #![tactic(auto)]
 
 mod call;

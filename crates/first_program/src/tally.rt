@@ -3,8 +3,8 @@ ghost use Rattle.std.specs.Prelude.{◌-◌, [], Some};
 
 use mmrepo_lib::{Adapter, NoRoom, Notice, NoticeKind};
 
-/// Counts the notifications that it gets, and the ADDs among them. It keeps none. An adapter only stores; the caller of the repository acts
-/// on the reply.
+/// Counts the notifications that it gets, and the ADDs among them, and keeps no notification. An adapter can change only itself: the caller
+/// of the repository reads the notifications in the reply, and acts on them.
 #[derive(Drop)]
 pub struct Tally {
     told: u64,

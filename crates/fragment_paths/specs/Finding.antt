@@ -42,7 +42,7 @@ object_after_steps r (s ∷ ss) o = option_and_then (object_after_steps r ss) (o
 abbrev pub find : Reading → ResourceNo → Path → Option ObjectNo
 find r k p = option_and_then (object_after_steps r p.steps) (slice_get (roots r k) p.root)
 
--- the object that a fragment finds in a resource
+-- the object to which a fragment leads in a resource
 abbrev pub found_by : Reading → ResourceNo → List ℕ → Option ObjectNo
 found_by r k t = option_and_then (find r k) (parse t)
 

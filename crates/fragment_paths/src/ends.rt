@@ -8,7 +8,7 @@ use links::LinkStore;
 use mm_types::{End, ObjectNo, ResourceNo};
 use models::{ModelRef, roots_end};
 
-/// The object at a position of a containment; `None` past the last.
+/// The object at a position of a containment; `None` past the last position.
 pub(crate) fn object_in<L: LinkStore>(model: &ModelRef<L>, end: End, index: u32) -> Option<ObjectNo>
     requires contains { is_containment model.now.metamodel end.feature ≡ true }
     ensures { result ≡ slice_get (objects_of ((reading model.now).values end)) index }
@@ -17,7 +17,7 @@ pub(crate) fn object_in<L: LinkStore>(model: &ModelRef<L>, end: End, index: u32)
     model.object_in(end, index)
 }
 
-/// The root of a resource at a position; `None` past the last.
+/// The root of a resource at a position; `None` past the last position.
 pub(crate) fn root_at<L: LinkStore>(
     model: &ModelRef<L>,
     resource: ResourceNo,

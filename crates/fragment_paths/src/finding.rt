@@ -53,8 +53,8 @@ fn walked<L: LinkStore>(model: &ModelRef<L>, steps: &[Step], object: ObjectNo) -
     Some(at)
 }
 
-/// The object that a path leads to in a resource (EMF: Resource.getEObject, of a parsed fragment); `None` if there is no such resource, or
-/// no object at the path. Takes no memory.
+/// The object that a path leads to in a resource (EMF: Resource.getEObject, of a parsed fragment); `None` if no resource has the number, or
+/// if no object is at the path. Takes no memory.
 pub fn find<L: LinkStore>(
     model: &ModelRef<L>,
     resource: ResourceNo,

@@ -44,7 +44,7 @@ impl PathCache {
         }
     }
 
-    /// The text that is kept for an object, if there is one. Takes no memory.
+    /// The text that is kept for an object; `None` if no text is kept for it. Takes no memory.
     pub fn get(&self, object: ObjectNo) -> Option<&str>
         ensures { option_copied result ≡ map.get self.now object.0 }
     {

@@ -1,4 +1,4 @@
-//! The positions of objects in the ends that contain them. All positions of an end are looked up at once.
+//! The positions of objects in the ends that contain them: looked up one by one, or noted for all objects in an end at once.
 ghost use Rattle.std.specs.Prelude.{◌≡◌, Some, slice_get, true};
 ghost use Rattle.mm_types.specs.Same.{same_end};
 ghost use Rattle.mm_types.specs.Shapes.{shape};
@@ -75,8 +75,8 @@ impl<'m, 'a, L: LinkStore> Positions<'m, 'a, L> {
         self.model
     }
 
-    /// The model is always legal. Code calls this function so that a proof can use the fact, if it knows the model only as contracts see
-    /// it.
+    /// The model is always legal. Code calls this function where a proof needs this fact, and knows the model only as contracts see the
+    /// model.
     pub(crate) fn lemma_is_legal(&self)
         ensures { IsLegal self.now }
     {
@@ -142,9 +142,9 @@ impl<'m, 'a, L: LinkStore> Positions<'m, 'a, L> {
         Ok(())
     }
 
-    /// Notes the positions of an object, of the objects above it, and of all other objects in the ends that contain these objects. If the
-    /// position of the object is known already, this call does nothing: the call that noted this position also noted the others, unless
-    /// that call failed. Fails only if memory is refused; the model is the same in any case.
+    /// Notes the positions of an object, of the objects above it, and of all other objects in the ends that contain these objects. The call
+    /// goes up from the object, and stops at the first object whose position is known already: the call that noted this position also noted
+    /// the positions above it, unless that call failed. Fails only if memory is refused; the model is the same in any case.
     pub fn note_way(&mut self, object: ObjectNo) -> Result<(), AllocError>
         ensures { self.new ≡ self.old }
     {

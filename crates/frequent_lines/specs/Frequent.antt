@@ -51,7 +51,7 @@ frequent_line (frequent.At o f a) = act_line o f a
 
 -- ---- how a frequent line is read
 
--- an act that has no arguments; none if there are arguments
+-- an act that takes no arguments, if the text of the arguments is empty; otherwise none
 abbrev pub alone : FrequentAct → List ℕ → Option FrequentAct
 alone a [] = Some a
 alone a (c ∷ cs) = None
@@ -105,6 +105,6 @@ frequent_with verb text =
     else if bytes_eq verb (codes "fragment") then option_map frequent.Fragment (object_in text)
     else at_in verb text
 
--- what a frequent line asks for; none for any other line
+-- a line, read as a frequent line; none if the line is not frequent
 unfoldable pub frequent_in : List ℕ → Option Frequent
 frequent_in line = frequent_with (before_first is_space line) (after_first is_space line)

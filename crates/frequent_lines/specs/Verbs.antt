@@ -30,7 +30,7 @@ short_verb_in line =
     else if starts_with nat_eq line (codes "add ") then Some short.Add
     else None
 
--- the longer verb that a line begins with, if a space follows it
+-- the `LongVerb` that a line begins with, if a space follows it
 abbrev pub long_verb_in : List ℕ → Option LongVerb
 long_verb_in line =
     if starts_with nat_eq line (codes "isset ") then Some long.IsSet

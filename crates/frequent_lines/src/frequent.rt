@@ -35,8 +35,8 @@ pub enum Frequent<'a> {
     At(ObjectNo, Name<'a>, FrequentAct<'a>),
 }
 
-/// The object before the first space of a text, and the rest of the text after this space. The rest is empty if there is no space. `None`
-/// if the bytes before the space are no object.
+/// Reads an object from the bytes before the first space of a text. Returns the object, and the text after that space. If the text has no
+/// space, the object is read from the whole text, and the text after it is empty. `None` if these bytes name no object.
 #[inline(always)]
 fn object_before_space(text: &str) -> Option<(ObjectNo, &str)>
     ensures object { option_map (λ p. p.0) result ≡ object_in (before_first is_space text.now) }
@@ -52,8 +52,8 @@ fn object_before_space(text: &str) -> Option<(ObjectNo, &str)>
     Some((ObjectNo(number), rest))
 }
 
-/// The object and the name of a feature with which a text begins, with one space between them; and the text after the space that follows
-/// the name, which is empty if no space follows.
+/// Reads `OBJ NAME` at the beginning of a text. Returns the object, the name of the feature, and the text after the space that follows the
+/// name; this text is empty if no space follows. `None` if the text does not begin with `OBJ NAME`.
 #[inline(always)]
 fn object_feature_of(text: &str) -> Option<(ObjectNo, Name<'_>, &str)>
     ensures feature { option_map (λ p. (p.0, p.1)) result ≡ object_feature_in text.now }
@@ -64,7 +64,7 @@ fn object_feature_of(text: &str) -> Option<(ObjectNo, Name<'_>, &str)>
     Some((object, feature, more))
 }
 
-/// An act that has no arguments; `None` if there are arguments.
+/// The act `act`, which takes no arguments, if the text of the arguments is empty; otherwise `None`.
 #[inline(always)]
 fn alone_of<'a>(act: FrequentAct<'a>, args: &str) -> Option<FrequentAct<'a>>
     ensures { result ≡ alone act.entry args.now }
@@ -112,7 +112,8 @@ fn move_of(args: &str) -> Option<FrequentAct<'_>>
     Some(FrequentAct::Bare(BareAct::Move { to, from }))
 }
 
-/// The act that a verb of three letters and the text after the name of a feature ask for.
+/// The act that a verb of three letters and the text after the name of a feature ask for. `None` for `new`, which names no feature, and if
+/// the text does not fit the verb.
 #[inline(always)]
 fn short_act_of(verb: ShortVerb, args: &str) -> Option<FrequentAct<'_>>
     ensures { result ≡ act_in (short_verb verb) args.now }
@@ -125,7 +126,8 @@ fn short_act_of(verb: ShortVerb, args: &str) -> Option<FrequentAct<'_>>
     }
 }
 
-/// The act that a longer verb and the text after the name of a feature ask for.
+/// The act that a verb of more than three letters and the text after the name of a feature ask for; `None` if the text does not fit the
+/// verb.
 #[inline(always)]
 fn long_act_of(verb: LongVerb, args: &str) -> Option<FrequentAct<'_>>
     ensures { result ≡ act_in (long_verb verb) args.now }
@@ -150,7 +152,7 @@ fn short_line_of(verb: ShortVerb, text: &str) -> Option<Frequent<'_>>
     Some(Frequent::At(object, feature, act))
 }
 
-/// A line about a feature, read from a longer verb and the text after the verb.
+/// A line about a feature, read from a verb of more than three letters and the text after the verb.
 #[inline(always)]
 fn long_line_of(verb: LongVerb, text: &str) -> Option<Frequent<'_>>
     ensures { result ≡ at_in (long_verb verb) text.now }
@@ -203,7 +205,8 @@ fn other_line_of(line: &str) -> Option<Frequent<'_>>
 }
 
 /// A line of one of the most frequent forms, whose words have one space between them. `None` for a line of any other form, and for a line
-/// with further spaces, except that `get`, `isset` and `unset` may have one space at the end. Takes no memory.
+/// with further spaces before, between or after its words; but a line of `get`, `isset` or `unset` may have one space at its end. Takes no
+/// memory.
 pub fn frequent_of(line: &str) -> Option<Frequent<'_>>
     ensures read { result ≡ frequent_in line.now }
     ensures line { IfSome result (λ f. text_line line.now ≡ frequent_line f) }

@@ -12,7 +12,7 @@ pub(crate) enum ShortVerb {
     Add,
 }
 
-/// A longer verb of a line about a feature.
+/// A verb of more than three letters. The lines that begin with it are about a feature.
 #[derive(Clone, Copy, Drop)]
 pub(crate) enum LongVerb {
     IsSet,
@@ -37,7 +37,7 @@ pub(crate) fn short_verb_of(line: &str) -> Option<ShortVerb>
     }
 }
 
-/// The longer verb that a line begins with, if a space follows it.
+/// The `LongVerb` that a line begins with, if a space follows it.
 #[inline(always)]
 pub(crate) fn long_verb_of(line: &str) -> Option<LongVerb>
     ensures { result ≡ long_verb_in line.now }

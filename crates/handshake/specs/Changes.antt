@@ -24,7 +24,8 @@ abbrev pub HasReadDocument : Metamodel → Change → Type 0
 HasReadDocument m (Load k doc) = IsDocument m doc
 HasReadDocument m _ = Unit {0}
 
--- the objects of a load's document get numbers within the limit, if the first object gets the number n
+-- if the first object of a load's document gets the number n, all objects of the document get numbers within the limit; and no list of the
+-- document has too many values
 abbrev pub HasFittingDocument : ℕ → Change → Type 0
 HasFittingDocument n (Load k doc) = IsFitting n doc
 HasFittingDocument n _ = Unit {0}

@@ -64,8 +64,8 @@ with_link_end r ts t = if list_any (same_link r t) ts then ts else ts ++ t ∷ [
 abbrev pub each_link_once : Reading → List LinkEnd → List LinkEnd
 each_link_once r ts = fold (with_link_end r) [] ts
 
--- the links that a new link may displace: the link of the value of the end, if the end is single; the link of the value of the opposite
--- end, if the opposite end is single; and the link that contains the node that becomes contained
+-- the links that a new link from e to the object o may displace: the link of the value of e, if e is single; the link of the value of the
+-- opposite end, if the opposite end is single; and the link that contains the node that becomes contained
 abbrev pub in_the_way : Reading → End → ObjectNo → List LinkEnd
 in_the_way r e o =
     link_ends_if_single r e

@@ -1,4 +1,4 @@
--- The edits of links that make a change.
+-- The edits of links by which a change is made.
 use Rattle.std.specs.Prelude.{ℕ, List, [], ◌++◌, ◌-◌, flat_map, length, map, Option, Some, None, option_map, option_to_list, if◌then◌else◌}
 use Rattle.std.specs.Option.{option_map_or}
 use Rattle.mm_types.specs.declared.end.End.{End}
@@ -36,7 +36,8 @@ made_edit r (At e (Add v i)) = if is_plain_add r e v then None else new_put r e 
 made_edit r (At e (Move to from)) = if (shape_at r e).is_reference then Some (Shift e to from) else None
 made_edit r _ = None
 
--- an edit at the opposite end: it moves the new link from the last index there to the index of the proxy that the link replaces
+-- an edit at the opposite end, which is the end of the counterpart c: it moves the new link from the last index of this end to the index of
+-- the proxy that the link replaces
 abbrev pub back_edit : Reading → Counterpart → Edit
 back_edit r c = Shift c.end c.index (length (r.values c.end) - 1)
 

@@ -91,8 +91,9 @@ with_value s r e i v = s
 abbrev pub put_back : Links → ℕ → Counterpart → Links
 put_back s n c = shift s c.end c.index n
 
--- the links after a new link is put in the place of a proxy at the end e, and of its counterpart at the opposite end; s has the links after
--- both proxies are cut
+-- the links after the proxy at the position i of the end e is resolved to the object of x. In s, this proxy and its counterpart at the
+-- opposite end, if there is one, are cut already. The new link gets the position of the proxy at e, and the position of the counterpart at
+-- the opposite end
 abbrev pub links_after_join : Links → Reading → End → ℕ → ResolvedProxy → Links
 links_after_join s r e i x =
     let t = with_value s r e (Some i) (value.Object x.object) in

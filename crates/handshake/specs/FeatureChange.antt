@@ -1,5 +1,5 @@
--- Changes of ends, and the notifications that report these changes. A gain or a loss without an index gets its position in the
--- notification. Each notification is computed from the ends as they are after the earlier notifications are replayed.
+-- Changes of ends, and the notifications that report these changes. If a gain or a loss at a list names no index, its position is computed
+-- for the notification. Each notification is computed from the ends as they are after the earlier notifications are replayed.
 use Rattle.std.specs.Prelude.{ℤ, pos, Bool, false, List, [], ◌∷◌, ◌++◌, length, Some, if◌then◌else◌}
 use Rattle.mm_types.specs.Resolved.{Metamodel}
 use Rattle.mm_types.specs.Same.{same_value}
@@ -24,7 +24,8 @@ feature_change e h = record { at = e; does = h }
 
 ---------------------------------------------------------------- the notification of a feature change
 
--- a notification at the end e, which holds h
+-- the notification of the kind k at the end e, with an old value, a new value and the position p; a is the shape of the end's feature, and
+-- h is what the end holds before the change
 abbrev pub notice : Shape → End → Held → NoticeKind → Value → Value → ℤ → Notice
 notice a e h k old new p =
     record { notifier = e.node; feature = Some e.feature; kind = k; old_value = old; new_value = new; position = p; was_set = is_set a h }

@@ -35,7 +35,7 @@ use Rattle.handshake.specs.FeatureChange.{change_notices, feature_change}
 abbrev pub loss : LinkEnd → FeatureChange
 loss t = feature_change t.end (Loses t.value)
 
--- the losses at both ends of a link; the loss at a containment comes first
+-- the loss at each end of a link; a loss at a containment comes first
 abbrev pub losses : Reading → LinkEnd → List FeatureChange
 losses r t =
     option_map_or (λ u. if is_containment r.metamodel u.end.feature then loss u ∷ loss t ∷ [] else loss t ∷ loss u ∷ []) (opposite_link_end r t) (loss t ∷ [])
@@ -65,9 +65,8 @@ all_lost e (suc n) = feature_change e (LosesAt n) ∷ all_lost e n
 
 ---------------------------------------------------------------- changes
 
--- the feature changes that come before the end itself gains a value; ts are the links that are cut. If the end gains an object, these
--- changes are the losses of the displaced links and then the gain of the far end; if the end becomes null, they are the losses at the far
--- ends
+-- the feature changes that come before the end e gains a value; ts are the links that are cut. If e gains an object, these changes are the
+-- losses of the displaced links and then the gain of the far end; if e becomes null, they are the losses at the far ends
 abbrev pub before_gain : Reading → End → Value → List LinkEnd → List FeatureChange
 before_gain r e (value.Object o) ts = flat_map (other_losses r e o) ts ++ far_gain r e o
 before_gain r e v ts = far_losses r ts
@@ -77,11 +76,11 @@ abbrev pub gain_at : Option ℕ → Value → ChangeKind
 gain_at None v = Gains v
 gain_at (Some i) v = GainsAt i v
 
--- the losses at the far ends of the links that are cut, and then the loss at the index i of the end itself
+-- the losses at the far ends of the links ts, which are cut, and then the loss at the index i of the end e
 abbrev pub changes_of_remove : Reading → End → List LinkEnd → ℕ → List FeatureChange
 changes_of_remove r e ts i = far_losses r ts ++ feature_change e (LosesAt i) ∷ []
 
--- the losses when the first occurrence of a value is taken out; none if the value is not there
+-- the losses when the first occurrence of a value is taken out of the list e; none if the list lacks the value
 abbrev pub changes_of_remove_value : Reading → End → List LinkEnd → Value → List FeatureChange
 changes_of_remove_value r e ts v = option_map_or (changes_of_remove r e ts) (first_at r e v) []
 
@@ -139,7 +138,8 @@ changes_of_delete r o =
 abbrev pub changes_of_load : Reading → ResourceNo → Doc → List FeatureChange
 changes_of_load r k doc = map (λ v. feature_change (contents_end r.metamodel k) (Gains v)) (roots_loaded r.next doc)
 
--- the feature changes of a resolve: the proxy at the opposite end, if there is one, is resolved, and then the proxy of the end itself
+-- the feature changes of a resolve: first the proxy at the opposite end, if there is one, is resolved, and then the proxy at the index i of
+-- the end e
 abbrev pub changes_of_resolve : End → ℕ → ResolvedProxy → List FeatureChange
 changes_of_resolve e i x =
     option_map_or (λ c. feature_change c.end (Resolves c.index (node_value e.node)) ∷ []) x.counterpart []

@@ -37,7 +37,7 @@ abbrev pub IsBrought : Change → Type 0
 IsBrought (NewResource u) = IsJoined u
 IsBrought _ = Unit {0}
 
--- the model after a change is legal
+-- the model after a change is legal, if the document of a load was read, and the URI of a new resource is a result of joining
 abbrev pub KeepsLegal : Model → Change → Type 0
 KeepsLegal = OfAllowed (λ s c. HasReadDocument s.metamodel c → IsBrought c → IsLegal (model_after s c))
 
@@ -64,8 +64,8 @@ is_object_from n (node.Resource k) = false
 abbrev pub comes_with : Reading → Change → Node → Bool
 comes_with r c n = is_some (loaded_by c) && is_object_from r.next n
 
--- if the chain of a change is replayed, each end gets the values that it has after the change, except the ends of nodes that the change
--- destroys or that a load makes
+-- a replay of the chain of a change gives each end the values and the set flag that the end has after the change, except the ends of nodes
+-- that the change destroys or that a load makes; the document of a load has to be one that was read
 abbrev pub ChainReplays : Model → Change → Type 0
 ChainReplays = OfAllowed (λ s c. HasReadDocument s.metamodel c → (d : End) → goes_with (reading s) c d.node ≡ false → comes_with (reading s) c d.node ≡ false → ends_after_notices (has_flag s.metamodel) (held_at (reading s)) (chain (reading s) c) d ≡ held_at (reading (model_after s c)) d)
 
@@ -98,7 +98,7 @@ FarEndsAreApart s e =
     let far = far_losses (reading s) (cut_link_ends (reading s) (At e Unset)) in
     OfAllowed (λ s c. AreApart (far ++ feature_change e Unsets ∷ [])) s (At e Unset)
 
--- no two names of the list name the same link
+-- no two link ends of a list name the same link
 abbrev pub AreDifferent : Reading → List LinkEnd → Type 0
 AreDifferent r [] = Unit {0}
 AreDifferent r (t ∷ ts) = AllByRecursion (λ (u : LinkEnd). same_link r u t ≡ false) ts × AreDifferent r ts

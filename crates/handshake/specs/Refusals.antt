@@ -1,6 +1,7 @@
--- Why a change is refused: something that the change names is not there; or the act doesn't fit the feature; or the change is forbidden by
--- the type or the length of a value, an index, a repeated value, a proxy, a full end, a cycle of containment, a limit, a URI that a
--- resource has already, or a resource that is not empty. All further refusals are found by the repository.
+-- Why a change is refused: something that the change names does not exist; or the class of a new object is abstract; or the act doesn't fit
+-- the feature; or the change is forbidden by the type or the length of a value, an index, a repeated value, a proxy, a full end, a cycle of
+-- containment, a limit, a URI that a resource has already, or a resource that is not empty. All further refusals are found by the
+-- repository.
 use Rattle.std.specs.Prelude.{ℕ, ◌+◌, ◌&&◌, ◌||◌, Bool, false, not, List, length, nat_le, nat_lt, Option, None, Some, is_some, if◌then◌else◌}
 use Rattle.std.specs.Option.{option_map_or}
 use Rattle.mm_types.specs.Conditions.{◌unless◌, ◌where_so◌, ◌else_by◌}
@@ -118,7 +119,8 @@ value_of (Add v i) = Some v
 value_of (RemoveValue v) = Some v
 value_of _ = None
 
--- why an act at an end is refused: the node, its feature, or the value of the act is not there
+-- why an act at an end is refused: the node does not exist or does not have the feature, or the value of the act is an object that does not
+-- live
 abbrev pub named_refusal : Reading → End → Act → Option Refused
 named_refusal r e a = option_map_or (value_refusal r e) (value_of a) (end_refusal r e)
 
@@ -126,8 +128,8 @@ named_refusal r e a = option_map_or (value_refusal r e) (value_of a) (end_refusa
 abbrev pub list_refusal : Reading → End → Value → Option Refused
 list_refusal r e v = value_refusal r e v else_by many_refusal r.metamodel e.feature
 
--- why a change is refused before it is planned: something that the change names is not there, or the act needs a single feature and the
--- feature is many-valued, or the other way round
+-- why a change is refused before it is planned: something that the change names does not exist, the class of a new object is abstract, or
+-- the act doesn't fit the feature
 abbrev pub early_refusal : Reading → Change → Option Refused
 early_refusal r (At e a) = named_refusal r e a else_by kind_refusal r.metamodel e.feature a
 early_refusal r (Create c) = class_refusal r.metamodel c

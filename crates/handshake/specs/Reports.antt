@@ -24,8 +24,8 @@ lost_notice r l =
     then notice (shape_at r l.end) l.end (held_at r l.end) kind.Set l.value value.Null no_index
     else notice (shape_at r l.end) l.end (held_at r l.end) kind.Remove l.value value.Null (pos l.position)
 
--- the notification that an end gains a root of a document. x has the position of the root, and the root's number in the document; n is the
--- number that the first object of the document gets. The end was set if the position is above 0
+-- the notification when the end e gains a root of a document. x has the position of the root, and the root's number in the document; n is
+-- the number that the first object of the document gets. The end was set if the position is above 0
 abbrev pub root_notice : ℕ → End → ℕ × ObjectNo → Notice
 root_notice n e x =
     record {

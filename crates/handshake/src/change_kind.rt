@@ -1,7 +1,7 @@
 //! What happens to ends.
 use mm_types::{End, Value};
 
-/// What happens to one end (EMF: ChangeKind). A `ChangeKind` does not say whether the end is single or a list.
+/// What happens to one end (EMF: ChangeKind). For `Gains`, `Loses` and `Resolves` the end may be single or a list.
 #[derive(Drop)]
 pub enum ChangeKind {
     /// A list gains the value after its last value; at a single end the value replaces the old value.

@@ -208,7 +208,8 @@ fn link_ends_resolved<L: LinkStore>(
     Ok(link_ends)
 }
 
-/// Adds the link of the counterpart of `target`, the proxy at the opposite end. Adds nothing if there is no target or no counterpart.
+/// Adds the link of the proxy at the opposite end, which is the counterpart in `target`. Adds nothing if there is no target or no
+/// counterpart.
 pub fn add_counterpart<L: LinkStore>(
     alloc: Global,
     model: &ModelRef<L>,

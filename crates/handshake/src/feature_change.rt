@@ -67,7 +67,7 @@ fn push_act<L: LinkStore>(
     }
 }
 
-/// Adds the feature changes of an unset: the losses at the far ends, and then the changes of the end itself.
+/// Adds the feature changes of an unset: the losses at the far ends, and then the changes of `end`.
 fn push_unset<L: LinkStore>(
     model: &ModelRef<L>,
     end: End,
@@ -202,7 +202,7 @@ fn push_all_lost(end: End, len: u32, out: &mut Vec<FeatureChange>) -> Result<(),
     Ok(())
 }
 
-/// Adds the feature changes that come before the gain of a value at the end itself. `link_ends` are the links that the change cuts.
+/// Adds the feature changes that come before the gain of a value at `end`. `link_ends` are the links that the change cuts.
 fn push_cuts<L: LinkStore>(
     model: &ModelRef<L>,
     end: End,

@@ -22,7 +22,7 @@ pub fn keeps_legal()
 {}
 
 /// If the URIs of a model are normalised, and so are the URIs that a change adds, then the URIs of the model after the change are
-/// normalised. A change adds the URI of a new resource, or the URIs of the proxies of a document.
+/// normalised. Two kinds of changes add URIs: a new resource adds its URI, and a load adds the URIs of the document's proxies.
 pub fn keeps_steady_texts()
     ensures { (s : Model) (c : Change) → KeepsSteady s c }
 {}
@@ -56,16 +56,16 @@ pub fn a_change_cuts_no_link_twice()
 
 /// If a document was read, and its load into a legal model is not refused, then the model after the load is as the document says. The
 /// objects of the document get the next numbers. Reading an object gives what the document says: its class, its attributes and their flags,
-/// its references with both ends of each pair, its container reference, and the end that holds it. The resource holds the roots in the
-/// order of the document. Nothing else has changed (EMF: XMLResource.load).
+/// all its references (also two that are opposites), its container reference, and the end that holds it. The resource holds the roots in
+/// the order of the document. Nothing else has changed (EMF: XMLResource.load).
 pub fn a_load_reads_as_its_document()
     ensures { (s : Model) (k : ResourceNo) (doc : Doc) → LoadsEnds s k doc }
 {}
 
-/// Resolving all proxies of a legal model does the same as resolving the proxies one after another. They are ordered by the number of the
-/// referring object, then by feature in the order of all features, then by index. Each proxy is resolved in the model as it is after the
-/// earlier resolves, and is skipped if its resolve is refused there. The resolve of all proxies has the same model as its result, has the
-/// same notifications in the same order, and counts the proxies that were resolved and the proxies that are left (EMF:
+/// Resolving all proxies of a legal model does the same as resolving the proxies one after another. The proxies are ordered by the number
+/// of the referring object, then by feature in the order of all features, then by index. Each proxy is resolved in the model as it is after
+/// the earlier resolves, and is skipped if its resolve is refused there. Both ways lead to the same model, with the same notifications in
+/// the same order. The resolve of all proxies counts the proxies that were resolved and the proxies that are left (EMF:
 /// EcoreUtil.resolveAll).
 pub fn all_proxies_are_resolved_one_after_another()
     ensures { (s : Model) → IsLegal s → ResolvesEach s }

@@ -1,4 +1,5 @@
-//! Whether a change names only things that are there, and a feature of the right kind. No function here takes memory.
+//! Why a change is refused because of what it names: a thing that does not exist, an abstract class for a new object, or a feature that
+//! doesn't fit the act. No function here takes memory.
 ghost use Rattle.std.specs.Prelude.{◌≡◌};
 ghost use Rattle.models.specs.Model.{reading};
 ghost use Rattle.handshake.specs.Refusals as refusals;
@@ -12,8 +13,8 @@ use mm_meta::Meta;
 use mm_types::{End, FeatureNo, Node, Refused, Value};
 use models::{ModelRef, class_refusal, end_refusal, node_refusal, value_refusal};
 
-/// Why a change is refused before it is planned: something that the change names is not there, or the act needs a single feature and the
-/// feature is many-valued, or the other way round.
+/// Why a change is refused before it is planned: something that the change names does not exist, the class of a new object is abstract, or
+/// the act doesn't fit the feature.
 ///
 /// `NoObject` if the node, or the value, is an object that does not live; `NoResource` or `NoClass` if the resource or the class does not
 /// exist; `Abstract` if the class is abstract; `NoFeature` if the node does not have the feature; `NotSingle` if a value is set under a
@@ -30,14 +31,15 @@ pub fn early_refusal<L: LinkStore>(model: &ModelRef<L>, change: &Change) -> Opti
     }
 }
 
-/// Why an act at an end is refused before it is planned: the end or the value is not there, or the act doesn't fit the feature.
+/// Why an act at an end is refused before it is planned: the end or the value does not exist, or the act doesn't fit the feature.
 fn act_early_refusal<L: LinkStore>(model: &ModelRef<L>, end: End, act: &Act) -> Option<Refused>
     ensures { result ≡ refusals.early_refusal (reading model.now) (At end act.now) }
 {
     named_refusal(model, end, act).or(kind_refusal(model.meta(), end.feature, act))
 }
 
-/// Why an act at an end is refused: the node, its feature, or the value of the act is not there.
+/// Why an act at an end is refused: the node does not exist or does not have the feature, or the value of the act is an object that does
+/// not live.
 fn named_refusal<L: LinkStore>(model: &ModelRef<L>, end: End, act: &Act) -> Option<Refused>
     ensures { result ≡ refusals.named_refusal (reading model.now) end act.now }
 {

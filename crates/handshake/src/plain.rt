@@ -1,4 +1,4 @@
-//! Sets and additions that make no link, and ends that have a value already.
+//! Sets and additions that make no link, and ends that already have the value that is set or added.
 ghost use Rattle.std.specs.Prelude.{◌≡◌, false, true};
 ghost use Rattle.std.specs.Option.{option_map_or};
 ghost use Rattle.mm_types.specs.Same.{same_end};
@@ -19,8 +19,8 @@ pub fn is_plain_add<L: LinkStore>(model: &ModelRef<L>, end: End, value: &Value) 
     !model.meta().is_reference(end.feature) || is_repeat(model, end, value)
 }
 
-/// Whether the values of an end are unique, and the end has a value already. The values of a containment are not searched: the container of
-/// an object tells whether the end has the object.
+/// Whether the values of an end are unique, and `value` is one of them already. The values of a containment are not searched: the container
+/// of an object tells whether the end has the object.
 pub fn is_repeat<L: LinkStore>(model: &ModelRef<L>, end: End, value: &Value) -> bool
     ensures { result ≡ is_repeat_of (reading model.now) end value.now }
 {
@@ -43,7 +43,7 @@ fn is_contained_by<L: LinkStore>(model: &ModelRef<L>, object: ObjectNo, end: End
     }
 }
 
-/// Whether a set makes and cuts no link: the feature is an attribute, or the end has that value already.
+/// Whether a set to `value` makes and cuts no link: the feature is an attribute, or `value` is the end's value already.
 pub fn is_plain_set<L: LinkStore>(model: &ModelRef<L>, end: End, value: &Value) -> bool
     ensures { result ≡ d.is_plain_set (reading model.now) end value.now }
 {
@@ -53,7 +53,7 @@ pub fn is_plain_set<L: LinkStore>(model: &ModelRef<L>, end: End, value: &Value) 
     has_already(model, end, value)
 }
 
-/// Whether a single reference has a value already. An empty reference has the value null.
+/// Whether `value` is the value of a single reference already. An empty reference has the value null.
 pub fn has_already<L: LinkStore>(model: &ModelRef<L>, end: End, value: &Value) -> bool
     requires reference { (shape model.now.metamodel end.feature).is_reference ≡ true }
     ensures { result ≡ d.has_already (reading model.now) end value.now }

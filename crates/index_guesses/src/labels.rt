@@ -39,7 +39,7 @@ pub fn new_label(index: usize) -> u64 {
     MIDDLE.saturating_add((index as u64).saturating_mul(GAP))
 }
 
-/// A label between two others; `below`, if there is none between them.
+/// A label between the labels `below` and `above`; `below`, if there is no label between them.
 pub fn label_between(below: u64, above: u64) -> u64 {
     below.saturating_add(above.saturating_sub(below) / 2)
 }
@@ -89,14 +89,14 @@ impl Labels {
         }
     }
 
-    /// A guess at the index of a label, by its distance from the first label. The guess is right if the labels from the first one up to
-    /// this one are `GAP` apart.
+    /// A guess at the index of a label, by its distance from `first`. The guess is right if `first` is no estimate, and the labels from the
+    /// first one up to this one are `GAP` apart.
     pub fn from_front(self, label: u64) -> usize {
         (label.saturating_sub(self.first) / GAP) as usize
     }
 
-    /// A guess at the index of a label among `len` labels, by its distance from the last label. The guess is right if the labels from this
-    /// one up to the last one are `GAP` apart.
+    /// A guess at the index of a label among `len` labels, by its distance from `last`. The guess is right if `last` is no estimate, and
+    /// the labels from this one up to the last one are `GAP` apart.
     pub fn from_end(self, label: u64, len: usize) -> usize {
         let after = (self.last.saturating_sub(label) / GAP) as usize;
         len.saturating_sub(after).saturating_sub(1)

@@ -41,8 +41,9 @@ pub record Elapses (before now : ℕ) (past since : ℕ → List ℕ → Type 0)
   pub no_other : (t : ℕ) (c : List ℕ) → t ≤ before → since t c → past t c ⊎ may_leave c
   pub kept : (t : ℕ) (c : List ℕ) → t ≤ before → past t c → since t c
 
--- P is true of each file that a crash can leave at a moment from `old` to `new`. For each moment t up to `old`: if a crash since t can have
--- left a file, then a crash from t to `old` can have left that file, or P is true of the file.
+-- `old` and `new` are a disk before and after some calls. P is true of each file that a crash can leave from the moment of `old` to the
+-- moment of `new`. Let t be a moment up to the moment of `old`. If a crash from t to the moment of `new` can leave a file, then P is true
+-- of the file, or a crash from t to the moment of `old` can leave the file too.
 pub record LeavesOnly {D : Type 0} (moment : D → ℕ) (left_since : D → ℕ → List ℕ → Type 0) (old new : D) (P : List ℕ → Type 0) : Type 0 where
   pub later : moment old ≤ moment new
   pub each : (c : List ℕ) → left_since new (moment old) c → P c

@@ -25,7 +25,7 @@ module _ {D : Type 0} (seen : D → List ℕ) where
     pub durable : IsDurable (seen journal.disk) (may_leave journal.disk)
     pub pending : AreEntries journal.pending.items
 
--- the lines that are recovered from a file are exactly ls
+-- the lines that are recovered from a file are exactly the lines of `ls`
 abbrev pub StandsFor : List (List ℕ) → List ℕ → Type 0
 StandsFor ls file = recovered_lines file ≡ ls
 

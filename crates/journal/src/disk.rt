@@ -32,11 +32,11 @@ impl<T: Drop> From<AllocFailed<T>> for DiskFault {
     }
 }
 
-/// A file that is written, cut and synced. After a call that failed, the content of the file is unknown, and the file has to be opened
-/// again.
+/// A file that is written, cut and synced. After a write or a cut that failed, the content of the file is unknown. After any call that
+/// failed, the file has to be opened again.
 ///
 /// The clauses speak of a crash at any moment, between two calls or inside one. Until a sync, a crash may leave any bytes in the range of a
-/// write. After a cut to a length, a crash may leave any length from there up to the length that the file had before.
+/// write. Until a sync after a cut, a crash may leave any length from the new length of the file up to its old length.
 pub trait Disk {
     /// The bytes of the file, as a program reads them now.
     ghost seen: { Self → List ℕ };

@@ -22,8 +22,9 @@ pub struct Journal<D: Disk> {
     pending: Vec<u8>,
 }
 
-/// Puts new entries after the entries of a file; `text` is the new entries and an empty line. The function first writes the text without
-/// its first mark. When these bytes are on the disk, it writes the mark over the empty line with which the file ended.
+/// Puts new entries after the entries of a file. The entries of the file have `end` bytes; `text` is the new entries and an empty line. The
+/// function first writes the text without its first mark. When these bytes are on the disk, it writes the mark over the empty line with
+/// which the file ended.
 fn append<D: Disk>(disk: &mut D, end: usize, text: &[u8]) -> Result<(), DiskFault>
     requires file { D.seen disk.old ≡ at_rest (recovered_lines (D.seen disk.old)) }
     requires end { end ≡ length (entries (recovered_lines (D.seen disk.old))) }
@@ -47,7 +48,7 @@ fn append<D: Disk>(disk: &mut D, end: usize, text: &[u8]) -> Result<(), DiskFaul
     disk.sync()
 }
 
-/// Cuts a file off after its entries, and ends it with an empty line.
+/// Cuts a file off after its entries, which have `end` bytes, and ends the file with an empty line.
 fn repair<D: Disk>(disk: &mut D, end: usize) -> Result<(), DiskFault>
     requires split { D.seen disk.old ≡ entries (recovered_lines (D.seen disk.old)) ++ drop end (D.seen disk.old) }
     requires end { end ≡ length (entries (recovered_lines (D.seen disk.old))) }
@@ -75,7 +76,7 @@ fn is_ended(bytes: &[u8], end: usize) -> bool
     bytes.len() - end == 1 && bytes[end] == NEWLINE
 }
 
-/// Repairs the end of a file whose bytes are `bytes`. A file that needs no repair is not written.
+/// Repairs the end of a file whose bytes are `bytes` and whose entries have `end` bytes. A file that needs no repair is not written.
 fn settle<D: Disk>(disk: &mut D, bytes: &[u8], end: usize) -> Result<(), DiskFault>
     requires bytes { D.seen disk.old ≡ bytes.now }
     requires split { bytes.now ≡ entries (recovered_lines bytes.now) ++ drop end bytes.now }
@@ -145,8 +146,8 @@ impl<D: Disk> Journal<D> {
     /// Writes the noted lines to the disk, all of them or none. `Ok` acknowledges the lines: from then on a crash leaves a file that has
     /// them. After an error the file is to be opened again.
     ///
-    /// Fails with `Failed` only if a call of the disk failed, with `Full` if the entries of the file have 2^62 bytes or more, and with
-    /// `Memory` if memory is refused.
+    /// Fails with `Failed` only if a call of the disk failed, with `Full` only if the entries of the file have 2^62 bytes or more, and with
+    /// `Memory` if memory is refused. Without noted lines the call does nothing, and succeeds.
     pub fn commit(&mut self) -> Result<(), DiskFault>
         requires { IsSettled D.seen D.may_leave self.old }
         ensures settled { OnOk result (IsSettled D.seen D.may_leave self.new) }

@@ -29,7 +29,7 @@ o such_that passes = option_and_then (λ x. if passes x then Some x else None) o
 abbrev pub text : Data → Option (List ℕ)
 text = as_str
 
--- the value of an optional key that is present
+-- for a key that may be absent: `Some` of the value that is read, so that `None` can be the value of the field if the key is absent
 abbrev pub given_value : {X : Type 0} → (Data → Option X) → Data → Option (Option X)
 given_value reading d = option_map Some (reading d)
 
@@ -100,7 +100,7 @@ optional_field key reading absent = record { keys = key ∷ []; reading = option
 abbrev pub makes : {X : Type 0} → X → Fields X
 makes x = record { keys = []; reading = λ d. Some x }
 
--- one more field: the function that `fields` read is applied to the value that `field` reads
+-- one more field: the function that `fields` reads from an object is applied to the value that `field` reads from the same object
 infixl 10 ◌also◌
 abbrev pub ◌also◌ : {A B : Type 0} → Fields (A → B) → Fields A → Fields B
 fields also field = record {
@@ -117,7 +117,7 @@ abbrev pub keys_of : Members → List (List ℕ)
 keys_of no_members = []
 keys_of (member k d ms) = k ∷ keys_of ms
 
--- each key is among the names
+-- whether each key is among the names
 abbrev pub only_keys : List (List ℕ) → Members → Bool
 only_keys names no_members = true
 only_keys names (member k d ms) = list_any (λ n. bytes_eq n k) names && only_keys names ms

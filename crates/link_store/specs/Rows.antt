@@ -24,43 +24,45 @@ changed_index (Raise i) k = raise i k
 changed_index (Lower i) k = lower i k
 changed_index (Shift to from) k = shifted_index to from k
 
--- k is so small that the position that k becomes fits 32 bits
+-- the position k is so small that the renumbered position fits 32 bits
 abbrev pub CanChange : Renumbering → ℕ → Type 0
 CanChange (Raise i) k = k + 1 < 2 ^ 32
 CanChange (Lower i) k = ⊤
 CanChange (Shift to from) k = k + 1 < 2 ^ 32
 
--- if the link has a position in e, the renumbering r can change that position
+-- if the link has a position in the end e, the renumbering r can change that position
 abbrev pub CanMove : Renumbering → End → Link → Type 0
 CanMove r e l = MatchOption (indexed_value l e) ⊤ (λ p. CanChange r p.0)
 
 abbrev pub index_of : Option (ℕ × Value) → Option ℕ
 index_of p = option_map (λ q. q.0) p
 
--- the position in e of the first link that has the value v in e
+-- the position in the end e of the first link that has the value v in e
 abbrev pub position_in : List Link → End → Value → Option ℕ
 position_in [] e v = None
 position_in (l ∷ ls) e v = if has_value e v l then index_of (indexed_value l e) else position_in ls e v
 
--- whether the pair of a position and a value is present and has the position k
+-- whether the position in p is k. Here and below, p is the position and the value that a link has in an end, or none if the link is not in
+-- the end
 abbrev pub is_index : ℕ → Option (ℕ × Value) → Bool
 is_index k p = option_map_or (λ q. q.0 == k) p false
 
--- the object that is the value of a pair of a position and a value; none without a pair, or if the value is no object
+-- the object that is the value in p; none if p is none, or if the value is no object
 abbrev pub object_on : Option (ℕ × Value) → Option ObjectNo
 object_on p = option_and_then (λ (q : ℕ × Value). object_of q.1) p
 
--- the object that the first link with position k in e has there; none if there is no such link, or if that link has no object there
+-- the object that the first link with position k in the end e has in e; none if no link has position k in e, or if the first such link has
+-- no object there
 abbrev pub first_object : List Link → End → ℕ → Option ObjectNo
 first_object [] e k = None
 first_object (l ∷ ls) e k = if is_index k (indexed_value l e) then object_on (indexed_value l e) else first_object ls e k
 
--- the text of the proxy that is the value of a pair of a position and a value; none without a pair, or if the value is no proxy
+-- the text of the proxy that is the value in p; none if p is none, or if the value is no proxy
 abbrev pub text_on : Option (ℕ × Value) → Option (List ℕ)
 text_on p = option_and_then (λ (q : ℕ × Value). text_of q.1) p
 
--- the text of the proxy that the first link with position k in e has there; none if there is no such link, or if that link has no proxy
--- there
+-- the text of the proxy that the first link with position k in the end e has in e; none if no link has position k in e, or if the first
+-- such link has no proxy there
 abbrev pub first_text : List Link → End → ℕ → Option (List ℕ)
 first_text [] e k = None
 first_text (l ∷ ls) e k = if is_index k (indexed_value l e) then text_on (indexed_value l e) else first_text ls e k
@@ -85,7 +87,7 @@ far_ends_to near (At d j) n = if_end (same_node near n) d
 far_ends_to near (Alone o) n = []
 far_ends_to near (Proxy t) n = []
 
--- the ends in which a link has n as its value
+-- the ends in which a link has the node n as its value
 abbrev pub ends_to : Link → Node → List End
 ends_to l n = if_end (is_far_node l.far n) l.end ++ far_ends_to l.end.node l.far n
 
@@ -93,6 +95,6 @@ abbrev pub ends_with : List Link → Node → List End
 ends_with [] n = []
 ends_with (l ∷ ls) n = ends_to l n ++ ends_with ls n
 
--- for each of the ends in which some link has the value v, the position there of the first of these links
+-- the ends of the list es in which some link has the value v; each is given with the position in it of the first link that has v there
 abbrev pub places_in : List Link → List End → Value → List Incoming
 places_in ls es v = entries_by (λ e. position_in ls e v) es

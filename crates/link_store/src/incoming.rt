@@ -21,7 +21,7 @@ fn push_place(position: Option<u32>, end: End, out: &mut Vec<Incoming>) -> Resul
     Ok(())
 }
 
-/// For each of `ends` in which some link has `value`: the position there of the first of these links.
+/// The ends of `ends` in which some link has `value`. Each is given with the position in it of the first link that has `value` there.
 pub(crate) fn places_of(
     alloc: Global,
     rows: &[Link],

@@ -32,46 +32,48 @@ held_through (Some h) l n =
     then (if is_far_node l.far n then Some l.end else None)
     else far_holding l.far h l.end.node n
 
--- the end that contains n by the link l; none if l does not contain n
+-- the end that contains the node n by the link l; none if l does not contain n
 abbrev pub holding_end : Link → Node → Option End
 holding_end l n = held_through l.container l n
 
--- the end that contains n by the first link that contains n; none if no link of the list contains n
+-- the end that contains the node n by the first link that contains n; none if no link of the list contains n
 abbrev pub first_holding : List Link → Node → Option End
 first_holding [] n = None
 first_holding (l ∷ ls) n = option_or (holding_end l n) (first_holding ls n)
 
--- the end that contains n; none if no end does
+-- the end that contains the node n; none if no end contains n
 unfoldable pub holder : Links → Node → Option End
 holder s n = first_holding (set.items s) n
 
--- the node that becomes contained when an object is put into e, if there is one; h is the containing feature: e's feature or its opposite
+-- the node that becomes contained when the object o is put into the end e; none if there is no containing feature. If the containing
+-- feature h is e's feature, o becomes contained; if h is the opposite of e's feature, e's node becomes contained
 abbrev pub node_contained : End → ObjectNo → Option FeatureNo → Option Node
 node_contained e o None = None
 node_contained e o (Some h) = Some (if same_feature h e.feature then node.Object o else e.node)
 
--- the end that contains this node after the put
+-- the end that contains the node of `node_contained` after the object o is put into the end e; none if there is no containing feature
 abbrev pub end_containing : End → ObjectNo → Option FeatureNo → Option End
 end_containing e o None = None
 end_containing e o (Some h) = Some (if same_feature h e.feature then e else far_end o h)
 
 ---------------------------------------------------------------- above
 
--- the nodes above n, the nearest first, at most a given number of them; `up` gives the end that contains a node
+-- the nodes above the node n, the nearest first, at most a given number of them; `up` gives the end that contains a node
 abbrev pub nearest_nodes_above : (Node → Option End) → ℕ → Node → List Node
 nearest_nodes_above up zero n = []
 nearest_nodes_above up (suc k) n = option_map_or (λ (e : End). e.node ∷ nearest_nodes_above up k e.node) (up n) []
 
--- the nodes above n, the nearest first; as many steps as there are links are enough, since no chain of holders is longer
+-- the nodes above the node n, the nearest first. The number of steps is at most the number of links. In a set without cycles this is
+-- enough, since no chain of holders is longer (`IsForest`)
 unfoldable pub above : Links → Node → List Node
 above s n = nearest_nodes_above (holder s) (set.len s) n
 
--- the node that is reached from x by a given number of steps of `holder`, if there is one
+-- the node that is reached from the node x by a given number of steps of `holder`; none if a step finds no holder
 abbrev pub climb : Links → ℕ → Node → Option Node
 climb s zero x = Some x
 climb s (suc n) x = option_and_then (λ (e : End). climb s n e.node) (holder s x)
 
--- y is reached from x by one or more steps of `holder`
+-- the node y is reached from the node x by one or more steps of `holder`
 abbrev pub IsUnder : Links → Node → Node → Type 0
 IsUnder s x y = (n : ℕ) × (climb s (suc n) x ≡ Some y)
 

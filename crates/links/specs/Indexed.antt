@@ -15,31 +15,31 @@ far_value (At d j) = node_value d.node
 far_value (Alone o) = value.Object o
 far_value (Proxy t) = value.Proxy t
 
--- the position that the far side of a link has in e, together with the value v; none if the far side is not in e
+-- the position that the far side of a link has in the end e, together with the value v; none if the far side is not in e
 abbrev pub far_indexed : Far → Value → End → Option (ℕ × Value)
 far_indexed (At d j) v e = if same_end d e then Some (j, v) else None
 far_indexed (Alone o) v e = None
 far_indexed (Proxy t) v e = None
 
--- the position and the value that a link has in e; none if the link is not in e
+-- the position and the value that a link has in the end e; none if the link is not in e
 abbrev pub indexed_value : Link → End → Option (ℕ × Value)
 indexed_value l e = if same_end l.end e then Some (l.index, far_value l.far) else far_indexed l.far (node_value l.end.node) e
 
--- whether the pair p is present, and its value is v
+-- whether p, an optional pair of a position and a value, is present and has the value v
 abbrev pub is_value_at : Value → Option (ℕ × Value) → Bool
 is_value_at v p = option_map_or (λ q. same_value q.1 v) p false
 
--- whether a link is in e with the value v
+-- whether a link is in the end e with the value v
 abbrev pub has_value : End → Value → Link → Bool
 has_value e v l = is_value_at v (indexed_value l e)
 
--- the far side of a link after r changed its position in e; a far side that is not in e is unchanged
+-- the far side of a link after the function r changed its position in the end e; a far side that is not in e is unchanged
 abbrev pub far_moved : Far → End → (ℕ → ℕ) → Far
 far_moved (At d j) e r = if same_end d e then At d (r j) else At d j
 far_moved (Alone o) e r = Alone o
 far_moved (Proxy t) e r = Proxy t
 
--- the link after r changed its position in e; a link that is not in e is unchanged
+-- the link after the function r changed its position in the end e; a link that is not in e is unchanged
 abbrev pub renumbered_link : Link → End → (ℕ → ℕ) → Link
 renumbered_link l e r = if same_end l.end e then record l { index = r l.index } else record l { far = far_moved l.far e r }
 

@@ -25,8 +25,9 @@ abbrev pub IsFar : ObjectNo → Option FeatureNo → End → Type 0
 IsFar o None d = ⊥
 IsFar o (Some g) d = far_end o g ≡ d
 
--- after a put, the object is at its position, the far end has the node of e as a new last value, and each other end is as it was; the node
--- that the new link contains has the containing end as its holder
+-- after the object o is put at position i in the end e, e has o at i, the far end has e's node as a new last value, and each other end is
+-- as it was; the node that the new link contains has the containing end as its holder. g is the opposite of e's feature, if it has one, and
+-- c is the containing feature
 pub record PutMakes (s : Links) (e : End) (i : ℕ) (o : ObjectNo) (g c : Option FeatureNo) : Type 0 where
   pub near : end (put s e i o g c) e ≡ insert (end s e) i (value.Object o)
   pub far : (d : End) → IsFar o g d → end (put s e i o g c) d ≡ end s d ++ node_value e.node ∷ []
@@ -38,7 +39,7 @@ abbrev pub is_far : ObjectNo → Option FeatureNo → End → Bool
 is_far o None d = false
 is_far o (Some g) d = same_end (far_end o g) d
 
--- the values of an end after an object is put at i in e; g is the opposite of e's feature
+-- the values of the end d after the object o is put at position i in the end e; g is the opposite of e's feature
 abbrev pub put_end : Links → End → ℕ → ObjectNo → Option FeatureNo → End → List Value
 put_end s e i o g d =
     if same_end e d then insert (end s d) i (value.Object o)
@@ -52,7 +53,8 @@ is_of_pair f g c = option_map_or (λ h. same_feature h f || is_feature h g) c fa
 abbrev pub is_contained : End → ObjectNo → Option FeatureNo → Node → Bool
 is_contained e o c n = option_map_or (λ x. same_node x n) (node_contained e o c) false
 
--- the end that contains n after an object is put into e; g is the opposite of e's feature, and c is the containing feature
+-- the end that contains the node n after the object o is put into the end e; g is the opposite of e's feature, and c is the containing
+-- feature
 abbrev pub put_holder : Links → End → ObjectNo → Option FeatureNo → Option FeatureNo → Node → Option End
 put_holder s e o g c n =
     if is_of_pair e.feature g c && is_contained e o c n then end_containing e o c else holder s n
@@ -102,7 +104,7 @@ abbrev pub names_far : End → Value → Option FeatureNo → End → Value → 
 names_far e (value.Object o) (Some g) d w = same_end (far_end o g) d && same_value (node_value e.node) w
 names_far e _ _ d w = false
 
--- whether v in e and w in d are values of the same link
+-- whether the value v in the end e and the value w in the end d are values of the same link
 abbrev pub names : Kinds → End → Value → End → Value → Bool
 names m e v d w = (same_end e d && same_value v w) || names_far e v (m.opposite e.feature) d w
 
@@ -114,16 +116,18 @@ is_named m ts d w = list_any (λ t. names m t.0 t.1 d w) ts
 abbrev pub without_all : Links → List (End × Value) → Links
 without_all s ts = fold (λ t x. cut_value t x.0 x.1) s ts
 
--- the holder of n after the cuts: none, if the list ts names the link by which o contains n; else o, the holder before the cuts
+-- the holder of the node n after the links that the list ts names are cut; o is the holder of n before the cuts. The result is none if ts
+-- names the link by which o contains n, and else o
 abbrev pub kept_holder : Kinds → List (End × Value) → Node → Option End → Option End
 kept_holder m ts n o = option_and_then (λ (d : End). if is_named m ts d (node_value n) then None else Some d) o
 
--- each end loses the value of the named link, and the node that the link contains loses its holder
+-- after the link that has the value v in the end e is cut, each end of this link has lost the link's value, and the node that the link
+-- contained has no holder; all else is as it was
 pub record CutByNameMakes (m : Kinds) (s : Links) (e : End) (v : Value) : Type 0 where
   pub ends : (d : End) → end (cut_value s e v) d ≡ filter (λ w. not (names m e v d w)) (end s d)
   pub holders : (n : Node) → holder (cut_value s e v) n ≡ option_and_then (λ (d : End). if names m e v d (node_value n) then None else Some d) (holder s n)
 
--- each end loses the values of the named links and gains none, and no node gets a new holder
+-- after the links that the list ts names are cut, each end has lost the values of these links and gained none, and no node has a new holder
 pub record CutsByNameMake (m : Kinds) (s : Links) (ts : List (End × Value)) : Type 0 where
   pub ends : (d : End) → end (without_all s ts) d ≡ filter (λ w. not (is_named m ts d w)) (end s d)
   pub holders : (n : Node) → holder (without_all s ts) n ≡ kept_holder m ts n (holder s n)

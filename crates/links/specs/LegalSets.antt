@@ -1,5 +1,6 @@
--- The conditions for a legal set of links: each end is a list without repetitions, and no node is contained twice. Further conditions say
--- when the links agree with the features of a metamodel.
+-- The conditions for a legal set of links: each end is a list without repetitions, of at most 1,000,000 values; each link between two ends
+-- is between objects, and its two features differ; and no node is contained twice. Further conditions say when the links agree with the
+-- features of a metamodel.
 use Rattle.std.specs.Prelude.{◌≡◌, ℕ, ◌<◌, ◌≤◌, List, length, slice_get, Option, Some, None}
 use Rattle.mm_types.specs.declared.numbers.FeatureNo.{FeatureNo}
 use Rattle.mm_types.specs.declared.numbers.Node.{Node}
@@ -13,11 +14,11 @@ use Rattle.links.specs.Holders.{holding_end}
 use Rattle.links.specs.Links.{In, Links, end}
 use Rattle.links.specs.Indexed.{indexed_value}
 
--- some link is at position k of e, with the value v
+-- some link is at position k of the end e, with the value v
 abbrev pub Stands : Links → End → ℕ → Value → Type 0
 Stands s e k v = (l : Link) × In l s × (indexed_value l e ≡ Some (k, v))
 
--- the list has each value of e at the position that the value has in e, and has no other value
+-- the list xs has each value of the end e at the position that the value has in e, and has no other value
 pub record IsEnd (s : Links) (e : End) (xs : List Value) : Type 0 where
   pub has : (k : ℕ) (v : Value) → Stands s e k v → slice_get xs k ≡ Some v
   pub only : (k : ℕ) (v : Value) → slice_get xs k ≡ Some v → Stands s e k v

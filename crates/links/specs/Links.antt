@@ -32,12 +32,12 @@ In l s = set.contains s l ≡ true
 
 ---------------------------------------------------------------- ends
 
--- the value of the pair p, if p is present and its position is k; else the value `other`
+-- the value of p, an optional pair of a position and a value, if p is present and its position is k; else the value `other`
 abbrev pub at_indexed : Option (ℕ × Value) → ℕ → Option Value → Option Value
 at_indexed None k other = other
 at_indexed (Some p) k other = if p.0 == k then Some p.1 else other
 
--- the value at position k of e
+-- the value at position k of the end e
 abbrev pub value_at : List Link → End → ℕ → Option Value
 value_at [] e k = None
 value_at (l ∷ ls) e k = at_indexed (indexed_value l e) k (value_at ls e k)
@@ -45,12 +45,12 @@ value_at (l ∷ ls) e k = at_indexed (indexed_value l e) k (value_at ls e k)
 abbrev pub past : Option (ℕ × Value) → ℕ
 past p = option_map_or (λ q. suc q.0) p 0
 
--- one more than the last position of e; 0 if e has no value
+-- one more than the last position of the end e; 0 if e has no value
 abbrev pub length_at : List Link → End → ℕ
 length_at [] e = 0
 length_at (l ∷ ls) e = max (past (indexed_value l e)) (length_at ls e)
 
--- the values at n positions of e, from k on
+-- the values at n positions of the end e, from k on
 abbrev pub values_from : List Link → End → ℕ → ℕ → List Value
 values_from ls e k zero = []
 values_from ls e k (suc n) = cons_option (value_at ls e k) (values_from ls e (suc k) n)
@@ -58,7 +58,7 @@ values_from ls e k (suc n) = cons_option (value_at ls e k) (values_from ls e (su
 abbrev pub values : List Link → End → List Value
 values ls e = values_from ls e 0 (length_at ls e)
 
--- the values of e, each at the index that is its position
+-- the values of the end e, each at the index that is its position
 unfoldable pub end : Links → End → List Value
 end s e = values (set.items s) e
 
@@ -70,17 +70,17 @@ abbrev pub text_of : Value → Option (List ℕ)
 text_of (value.Proxy t) = Some t
 text_of _ = None
 
--- the object at position k of e, if one is there
+-- the object at position k of the end e; none if no object is there
 abbrev pub object_at : Links → End → ℕ → Option ObjectNo
 object_at s e k = option_and_then object_of (slice_get (end s e) k)
 
--- the text of the proxy at position k of e, if one is there
+-- the text of the proxy at position k of the end e; none if no proxy is there
 abbrev pub proxy_at : Links → End → ℕ → Option (List ℕ)
 proxy_at s e k = option_and_then text_of (slice_get (end s e) k)
 
 ---------------------------------------------------------------- edits
 
--- the set of links after r changed each position in e
+-- the set of links after the function r changed each position in the end e
 unfoldable pub renumbered_links : Links → End → (ℕ → ℕ) → Links
 renumbered_links s e r = set.from_list (map (λ l. renumbered_link l e r) (set.items s))
 
@@ -90,7 +90,7 @@ raise i k = if nat_lt k i then k else suc k
 abbrev pub lower : ℕ → ℕ → ℕ
 lower i k = if nat_lt i k then k - 1 else k
 
--- the new position of k after the value at `from` is taken out and put in at `to`
+-- the new position of the value at position k after the value at `from` is taken out and put in at `to`
 abbrev pub shifted_index : ℕ → ℕ → ℕ → ℕ
 shifted_index to from k = if k == from then to else raise to (lower from k)
 
@@ -99,14 +99,14 @@ lowered_far s (At d j) = renumbered_links s d (lower j)
 lowered_far s (Alone o) = s
 lowered_far s (Proxy t) = s
 
--- takes the link out, and lowers the later positions at its ends
+-- takes the link l out, and lowers the later positions at its ends
 unfoldable pub cut : Links → Link → Links
 cut s l = lowered_far (renumbered_links (set.remove s l) l.end (lower l.index)) l.far
 
 abbrev pub cut_some : Links → Option Link → Links
 cut_some s o = option_map_or (cut s) o s
 
--- cuts the link that is in e with the value v, if there is one
+-- cuts the link that is in the end e with the value v, if there is such a link
 unfoldable pub cut_value : Links → End → Value → Links
 cut_value s e v = cut_some s (find (has_value e v) (set.items s))
 
@@ -120,29 +120,30 @@ joined_link x i y j c =
 abbrev pub far_end : ObjectNo → FeatureNo → End
 far_end o g = record { node = node.Object o; feature = g }
 
--- the new link that puts the object o at position i in e; g is the opposite of e's feature, if it has one, and the link is then put last in
--- the far end; c is the containing feature
+-- the new link that puts the object o at position i in the end e. If e's feature has the opposite g, the link is put last in the far end. c
+-- is the containing feature
 abbrev pub new_link : Links → End → ℕ → ObjectNo → Option FeatureNo → Option FeatureNo → Link
 new_link s e i o None c = record { end = e; index = i; far = Alone o; container = c }
 new_link s e i o (Some g) c = joined_link e i (far_end o g) (length (end s (far_end o g))) c
 
--- puts an object at i in e
+-- puts the object o at position i in the end e; g is the opposite of e's feature, and c is the containing feature
 unfoldable pub put : Links → End → ℕ → ObjectNo → Option FeatureNo → Option FeatureNo → Links
 put s e i o g c = set.insert (renumbered_links s e (raise i)) (new_link s e i o g c)
 
--- the proxy of a text at i in e
+-- the proxy with the text t at position i in the end e
 abbrev pub new_proxy : End → ℕ → List ℕ → Link
 new_proxy e i t = record { end = e; index = i; far = Proxy t; container = None }
 
--- puts a proxy at i in e
+-- puts a proxy with the text t at position i in the end e
 unfoldable pub put_proxy : Links → End → ℕ → List ℕ → Links
 put_proxy s e i t = set.insert (renumbered_links s e (raise i)) (new_proxy e i t)
 
--- moves the value at `from` in e, so that it then is at `to`
+-- moves the value at `from` in the end e, so that it is then at `to`
 unfoldable pub shift : Links → End → ℕ → ℕ → Links
 shift s e to from = renumbered_links s e (shifted_index to from)
 
--- a list without the value at a position, as an end is after a cut; the whole list, if there is no position
+-- a list without the value at the position of p, as an end is after a cut; the whole list, if p is none. p is an optional pair of a
+-- position and a value
 abbrev pub list_without : List Value → Option (ℕ × Value) → List Value
 list_without vs p = option_map_or (λ q. remove vs q.0) p vs
 
@@ -151,7 +152,7 @@ far_touches gone (At d j) = gone d.node
 far_touches gone (Alone o) = gone (node.Object o)
 far_touches gone (Proxy t) = false
 
--- whether a link names a node that is removed
+-- whether a link names a node that is removed; `gone` says which nodes are removed
 abbrev pub touches : (Node → Bool) → Link → Bool
 touches gone l = if gone l.end.node then true else far_touches gone l.far
 

@@ -33,15 +33,15 @@ links_after_edits = fold links_after_edit
 
 ---------------------------------------------------------------- what fits
 
--- v is in e
+-- the value v is in the end e
 abbrev pub Has : Links → End → Value → Type 0
 Has s e v = (k : ℕ) × (slice_get (end s e) k ≡ Some v)
 
--- v is not in e
+-- the value v is not in the end e
 abbrev pub Lacks : Links → End → Value → Type 0
 Lacks s e v = (k : ℕ) → slice_get (end s e) k ≡ Some v → ⊥
 
--- the far end of a put can gain the new value
+-- if the object o is put into the end e, whose feature has the opposite g, the far end can gain e's node as a value
 pub record FarFits (s : Links) (e : End) (o : ObjectNo) (g : FeatureNo) : Type 0 where
   pub apart : (g.0 ≡ e.feature.0) → ⊥
   pub object : IsObject e.node
@@ -123,14 +123,14 @@ incoming_end i = record { node = i.node; feature = i.feature }
 abbrev pub AreEntriesOf : Links → ObjectNo → List Incoming → Type 0
 AreEntriesOf s o is = (i : Incoming) → Contains is i ↔ (slice_get (end s (incoming_end i)) i.position ≡ Some (value.Object o))
 
--- a node comes before another one: by the kind (objects first), then by the number
+-- the first node comes before the second: by the kind (objects first), then by the number
 abbrev pub node_before : Node → Node → Bool
 node_before (node.Object x) (node.Object y) = nat_lt x.0 y.0
 node_before (node.Object x) (node.Resource y) = true
 node_before (node.Resource x) (node.Object y) = false
 node_before (node.Resource x) (node.Resource y) = nat_lt x.0 y.0
 
--- e comes before d: by the number of the feature, then by the node
+-- the end e comes before the end d: by the number of the feature, then by the node
 abbrev pub is_before : End → End → Bool
 is_before e d = nat_lt e.feature.0 d.feature.0 || (same_feature e.feature d.feature && node_before e.node d.node)
 

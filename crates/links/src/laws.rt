@@ -46,24 +46,25 @@ pub fn chains_of_holders_end()
     ensures { (s : Links) → IsLegalSet s → HasNoCycle s → IsForest s }
 {}
 
-/// The nodes above a node are the node of its holder, and then the nodes above that node (EMF: eContainer, repeated). There are none if the
-/// node has no holder.
+/// In a legal set without a cycle, the nodes above a node are the node of its holder, and then the nodes above that node (EMF: eContainer,
+/// repeated). There are none if the node has no holder.
 pub fn what_is_above_follows_the_holders()
     ensures { (s : Links) → IsLegalSet s → HasNoCycle s → (n : Node) → above s n ≡ option_map_or (λ (e : End). e.node ∷ above s e.node) (holder s n) [] }
 {}
 
-/// If an end contains a node, fewer nodes are above the end's node than above the contained node. So a loop that walks up terminates.
+/// In a legal set without a cycle, if an end contains a node, fewer nodes are above the end's node than above the contained node. So a loop
+/// that walks up terminates.
 pub fn fewer_are_above_a_holder()
     ensures { (s : Links) → IsLegalSet s → HasNoCycle s → (n : Node) (e : End) → holder s n ≡ Some e → length (above s e.node) < length (above s n) }
 {}
 
-/// A node is under exactly the nodes above it, and is not above itself.
+/// In a legal set without a cycle, a node is under exactly the nodes above it, and is not above itself.
 pub fn a_node_is_under_those_above_it()
     ensures under { (s : Links) → IsLegalSet s → HasNoCycle s → (x y : Node) → (list_any (same_node y) (above s x) ≡ true) ↔ IsUnder s x y }
     ensures itself { (s : Links) → IsLegalSet s → HasNoCycle s → (x : Node) → list_any (same_node x) (above s x) ≡ false }
 {}
 
-/// No end contains a resource.
+/// In a legal set no end contains a resource.
 pub fn a_resource_has_no_holder()
     ensures { (s : Links) (r : ResourceNo) → IsLegalSet s → holder s (node.Resource r) ≡ None }
 {}
@@ -81,9 +82,9 @@ pub fn a_put_gives_each_end_and_holder()
     ensures { (s : Links) (e : End) (i : ℕ) (o : ObjectNo) (g c : Option FeatureNo) → IsLegalSet s → EditFits s (put_of e i o g c) → PutGives s e i o g c }
 {}
 
-/// A put that fits keeps a legal set legal. If the put has the opposite and the containing feature of some kinds with which the set agrees,
-/// the set still agrees with these kinds. The put makes no cycle if the node that becomes the container is neither the contained node nor
-/// below the contained node.
+/// A put that fits keeps a legal set legal. Take a put with the opposite and the containing feature that some kinds give for the feature of
+/// its end: if the set agrees with these kinds, it still agrees with them after the put. The put makes no cycle if the node that becomes
+/// the container is neither the contained node nor below the contained node.
 pub fn a_put_keeps_a_set_legal()
     ensures legal { (s : Links) (e : End) (i : ℕ) (o : ObjectNo) (g c : Option FeatureNo) → IsLegalSet s → EditFits s (put_of e i o g c) → IsLegalSet (put s e i o g c) }
     ensures kinds { (m : Kinds) → AreKinds m → (s : Links) (e : End) (i : ℕ) (o : ObjectNo) → AreOfKind m s → AreOfKind m (put s e i o (m.opposite e.feature) (m.container e.feature)) }
@@ -102,14 +103,14 @@ pub fn a_cut_loses_at_both_ends()
     ensures { (s : Links) (l : Link) → IsLegalSet s → In l s → CutMakes s l }
 {}
 
-/// After a cut by an end and a value there, each end has lost the value of the named link, and the node that the link contained has no
-/// holder. All else is as it was. If the value is not in the end, nothing is cut.
+/// A cut can name its link by an end and the link's value in that end. After such a cut in a legal set, each end of the link has lost the
+/// link's value, and the node that the link contained has no holder. All else is as it was. If the value is not in the end, nothing is cut.
 pub fn a_cut_by_name_loses_what_it_names()
     ensures { (m : Kinds) → AreKinds m → (s : Links) (e : End) (v : Value) → IsLegalSet s → AreOfKind m s → CutByNameMakes m s e v }
 {}
 
-/// After several cuts, each by an end and a value there, each end has lost the values of the named links, and the nodes that these links
-/// contained have no holder. All else is as it was.
+/// Each of several cuts in a legal set can name its link by an end and the link's value in that end. After the cuts, the ends of the named
+/// links have lost the values of these links, and the nodes that these links contained have no holder. All else is as it was.
 pub fn cuts_by_name_lose_what_they_name()
     ensures { (m : Kinds) → AreKinds m → (s : Links) (ts : List (End × Value)) → IsLegalSet s → AreOfKind m s → CutsByNameMake m s ts }
 {}
@@ -123,13 +124,13 @@ pub fn cuts_by_name_keep_a_set_legal()
     ensures above { (s : Links) (ts : List (End × Value)) → IsLegalSet s → HasNoCycle s → (x y : Node) → list_any (same_node y) (above s x) ≡ false → list_any (same_node y) (above (without_all s ts) x) ≡ false }
 {}
 
-/// A node that is cut from the end that contains it has no holder.
+/// In a legal set, a node that is cut from the end that contains it has no holder after the cut.
 pub fn what_is_cut_from_its_holder_is_free()
     ensures { (s : Links) (n : Node) (e : End) → IsLegalSet s → holder s n ≡ Some e → holder (cut_value s e (node_value n)) n ≡ None }
 {}
 
-/// A plan that cuts links fits if each link is there and is named once. It has the effect of the cuts, agrees with all kinds, and makes no
-/// cycle.
+/// A plan that cuts links of a legal set fits if each link is there and is named once. It has the effect of the cuts, agrees with all
+/// kinds, and makes no cycle.
 pub fn a_plan_of_cuts_fits()
     ensures fits { (m : Kinds) → AreKinds m → (s : Links) (ts : List (End × Value)) → IsLegalSet s → AreOfKind m s → AreThere s ts → AreOnce m ts → PlanFits s (cut_edits ts) }
     ensures makes { (m : Kinds) → AreKinds m → (s : Links) (ts : List (End × Value)) → IsLegalSet s → AreOfKind m s → AreThere s ts → AreOnce m ts → links_after_edits s (cut_edits ts) ≡ without_all s ts }
@@ -164,13 +165,14 @@ pub fn a_shift_moves_in_one_end()
     ensures { (s : Links) (e : End) (to from : ℕ) → IsLegalSet s → EditFits s (edit.Shift e to from) → ShiftMakes s e to from }
 {}
 
-/// A plan that edits no containing link leaves each end of a containment or a container reference as it was.
+/// If a plan fits a legal set, agrees with the same kinds of features as the set, and edits no containing link, then each end of a
+/// containment or a container reference stays as it was.
 pub fn a_plan_of_other_links_leaves_what_contains()
     ensures { (m : Kinds) → AreKinds m → (s : Links) (plan : List Edit) → IsLegalSet s → AreOfKind m s → PlanFits s plan → IsPlanOfKind m plan → touches_containment m plan ≡ false → (d : End) → contains_by m d.feature ≡ true → end (links_after_edits s plan) d ≡ end s d }
 {}
 
-/// Links that agree with the kinds of features agree at both ends: if the features of two ends x and y are opposites, and x has the node of
-/// y, then y has the node of x.
+/// The links of a legal set that agrees with the kinds of features agree at both ends: if the features of two ends x and y are opposites,
+/// and x has the node of y, then y has the node of x.
 pub fn both_ends_agree()
     ensures { (m : Kinds) (s : Links) → IsLegalSet s → AreOfKind m s → BothEndsAgree m s }
 {}

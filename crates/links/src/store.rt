@@ -61,7 +61,7 @@ pub trait LinkStore: Drop {
         requires legal { IsLegalSet (links self.now) }
         ensures { MatchOption result (Lacks (links self.now) end (value.Object object)) (λ k. slice_get (end_of (links self.now) end) k ≡ Some (value.Object object)) };
 
-    /// The end that contains an object (EMF: eContainer, eContainmentFeature); `None` if none does.
+    /// The end that contains an object (EMF: eContainer, eContainmentFeature); `None` if no end contains it.
     fn holder(&self, object: ObjectNo) -> Option<End>
         requires legal { IsLegalSet (links self.now) }
         ensures { result ≡ holder_of (links self.now) (node.Object object) };

@@ -1,4 +1,4 @@
--- Literals that write no value of a type.
+-- Whether a text is no literal of a type, given by its name; true for each text if no data type or enumeration has the name.
 use Rattle.std.specs.Prelude.{ℕ, Bool, List, is_none, option_and_then}
 use Rattle.mm_types.specs.Resolved.{data_type_named, literal_value}
 use Rattle.mm_types.specs.declared.class.Enumeration.{Enumeration}

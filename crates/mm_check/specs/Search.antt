@@ -36,6 +36,6 @@ pub record AppliesToNone (raw : RawMetamodel) (k : Condition) (n : ℕ) : Type 0
   pub to_class : (c : ℕ) → c < n → Applies raw k (place.Class c) → ⊥
   pub to_feature : (c i : ℕ) → c < n → Applies raw k (place.Feature c i) → ⊥
 
--- how many features a class declares; none if there is no such class
+-- how many features a class declares; 0 if no class has the number
 abbrev pub feature_count : RawMetamodel → ℕ → ℕ
 feature_count raw c = option_map_or (λ k. length k.features) (slice_get raw.classes c) 0

@@ -13,7 +13,7 @@ use std::marker::Model;
 /// A metamodel document that is checked.
 #[derive(Drop)]
 pub struct Checker<'a> {
-    /// Finds the names of the document.
+    /// Finds the enumerations, classes, literals and features of the document by their names.
     pub resolver: Resolver<'a>,
     /// The direct supertypes of each class.
     pub graph: Vec<Seq<usize>>,
@@ -89,7 +89,7 @@ impl<'a> Checker<'a> {
         self.resolver.classes().len()
     }
 
-    /// How many features a class declares; none if there is no such class.
+    /// How many features a class declares; 0 if no class has the number.
     pub fn feature_count(&self, c: usize) -> usize
         ensures { result ≡ feature_count self.now c }
     {

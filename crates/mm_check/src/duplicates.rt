@@ -84,8 +84,9 @@ impl<'a> Checker<'a> {
         clashes(alloc, self.graph.as_slice(), self.names.as_slice(), c)
     }
 
-    /// Whether a name at a place occurs twice, although it may occur only once; or whether the enumeration or the class at the place has a
-    /// reserved name. Fails only if memory is refused.
+    /// Whether one of the following is true of the enumeration or class at a place. It has a reserved name, or the name of an enumeration
+    /// or class before it; all enumerations are before all classes. It is an enumeration with two equal literals. It is a class that names
+    /// a supertype twice, or that has two features, own or inherited, of the same name. Fails only if memory is refused.
     pub fn has_duplicate(&self, alloc: Global, place: Place) -> Result<bool, AllocError>
         ensures { IfOk result (λ b. IsTrue b ↔ HasDuplicate self.now place) }
     {

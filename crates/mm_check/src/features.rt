@@ -24,7 +24,7 @@ fn has_bad_literal(literals: &[Text]) -> bool
     literals.iter().any(|l| is_bad_name(l))
 }
 
-/// Whether the lower bound of a feature is below 0, or the upper bound is not -1 and is below 1 or below the lower bound.
+/// Whether a feature has bad bounds: the lower bound is below 0; or the upper bound is not -1, and is below 1 or below the lower bound.
 fn has_odd_bounds(f: &RawFeature) -> bool
     ensures { result ≡ (int_lt f.now.lower (pos 0) || (not (int_eq f.now.upper any_number) && (int_lt f.now.upper (pos 1) || int_lt f.now.upper f.now.lower))) }
 {
@@ -91,8 +91,7 @@ impl<'a> Checker<'a> {
         }
     }
 
-    /// Whether a place is a feature with a lower bound below 0, or with an upper bound that is not -1 and is below 1 or below the lower
-    /// bound.
+    /// Whether a place is a feature with bad bounds, as `has_odd_bounds` says.
     pub fn has_bad_bounds(&self, place: Place) -> bool
         ensures { result ≡ has_bad_bounds_at self.now place }
     {
@@ -140,8 +139,8 @@ impl<'a> Checker<'a> {
         }
     }
 
-    /// Whether a place is an attribute with a default literal, and the attribute's upper bound is not 1, or the literal is not of the
-    /// attribute's type. Fails only if memory is refused.
+    /// Whether a place is an attribute with a bad default: the attribute has a default literal, and either its upper bound is not 1, or the
+    /// literal is not of its type. Fails only if memory is refused.
     pub fn has_bad_default(&self, alloc: Global, place: Place) -> Result<bool, AllocError>
         ensures { IfOk result (λ b. b ≡ has_bad_default_at self.now place) }
     {

@@ -69,7 +69,7 @@ impl<'a> Checker<'a> {
         }
     }
 
-    /// Whether there is a feature at an index, and the upper bound of this feature is not 1.
+    /// Whether the class `c` declares a feature at the index `i`, and the upper bound of this feature is not 1.
     fn is_not_bounded_by_one(&self, c: usize, i: usize) -> bool
         ensures { result ≡ test_feature_at (λ f. not (int_eq f.upper (pos 1))) self.now c i }
     {

@@ -1,4 +1,4 @@
--- A list for each class: the set of the classes that it conforms to.
+-- A table with a row for each class: the set of the classes to which that class conforms.
 use Rattle.std.specs.Prelude.{ℕ, ◌≡◌, ◌<◌, Bool, List, [], length}
 use Rattle.std.specs.List.{slice_index_or}
 use Rattle.mm_types.specs.Graph.{Conforms}

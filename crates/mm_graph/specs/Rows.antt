@@ -9,6 +9,6 @@ abbrev pub with_rows : List (List ℕ) → List ℕ → List ℕ → List ℕ
 with_rows rows seen [] = seen
 with_rows rows seen (e ∷ es) = with_rows rows (with_new seen (by_class rows e)) es
 
--- the first occurrence of each feature among all features of the direct supertypes, in declared order, and then the own features
+-- all features of the direct supertypes, in declared order, and then the own features; of each feature the first occurrence is kept
 abbrev pub from_supers : List (List ℕ) → List (List ℕ) → ℕ → List ℕ
 from_supers g own c = first_occurrences (flat_map (all_features g own) (by_class g c) ++ by_class own c)

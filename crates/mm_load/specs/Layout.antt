@@ -52,7 +52,7 @@ abbrev pub reference_fields : Fields RawKind
 reference_fields = makes new_reference
     -- its kind, which is `reference`
     also required_field (codes "kind") (word (codes "reference"))
-    -- whether it holds its objects as parts; false if the key is absent
+    -- whether it contains its objects; false if the key is absent
     also optional_field (codes "containment") flag false
     -- the name of its opposite; none if the key is absent
     also optional_field (codes "opposite") (given_value text) None

@@ -31,7 +31,7 @@ pub record ComesTo (m : Metamodel) (c : ClassNo) (name : List ℕ) (at : ℕ) : 
 abbrev pub IsRow : Metamodel → List ℕ → List (Option FeatureNo) → Type 0
 IsRow m name by_class = (c : ℕ) (found : Option FeatureNo) → slice_get by_class c ≡ Some found → found ≡ feature_by_name m (class_no c) name
 
--- rows by feature number: for each class, the row of a feature has the feature of that class with the same name, or none. A row may be
--- empty or end before the last class, and there may be no rows for the last features
+-- rows by feature number: the row of a feature f has, at each class's number, the feature of the class that has the name of f, or none if
+-- the class has no feature with the name. A row may be empty or end before the last class, and there may be no rows for the last features
 abbrev pub AreRows : Metamodel → List (List (Option FeatureNo)) → Type 0
 AreRows m rows = (f : ℕ) → f < length rows → IsRow m (feature_name m (feature_no f)) (slice_index_or rows f [])

@@ -38,7 +38,7 @@ ContainingIsKnown m = (f h : FeatureNo) → f.0 ≤ length m.features → (shape
 abbrev pub class_has : Metamodel → (ObjectNo → Option ClassNo) → ObjectNo → FeatureNo → Bool
 class_has m class_of o f = option_map_or (λ c. has_feature m c f) (class_of o) false
 
--- a reference takes the objects whose classes have its opposite
+-- a reference that has an opposite takes exactly the objects whose classes have that opposite
 abbrev pub TakesWhatHasTheOpposite : Metamodel → Type 0
 TakesWhatHasTheOpposite m =
     (class_of : ObjectNo → Option ClassNo) (o : ObjectNo) (f g : FeatureNo) → (shape m f).opposite ≡ Some g → takes m class_of f (Object o) ≡ class_has m class_of o g

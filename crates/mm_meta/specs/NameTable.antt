@@ -9,7 +9,7 @@ use Rattle.mm_meta.specs.declared.name_table.NameTable.{NameTable}
 pub record IsTableOf (t : NameTable) (names : List (List ℕ)) : Type 0 where
   pub at : (q : List ℕ) → get_by_text t.positions q ≡ position (λ n. bytes_eq n q) names
 
--- the first position of a name in the list at an index
+-- the first position of the name in the list at `index`; none if there is no list at `index`, or if the list does not have the name
 abbrev pub position_in : List (List (List ℕ)) → ℕ → List ℕ → Option ℕ
 position_in lists index name = option_and_then (position (λ n. bytes_eq n name)) (slice_get lists index)
 

@@ -28,7 +28,7 @@ impl FeatureNames {
         Ok(FeatureNames { first, next })
     }
 
-    /// The first feature of a name.
+    /// The number of the first feature with a given name.
     pub fn first(&self, name: &str) -> Option<usize>
         ensures { (names : List (List ℕ)) → AreFeatureNames self.now names → result ≡ position (λ n. bytes_eq n name.now) names }
     {

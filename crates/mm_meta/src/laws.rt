@@ -7,14 +7,14 @@ ghost use Rattle.mm_types.specs.Shapes.{shape};
 ghost use Rattle.mm_types.specs.declared.numbers.FeatureNo.{FeatureNo};
 ghost use Rattle.mm_meta.specs.Laws.{ConformanceIsComputed, ContainingIsKnown, FarTypesFit, OppositesArePairs, TakesWhatHasTheOpposite};
 
-/// A class conforms to another exactly if a search through its supertypes finds the other in at most as many steps as there are classes,
-/// since no class inherits from itself.
+/// A class `sub` conforms to a class `sup` exactly if a search from `sub` through supertypes finds `sup` in at most as many steps as there
+/// are classes. More steps are never needed, since no class inherits from itself.
 pub fn conformance()
     ensures { (m : Metamodel) → IsOfDocument m → ConformanceIsComputed m }
 {}
 
-/// The opposite of a reference is another reference, whose opposite is the first reference. If one of the two is a containment, it is the
-/// containing feature of both (MOF 2.5.1: Property, opposite; EMF: EReference.eOpposite).
+/// The opposite of a reference is a different reference, whose opposite is the first reference. If one of the two is a containment, it is
+/// the containing feature of both (MOF 2.5.1: Property, opposite; EMF: EReference.eOpposite).
 pub fn opposites()
     ensures pairs { (m : Metamodel) → IsOfDocument m → OppositesArePairs m }
     ensures shape { (m : Metamodel) (f : FeatureNo) → (shape m f).opposite ≡ opposite m f }
@@ -27,8 +27,9 @@ pub fn containers()
     ensures { (m : Metamodel) → IsOfDocument m → ContainingIsKnown m }
 {}
 
-/// The type of a reference is the class that declares the opposite of the reference. So a reference takes exactly the objects whose classes
-/// have the opposite. If one object may refer to another by a reference, the other object may refer back by the opposite.
+/// If a reference has an opposite, the type of the reference is the class that declares the opposite. So the reference takes exactly the
+/// objects whose classes have the opposite. If one object may refer to another by a reference, the other object may refer back by the
+/// opposite.
 pub fn far_types()
     ensures takes { (m : Metamodel) → IsOfDocument m → TakesWhatHasTheOpposite m }
     ensures fit { (m : Metamodel) → IsOfDocument m → FarTypesFit m }

@@ -17,8 +17,8 @@ use mm_types::{Class, ClassNo, Enumeration, Feature, FeatureNo, Kind, RawMeta, S
 use std::alloc::{AllocError, Global};
 use std::marker::Model;
 
-/// The greatest number of features of one name that a look-up goes through. If more features have a name, a table has the feature
-/// of that name for each class.
+/// The greatest number of features with one name that a look-up goes through. If more features have a name, a table has, for each class,
+/// the feature with that name.
 const FEW: usize = 8;
 
 /// A metamodel with its names resolved into numbers: always well-formed and within the limits. Classes
@@ -37,8 +37,8 @@ pub struct Meta {
     literal_tables: Vec<NameTable>,
     /// The names of all features, and for each name the features that have it.
     names: FeatureNames,
-    /// For each name that many features have, a list with the feature of that name for each class. The list is at the number of the first
-    /// feature of that name. For any other feature there is no list, or an empty one.
+    /// For each name that more than `FEW` features have: a list that has, for each class, the feature with that name. The list is at the
+    /// number of the first feature with that name. For any other feature there is no list, or an empty one.
     common: Vec<Seq<Option<FeatureNo>>>,
     /// For each class, whether it has a containment.
     containments: Vec<bool>,
@@ -105,7 +105,7 @@ impl Meta {
         let _ = &self.null;
     }
 
-    /// The class of a name. No class has the name `Resource`.
+    /// The class with a given name. No class has the name `Resource`.
     pub fn class_by_name(&self, name: &str) -> Option<ClassNo>
         ensures { result ≡ m.class_by_name self.now name.now }
     {
@@ -113,14 +113,14 @@ impl Meta {
         Some(ClassNo(position as u32))
     }
 
-    /// The class of a number.
+    /// The class with a given number.
     pub fn class(&self, class: ClassNo) -> Option<&Class>
         ensures { option_copied result ≡ m.class self.now class }
     {
         self.classes.as_slice().get(class.0 as usize)
     }
 
-    /// The feature of a name among all features of a class (EClass.getEStructuralFeature).
+    /// The feature with a given name among all features of a class (EClass.getEStructuralFeature).
     pub fn feature_by_name(&self, class: ClassNo, name: &str) -> Option<FeatureNo>
         ensures { result ≡ m.feature_by_name self.now class name.now }
     {
@@ -135,8 +135,8 @@ impl Meta {
         }
     }
 
-    /// `Some` with the feature of `class` that has the same name as the feature `first`, or with `None` if the class has no such feature;
-    /// `None` if no list of the features of that name is kept. `first` is the first feature of its name.
+    /// The feature of `class` that has the same name as the feature `first`, from the list that is kept for this name; `first` is the first
+    /// feature with the name. `Some(None)` if the class has no feature with the name, `None` if no list is kept.
     fn kept(&self, class: ClassNo, first: usize) -> Option<Option<FeatureNo>>
         ensures { IfSome result (λ found. found ≡ m.feature_by_name self.now class (m.feature_name self.now (feature_no first))) }
     {
@@ -144,7 +144,7 @@ impl Meta {
         by_class.as_slice().get(class.0 as usize).copied()
     }
 
-    /// The feature of a class under a name. It is found by a look at each feature of this name, from the feature `from` on.
+    /// The feature of a class with a given name. The search looks at each feature with this name, from the feature `from` on.
     fn search(&self, class: ClassNo, _name: &str, from: usize) -> Option<FeatureNo>
         requires { ComesTo self.now class _name.now from }
         ensures { result ≡ m.feature_by_name self.now class _name.now }
@@ -161,7 +161,7 @@ impl Meta {
         None
     }
 
-    /// Whether a feature is the first of its name, and more than a few features have that name.
+    /// Whether a feature is the first one with its name, and more than `FEW` features have that name.
     fn begins_common(&self, feature: usize) -> bool
         requires { feature < length self.now.features }
     {
@@ -183,8 +183,8 @@ impl Meta {
         at < next.len()
     }
 
-    /// A list with the feature of a name for each class, if `feature` is the first of many features of that name. For any other feature the
-    /// list is empty.
+    /// If `feature` is the first of more than `FEW` features with one name: a list that has, for each class, the feature with that name.
+    /// For any other feature the list is empty.
     fn by_class(&self, alloc: Global, feature: usize) -> Result<Seq<Option<FeatureNo>>, AllocError>
         requires { feature < length self.now.features }
         ensures { IfOk result (IsRow self.now (m.feature_name self.now (feature_no feature))) }
@@ -210,8 +210,8 @@ impl Meta {
         Ok(rows)
     }
 
-    /// Keeps, for each name that many features have, the feature of that name for each class, so that no look-up goes through all features
-    /// of the name.
+    /// Keeps a list for each name that more than `FEW` features have. The list has, for each class, the feature with that name, so that no
+    /// look-up goes through all features with the name.
     fn keep_common(&mut self, alloc: Global) -> Result<(), AllocError>
         ensures { self.new ≡ self.old }
     {
@@ -220,7 +220,7 @@ impl Meta {
         Ok(())
     }
 
-    /// Whether a class has a containment, found by a look at each of its features.
+    /// Whether a class has a containment. Looks at each feature of the class.
     fn finds_containment(&self, class: ClassNo) -> bool
         ensures { result ≡ has_containment self.now class }
     {
@@ -259,7 +259,7 @@ impl Meta {
         }
     }
 
-    /// The feature of a number; `None` for `contents()`.
+    /// The feature with a given number; `None` for `contents()`.
     pub fn feature(&self, feature: FeatureNo) -> Option<&Feature>
         ensures { option_copied result ≡ m.feature self.now feature }
     {
@@ -355,7 +355,7 @@ impl Meta {
         }
     }
 
-    /// Whether a feature holds its values as parts (EReference.isContainment). `contents()` does. Takes no memory.
+    /// Whether a feature contains its values (EReference.isContainment). `contents()` does. Takes no memory.
     pub fn is_containment(&self, feature: FeatureNo) -> bool
         ensures { result ≡ shapes.is_containment self.now feature }
     {
@@ -379,7 +379,7 @@ impl Meta {
         Some(literal.as_str())
     }
 
-    /// The index of the literal of a name.
+    /// The index of the literal with a given name in an enumeration.
     pub fn literal_by_name(&self, enumeration: u32, name: &str) -> Option<u32>
         ensures { result ≡ m.literal_by_name self.now enumeration name.now }
     {

@@ -55,21 +55,21 @@ impl<'a> Resolver<'a> {
         })
     }
 
-    /// The number of the class of a name.
+    /// The number of the class with a given name.
     pub fn class(&self, name: &str) -> Option<usize>
         ensures { result ≡ class_named self.now.classes name.now }
     {
         self.class_table.position(name)
     }
 
-    /// The position of the enumeration of a name.
+    /// The position of the enumeration with a given name.
     pub fn enumeration(&self, name: &str) -> Option<usize>
         ensures { result ≡ enum_named self.now.enums name.now }
     {
         self.enum_table.position(name)
     }
 
-    /// The data type or enumeration of a name.
+    /// The data type or enumeration with a given name.
     pub fn data_type(&self, name: &str) -> Option<DataType>
         ensures { result ≡ data_type_named self.now.enums name.now }
     {
@@ -89,7 +89,7 @@ impl<'a> Resolver<'a> {
         Some(DataType::Enum(e as u32))
     }
 
-    /// The index of the literal of a name.
+    /// The index of the literal with a given name in the enumeration `e`.
     fn literal(&self, e: u32, name: &str) -> Option<u32>
         ensures { result ≡ literal_named self.now.enums e name.now }
     {

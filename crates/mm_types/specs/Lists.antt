@@ -7,6 +7,6 @@ abbrev pub put_back : Option Value → List Value → ℕ → ℕ → List Value
 put_back None vs to from = vs
 put_back (Some v) vs to from = insert (remove vs from) to v
 
--- a list after its value at `from` is taken out and inserted at `to`
+-- a list after its value at `from` is taken out and inserted at `to`; the same list if there is no value at `from`
 abbrev pub values_after_move : List Value → ℕ → ℕ → List Value
 values_after_move vs to from = put_back (slice_get vs from) vs to from

@@ -36,7 +36,7 @@ class_by_name m name = option_map class_no (position (λ c. bytes_eq c.name name
 abbrev pub features : Metamodel → ClassNo → Option (List FeatureNo)
 features m c = option_map (λ k. k.all) (class m c)
 
--- a feature is among all features of a class
+-- whether a feature is among all features of a class
 abbrev pub has_feature : Metamodel → ClassNo → FeatureNo → Bool
 has_feature m c f = option_map_or (λ all. list_any (λ g. nat_eq g.0 f.0) all) (features m c) false
 
@@ -51,7 +51,7 @@ class_name m c = option_map_or (λ k. k.name) (class m c) []
 abbrev pub feature_name : Metamodel → FeatureNo → List ℕ
 feature_name m = name_in m.features
 
--- the feature of a name among all features of a class
+-- the feature with a given name among all features of a class
 abbrev pub feature_by_name : Metamodel → ClassNo → List ℕ → Option FeatureNo
 feature_by_name m c name = option_and_then (find (λ f. bytes_eq (feature_name m f) name)) (features m c)
 

@@ -21,7 +21,8 @@ opposite_at raw c i = option_and_then (opposite_of raw) (feature_at raw c i)
 abbrev pub is_at : ℕ → ℕ → ℕ × ℕ → Bool
 is_at c i p = p.0 == c && p.1 == i
 
--- whether the opposite of a reference, found at p, is the reference itself, or does not have the reference as its own opposite
+-- given the reference at index i of class c and the place p of its opposite: whether the opposite is the reference itself, or does not have
+-- the reference as its own opposite
 abbrev pub leads_astray : RawMetamodel → ℕ → ℕ → ℕ × ℕ → Bool
 leads_astray raw c i p = is_at c i p || not (option_map_or (is_at c i) (opposite_at raw p.0 p.1) false)
 

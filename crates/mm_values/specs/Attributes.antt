@@ -1,4 +1,4 @@
--- The values in a list of entries, and the attributes for which the list has capacity.
+-- What a list of entries stores under each attribute, and how many more values the list of an entry can take without memory.
 use Rattle.std.specs.Prelude.{◌≡◌, ℕ, ◌<◌, ◌≤◌, false, List, [], ◌∷◌, length, nat_eq, slice_index_or, unwrap_or, if◌then◌else◌}
 use Rattle.std.specs.FinMap as map
 use Rattle.mm_types.specs.declared.numbers.FeatureNo.{FeatureNo}

@@ -44,7 +44,7 @@ places_taken (PutList x g list flag) = taken_at x g (length list)
 places_taken (InsertValue x g i w u) = taken_at x g 1
 places_taken _ = none_taken
 
--- how much capacity the list of o under f needs for a plan: none if the plan inserts no value into this list
+-- how much capacity a plan needs in the list of the object o under the attribute f: none if the plan inserts no value into this list
 abbrev pub capacity_needed : List ValueEdit → ℕ → ℕ → ℕ
 capacity_needed plan o f = if list_any (is_insert_at o f) plan then sum_by (λ e. places_taken e o f) plan else 0
 

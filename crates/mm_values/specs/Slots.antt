@@ -12,8 +12,8 @@ use Rattle.mm_values.specs.ListEdits.{IsReadyFor}
 use Rattle.mm_values.specs.declared.list_edit.ListEdit.{ListEdit}
 use Rattle.mm_values.specs.Values.{Objects, ObjectState}
 
--- the two columns, whose index is the number of an object: its class, if the object is live, and its attribute lists; and how many objects
--- were made
+-- at the number of an object, the column `classes` has the object's class, if the object is live, and the column `lists` has its attribute
+-- lists; `next` is how many objects were made
 pub record Slots : Type 0 where
   pub classes : List (Option ClassNo)
   pub lists : List (List Entry)

@@ -236,7 +236,7 @@ impl AttributeLists {
     }
 }
 
-/// Inserts an entry at an index. Errs only if memory is refused, and then nothing has changed.
+/// Inserts an entry at an index. Fails only if memory is refused, and then nothing has changed.
 fn insert_entry(entries: &mut Vec<Entry>, at: usize, entry: Entry) -> Result<(), AllocError>
     requires { at ≤ length entries.old.items }
     ensures ok { OnOk result (entries.new.items ≡ insert entries.old.items at entry) }

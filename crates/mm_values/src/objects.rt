@@ -15,9 +15,9 @@ use std::alloc::{AllocError, Global};
 use std::marker::Model;
 use value_lists::ValueList;
 
-/// The objects of a repository, in two columns, whose index is the number of an object: `classes` has the class, if the object is live, and
-/// `lists` has the attribute lists. So a look at a class reads no lists. `next` objects were made, and the entries from `next` on are
-/// reserved for new objects.
+/// The objects of a repository, in two columns. At the number of an object, `classes` has its class, if the object is live, and `lists` has
+/// its attribute lists. So a look at a class reads no lists. `next` objects were made, and the entries from `next` on are reserved for new
+/// objects.
 #[derive(Drop)]
 pub(crate) struct Objects {
     classes: Vec<Option<ClassNo>>,
@@ -85,7 +85,7 @@ impl Objects {
         Some(lists.list(feature))
     }
 
-    /// Whether an attribute of a live object is set; `None` if no live object has the number.
+    /// The set flag that a live object has for an attribute; `None` if no live object has the number.
     pub fn flag(&self, object: ObjectNo, feature: FeatureNo) -> Option<bool>
         ensures { result ≡ option_map (λ s. (stored_under s feature).flag) (object_at (objects_of self.now) object) }
     {

@@ -201,7 +201,7 @@ impl Values {
     }
 
     /// Replaces the list of an object under an attribute, as `ValueEdit::PutList` does. Fails only if memory is refused, and then nothing
-    /// that contracts see has changed. Most changes of values are such edits, and making a plan for such an edit would take longer than the
+    /// that contracts see has changed. Most changes of values are one `PutList` edit, and making a plan for it would take longer than the
     /// edit itself.
     pub fn try_put(
         &mut self,
@@ -289,7 +289,7 @@ impl Values {
         }
     }
 
-    /// Reserves capacity for each list that an edit puts or changes.
+    /// Prepares the lists that the edits put or change, each as `make_place_for` does.
     fn make_places(&mut self, edits: &[ValueEdit]) -> Result<(), AllocError>
         ensures unchanged { values_of self.new ≡ values_of self.old }
         ensures next { self.new.objects.next ≡ self.old.objects.next }
@@ -309,7 +309,9 @@ impl Values {
         Ok(())
     }
 
-    /// Reserves capacity for a list that an edit of a plan puts or changes.
+    /// Prepares the list that an edit of a plan puts or changes. For a put or an insert, makes an entry for the list, if the attribute has
+    /// none, and reserves the capacity that the plan needs in the list (`places_needed`). For a removal or a move in a long list, moves the
+    /// list into pieces, so that the edit is fast.
     fn make_place_for(&mut self, edit: &ValueEdit, plan: &[ValueEdit]) -> Result<(), AllocError>
         ensures unchanged { values_of self.new ≡ values_of self.old }
         ensures next { self.new.objects.next ≡ self.old.objects.next }
@@ -342,8 +344,8 @@ impl Values {
         }
     }
 
-    /// Makes an entry for the list that an object has under an attribute, if it has none, and reserves capacity for the values that a plan
-    /// puts into the list.
+    /// Makes an entry for the list that an object has under an attribute, if the attribute has none, and reserves the capacity that a plan
+    /// needs in the list (`places_needed`).
     fn make_list(
         &mut self,
         object: ObjectNo,

@@ -29,7 +29,7 @@ pub(crate) struct Asked {
     pub(crate) dress: Dress,
     /// Whether a refused or bad line gives an exit status of its own.
     pub(crate) strict: bool,
-    /// Whether each line is answered before the next is read.
+    /// Whether the program is live: before it waits for further lines, it answers all lines that came in.
     pub(crate) live: bool,
     /// The file that keeps the lines that change the model, if there is one.
     pub(crate) journal: Option<String>,

@@ -20,7 +20,7 @@ use std::cell::RefCell;
 use std::io::{BufReader, BufWriter, IsTerminal, Printer, Read, Write};
 use std::{fs, io};
 
-/// How many adapters a run has.
+/// How many adapters a run without `--live` has.
 const BOXES: u32 = 8;
 
 /// How many adapters a live run has.
@@ -174,8 +174,9 @@ fn digest_for(asked: &Asked, document: &[u8]) -> [u8; 32] {
     }
 }
 
-/// Checks the metamodel, frees its document, and runs the script over an empty repository of the metamodel, with the adapters `boxes`.
-/// Returns whether a line was refused or bad.
+/// Checks the metamodel, frees its document, and makes an empty repository of the metamodel, with the adapters `boxes`. If there is no
+/// journal, loads files, runs the script and saves files. If there is a journal, runs its lines again, answers the lines of standard input,
+/// and saves files. Returns whether a line was refused or bad.
 fn run_over_metamodel<A: Adapter>(
     rt: &HostRuntime,
     asked: &Asked,

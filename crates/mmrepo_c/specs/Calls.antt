@@ -74,8 +74,8 @@ asked_len n name s = list_len_printed s.state n name
 abbrev pub asked_value : Node → List ℕ → ℕ → Session → Printed
 asked_value n name i s = list_value_printed s.state n name i
 
--- a document was loaded, as the command `Load` loads it: the text that the load printed is now the answer of the session; if memory was
--- refused to the call, the handle is closed
+-- the command `Load` was run, and was done or refused: the text that the command printed is now the answer of the session; if memory was
+-- refused to the call itself, the handle is closed
 abbrev pub LoadsDocument : Held → ResourceNo → List ℕ → ℕ → Option Held → Type 0
 LoadsDocument h k text status None = status ≡ MEMORY
 LoadsDocument h k text status (Some t) = (turn : Turn) × (status ≡ line_status turn) × RunsCommand (running_session h) (Load k text) (printed_line (answer t) turn) (running_session t)

@@ -1,4 +1,5 @@
--- A session as the definitions of scripts see it, its first state, and what a read leaves of it.
+-- A session of C as the definitions of scripts see it, a new session, and what a read does: it prints an answer, and leaves the session as
+-- it was.
 use Rattle.std.specs.Prelude.{◌≡◌, ℕ, List, [], map, replicate, Some}
 use Rattle.mm_types.specs.Resolved.{Metamodel}
 use Rattle.notice_chain.specs.View.{View}

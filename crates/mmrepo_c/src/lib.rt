@@ -1,8 +1,8 @@
 //! mmrepo for C: a static library, whose functions `include/mmrepo.h` declares. A session over a metamodel answers the lines of a script,
 //! one line in each call. docs/C.md has an example.
 //!
-//! A call takes the `Box` of a session out of its handle, and puts the `Box` back. So only `SessionPointer` and `Loose` work with raw
-//! pointers. All other code is safe, and is proved from the contracts of these two types.
+//! A call takes the `Box` of a session out of its handle, and puts the `Box` back unless the call closes the session. So only
+//! `SessionPointer` and `Loose` work with raw pointers. All other code is safe, and is proved from the contracts of these two types.
 #![tactic(auto)]
 
 ghost use Rattle.std.specs.Prelude.{◌≡◌, None};

@@ -1,4 +1,5 @@
-//! Laws of the definitions, each the contract of a function that does nothing.
+//! Laws of the definitions, each the contract of a function that does nothing. Most laws are about legal states. Each state of a
+//! `Repository` is legal, and its URIs are normalised (`lemma_is_legal`, `has_steady_texts`).
 ghost use Rattle.std.specs.Prelude.{◌≡◌, List, Err};
 ghost use Rattle.mm_types.specs.declared.numbers.AdapterNo.{AdapterNo};
 ghost use Rattle.mm_types.specs.declared.numbers.Node.{Node};
@@ -65,23 +66,25 @@ pub fn notices_are_enough()
     ensures closed { (s : State) (cs : List (Command View)) (number : AdapterNo) (target : Node) (a : Listed) (w : View) (n : Node) → ClosedKeepsEnough s cs number target a w n }
 {}
 
-/// The texts that were saved of a state without proxies can be loaded into a new repository over the same metamodel, if the text of no
-/// reference is longer than 65,535 bytes. The resources of the state are created and their texts loaded, in any order in which no resource
-/// is loaded before it is created. The texts are the results of `Repository::save`. These commands can be refused only for lack of memory.
-/// The new state is legal, and a partly resolved copy of the saved state: it has the same objects at the same addresses, and some
-/// references may still be proxies.
+/// The texts that were saved of a state without proxies can be loaded into a new repository over the same metamodel, if the URIs of the
+/// state are normalised, and the text of no reference is longer than 65,535 bytes. The resources of the state are created and their texts
+/// loaded, in any order in which no resource is loaded before it is created. The texts are the results of `Repository::save`. These
+/// commands can be refused only for lack of memory. The new state is legal, and a partly resolved copy of the saved state: it has the same
+/// objects at the same addresses, and some references may still be proxies.
 pub fn loads_in_any_order_give_what_stands_between()
     ensures { (s : State) → LoadsGiveBetween s }
 {}
 
-/// In a partly resolved copy of a saved state without proxies, the resolve of a proxy can be refused only for lack of memory. After the
-/// resolve, the state is still a partly resolved copy, and has one proxy fewer, or two fewer if the reference of the proxy has an opposite.
+/// Take a saved state without proxies, and a partly resolved copy of it that has no adapters. The resolve of a proxy of the copy can be
+/// refused only for lack of memory. After the resolve, the copy is still partly resolved, and has one proxy fewer, or two fewer if the
+/// reference of the proxy has an opposite.
 pub fn resolving_stays_between()
     ensures { (s : State) (w : ValuesState) (b : Links) → ResolvesBetween s w b }
 {}
 
-/// In a partly resolved copy of a saved state without proxies, the resolve of all proxies can be refused only for lack of memory. After
-/// this resolve, the state has no proxy, the answer says so, and the state is isomorphic to the saved state (EMF: EcoreUtil.resolveAll).
+/// Take a saved state without proxies, and a partly resolved copy of it that has no adapters. The resolve of all proxies of the copy can be
+/// refused only for lack of memory. After this resolve, the copy has no proxy, the answer says so, and the copy is isomorphic to the saved
+/// state (EMF: EcoreUtil.resolveAll).
 pub fn resolving_all_leaves_no_proxy()
     ensures { (s : State) (w : ValuesState) (b : Links) → ResolvesAll s w b }
 {}
@@ -91,12 +94,12 @@ pub fn without_proxies_what_stands_between_is_alike()
     ensures { (s t : Reading) → HasNoProxy s → HasNoProxy t → Between s t → Alike s t }
 {}
 
-/// What was saved comes back. Suppose that all resources of a state without proxies were saved, and that the text of no reference is longer
-/// than 65,535 bytes. In a new repository over the same metamodel the resources are created and loaded, in any order in which no resource
-/// is loaded before it is created. Then the proxies are resolved, all at once or one after another in any order until no proxy is left.
-/// These commands can be refused only for lack of memory, and the new state is isomorphic to the saved state: both have the same URIs with
-/// the same roots, and the same addresses, and at each address an object of the same class with the same values and set flags. Values that
-/// are objects are compared by their addresses.
+/// What was saved comes back. Suppose that all resources of a state without proxies were saved, that the URIs of the state are normalised,
+/// and that the text of no reference is longer than 65,535 bytes. In a new repository over the same metamodel the resources are created and
+/// loaded, in any order in which no resource is loaded before it is created. Then the proxies are resolved, all at once or one after
+/// another in any order until no proxy is left. These commands can be refused only for lack of memory, and the new state is isomorphic to
+/// the saved state: both have the same URIs with the same roots, and the same addresses, and at each address an object of the same class
+/// with the same values and set flags. Values that are objects are compared by their addresses.
 pub fn what_was_saved_is_had_again_in_any_order()
     ensures { (s : State) → ReloadsInAnyOrder s }
 {}

@@ -1,4 +1,5 @@
-//! Runs of scripts and of commands: over streams that fail, at their ends, and by a command line.
+//! Runs of scripts and of lists of commands, streams that fail, the options that a command line gives, the lines of a script, and how
+//! values are printed.
 mod arguments;
 mod live_runs;
 mod printed;

@@ -1,4 +1,5 @@
--- Why an object, a resource, a class or a feature that a call names is not there. The look-ups that find the reason take no memory.
+-- Why a call that names an object, a resource, a class or a feature is refused: the thing does not exist, or the class is abstract. The
+-- look-ups that find the reason take no memory.
 use Rattle.std.specs.Prelude.{◌&&◌, Option, is_some}
 use Rattle.mm_types.specs.Conditions.{◌unless◌, ◌else_by◌}
 use Rattle.mm_types.specs.Lookups as lookups
@@ -30,8 +31,8 @@ end_refusal r e =
     node_refusal r e.node else_by
     NoFeature unless has_feature r e.node e.feature
 
--- the refusal of an end and a value for it: first `NoObject` if the node of the end or the value is a dead object, and then the refusal of
--- the end by itself
+-- the refusal of an end and a value for it: first `NoObject` if the node of the end or the value is an object that is not live, and then
+-- the refusal of the end by itself
 abbrev pub value_refusal : Reading → End → Value → Option Refused
 value_refusal r e v =
     NoObject unless (is_node_live r e.node && is_value_live r v) else_by

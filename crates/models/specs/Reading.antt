@@ -70,7 +70,7 @@ is_set r e = ends.is_set (shape_at r e) (held_at r e)
 abbrev pub is_live : Reading → ObjectNo → Bool
 is_live r o = is_some (r.class o)
 
--- whether a node is a resource or a live object; and `is_value_live`, whether a value is anything but a dead object
+-- whether a node is a resource or a live object; and `is_value_live`, whether a value is a live object, or no object at all
 abbrev pub is_node_live : Reading → Node → Bool
 is_node_live r (node.Object o) = is_live r o
 is_node_live r (node.Resource k) = true
@@ -82,7 +82,7 @@ is_value_live r _ = true
 abbrev pub has_resource : Reading → ResourceNo → Bool
 has_resource r k = nat_lt k.0 (length r.uris)
 
--- the resource of a URI
+-- the resource with a given URI
 abbrev pub resource_named : Reading → List ℕ → Option ResourceNo
 resource_named r u = option_map (λ i. record { 0 = i }) (position (bytes_eq u) r.uris)
 
@@ -125,7 +125,7 @@ object_of _ = None
 abbrev pub objects_of : List Value → List ObjectNo
 objects_of vs = filter_map object_of vs
 
--- whether n is x, or is below x
+-- whether the node n is the node x, or is below x
 abbrev pub is_within : Reading → Node → Node → Bool
 is_within r x n = same_node x n || list_any (same_node x) (r.above n)
 

@@ -1,4 +1,5 @@
--- Keys of tables about references: a reference of an object, and an index there or the number of an object there.
+-- Keys of tables about references. A key has an object, a reference of the object, and a number: either an index under this reference, or
+-- the number of an object under this reference.
 use Rattle.std.specs.Prelude.{ℕ, ◌&&◌, Bool, nat_eq}
 use Rattle.mm_types.specs.declared.numbers.FeatureNo.{FeatureNo}
 use Rattle.mm_types.specs.declared.numbers.ObjectNo.{ObjectNo}

@@ -1,4 +1,5 @@
-//! Whether the objects, resources, classes and features that a call names are there. No function here takes memory.
+//! Why a call that names an object, a resource, a class or a feature is refused: the thing does not exist, or the class is abstract. No
+//! function here takes memory.
 ghost use Rattle.std.specs.Prelude.{◌≡◌};
 ghost use Rattle.models.specs.Existence as existence;
 ghost use Rattle.models.specs.Model.{reading};
@@ -58,8 +59,8 @@ pub fn end_refusal<L: LinkStore>(model: &ModelRef<L>, end: End) -> Option<Refuse
     None
 }
 
-/// Why a feature of a node and a value for it can't be named: `NoObject` if the node or the value is an object that does not live;
-/// otherwise `NoResource`, or else `NoFeature`.
+/// Why a feature of a node and a value for it can't be named: `NoObject` if the node or the value is an object that is not live; otherwise
+/// `NoResource` if no resource has the node's number, or else `NoFeature` if the node does not have the feature.
 pub fn value_refusal<L: LinkStore>(model: &ModelRef<L>, end: End, value: &Value) -> Option<Refused>
     ensures { result ≡ existence.value_refusal (reading model.now) end value.now }
 {

@@ -32,7 +32,7 @@ impl<'a, L: LinkStore> ModelRef<'a, L> {
         attribute_len(self.meta(), self.values(), end) as u32
     }
 
-    /// The value at a position of an end; `None` past the last.
+    /// The value at a position of an end; `None` past the last position.
     pub fn value_in(&self, end: End, index: u32) -> Option<Found<'a>>
         ensures { option_map found_value result ≡ slice_get ((reading self.now).values end) index }
     {
@@ -43,7 +43,7 @@ impl<'a, L: LinkStore> ModelRef<'a, L> {
         found_kept(attribute_value_in(meta, values, end, index as usize))
     }
 
-    /// The value at a position of a reference: an object, or the text of a proxy; `None` past the last.
+    /// The value at a position of a reference: an object, or the text of a proxy; `None` past the last position.
     pub(crate) fn target_in(&self, end: End, index: u32) -> Option<Found<'a>>
         requires reference { (shape self.now.metamodel end.feature).is_reference ≡ true }
         ensures { option_map found_value result ≡ slice_get ((reading self.now).values end) index }
@@ -55,7 +55,7 @@ impl<'a, L: LinkStore> ModelRef<'a, L> {
         }
     }
 
-    /// The object at a position of a reference; `None` past the last, and if a proxy is there.
+    /// The object at a position of a reference; `None` past the last position, and if a proxy is there.
     pub fn object_in(&self, end: End, index: u32) -> Option<ObjectNo>
         requires reference { (shape self.now.metamodel end.feature).is_reference ≡ true }
         ensures object { result ≡ option_and_then r.object_of (slice_get ((reading self.now).values end) index) }
@@ -65,7 +65,7 @@ impl<'a, L: LinkStore> ModelRef<'a, L> {
         self.store().at(end, index)
     }
 
-    /// A position of an end before which there is no proxy. A search for a proxy begins there.
+    /// A position of an end before which there is no proxy. A search for a proxy can begin there.
     pub fn proxy_start(&self, end: End) -> u32
         ensures { (k : ℕ) → k < result → option_and_then text_of (slice_get ((reading self.now).values end) k) ≡ None }
     {
@@ -188,7 +188,7 @@ fn attribute_len(meta: &Meta, values: &Values, end: End) -> usize
     kept_len(values, end)
 }
 
-/// The value of an attribute at a position; `None` past the last.
+/// The value of an attribute at a position; `None` past the last position.
 fn attribute_value_in<'a>(
     meta: &'a Meta,
     values: &'a Values,

@@ -97,7 +97,7 @@ impl<'a, L: LinkStore> ModelRef<'a, L> {
         self.values.class(object)
     }
 
-    /// Whether a node has a feature, own or inherited; false if the node does not live.
+    /// Whether a node has a feature, own or inherited; false for an object that is not live, and for a resource that does not exist.
     pub fn has_feature(&self, node: Node, feature: FeatureNo) -> bool
         ensures { result ≡ r.has_feature (reading self.now) node feature }
     {
@@ -112,35 +112,36 @@ impl<'a, L: LinkStore> ModelRef<'a, L> {
         }
     }
 
-    /// The URI of a resource (EMF: Resource.getURI); `None` if there is no such resource.
+    /// The URI of a resource (EMF: Resource.getURI); `None` if no resource has the number.
     pub fn uri(&self, resource: ResourceNo) -> Option<&'a str>
         ensures { option_copied result ≡ slice_get (reading self.now).uris resource.0 }
     {
         self.values.uri(resource)
     }
 
-    /// The resource of a URI (EMF: ResourceSet.getResource); `None` if there is none.
+    /// The resource with a given URI (EMF: ResourceSet.getResource); `None` if no resource has the URI.
     pub fn resource_named(&self, uri: &str) -> Option<ResourceNo>
         ensures { result ≡ r.resource_named (reading self.now) uri.now }
     {
         self.values.resource_of(uri)
     }
 
-    /// Whether there is a resource of a URI.
+    /// Whether some resource has a given URI.
     pub fn has_uri(&self, uri: &str) -> bool
         ensures { result ≡ r.has_uri (reading self.now) uri.now }
     {
         self.resource_named(uri).is_some()
     }
 
-    /// Whether there is a resource of a number.
+    /// Whether there is a resource with a given number.
     pub fn has_resource(&self, resource: ResourceNo) -> bool
         ensures { result ≡ r.has_resource (reading self.now) resource }
     {
         (resource.0 as usize) < self.resources()
     }
 
-    /// All features of a node, own and inherited (EMF: EClass.getEAllStructuralFeatures); none if the node does not live.
+    /// All features of a node, own and inherited (EMF: EClass.getEAllStructuralFeatures); none for an object that is not live, and for a
+    /// resource that does not exist.
     pub fn all_features(&self, node: Node) -> &'a [FeatureNo]
         ensures { result.now ≡ r.all_features_of (reading self.now) node }
     {
@@ -167,7 +168,7 @@ impl<'a, L: LinkStore> ModelRef<'a, L> {
         }
     }
 
-    /// The values of objects, for the files of this crate.
+    /// The values: the objects with their attribute lists, and the URIs of resources.
     pub(crate) fn values(&self) -> &'a Values
         ensures { values_of result.now ≡ self.now.values }
     {

@@ -181,7 +181,7 @@ pub(crate) fn kept_len(values: &Values, end: End) -> usize
     }
 }
 
-/// The value at an index among the values that are stored under an attribute of a node; `None` past the last.
+/// The value at an index among the values that are stored under an attribute of a node; `None` past the last value.
 pub(crate) fn kept_at(values: &Values, end: End, index: usize) -> Option<&Value>
     ensures { option_copied result ≡ slice_get (kept_values (values_of values.now) end.node end.feature) index }
 {

@@ -13,7 +13,7 @@ pub struct ReferenceKey {
 }
 
 impl ReferenceKey {
-    /// The key of a number under a feature of an object.
+    /// The key of the reference `feature` of `object`, with the number `number`.
     pub fn of(object: ObjectNo, feature: FeatureNo, number: u32) -> Self
         ensures { result ≡ spec.reference_key object feature number }
     {

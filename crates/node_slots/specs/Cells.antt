@@ -17,7 +17,7 @@ use Rattle.node_slots.specs.Rows.{entered_after, entries_taken, hold_after, is_r
 use Rattle.node_slots.specs.Tables.{Table, place_at, row_index_at, row_from, row_in}
 
 -- for each end: its values, and the opposite and the containing feature of its feature, as puts of objects gave them; for each node: the
--- end that contains the node, and the ends with no opposite that have the node as a value
+-- end that contains the node, and the node's entries, which are the ends with no opposite that have the node as a value
 pub record Cells : Type 0 where
   pub vals : End → List Value
   pub pairing : End → Pairing
@@ -29,7 +29,7 @@ abbrev pub no_cells : Cells
 no_cells = record { vals = λ e. []; pairing = λ e. no_pairing; hold = λ n. None; entered = λ n. [] }
 
 -- the reserved capacity: for each end, how many more values it can take, and whether these may be values other than objects; for each node,
--- how many more ends can be added to the ends with no opposite that have the node as a value, and whether the node has a row
+-- how many more entries it can take, and whether it has a row
 pub record Room : Type 0 where
   pub places : End → ℕ
   pub mixed : End → Bool
@@ -68,8 +68,9 @@ room t =
 abbrev pub slot_ends : Node → List Slot → List End
 slot_ends n ss = map (λ s. record { node = n; feature = s.feature }) ss
 
--- the ends that have a slot, for all nodes whose number is at least k; the list has an element for each of these nodes, in the order of
--- their numbers: 0 if the node has no row, else one more than the index of its row
+-- the ends that have a slot, for all nodes whose number is at least k; `at` gives the node with a number, and rs are all rows. The last
+-- list has an element for each of these nodes, in the order of their numbers: 0 if the node has no row, else one more than the index of its
+-- row in rs
 abbrev pub row_ends : (ℕ → Node) → ℕ → List Row → List ℕ → List End
 row_ends at k rs [] = []
 row_ends at k rs (p ∷ ps) = slot_ends (at k) (row_slots (row_from rs (place_at (Some p)))) ++ row_ends at (suc k) rs ps

@@ -30,7 +30,7 @@ abbrev pub lone_entry : ObjectNo → Option FeatureNo → Node → ℕ
 lone_entry o None n = one_if (same_node (node.Object o) n)
 lone_entry o (Some g) n = 0
 
--- how many ends an edit adds to the ends with no opposite that have n as a value
+-- how many ends an edit adds to the ends with no opposite that have the node n as a value
 abbrev pub entry : Node → Edit → ℕ
 entry n (edit.Cut e v) = 0
 entry n (edit.Put l) = lone_entry l.object l.opposite n
@@ -60,8 +60,8 @@ pub record HasRoom (r : Room) (plan : List Edit) : Type 0 where
   pub takes : TakesAll r plan
   pub entries : (n : Node) → entries plan n ≤ r.entries n
 
--- the capacity has grown: for each end e there is capacity for at least `values e` more values, and for each node n there is capacity for
--- at least `ends n` more ends that have n as a value
+-- the capacity has grown: by at least `values e` values for each end e, and by at least `ends n` entries for each node n. The entries of a
+-- node are the ends with no opposite that have the node as a value. An end that could have values other than objects still can
 pub record HasGained (values : End → ℕ) (ends : Node → ℕ) (old new : Room) : Type 0 where
   pub places : (e : End) → old.places e + values e ≤ new.places e
   pub mixed : (e : End) → old.mixed e ≡ true → new.mixed e ≡ true

@@ -1,4 +1,4 @@
--- The row of one node, and the row after one change.
+-- The row of one node, and the row after one change. The entries of a node are the ends with no opposite that have the node as a value.
 use Rattle.std.specs.Prelude.{◌≡◌, ℕ, zero, ◌+◌, ◌≤◌, Bool, true, false, List, [], ◌∷◌, ◌++◌, min, remove, IsPermutation, Option, Some, None, if◌then◌else◌}
 use Rattle.mm_types.specs.Same.{same_feature}
 use Rattle.mm_types.specs.declared.numbers.FeatureNo.{FeatureNo}
@@ -42,7 +42,7 @@ row_indexes o f = places_of (row_slot o f)
 abbrev pub row_mixed : Option Row → FeatureNo → Bool
 row_mixed o f = mixed_of (row_slot o f)
 
--- how many more ends can be added, in reserved capacity, to the ends with no opposite that have the node as a value
+-- how many more entries the node can take without memory
 abbrev pub row_entries : Option Row → ℕ
 row_entries None = zero
 row_entries (Some r) = min r.promised r.entered.spare
@@ -83,7 +83,7 @@ entered_after (Enter d) ds = ds ++ d ∷ []
 entered_after (Leave i) ds = remove ds i
 entered_after (ForgetEntries n) ds = ds
 
--- how much capacity for values at g a change takes
+-- how much a change takes of the capacity for values of the feature g
 abbrev pub places_taken : RowEdit → FeatureNo → ℕ
 places_taken (Change f x) g = if same_feature f g then slot_edit_capacity x else zero
 places_taken (Hold h) g = zero
@@ -91,7 +91,7 @@ places_taken (Enter d) g = zero
 places_taken (Leave i) g = zero
 places_taken (ForgetEntries n) g = zero
 
--- how much capacity for ends that have the node as a value a change takes
+-- how much a change takes of the capacity for entries
 abbrev pub entries_taken : RowEdit → ℕ
 entries_taken (Change f x) = zero
 entries_taken (Hold h) = zero
@@ -136,7 +136,7 @@ pub record IsRowGrown (old new : Option Row) : Type 0 where
 abbrev pub AreRowsGrown : (ℕ → Option Row) → (ℕ → Option Row) → Type 0
 AreRowsGrown old new = (j : ℕ) → IsRowGrown (old j) (new j)
 
--- the same row, except that the ends with no opposite that have the node as a value may be in a different order
+-- the same row, except that its entries may be in a different order
 pub record IsRowReordered (old new : Option Row) : Type 0 where
   pub vals : (g : FeatureNo) → row_vals new g ≡ row_vals old g
   pub pairing : (g : FeatureNo) → row_pairing new g ≡ row_pairing old g

@@ -17,7 +17,8 @@ pub use growth::PutPlaces;
 use mm_types::{End, Node, ObjectNo, Value};
 use std::alloc::Global;
 
-/// A row for each node for which capacity was reserved: for a value of the node, or for an end that has the node as a value.
+/// A row for each node for which capacity was reserved: for a value of the node, or for an end with no opposite that has the node as a
+/// value.
 #[derive(Drop)]
 pub struct NodeSlots {
     objects: RowTable,
@@ -147,7 +148,7 @@ impl NodeSlots {
         }
     }
 
-    /// The end that contains a node; `None` if none does.
+    /// The end that contains a node; `None` if no end contains it.
     #[tactic(auto, unfolding(crate::specs::Cells::cells))]
     pub fn holder(&self, node: Node) -> Option<End>
         ensures { result ≡ (cells self.now).hold node }
@@ -203,8 +204,9 @@ impl NodeSlots {
         }
     }
 
-    /// Makes one change of a node, for which there is capacity. Takes no memory. An end can always take an object. An end can take a proxy
-    /// only if it may have values other than objects; `reserve_for` allows such values at each end into which its plan puts a proxy.
+    /// Makes one change of a node, for which there is capacity. Takes no memory. The capacity of an end may always be used for an object.
+    /// It may be used for a proxy only if the end may have values other than objects; `reserve_for` allows such values at each end into
+    /// which its plan puts a proxy.
     pub fn edit(&mut self, node: Node, edit: RowEdit)
         requires { Fits node edit (room self.old) }
         ensures cells { cells self.new ≡ cell_edit node edit (cells self.old) }

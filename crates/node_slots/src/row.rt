@@ -27,7 +27,7 @@ pub enum RowEdit {
     ForgetEntries(usize),
 }
 
-/// The values of one node, and the ends that have the node as a value.
+/// What is kept of one node: its values, the end that contains it, and the ends with no opposite that have it as a value.
 #[derive(Drop)]
 pub struct Row {
     pub slots: RowSlots,
@@ -128,7 +128,7 @@ impl Row {
     }
 }
 
-/// Puts an end in last. There is capacity for the end.
+/// Adds an end after the last one. There is capacity for the end.
 fn push_on(ends: &mut ShortList<End>, end: End)
     requires { 1 ≤ ends.old.spare }
     ensures items { ends.new.items ≡ ends.old.items ++ end ∷ [] }

@@ -168,8 +168,8 @@ fn with_new(alloc: Global, slot: &mut Slot, feature: FeatureNo) -> Result<Vec<Sl
     Ok(slots)
 }
 
-/// Adds a slot, and reserves capacity for half as many further slots as there were before. Fails only if memory is refused, and then
-/// nothing has changed.
+/// Adds a slot. If there is no capacity for it, first reserves capacity for it and for half as many further slots as there are. Fails only
+/// if memory is refused, and then nothing has changed.
 fn push_slot(slots: &mut Vec<Slot>, slot: Slot) -> Result<(), AllocError>
     ensures { slots.new.items ≡ (if is_ok result then slots.old.items ++ slot ∷ [] else slots.old.items) }
 {

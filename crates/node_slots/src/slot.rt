@@ -9,7 +9,7 @@ use end_values::EndValueList;
 use mm_types::{FeatureNo, Value};
 use std::alloc::{AllocError, Global};
 
-/// The properties of a feature that a put gives: the opposite and the containing feature.
+/// The opposite and the containing feature of a feature. An edit that puts an object into an end gives the `Pairing` of the end's feature.
 #[derive(Clone, Copy)]
 pub struct Pairing {
     /// The opposite of the feature, if it has one.

@@ -43,15 +43,15 @@ HaveTargets rs = All (λ r. 0 < length r.targets) rs
 abbrev pub targets_len : List Listed → ℕ
 targets_len rs = sum_by (λ r. length r.targets) rs
 
--- the adapter of a number
+-- the adapter with a given number, if there is one
 abbrev pub adapter : AdapterNo → List Listed → Option Listed
 adapter number rs = find (has_no number) rs
 
--- whether the adapter of a number has a node as a target
+-- whether the adapter with a given number has a node as a target
 abbrev pub is_target : AdapterNo → Node → List Listed → Bool
 is_target number x rs = list_any (λ r. has_no number r && has_target x r) rs
 
--- the adapters after a change of the first adapter that has a number, if there is such an adapter
+-- the adapters after a change of the first adapter with a given number; unchanged if no adapter has the number
 abbrev pub with_changed : AdapterNo → (Listed → Listed) → List Listed → List Listed
 with_changed number change [] = []
 with_changed number change (r ∷ rs) = if has_no number r then (change r ∷ rs) else r ∷ with_changed number change rs
@@ -60,7 +60,7 @@ with_changed number change (r ∷ rs) = if has_no number r then (change r ∷ rs
 abbrev pub with_target : Target → Listed → Listed
 with_target t r = record { no = r.no; targets = r.targets ++ t ∷ []; view = r.view }
 
--- the adapters after the adapter of a number got one more target
+-- the adapters after the adapter with a given number got one more target
 abbrev pub adapters_after_watch : AdapterNo → Target → List Listed → List Listed
 adapters_after_watch number t rs = with_changed number (with_target t) rs
 
@@ -115,6 +115,6 @@ told_list up (n ∷ ns) rs = told_of up n rs ++ told_list up ns rs
 abbrev pub is_full : ℕ → ℕ → View → Bool
 is_full k t v = nat_lt 0 k && nat_le (2 ^ 64) (v.told + (k + t))
 
--- whether some adapter can't count the notifications of a chain that it gets
+-- whether some adapter gets notifications of a chain, and can't count them and then a last notification from each of its targets
 abbrev pub is_chain_full : Above → List Notice → List Listed → Bool
 is_chain_full up ns rs = list_any (λ r. is_full (length (heard_of up ns r)) (length r.targets) r.view) rs

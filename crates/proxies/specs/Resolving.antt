@@ -1,4 +1,5 @@
--- What resolving a proxy finds: the object at the proxy's address and, at the opposite end of that object, the proxy of the same link.
+-- What resolving a proxy finds: the object at the proxy's address and, if the reference has an opposite, the proxy of the same link at the
+-- opposite end.
 use Rattle.std.specs.Prelude.{ℕ, ◌&&◌, Bool, false, not, List, Option, is_some, option_and_then, option_map, position, slice_get}
 use Rattle.std.specs.Option.{option_map_or}
 use Rattle.mm_types.specs.Same.{same_node}
@@ -21,7 +22,7 @@ opposite_end r e o = option_map (far_end o) (shape_at r e).opposite
 abbrev pub proxy_at : Reading → End → ℕ → Option (List ℕ)
 proxy_at r e i = option_and_then text_of (slice_get (r.values e) i)
 
--- whether a value is a proxy that has a node at its address
+-- whether the value v is a proxy that has the node n at its address
 abbrev pub leads_to : Reading → Node → Value → Bool
 leads_to r n v = option_map_or (λ o. same_node (node.Object o) n) (option_and_then (at r) (text_of v)) false
 

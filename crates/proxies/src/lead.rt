@@ -108,7 +108,8 @@ impl FirstLeads {
         }
     }
 
-    /// The table of the proxies of `leads`; if several of them have one key, the first in `leads` counts. Fails only if memory is refused.
+    /// The table of the proxies of `leads`. If several proxies have the same key, the proxy that comes first in `leads` counts. Fails only
+    /// if memory is refused.
     pub fn of(alloc: Global, leads: &[Lead]) -> Result<Self, AllocError>
         ensures { IfOk result (λ t. (k : ReferenceKey) → spec.index_at t k ≡ spec.first_index leads.now k) }
     {

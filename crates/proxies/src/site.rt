@@ -5,7 +5,7 @@ ghost use Rattle.proxies.specs.Keys.{key_of};
 use mm_types::{FeatureNo, ObjectNo};
 use models::ReferenceKey;
 
-/// The location of a proxy: the referring object, the reference of this object, and the index of the proxy there.
+/// The location of a proxy: the referring object, its reference, and the index of the proxy in this reference.
 #[derive(Clone, Copy)]
 pub struct ProxySite {
     pub object: ObjectNo,

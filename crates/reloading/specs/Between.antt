@@ -23,8 +23,8 @@ AreBothOrNone s t =
     (f g : FeatureNo) (o b p q : ObjectNo) (x y : List ℕ) → (shape s.metamodel f).opposite ≡ Some g → Contains (s.values (at_end (node.Object o) f)) (value.Object b)
     → address s o ≡ Some x → address s b ≡ Some y → address t p ≡ Some x → address t q ≡ Some y → has_proxy t p f y ≡ has_proxy t q g x
 
--- t has the same contents as s, if a proxy counts as the object at its address; the proxies of t are at both ends of a link, or at neither;
--- and each object of t is in a resource
+-- t has the same contents as s, if a proxy counts as the object at its address; for each link of s with two ends, t has proxies at both
+-- ends or at neither; and each object of t is in a resource
 pub record Between (s t : Reading) : Type 0 where
   pub same : HaveSame meant_value s t
   pub pairs : AreBothOrNone s t

@@ -31,8 +31,7 @@ pub record HasImages (r : Reading) (k : ResourceNo) (n : ℕ) (j : ResourceNo) (
   pub flags : (o : ObjectNo) (f : FeatureNo) → resource_of r.above o ≡ Some k → t.flag (at_end (node.Object (image r k n o)) f) ≡ r.flag (at_end (node.Object o) f)
   -- the roots of resource j are the images of the roots of resource k
   pub roots : t.values (roots_end t j) ≡ map (value_image r k n) (r.values (roots_end r k))
-  -- each image is in resource j; if an object contains its object, the image is contained by the image of that container, at the same
-  -- feature
+  -- each image is in resource j; if an object b contains the object o, the image of b contains the image of o, at the same feature
   pub inside : (o : ObjectNo) → resource_of r.above o ≡ Some k → resource_of t.above (image r k n o) ≡ Some j
   pub holders : (o b : ObjectNo) (f : FeatureNo) → resource_of r.above o ≡ Some k → r.holder (node.Object o) ≡ Some (at_end (node.Object b) f)
       → t.holder (node.Object (image r k n o)) ≡ Some (at_end (node.Object (image r k n b)) f)

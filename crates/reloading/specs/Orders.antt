@@ -87,6 +87,6 @@ pub record AreLoads (s : Model) (ts : List Task) : Type 0 where
   pub legal : IsLegal (after_all (empty_model s.metamodel) (changes (reading s) [] ts))
   pub between : Between (reading s) (reading (after_all (empty_model s.metamodel) (changes (reading s) [] ts)))
 
--- `AreLoads` holds for the tasks in any order
+-- if s is legal and saved (`IsSaved`) and its URIs are normalised, `AreLoads` holds for the tasks in any order
 abbrev pub LoadsGiveBetween : Model → Type 0
 LoadsGiveBetween s = IsLegal s → HasSteadyTexts s → IsSaved (reading s) → (ts : List Task) → IsOrder (reading s) [] [] ts → AreLoads s ts

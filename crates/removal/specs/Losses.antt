@@ -17,15 +17,17 @@ use Rattle.removal.specs.declared.loss.Loss.{Loss}
 abbrev pub is_held_by : Reading → ObjectNo → End → Bool
 is_held_by r o e = option_map_or (same_end e) (r.holder (node.Object o)) false
 
--- whether an end loses a value before the last step, which takes the object itself out of the end that contains it
+-- when the object o is deleted: whether the end e loses the value v before the last step. The last step takes o itself out of the end that
+-- contains it
 abbrev pub is_lost : Reading → ObjectNo → End → Value → Bool
 is_lost r o e v = goes (is_in_subtree r o) v && not (is_held_by r o e && same_value v (value.Object o))
 
 abbrev pub loss : End → Value → ℕ → Loss
 loss e v k = record { end = e; value = v; position = k }
 
--- the losses of an end, for its values from some position on; k is the number of values before that position that stay. A loss takes its
--- value out before the next loss, so the position of a loss is the number of earlier values that stay
+-- the losses of the end e, for its values from some position on; `lost` says which values the end loses, and k is the number of values
+-- before that position that stay. A loss takes its value out before the next loss, so the position of a loss is the number of earlier
+-- values that stay
 abbrev pub losses_from : (Value → Bool) → End → List Value → ℕ → List Loss
 losses_from lost e [] k = []
 losses_from lost e (v ∷ vs) k = if lost v then loss e v k ∷ losses_from lost e vs k else losses_from lost e vs (suc k)
@@ -33,11 +35,11 @@ losses_from lost e (v ∷ vs) k = if lost v then loss e v k ∷ losses_from lost
 abbrev pub losses_at : Reading → ObjectNo → End → List Loss
 losses_at r o e = losses_from (is_lost r o e) e (r.values e) 0
 
--- the values that an end keeps until the object itself is taken out
+-- the values that the end e keeps until the object o itself is taken out
 abbrev pub values_kept : Reading → ObjectNo → End → List Value
 values_kept r o e = filter (λ v. not (is_lost r o e v)) (r.values e)
 
--- the loss of the object itself, at the end that contains it; none if no end does
+-- the loss of the object o itself, at the end that contains it; none if no end contains it
 abbrev pub last_loss : Reading → ObjectNo → List Loss
 last_loss r o = option_map_or (λ e. loss e (value.Object o) (index_in (values_kept r o e) (value.Object o)) ∷ []) (r.holder (node.Object o)) []
 

@@ -24,11 +24,11 @@ others_with r is_gone f =
     if same_feature f (lookups.contents r.metamodel) then map resource_node (range_with_len 0 (length r.uris))
     else filter (λ n. not (is_gone n)) (map object_node (range_with_len 0 r.next))
 
--- the ends of one feature at nodes that remain
+-- the ends of the feature with the number k at the nodes of `others_with`
 abbrev pub ends_of : Reading → (Node → Bool) → ℕ → List End
 ends_of r is_gone k = let f : FeatureNo = record { 0 = k } in map (λ n. at_end n f) (others_with r is_gone f)
 
--- all ends of nodes that remain, in the order of the feature numbers, then of the nodes
+-- the ends of each feature at the nodes of `others_with`, in the order of the feature numbers, then of the nodes
 abbrev pub outer_ends : Reading → (Node → Bool) → List End
 outer_ends r is_gone = flat_map (ends_of r is_gone) (range_with_len 0 (suc (length r.metamodel.features)))
 

@@ -1,5 +1,5 @@
--- How the ends of other nodes are found: among all ends that have a destroyed object, those whose node is not destroyed. A destroyed object
--- is recognised by its number.
+-- How the ends of other nodes are found: they are the ends whose nodes are not destroyed, among all ends that have a destroyed object. A
+-- destroyed object is recognised by its number.
 use Rattle.std.specs.Prelude.{ℕ, ◌≡◌, Bool, false, not, List, filter}
 use Rattle.std.specs.BTreeSet as set
 use Rattle.std.specs.Ordering.{nat_cmp}

@@ -6,8 +6,8 @@ use Rattle.removal.specs.Outer.{touched_ends}
 use Rattle.removal.specs.Ranks.{HasGone}
 use Rattle.removal.specs.declared.gone.Removal.{Removal}
 
--- the objects are the subtree, the numbers are those of the objects, and the ends are the ends of other nodes that have some of the objects
--- as values
+-- the objects are the subtree of the object that is deleted, the numbers are the numbers of these objects, and the ends are the ends of
+-- other nodes that have some of these objects as values
 pub record IsRemoval (r : Reading) (x : Removal) : Type 0 where
   pub objects : x.objects.items ≡ subtree r x.object
   pub numbers : HasGone r x.object x.numbers

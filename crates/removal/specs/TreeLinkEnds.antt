@@ -17,8 +17,9 @@ use Rattle.removal.specs.declared.link_end.LinkEnd.{LinkEnd}
 abbrev pub link_end : End → Value → LinkEnd
 link_end e v = record { end = e; value = v }
 
--- whether a link is named at this end, whose node is destroyed. If the value at this end is destroyed too, and the end's feature has an
--- opposite, the link is named only at that of its two ends whose feature has the lower number
+-- whether a link is named at an end of a destroyed node; f is the feature of the end, and v is the value of the link there. The link is
+-- named there, unless v is a destroyed object too and the opposite of f has a lower number than f: then the link is named at its opposite
+-- end
 abbrev pub is_named_here : Reading → (Node → Bool) → FeatureNo → Value → Bool
 is_named_here r is_gone f v = not (goes is_gone v) || option_map_or (λ g. nat_lt f.0 g.0) (shape r.metamodel f).opposite true
 

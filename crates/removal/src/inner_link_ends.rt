@@ -1,4 +1,5 @@
-//! The links that are named at the ends of destroyed objects. An object is recognised as destroyed by its number.
+//! The links that are named at the ends of destroyed objects. A link between two destroyed objects is named at only one of its ends
+//! (`is_named_here`). An object is recognised as destroyed by its number.
 ghost use Rattle.std.specs.Prelude.{◌≡◌, ◌++◌, [], true, filter, flat_map, map, OnOk, option_map, option_to_list, if◌then◌else◌};
 ghost use Rattle.mm_types.specs.Shapes.{shape};
 ghost use Rattle.mm_types.specs.declared.numbers.Node.TheVariants as node;
@@ -64,7 +65,7 @@ fn push_reference<L: LinkStore>(
     push_end(model, End { node, feature }, numbers, link_ends)
 }
 
-/// Adds the links that are named at an end. The end's feature is a reference.
+/// Adds the links and the proxies of an end, except the links that are named at the opposite end. The end's feature is a reference.
 fn push_end<L: LinkStore>(
     model: &ModelRef<L>,
     end: End,

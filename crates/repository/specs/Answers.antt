@@ -36,7 +36,7 @@ use Rattle.change_plans.specs.declared.planned.Finding.TheVariants as finding
 use Rattle.handshake.specs.declared.change.Change.{Change}
 use Rattle.handshake.specs.FeatureChanges.{destroyed_by, resolves_all, resolves_one}
 
--- a count that is read from the view of the adapter with a number; 0 if no adapter has the number
+-- a count that is read from the view of the adapter with a given number; 0 if no adapter has the number
 abbrev pub count_of : List Listed → AdapterNo → (View → ℕ) → ℕ
 count_of rs number count = option_map_or (λ a. count a.view) (adapter number rs) 0
 
@@ -73,7 +73,8 @@ read_answer r rs (asks.ObjectAt t) = answer.Found (at r t)
 read_answer r rs (asks.Adapter number Told) = answer.Count (count_of rs number (λ v. v.told))
 read_answer r rs (asks.Adapter number Kept) = answer.Count (count_of rs number (λ v. length v.kept))
 
--- `delete` gives how many objects it destroyed, `load` how many it made, and `resolve_all` how many proxies it resolved and how many remain
+-- `delete` gives how many objects it destroyed, `load` how many it made, `resolve_all` how many proxies it resolved and how many remain,
+-- `watch` whether the adapter got the target, and `unwatch` whether the adapter lost the target
 abbrev pub answer_of : Reading → List Listed → Command View → Answer
 answer_of r rs (command.At e a) = act_answer r e a
 answer_of r rs (command.Create c) = answer.Object (record { 0 = r.next })

@@ -29,12 +29,13 @@ pub record TellsAll (up : Above) (made chain : List Notice) (rs : List Listed) :
   pub adapters : tell_chain up made rs ≡ tell_chain up chain rs
   pub full : is_chain_full up made rs ≡ is_chain_full up chain rs
 
--- what planning finds besides these edits of links and of values and these notifications, with which they are the plan of a change
+-- the edits es of links, the edits vs of values and the notifications ns are, together with a finding, the plan of the change c
 abbrev pub IsPlanned : Bool → Model → Change → List Edit → List ValueEdit → List Notice → Type 0
 IsPlanned is_heard m c es vs ns = (f : Finding) × IsPlanOf is_heard m c (record { finding = f; edits = es; values = vs; chain = ns })
 
--- a change is ready: it can be refused only with `AdapterFull` or `Memory`; a is its answer, `going` has the targets that are taken away,
--- es and vs are its edits of links and of values, and ns are its notifications
+-- a change is ready: it can be refused only with `AdapterFull` or `Memory`; `text` is the text that it loads, if it is a load; a is its
+-- answer, `going` has the targets that are taken away, es and vs are its edits of links and of values, and ns are its notifications, of
+-- which some that no adapter gets may be left out
 pub record IsReady (s : State) (text : List ℕ) (c : Change) (a : Answer) (going : List Spot) (es : List Edit) (vs : List ValueEdit) (ns : List Notice) : Type 0 where
   pub asked : early_refusal (reads s) c ≡ None
   pub allowed : late_refusal (reads s) c ≡ None

@@ -96,7 +96,8 @@ late_refusal r rs (command.Watch number target deep) = watch_refusal rs number t
 late_refusal r rs (command.Read q) = late_read_refusal r q
 late_refusal r rs c = option_map_or (planned.late_refusal r) (change_of r c) None
 
--- `AdapterFull` if a command would notify an adapter that can't count so many notifications
+-- `AdapterFull` if a command would notify an adapter, and the adapter can't count its notifications of the command and a last notification
+-- from each of its targets
 abbrev pub full_refusal : Reading → List Listed → Command View → Option Refused
 full_refusal r rs c = AdapterFull where_so is_chain_full r.above (chain r c) rs
 

@@ -37,7 +37,7 @@ is_plain NoAdapter = true
 is_plain AdapterTaken = true
 is_plain _ = false
 
--- whether a read takes memory, to copy something or to search for something
+-- whether a read may take memory, to copy something or to search for something
 abbrev pub read_takes_memory : Read → Bool
 read_takes_memory (asks.At e IsSet) = false
 read_takes_memory (asks.Of o Class) = false
@@ -46,12 +46,12 @@ read_takes_memory (asks.Of o Resource) = false
 read_takes_memory (asks.Adapter number q) = false
 read_takes_memory _ = true
 
--- whether a command takes memory
+-- whether a command may take memory
 abbrev pub takes_memory : Command View → Bool
 takes_memory (command.Read q) = read_takes_memory q
 takes_memory _ = true
 
--- whether a command may fail with MEMORY: it takes memory, and it has no refusal that is found before memory is taken
+-- whether a command may fail with MEMORY: it may take memory, and it has no refusal that is found before memory is taken
 abbrev pub may_want_memory : State → Command View → Bool
 may_want_memory s c = takes_memory c && not (option_map_or is_plain (refusal_of s c) false)
 

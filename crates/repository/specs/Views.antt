@@ -13,7 +13,7 @@ use Rattle.repository.specs.declared.reply.Failure.{Failure}
 abbrev pub Outcome : Type 0
 Outcome = Result (Reply View) (Failure View)
 
--- the command that asks for a change; the document of a load is read from this text
+-- the command that asks for a change; if the change is a load, `text` is the text of its document
 abbrev pub command_of : {A : Type 0} → List ℕ → Change → Command A
 command_of text (change.At e a) = command.At e a
 command_of text (change.Create c) = command.Create c

@@ -24,8 +24,8 @@ use mm_types::ClassNo;
 use mm_values::{ValuePlan, Values};
 use std::alloc::AllocError;
 
-/// The edits of a change. Most changes make one edit, or edit only values or only links; each of these kinds of edits has a type of its own,
-/// so that a change takes no more steps than its edits need.
+/// The edits of a change. Most changes make one edit, or edit only values or only links. Each of these kinds of edits has a type of its
+/// own, so that a change takes no more steps than its edits need.
 pub(crate) trait Edits: Drop {
     /// The edits of links.
     ghost edits_of_links: { Self → List Edit };
@@ -33,7 +33,8 @@ pub(crate) trait Edits: Drop {
     /// The edits of values.
     ghost edits_of_values: { Self → List ValueEdit };
 
-    /// What `reserve` promises to `apply`, given what it means that a store, and that values, have capacity for edits.
+    /// The capacity that `reserve` promises to `apply`. Two predicates are given: the first says when the store has capacity for a list of
+    /// edits of links, and the second says when the values have capacity for a list of edits of values.
     ghost has_room: { Self → (List Edit → Type 0) → (List ValueEdit → Type 0) → Type 0 };
 
     /// Forgets what may be wrong after the edits: the remembered fragments if a containing link is edited, and the adapters that are

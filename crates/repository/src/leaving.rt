@@ -1,4 +1,4 @@
-//! The targets that a change takes away from adapters with the objects that it destroys.
+//! The targets that adapters lose by a change: the targets at the objects that the change destroys.
 ghost use Rattle.std.specs.Prelude.{◌≡◌, ◌++◌, [], filter, map, IfOk, IfSome, OnOk};
 ghost use Rattle.std.specs.Option.{option_map_or};
 ghost use Rattle.models.specs.Reading.{Reading};

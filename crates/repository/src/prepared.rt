@@ -40,7 +40,7 @@ pub(crate) struct Prepared<E> {
     pub spots: Vec<(AdapterNo, Node)>,
 }
 
-/// Edits that are planned: a change is prepared with them before anything changes.
+/// A type of edits, with the function `prepare` that plans them. The function is called before anything changes.
 pub(crate) trait Planned: Edits {
     /// The changes whose edits are of this type.
     ghost covers: { Metamodel → ChangeView → Type 0 };

@@ -1,4 +1,4 @@
--- Why a document can't be read: the first cause that applies to any part that is looked at.
+-- Why a document can't be read: the first cause that applies to the document or to one of the parts that are looked at.
 use Rattle.std.specs.Prelude.{◌≡◌, ℕ, ◌&&◌, ◌||◌, pos, Bool, true, false, not, List, [], ◌∷◌, length, is_some, Option, Some, None, Result, Ok, Err, if◌then◌else◌}
 use Rattle.std.specs.List.{enumerate_from, list_any}
 use Rattle.std.specs.Option.{option_map_or}
@@ -30,7 +30,7 @@ use Rattle.resource_docs.specs.Values.{has_lost}
 use Rattle.resource_docs.specs.declared.doc.Content.{Content}
 use Rattle.resource_docs.specs.declared.doc.Doc.{Doc}
 
----------------------------------------------------------------- 3: the format
+---------------------------------------------------------------- cause 3: the format
 
 abbrev pub has_first_format : Top → Bool
 has_first_format t = int_eq t.format (pos FIRST_DOCUMENT_FORMAT)
@@ -38,12 +38,12 @@ has_first_format t = int_eq t.format (pos FIRST_DOCUMENT_FORMAT)
 abbrev pub has_other_format : Top → Bool
 has_other_format t = not (has_first_format t || int_eq t.format (pos DOCUMENT_FORMAT))
 
----------------------------------------------------------------- 9: roots
+---------------------------------------------------------------- cause 9: roots
 
 abbrev pub has_many_roots : Metamodel → Data → Bool
 has_many_roots m d = not (is_bounded (contents_shape m) (length (root_parts d)))
 
----------------------------------------------------------------- 8, 10 and 11: ends
+---------------------------------------------------------------- causes 8, 10 and 11: ends
 
 abbrev pub repeats_value : List Value → Bool
 repeats_value [] = false
@@ -52,7 +52,7 @@ repeats_value (v ∷ vs) = list_any (same_value v) vs || repeats_value vs
 abbrev pub has_repeat : Metamodel → Content → Bool
 has_repeat m c = (shape m c.feature).is_unique && repeats_value c.values
 
--- whether the feature has an opposite, and the object that a value names does not name the object o under that opposite
+-- whether f, a feature of the object o, has an opposite, and the given value of f is an object that does not name o under this opposite
 abbrev pub is_unanswered : Metamodel → Doc → ObjectNo → FeatureNo → Value → Bool
 is_unanswered m d o f (value.Object b) =
     option_map_or (λ g. not (list_any (same_value (value.Object o)) (values_in d b g))) (shape m f).opposite false
@@ -75,7 +75,8 @@ has_cross m c = is_some (shape m c.feature).opposite && list_any is_proxy c.valu
 abbrev pub of_content : (ObjectNo → Content → Bool) → Doc → Bool
 of_content holds d = list_any (λ x. list_any (holds (record { 0 = x.0 })) x.1.contents) (enumerate_from 0 d.objects)
 
--- the causes by the shape of the parts, by the format, and by the names and types in the parts
+-- the first cause that applies, of those that depend on the shape of the parts, on the format, on the names of classes and features, and on
+-- the types of values
 abbrev pub shape_cause : Metamodel → Option Top → List Part → Option DocFault
 shape_cause m t ps =
     cause.Layout where_so (not (is_some t) || list_any is_misshapen ps) else_by
@@ -84,8 +85,8 @@ shape_cause m t ps =
     cause.Feature where_so of_written (has_other_key m) ps else_by
     cause.Value where_so of_entry m (λ e. not (is_content m e)) ps
 
--- the causes that depend on the targets of references, on repeated values, on the number of values, on opposites, and on the level of a
--- part
+-- the first cause that applies, of those that depend on the targets of references, on repeated values, on the number of values, on
+-- opposites, and on the level of a part
 abbrev pub sense_cause : Metamodel → Base → Data → List Part → Doc → Option DocFault
 sense_cause m b d ps doc =
     cause.Reference where_so of_entry m (has_lost m b ps) ps else_by
@@ -102,11 +103,11 @@ abbrev pub unless_faulty : Option DocFault → Doc → Result Doc DocFault
 unless_faulty None doc = Ok doc
 unless_faulty (Some f) doc = Err f
 
--- the document that a JSON value gives, in the resource of a base, or its fault
+-- the document that a JSON value is read as, or its fault; b has the URI of the document's resource
 abbrev pub reads : Metamodel → Base → Data → Result Doc DocFault
 reads m b d = unless_faulty (cause_of m b d) (doc_read m b d)
 
--- the JSON value of bytes; none if they are no JSON in UTF-8, which is the first cause
+-- the JSON value of bytes; none if the bytes are no JSON in UTF-8, or JSON with more than 127 levels, and then `Syntax` is the cause
 abbrev pub parsed_json : List ℕ → Option Data
 parsed_json bytes = if is_utf8 bytes then read bytes else None
 
@@ -121,18 +122,18 @@ reads_bytes m uri bytes = reads_if m (base_of uri) (parsed_json bytes)
 abbrev pub HasSteadyProxies : Doc → Type 0
 HasSteadyProxies = OfDocProxies IsSteadyProxy
 
--- a document is read from some JSON value, by a metamodel, in the resource of a URI
+-- there is a JSON value that the metamodel m reads as the document `doc`, in the resource with the URI `uri`
 pub record IsRead (m : Metamodel) (uri : List ℕ) (doc : Doc) : Type 0 where
   pub source : Data
   pub gives : reads m (base_of uri) source ≡ Ok doc
 
--- the result is the wanted document, the wanted fault, or `Memory` in either case
+-- the result is the wanted document, whose proxies have normalised URIs, or the wanted fault; or it is `Memory`, whatever is wanted
 abbrev pub Answers : Result Doc Refused → Result Doc DocFault → Type 0
 Answers (Ok doc) wanted = (wanted ≡ Ok doc) × HasSteadyProxies doc
 Answers (Err (Document f)) wanted = wanted ≡ Err f
 Answers (Err Memory) wanted = Unit {0}
 Answers (Err _) wanted = ⊥
 
--- the result of reading bytes: the document, its fault, or `Memory`
+-- `result` is what reading bytes as a document of the resource with the URI `uri` gives: the document, its fault, or `Memory`
 abbrev pub Reads : Result Doc Refused → Metamodel → List ℕ → List ℕ → Type 0
 Reads result m uri bytes = Answers result (reads_bytes m uri bytes)

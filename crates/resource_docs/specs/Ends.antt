@@ -55,7 +55,7 @@ any_one_sided_by m e os = list_any (λ x. list_any (one_sided_by m e x.0) x.1.co
 
 ---------------------------------------------------------------- which objects have to be named back
 
--- whether an object that another object names under a feature has to name that other object back: the feature has an opposite and is no
--- containment
+-- whether the objects that a content names have to name back the object that has the content: the feature of the content has an opposite,
+-- and is no containment
 abbrev pub asks_back : Metamodel → Content → Bool
 asks_back m c = not (is_containment m c.feature) && is_some (shape m c.feature).opposite

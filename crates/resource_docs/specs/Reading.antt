@@ -29,8 +29,8 @@ use Rattle.resource_docs.specs.declared.objects.ReadContents.{ReadContents}
 use Rattle.resource_docs.specs.declared.objects.ReadObjects.{ReadObjects}
 use Rattle.resource_docs.specs.declared.values.ReadValues.{ReadValues}
 
--- for each list of parts that the found parts f may represent, `says` is true of that list and of each path whose first part has the number
--- n
+-- n is the number of a part. Take any list of parts that the found parts f may represent, and any path to which `number_of` gives the
+-- number n in that list. Then `says` is true of the list and the path.
 abbrev pub Numbered : Metamodel → FoundParts → ℕ → (List Part → Path → Type 0) → Type 0
 Numbered m f n says = (ps : List Part) (path : Path) → Knows m f ps → number_of ps path ≡ Some n → says ps path
 
@@ -39,8 +39,8 @@ Numbered m f n says = (ps : List Part) (path : Path) → Knows m f ps → number
 abbrev pub new_values : List Value → Bool → ReadValues
 new_values vs lost = record { values = vs; is_lost = lost }
 
--- what is read from ds, the first data of a feature: the values, and whether a reference among them leads nowhere or to an object of a
--- wrong class
+-- what is read from ds, the first JSON values under a feature: the values, and whether one of ds is a reference that leads nowhere or to an
+-- object of a wrong class
 abbrev pub values_so_far : Metamodel → Base → List Part → Path → FeatureNo → Kind → List Data → ReadValues
 values_so_far m b ps path f k ds =
     record { values = filter_map (value_of m b ps path f k) (enumerate_from 0 ds); is_lost = list_any (is_lost m b ps k) ds }
@@ -60,7 +60,8 @@ contents_so_far m b ps path es =
       has_long = list_any (is_long m) es;
     }
 
--- the contents with what was read under one more feature: its values, if there are any, and whether a reference is lost
+-- the contents with what was read under one more feature: its values, if there are any, and whether a reference leads nowhere or to an
+-- object of a wrong class
 abbrev pub with_values : ReadContents → FeatureNo → ReadValues → ReadContents
 with_values r f v =
     record {
@@ -90,18 +91,20 @@ objects_so_far m b ps qs =
 
 ---------------------------------------------------------------- causes
 
--- the causes that are found before values are read: by the shape of the parts, by the format, and by the names of the parts' classes
+-- the first cause that applies, of those that are found before values are read: by the shape of the parts, by the format, and by the names
+-- of the parts' classes
 abbrev pub early_cause : Metamodel → Option Top → List Part → Option DocFault
 early_cause m t ps =
     cause.Layout where_so (not (is_some t) || list_any is_misshapen ps) else_by
     cause.Format where_so option_map_or has_other_format t false else_by
     cause.Class where_so of_written (has_no_class m) ps
 
--- the causes that are known after the values are read
+-- the first cause that applies, of those that are known only after the values are read
 abbrev pub late_cause : Metamodel → Base → Data → List Part → Doc → Option DocFault
 late_cause m b d ps doc = cause.Value where_so of_entry m (λ e. not (is_content m e)) ps else_by sense_cause m b d ps doc
 
--- the cause `Feature` if it applies to the name of some feature; else the cause that is known after the values are read
+-- the cause `Feature` if an object has a key that is no feature of its class, or is a container reference; else the cause that is known
+-- after the values are read
 abbrev pub named_cause : Metamodel → Base → Data → List Part → Doc → Option DocFault
 named_cause m b d ps doc = cause.Feature where_so of_written (has_other_key m) ps else_by late_cause m b d ps doc
 

@@ -17,13 +17,14 @@ pub record Base : Type 0 where
 abbrev pub base_of : List ℕ → Base
 base_of uri = record { uri = uri; join = joined_uri uri }
 
--- the URI that a text means; an empty text means the resource's own URI
+-- the URI that the part of a reference before the `#` means: the resource's own URI if the part is empty, else the part joined with that
+-- URI; none if joining gives no URI
 abbrev pub uri_meant : Base → List ℕ → Option (List ℕ)
 uri_meant b [] = Some b.uri
 uri_meant b (c ∷ cs) = b.join (c ∷ cs)
 
--- the target at a URI: an object of the document, if the URI and the resource's own URI are the same text; else an object of another
--- resource
+-- the target of a reference with the URI `uri` and the fragment `rest`, which is read as the path p: an object of the document, if `uri`
+-- and the resource's own URI are the same text; else an object of another resource
 abbrev pub target_in : Base → List ℕ → List ℕ → Path → Referent
 target_in b rest uri p = if bytes_eq uri b.uri then Here p else Elsewhere (address_text uri rest)
 
@@ -31,7 +32,8 @@ target_in b rest uri p = if bytes_eq uri b.uri then Here p else Elsewhere (addre
 abbrev pub target_at : Base → List ℕ → List ℕ → Option Referent
 target_at b part rest = parse rest >>= (λ p. option_map (λ u. target_in b rest u p) (uri_meant b part))
 
--- the target of a text: without `#` it is a fragment of the document; else a URI comes before the first `#`, and a fragment after it
+-- the target of a text: a text without `#` is a fragment of the document; in any other text a URI or nothing comes before the first `#`,
+-- and a fragment after it
 abbrev pub target : Base → List ℕ → Option Referent
 target b t = if has_mark t then target_at b (uri_part t) (fragment_part t) else option_map Here (parse t)
 
@@ -40,6 +42,6 @@ abbrev pub IsProxyReferent : Referent → Type 0
 IsProxyReferent (Here p) = Unit {0}
 IsProxyReferent (Elsewhere t) = IsSteadyProxy t
 
--- a URI other than the resource's own is normalised
+-- the URI `meant` is normalised, unless it is `uri`, the resource's own URI
 abbrev pub IsWebElsewhere : List ℕ → List ℕ → Type 0
 IsWebElsewhere uri meant = (meant ≡ uri → ⊥) → IsWebUri meant

@@ -29,7 +29,7 @@ use Rattle.resource_docs.specs.declared.referent.Referent.TheVariants.{Here, Els
 abbrev pub object_of : ℕ → Value
 object_of n = value.Object (record { 0 = n })
 
--- the value of a target: an object of the document that conforms to a class, or a proxy
+-- the value of a target: an object of the document, or a proxy; none if the document has no object there that conforms to the class
 abbrev pub led_to : Metamodel → List Part → ClassNo → Referent → Option Value
 led_to m ps class (Here p) =
     number_of ps p >>= (λ n. slice_get ps n >>= (λ q. if conforms_to m class q.json then Some (object_of n) else None))
@@ -43,7 +43,7 @@ abbrev pub is_link : Kind → Bool
 is_link (Attribute t unique unsettable default) = false
 is_link (Reference class containment opposite) = not containment
 
--- whether the data under a reference leads nowhere, or to an object of a wrong class
+-- whether the data under a reference that is no containment leads nowhere, or to an object of a wrong class; false for any other feature
 abbrev pub is_lost : Metamodel → Base → List Part → Kind → Data → Bool
 is_lost m b ps (Attribute t unique unsettable default) d = false
 is_lost m b ps (Reference class true opposite) d = false

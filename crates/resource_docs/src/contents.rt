@@ -87,7 +87,7 @@ impl Contents {
         })
     }
 
-    /// Adds a content at the end.
+    /// Adds a content at the end. If memory is refused, the contents may be lost.
     pub(crate) fn push(&mut self, alloc: Global, content: Content) -> Result<(), AllocError>
         ensures { OnOk result (self.new ≡ self.old ++ content ∷ []) }
     {

@@ -84,7 +84,7 @@ impl DocValues {
         })
     }
 
-    /// Adds a value at the end.
+    /// Adds a value at the end. If memory is refused, the values may be lost.
     pub(crate) fn push(&mut self, alloc: Global, value: Value) -> Result<(), AllocError>
         ensures { OnOk result (self.new ≡ self.old ++ value ∷ []) }
     {
@@ -121,7 +121,7 @@ impl DocValues {
         }
     }
 
-    /// The value, if it is kept by itself, or else the list of the values. Takes no memory.
+    /// `Ok` with the value, if it is kept by itself; else `Err` with the list of the values. Takes no memory.
     pub fn into_one(self, alloc: Global) -> Result<Value, Seq<Value>>
         ensures { MatchResult result (λ v. self ≡ v ∷ []) (λ vs. self ≡ vs) }
     {

@@ -10,7 +10,8 @@ use mm_meta::Meta;
 use mm_types::{FeatureNo, Value};
 use std::alloc::{AllocError, Global};
 
-/// An object of a document names an object under a feature. Each of the two objects is given by its number in the document.
+/// A reference in a document: the object `object` names the object `named` under `feature`. Both are given by their numbers in the
+/// document.
 #[derive(Clone, Copy, PartialEq, Eq, Hash)]
 pub(crate) struct Naming {
     pub object: usize,
@@ -45,7 +46,7 @@ impl Ends {
         Ok(())
     }
 
-    /// Whether an object names another under a feature. Takes no memory.
+    /// Whether the set has `naming`. Takes no memory.
     fn contains(&self, naming: Naming) -> bool
         ensures { result ≡ has self.now naming }
     {
@@ -156,8 +157,8 @@ impl Ends {
             .any(|content| self.is_one_sided(meta, object, content))
     }
 
-    /// Whether some object names another object under a feature that has an opposite and is no containment, and the other object does not
-    /// name the first object back. Takes no memory.
+    /// Whether an object a names an object b under a feature that has an opposite and is no containment, and b does not name a under the
+    /// opposite. Takes no memory.
     fn has_one_sided(&self, meta: &Meta, objects: &[DocObject]) -> bool
         ensures { result ≡ any_one_sided_by meta.now self.now objects.now }
     {
@@ -191,8 +192,8 @@ fn is_any_asked(meta: &Meta, objects: &[DocObject]) -> bool
         .any(|object| any_asks_back(meta, object.contents.as_slice()))
 }
 
-/// Whether some object of a document names another object under a feature that has an opposite and is no containment, and the other object
-/// does not name the first object back. Fails only if memory is refused; takes no memory if no object has to name another one back.
+/// Whether an object a of a document names an object b under a feature that has an opposite and is no containment, and b does not name a
+/// under the opposite. Fails only if memory is refused; takes no memory if no object has to be named back.
 pub(crate) fn has_one_sided(alloc: Global, meta: &Meta, doc: &Doc) -> Result<bool, AllocError>
     ensures { IfOk result (λ b. b ≡ of_content (is_one_sided meta.now doc.now) doc.now) }
 {

@@ -24,8 +24,8 @@ use mm_meta::Meta;
 use mm_types::{ClassNo, FeatureNo, Seq};
 use std::alloc::{AllocError, Global};
 
-/// What is read of an object: its contents; whether a reference leads nowhere or to an object of a wrong class; and whether some content is
-/// not of its feature's type, or has too many values.
+/// What is read of an object: its contents, and three faults. `is_lost`: a reference leads nowhere, or to an object of a wrong class.
+/// `has_other`: a content is not of its feature's type. `has_long`: a content has too many values.
 #[derive(Drop)]
 pub(crate) struct ReadContents {
     pub contents: Contents,
@@ -34,8 +34,8 @@ pub(crate) struct ReadContents {
     pub has_long: bool,
 }
 
-/// What is read of a document: its objects; whether a reference leads nowhere or to an object of a wrong class; and whether some content is
-/// not of its feature's type, or has too many values.
+/// What is read of a document: its objects, and three faults. `is_lost`: a reference leads nowhere, or to an object of a wrong class.
+/// `has_other`: a content is not of its feature's type. `has_long`: a content has too many values.
 #[derive(Drop)]
 pub(crate) struct ReadObjects {
     pub objects: Seq<DocObject>,
@@ -92,7 +92,7 @@ fn is_of_type<'t>(
     is_content(meta, feature, content)
 }
 
-/// Notes the faults that a content has by itself.
+/// Notes in `read` whether a content is of its feature's type, which `is_of_type` says, and whether the content has too many values.
 fn note_flaws<'t>(
     read: &mut ReadContents,
     meta: &Meta,
@@ -132,7 +132,7 @@ fn add_feature(
     }
 }
 
-/// How many members are not yet found after one more feature was looked for.
+/// How many members are still to be found after one more feature was looked for; `left` members were to be found before.
 fn left_after(left: usize, is_found: bool) -> usize
     requires { 0 < left }
     ensures { left ≡ result + (if is_found then 1 else 0) }
@@ -169,8 +169,8 @@ fn read_features(
     Ok((read, left == 0))
 }
 
-/// Reads the contents of the object of a part. Also returns whether it is known that each member is a feature of the class that may be
-/// read; true also if the class is unknown.
+/// Reads the contents of the object of a part. Also returns whether each member is known to be readable: the key of the member is the name
+/// of a feature of the class, and the feature is no container reference (`is_readable`). The value is true also if the class is unknown.
 fn read_contents(source: &ReadContext, part: &FoundPart) -> Result<(ReadContents, bool), AllocError>
     ensures all { IfOk result (λ r. r.1 ≡ true → has_other_member source.now.meta.now (part_seen part.now) ≡ false) }
     ensures value { IfOk result (λ r. (ps : List Part) (p : Part) → Knows source.now.meta.now source.now.found.now ps → part_seen part.now ≡ seen_part source.now.meta.now ps p
@@ -186,8 +186,7 @@ fn read_contents(source: &ReadContext, part: &FoundPart) -> Result<(ReadContents
     }
 }
 
-/// Reads the object of one more part. Also returns whether it is known that each member of the object is a feature of its class that may be
-/// read.
+/// Reads the object of one more part. Also returns whether each member of the object is known to be readable, as `read_contents` does.
 fn add_object(
     read: &mut ReadObjects,
     source: &ReadContext,
@@ -217,8 +216,8 @@ fn add_object(
     Ok(is_all)
 }
 
-/// Reads the objects of the parts that were found, in loading order. Also returns whether it is known that each member of each object is a
-/// feature of its class that may be read. Fails only if memory is refused.
+/// Reads the objects of the parts that were found, in loading order. Also returns whether each member of each object is known to be
+/// readable: whether `read_contents` returns true for each object. Fails only if memory is refused.
 pub(crate) fn read_objects(source: &ReadContext) -> Result<(ReadObjects, bool), AllocError>
     ensures all { IfOk result (λ r. (ps : List Part) → Knows source.now.meta.now source.now.found.now ps → r.1 ≡ true → of_written (other_key source.now.meta.now) ps ≡ false) }
     ensures value { IfOk result (λ r. (ps : List Part) → Knows source.now.meta.now source.now.found.now ps → r.0 ≡ objects_so_far source.now.meta.now (base_of source.now.uri.now) ps ps) }

@@ -106,7 +106,7 @@ fn read_parts(source: &ReadContext, top: TopMembers) -> Result<Doc, Refused>
     }
 }
 
-/// Reads the document that has these top members.
+/// Reads the document that has the top members `top`.
 fn read_top(alloc: Global, meta: &Meta, uri: &str, top: TopMembers) -> Result<Doc, Refused>
     ensures { (d : Data) → depth d ≤ NESTING → top_meant d ≡ Some (new_top top.entry.format (items_view top.entry.roots.now)) → Answers result (reads meta.now (base_of uri.now) d) }
 {
@@ -148,8 +148,8 @@ pub fn read_doc_text(alloc: Global, meta: &Meta, uri: &str, text: &str) -> Resul
     }
 }
 
-/// Reads the bytes of a document in the resource of a URI. Returns the objects and roots of the document, or else `Document` with the
-/// lowest cause that applies:
+/// Reads the bytes of a document of the resource with the URI `uri`. Returns the objects and roots of the document, or else `Document` with
+/// the first cause of this list that applies:
 ///
 /// - `Syntax` if the bytes are no JSON in UTF-8, or if the JSON has more than 127 levels;
 /// - `Layout` if the value is not laid out as a document, or if a root, or a JSON object under a containment, is not laid out as an object:
@@ -162,8 +162,8 @@ pub fn read_doc_text(alloc: Global, meta: &Meta, uri: &str, text: &str) -> Resul
 ///   object that conforms to the type of the reference;
 /// - `Duplicate` if a unique list repeats a value;
 /// - `Bound` if a list has more values than its upper bound, or more than 1,000,000, or if there are more than 1,000,000 roots;
-/// - `OneSided` if an object names another object under a feature that has an opposite and is no containment, and the other object does not
-///   name the first object back;
+/// - `OneSided` if an object a names an object b under a feature that has an opposite and is no containment, and b does not name a under
+///   the opposite;
 /// - `Cross` if the format of the document is 1, and a reference with an opposite leads to a different resource;
 /// - `Depth` if an object is below level 40.
 ///

@@ -37,7 +37,7 @@ fn key_of(value: &Value) -> Key<'_>
     }
 }
 
-/// Whether values are objects in the order of their numbers; then no value comes twice. Takes no memory.
+/// Whether all values are objects and their numbers rise along the list; then no value comes twice. Takes no memory.
 fn are_rising(values: &[Value]) -> bool
     ensures { result ≡ rising_from 0 values.now }
 {

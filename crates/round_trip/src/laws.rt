@@ -31,8 +31,8 @@ pub fn each_value_is_read_as_it_was()
 {}
 
 /// The document of a readable resource is read as that resource: its objects in loading order, each with its class and the values of the
-/// features that are set. Objects of other resources are read as proxies with their addresses. The text that `doc_writer::write_doc`
-/// returns is read in the same way.
+/// features that are set, except container references. Objects of other resources are read as proxies with their addresses. The text that
+/// `doc_writer::write_doc` returns is read in the same way.
 pub fn what_is_saved_is_read_back()
     ensures value { (s : Model) → ReadsBack s }
     ensures text { (s : Model) → ReadsTextBack s }

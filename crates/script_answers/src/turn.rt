@@ -11,7 +11,7 @@ pub enum Turn {
     Bad,
     /// The command of the line was done.
     Done,
-    /// The command of the line was refused.
+    /// The command of the line was refused, for a reason other than memory.
     Refused,
     /// The command of the line was refused because memory was refused.
     Lost,

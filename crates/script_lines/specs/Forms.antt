@@ -128,7 +128,7 @@ with_object verb o =
     if bytes_eq verb (codes "delete") then delete_form o
     else option_and_then (λ q. option_map (λ x. asks.Read (read.Of x q)) (object_in o)) (object_read verb)
 
--- the forms of a verb and one argument that is no string
+-- the forms of a verb and one argument that is a node or an adapter
 abbrev pub with_word : List ℕ → List ℕ → Option Form
 with_word verb a =
     if bytes_eq verb (codes "save") then save_form a

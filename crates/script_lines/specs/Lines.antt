@@ -4,7 +4,7 @@ use Rattle.std.specs.Borrow.{Bor}
 use Rattle.std.specs.List.{after_first, before_first, list_all}
 use Rattle.script_lines.specs.declared.grammar.TheConstants.{NEWLINE}
 
--- the lines with one more byte at the front of the first line; if there is no line, one line of this byte
+-- the lines, with the byte c added at the front of the first line; if there is no line, one line that is only this byte
 abbrev pub with_byte : ℕ → List (List ℕ) → List (List ℕ)
 with_byte c [] = (c ∷ []) ∷ []
 with_byte c (l ∷ ls) = (c ∷ l) ∷ ls

@@ -27,7 +27,7 @@ adapter n = record { 0 = n }
 abbrev pub name_in : List ℕ → Option (List ℕ)
 name_in w = if is_name w then Some w else None
 
--- the text of a word that is a JSON string; the word has to end with the string
+-- the text of a word that is a JSON string; none for any other word, and also if white space follows the string
 abbrev pub text_in : List ℕ → Option (List ℕ)
 text_in w = if slice_index w (length w - 1) == QUOTE && is_utf8 w then option_and_then as_str (read w) else None
 
@@ -40,7 +40,7 @@ string_in (c ∷ cs) = if c == QUOTE then text_in (c ∷ cs) else None
 abbrev pub is_plain : ℕ → Bool
 is_plain c = nat_le SPACE c && (not (c == QUOTE) && not (c == BACKSLASH))
 
--- the number that a word has after its mark
+-- the number that a word has after the mark `mark`; none if the word does not begin with this mark, or no number follows the mark
 abbrev pub number_in : ℕ → List ℕ → Option ℕ
 number_in mark [] = None
 number_in mark (c ∷ cs) = if c == mark then natural_number cs else None
@@ -63,7 +63,7 @@ node_in [] = None
 node_in (c ∷ cs) = if c == OBJECT_MARK then option_map (λ n. node.Object (object n)) (natural_number cs)
     else if c == RESOURCE_MARK then option_map (λ n. node.Resource (resource n)) (natural_number cs) else None
 
--- `#3 pages`: a node, and the name of one of its features
+-- `#3 pages`: a node, and the name of a feature
 abbrev pub feature_in : List ℕ → List ℕ → Option (Node × List ℕ)
 feature_in n f = option_zip (node_in n) (name_in f)
 
@@ -88,6 +88,6 @@ word_value_in w = if bytes_eq w (codes "null") then Some written.Null
     else if bytes_eq w (codes "false") then Some (written.Bool false)
     else None
 
--- `#3 pages 100`: a node, the name of one of its features, and a value for this feature
+-- `#3 pages 100`: a node, the name of a feature, and a value for this feature
 abbrev pub feature_value_in : List ℕ → List ℕ → List ℕ → Option ((Node × List ℕ) × WrittenValue)
 feature_value_in n f v = option_zip (feature_in n f) (value_in v)

@@ -70,8 +70,8 @@ pub fn natural_of(word: &str) -> Option<u32>
     }
 }
 
-/// The number before the first space of a text; `None` if the bytes before the space are no number. The function is never inlined into the
-/// code that reads a number of up to nine digits.
+/// Reads a 32-bit number from the bytes before the first space of a text, or from the whole text if it has no space. `None` if these bytes
+/// write no such number. The function is never inlined into the code that reads a number of up to nine digits.
 #[inline(never)]
 fn long_number_of(text: &str) -> Option<u32>
     ensures { result ≡ natural_number (before_first is_space text.now) }
@@ -87,8 +87,8 @@ fn behind_space(text: &str) -> &str
     cut_at_space(text).1
 }
 
-/// The number before the first space of a text, and the text after that space, which is empty if there is no space. `None` if the bytes
-/// before the space are no number.
+/// Reads a 32-bit number from the bytes before the first space of a text. Returns the number, and the text after that space. If the text
+/// has no space, the number is read from the whole text, and the text after it is empty. `None` if these bytes write no such number.
 #[inline(always)]
 pub fn number_before_space(text: &str) -> Option<(u32, &str)>
     ensures number { option_map (λ p. p.0) result ≡ natural_number (before_first is_space text.now) }
@@ -104,7 +104,7 @@ pub fn number_before_space(text: &str) -> Option<(u32, &str)>
     }
 }
 
-/// The 64-bit number that a word without a minus sign writes.
+/// The 64-bit number that a word without a minus sign writes; `None` if the word writes no such number.
 #[inline]
 fn non_negative_of(word: &str) -> Option<i64>
     requires { slice_index word.now 0 ≢ MINUS }
@@ -116,7 +116,7 @@ fn non_negative_of(word: &str) -> Option<i64>
     }
 }
 
-/// The 64-bit number that a word with a minus sign writes.
+/// The 64-bit number that a word with a minus sign writes; `None` if the word writes no such number.
 fn negative_of(word: &str) -> Option<i64>
     requires some { 0 < length word.now }
     requires minus { slice_index word.now 0 ≡ MINUS }

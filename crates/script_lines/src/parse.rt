@@ -266,7 +266,7 @@ fn with_object_of<'a>(verb: &str, object: &str) -> Option<Form<'a>>
     Some(Form::Read(Read::Of(object_of(object)?, read)))
 }
 
-/// The form of a verb and one argument that is no string.
+/// The form of a verb and one argument that is a node or an adapter.
 fn with_word_of<'a>(verb: &str, word: &str) -> Option<Form<'a>>
     ensures { result ≡ with_word verb.now word.now }
 {

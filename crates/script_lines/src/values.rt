@@ -58,14 +58,14 @@ pub fn node_of(word: &str) -> Option<Node>
     }
 }
 
-/// A node and the name of one of its features, as two words give them: `#3 pages`.
+/// A node and the name of a feature, as two words give them: `#3 pages`. It is not checked whether the node has such a feature.
 pub fn feature_of<'a>(node: &str, name: &'a str) -> Option<(Node, Name<'a>)>
     ensures { result ≡ feature_in node.now name.now }
 {
     node_of(node).zip(Name::from_word(name))
 }
 
-/// The text of a word that is a JSON string; `None` for any other word.
+/// The text of a word that is a JSON string and begins with a quotation mark; `None` for any other word.
 pub fn string_of(alloc: Global, word: &str) -> Result<Option<Text>, AllocError>
     ensures { IfOk result (λ o. o ≡ string_in word.now) }
 {
@@ -75,7 +75,7 @@ pub fn string_of(alloc: Global, word: &str) -> Result<Option<Text>, AllocError>
     }
 }
 
-/// The text of a word, as a value.
+/// The text of a word that is a JSON string, as a value; `None` for any other word.
 fn text_value_of(alloc: Global, word: &str) -> Result<Option<WrittenValue<'_>>, AllocError>
     ensures { IfOk result (λ o. o ≡ option_map written.Text (text_in word.now)) }
 {
@@ -85,7 +85,7 @@ fn text_value_of(alloc: Global, word: &str) -> Result<Option<WrittenValue<'_>>, 
     }
 }
 
-/// The value of a word without a mark: `null`, `true` or `false`.
+/// The value that the word `null`, `true` or `false` writes; `None` for any other word.
 fn word_value_of(word: &str) -> Option<WrittenValue<'_>>
     ensures { result ≡ word_value_in word.now }
 {
@@ -101,7 +101,7 @@ fn word_value_of(word: &str) -> Option<WrittenValue<'_>>
     None
 }
 
-/// The number of a word, as a value.
+/// The 64-bit number that a word writes, as a value; `None` if the word writes no such number.
 #[inline(always)]
 fn number_value_of(word: &str) -> Option<WrittenValue<'_>>
     requires { 0 < length word.now }
@@ -110,7 +110,8 @@ fn number_value_of(word: &str) -> Option<WrittenValue<'_>>
     Some(WrittenValue::Int(int_of(word)?))
 }
 
-/// The value of a word that is no text and no number: a literal after `:`, an object after `#`, or a word without a mark.
+/// The value of a word that begins with no quotation mark, no minus sign and no digit: a literal after `:`, an object after `#`, or `null`,
+/// `true` or `false`. `None` for any other word.
 fn marked_value_of(word: &str) -> Option<WrittenValue<'_>>
     requires some { 0 < length word.now }
     requires no_text { slice_index word.now 0 ≢ QUOTE }
@@ -125,7 +126,8 @@ fn marked_value_of(word: &str) -> Option<WrittenValue<'_>>
     }
 }
 
-/// The value of a word that is no number. The function is never inlined into the code that reads a number.
+/// The value of a word that begins with no minus sign and no digit; `None` if the word writes no value. The function is never inlined into
+/// the code that reads a number.
 #[inline(never)]
 fn other_value_of(alloc: Global, word: &str) -> Result<Option<WrittenValue<'_>>, AllocError>
     requires some { 0 < length word.now }
@@ -139,7 +141,7 @@ fn other_value_of(alloc: Global, word: &str) -> Result<Option<WrittenValue<'_>>,
     Ok(marked_value_of(word))
 }
 
-/// The value of a word; its first byte says which kind of value it is.
+/// The value that a word writes; `None` if the word writes no value. The first byte of the word says which kind of value it is.
 #[inline(always)]
 pub fn value_of(alloc: Global, word: &str) -> Result<Option<WrittenValue<'_>>, AllocError>
     ensures { IfOk result (λ o. o ≡ value_in word.now) }
@@ -154,7 +156,8 @@ pub fn value_of(alloc: Global, word: &str) -> Result<Option<WrittenValue<'_>>, A
     other_value_of(alloc, word)
 }
 
-/// A node, the name of one of its features, and a value for this feature, as three words give them: `#3 pages 100`.
+/// A node, the name of a feature, and a value for this feature, as three words give them: `#3 pages 100`. It is not checked whether the
+/// node has such a feature, or whether the value fits it.
 pub fn feature_value_of<'a>(
     alloc: Global,
     node: &str,

@@ -120,7 +120,7 @@ pub fn cut_at_space(text: &str) -> (&str, &str)
     cut_at(text, plain_len_of(text.as_bytes()))
 }
 
-/// Whether a word is a given verb. The function is inlined, so a word of another length costs no call.
+/// Whether a word is the verb `verb`. The function is inlined, so no call is made if `word` and `verb` differ in length.
 #[inline(always)]
 pub(crate) fn is_verb(word: &str, verb: &str) -> bool
     ensures { result ≡ bytes_eq word.now verb.now }

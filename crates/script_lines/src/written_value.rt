@@ -2,7 +2,8 @@
 use crate::name::Name;
 use mm_types::{ObjectNo, Text};
 
-/// A value as it is written in a line. Which value of a feature the written value stands for depends on the feature's type.
+/// A value as it is written in a line. For a literal, the feature's type decides which value of the feature is meant. Any other written
+/// value stands for the same value under each feature.
 #[derive(Drop)]
 pub enum WrittenValue<'a> {
     /// `null`

@@ -22,7 +22,7 @@ end_text m n = node_text n.notifier ++ option_map_or (λ f. FEATURE_MARK ∷ fea
 abbrev pub told_value_text : Metamodel → Notice → Value → List ℕ
 told_value_text m n v = value_text (option_map_or (λ f. literal_name m f v) n.feature []) v
 
--- the old value, or the adapter that is removed
+-- the old value; for REMOVING_ADAPTER the removed adapter instead
 abbrev pub text_before : NoticeKind → List ℕ → List ℕ
 text_before (RemovingAdapter number) old = adapter_text number
 text_before _ old = old

@@ -79,7 +79,7 @@ abbrev pub features_text : Metamodel → List FeatureNo → List ℕ
 features_text m [] = codes "[]"
 features_text m (f ∷ fs) = codes "[" ++ feature_name m f ++ spaced_features m fs ++ codes "]"
 
--- the node that contains an object, such as `#1` or `r0`, or `null` if no node contains the object
+-- a node, such as `#1` or `r0`, or `null` if there is none
 abbrev pub holder_text : Option Node → List ℕ
 holder_text None = codes "null"
 holder_text (Some n) = node_text n

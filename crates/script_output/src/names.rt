@@ -15,7 +15,7 @@ pub fn feature_name(meta: &Meta, feature: FeatureNo) -> &str
     }
 }
 
-/// The enumeration that is a feature's type; None if the feature has a different type, or if no feature has the number.
+/// The enumeration that is a feature's type, by its index; `None` if the feature has a different type, or if no feature has the number.
 pub fn enum_of(meta: &Meta, feature: FeatureNo) -> Option<u32>
     ensures { result ≡ n.enum_of meta.now feature }
 {

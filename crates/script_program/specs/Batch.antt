@@ -42,7 +42,7 @@ pub record RunsBatch (d : Dress) (s : Session) (bytes : List ℕ) (first : List 
   pub runs : RunsFirst d s bytes first rest printed t
   pub ends : (rest ≡ []) ⊎ (is_stopped d printed ≡ true)
 
--- at the end of a run the repository of the session has the state q; and `EndsAnywhere`, it has any state
+-- the repository of the session has the state q at the end of a run; `EndsAnywhere` allows any state
 abbrev pub EndsIn : State → Session → Type 0
 EndsIn q t = t.state ≡ q
 

@@ -54,7 +54,7 @@ abbrev pub line_asks : Line → Bool
 line_asks (line.Form f) = asks_change f
 line_asks _ = false
 
--- how a line counts for a journal, by whether it asks for a change
+-- how a line counts for a journal, by whether the line asks for a change, and by how its output is counted
 abbrev pub journal_turn : Bool → Turn → JournalTurn
 journal_turn asked turned.Done = if asked then journaled.Kept else journaled.Other
 journal_turn asked turned.Lost = journaled.Lost
@@ -110,7 +110,7 @@ abbrev pub model_of : Metamodel → List (List ℕ) → Option Model
 model_of m [] = None
 model_of m (head ∷ ls) = model_after_lines (empty_state m).model ls
 
--- a file is a journal whose lines leave this model
+-- `file` is a journal whose lines leave the model `model`
 abbrev pub Recalls : Metamodel → Model → List ℕ → Type 0
 Recalls m model file = model_of m (recovered_lines file) ≡ Some model
 

@@ -1,4 +1,4 @@
-//! Turns a form into a request: looks up the names of the form, and takes the adapter of the form out of the pool.
+//! Turns a form into a request: looks up the names of the form, and takes the adapter that the form attaches, if any, out of the pool.
 ghost use Rattle.std.specs.Prelude.{◌≡◌};
 ghost use Rattle.repository.specs.Views.{command_view};
 ghost use Rattle.repository.specs.declared.command.Command.TheVariants as command;

@@ -1,5 +1,6 @@
-//! Runs lines of the most frequent forms. The functions here call the repository directly. If a change notifies no adapter, they print its
-//! answer, and no reply is made. Binding a line to a command and taking a reply apart would take longer than the change itself.
+//! Runs lines of the most frequent forms. Most functions here call the repository directly, since binding a line to a command would take
+//! longer than the change itself. Taking a reply apart would take longer too. So a creation has no reply, and most sets and additions that
+//! notify no adapter have none.
 ghost use Rattle.std.specs.Prelude.{◌≡◌, Err, IfOk, MatchOption, None, Ok, OnErr, Some};
 ghost use Rattle.mm_types.specs.Resolved.{Metamodel};
 ghost use Rattle.mm_types.specs.declared.numbers.Node.TheVariants as node;

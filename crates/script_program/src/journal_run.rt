@@ -22,7 +22,8 @@ use std::io::{BufReader, Read, Write};
 /// Runs a script live, as `run_live` does, and keeps each line that changes the model in a journal before it is answered.
 ///
 /// Answered lines are kept: after a crash at any moment, the journal has the model of all lines that were answered, and perhaps of some
-/// further lines. Lines that come in together are kept together, all of them or none.
+/// further lines. Lines are put on the disk before each read that may wait, and when 65,536 bytes of answers or more are held back. Of the
+/// lines that are put on the disk together, a crash leaves all or none.
 ///
 /// Fails with `Read` if a read fails, with `TooLong` if a line has more than `INPUT_BYTES` bytes or the script more than
 /// `u64::MAX - 1` lines, with `Journal` if the disk fails or the journal is full, with `Write` if a write or a flush fails or a write

@@ -4,7 +4,8 @@ use links::LinkStore;
 use repository::Repository;
 
 /// A listener is called with each line after the line was run: with the lines of a script, and also with the lines of a journal that are
-/// run again. The listener can read the repository, but can't change it.
+/// run again. If a fault stops the run, this call may be left out for the last line that was run. The listener can read the repository,
+/// but can't change it.
 pub trait Listener: Drop {
     /// Whether the listener has to be called. If not, a run takes no time for the listener.
     fn is_listening(&self) -> bool;

@@ -17,8 +17,8 @@ use std::alloc::Global;
 /// Runs the lines of a file again, over an empty repository. If the file is empty, or is what a crash may leave while a journal is begun,
 /// nothing is run: the journal is still to be begun.
 ///
-/// Fails with `NoJournal` or `OtherMetamodel` if any other file does not begin with the head, with `Line` if a line, run again, is refused
-/// or bad or is no line that a journal keeps, and with `Memory` if memory is refused.
+/// Any other file has to begin with the head; otherwise the call fails with `NoJournal` or `OtherMetamodel`. Fails with `Line` if a line,
+/// run again, is refused or bad or is no line that a journal keeps, and with `Memory` if memory is refused.
 pub fn run_again<L: LinkStore, A: Adapter, H: Listener>(
     alloc: Global,
     session: &mut Journaled<L, A, H>,

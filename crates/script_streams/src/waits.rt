@@ -74,7 +74,7 @@ pub fn read_line_waiting<R: Read, X: Waits>(
     line: &mut Vec<u8>,
 ) -> Result<LineEnd, RunFault>
     requires { X.can_wait waits.old }
-    // The reader loses a line and its newline, or the last line.
+    // The reader loses a line and its newline; at the end of the input it loses a line without a newline, which may be empty.
     ensures ok { IfOk result (λ end. ReadsLine (reader_remaining R.remaining reader.old) (reader_remaining R.remaining reader.new) line.new.items end) }
     ensures bound { OnOk result (length line.new.items ≤ INPUT_BYTES) }
     ensures waited { OnOk result (X.becomes waits.old waits.new) }

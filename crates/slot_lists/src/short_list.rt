@@ -8,7 +8,8 @@ use std::alloc::{AllocError, Global};
 use std::marker::Model;
 use std::mem;
 
-/// How a list is laid out in memory. A list that got capacity for more than one value is in a `Box`, so that all other lists are small.
+/// How a list is laid out in memory. A list that got capacity for more than one value is in a `Box`, so that a `ShortList` takes few bytes
+/// beside that `Box`.
 #[derive(Drop)]
 enum Layout<T> {
     Empty,

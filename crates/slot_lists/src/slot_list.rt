@@ -173,8 +173,8 @@ impl<T: Drop> SlotList<T> {
         }
     }
 
-    /// Replaces the values by the values of a `Vec` of any length. If there is capacity for more values than the `Vec` has, the list keeps
-    /// its block or its pieces; otherwise it takes the block of the `Vec`. Takes no memory.
+    /// Replaces the values by the values of a `Vec` of any length. If the unused capacity of the list (`spare`) is greater than the length
+    /// of the `Vec`, the list keeps its block or its pieces; otherwise it takes the block of the `Vec`. Takes no memory.
     pub fn replace(&mut self, values: Vec<T>)
         ensures items { self.new.items ≡ values.items }
         ensures spare { self.old.spare ≤ self.new.spare + vec_len values }

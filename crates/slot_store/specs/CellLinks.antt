@@ -22,13 +22,13 @@ use Rattle.node_slots.specs.Cells.{Cells, HasKeys, cells, ends_of}
 
 ---------------------------------------------------------------- links
 
--- the link of the object o at position k in e; g is the opposite of e's feature; the position of the link at the far end is the index of
--- e's node there
+-- the link of the object o at position k in the end e; g is the opposite of e's feature, if it has one; the position of the link at the far
+-- end is the index of e's node there
 abbrev pub link_to : Cells → End → ℕ → ObjectNo → Option FeatureNo → Link
 link_to c e k o None = record { end = e; index = k; far = Alone o; container = (c.pairing e).container }
 link_to c e k o (Some g) = joined_link e k (far_end o g) (index_in (c.vals (far_end o g)) (node_value e.node)) (c.pairing e).container
 
--- the link of a value at position k in e; since only objects and proxies are in an end, the link of any other value doesn't matter
+-- the link of a value at position k in the end e; since only objects and proxies are in an end, the link of any other value doesn't matter
 abbrev pub link_from : Cells → End → ℕ → Value → Link
 link_from c e k (value.Object o) = link_to c e k o (c.pairing e).opposite
 link_from c e k (value.Proxy t) = record { end = e; index = k; far = Proxy t; container = None }
@@ -56,8 +56,9 @@ IsReference (value.Object o) = Unit {0}
 IsReference (value.Proxy t) = Unit {0}
 IsReference _ = ⊥
 
--- of the link from e to the object o, whose opposite feature is g: g is not e's feature, and e's node is an object; the far end has e's
--- node as a value, and names e's feature as its opposite; and both ends have the same containing feature
+-- what holds of a link from the end e to the object o, if g is the opposite of e's feature: g is not e's feature, and e's node is an
+-- object; the far end has e's node as a value; the opposite of the far end's feature is e's feature; and both ends have the same containing
+-- feature
 pub record IsMutual (c : Cells) (e : End) (o : ObjectNo) (g : FeatureNo) : Type 0 where
   pub apart : (g.0 ≡ e.feature.0) → ⊥
   pub object : IsObject e.node

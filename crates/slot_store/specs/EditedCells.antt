@@ -20,13 +20,15 @@ use Rattle.node_slots.specs.declared.slot.SlotEdit.TheVariants.{Insert, Push, Re
 use Rattle.node_slots.specs.declared.row.RowEdit.TheVariants.{Change, Hold, Enter, Leave}
 use Rattle.node_slots.specs.Cells.{Cells, Room, cell_edit}
 
--- if the opposite g is the containing feature h: e's node, and the far end of the link, which contains this node; else none
+-- the node that the far end of a link from the end e to the object o contains, with this far end: e's node, if the opposite g of e's
+-- feature is the containing feature h; else none
 abbrev pub held_far : End → ObjectNo → Option FeatureNo → FeatureNo → Option (Node × End)
 held_far e o None h = None
 held_far e o (Some g) h = if same_feature g h then Some (e.node, far_end o g) else None
 
--- the node that is contained through a link from e to the object o, with the end that contains this node; g is the opposite of e's feature,
--- and h is the containing feature: one of the two, if one is a containment
+-- the node that is contained through a link from the end e to the object o, with the end that contains this node. The containing feature h
+-- is e's feature or its opposite g: if h is e's feature, e contains o; if h is g, the far end contains e's node. If neither feature is a
+-- containment, there is no h, and no node is contained
 abbrev pub held_node : End → ObjectNo → Option FeatureNo → Option FeatureNo → Option (Node × End)
 held_node e o g None = None
 held_node e o g (Some h) = if same_feature e.feature h then Some (node.Object o, e) else held_far e o g h
@@ -47,8 +49,8 @@ cells_after_release (Some p) c = cell_edit p.0 (Hold None) c
 
 ---------------------------------------------------------------- puts
 
--- the cells after a link is put in at its far side: if e's feature has the opposite g, the far end gains e's node as its last value;
--- otherwise the object gains e as its last entry
+-- the cells after a link from the end e to the object o is put in at its far side: if e's feature has the opposite g, the far end gains e's
+-- node as its last value; otherwise o gains e as its last entry. h is the containing feature
 abbrev pub put_far : End → ObjectNo → Option FeatureNo → Option FeatureNo → Cells → Cells
 put_far e o None h c = cell_edit (node.Object o) (Enter e) c
 put_far e o (Some g) h c = cell_edit (node.Object o) (Change g (Push (node_value e.node) (record { opposite = Some e.feature; container = h }))) c
@@ -61,7 +63,7 @@ put_cells e i o g h c = cells_after_hold (held_node e o g h) (put_far e o g h (p
 
 ---------------------------------------------------------------- cuts
 
--- the cells after the first occurrence of a value is taken out of an end; if there is none, nothing changes
+-- the cells after the first occurrence of the value v is taken out of the end e; if v is not in e, nothing changes
 abbrev pub without_value : End → Value → Cells → Cells
 without_value e v c = option_map_or (λ (i : ℕ). cell_edit e.node (Change e.feature (Remove i)) c) (position (same_value v) (c.vals e)) c
 

@@ -34,7 +34,7 @@ abbrev pub paired_ends : Cells → ObjectNo → List Slot → List End
 paired_ends c o [] = []
 paired_ends c o (s ∷ ss) = ends_at c (far_end o s.feature) ++ paired_ends c o ss
 
--- the ends that have the object o, whose slots are ss
+-- the ends that have the object o as a value; ss are the slots of o
 abbrev pub entering_ends : Cells → ObjectNo → List Slot → List End
 entering_ends c o ss = paired_ends c o ss ++ c.entered (node.Object o)
 

@@ -1,4 +1,4 @@
-//! A store of links with a list of values for each end, so that the values of an end are read without a search.
+//! A store of links with a list of values for each end. A read of the values of an end looks only among the lists of the end's node.
 #![tactic(auto)]
 
 mod edits;

@@ -14,8 +14,8 @@ use mm_types::{End, Node, ObjectNo, Value};
 use node_slots::NodeSlots;
 use std::alloc::{AllocError, Global};
 
-/// Links, kept as a list at both ends of each link, and for each node the end that contains the node. The values of an end and the
-/// container of a node are read without a search, however many links there are.
+/// Links, kept as a list at both ends of each link, and for each node the end that contains the node. A read of the values of an end, or of
+/// the container of a node, looks only into the row of the node, however many links there are.
 #[derive(Drop)]
 pub struct SlotStore {
     rows: NodeSlots,
@@ -111,7 +111,7 @@ fn far_lacks(rows: &NodeSlots, end: End, object: ObjectNo) -> bool
 }
 
 /// If an edit takes an end out of the entries of an object, a guess at the index of that end among the entries; otherwise 0. The entries of
-/// an object are the ends without opposite that have the object as a value. Making the guess may sort them.
+/// an object are the ends without opposite that have the object as a value. Making the guess may sort the entries.
 fn make_guess(rows: &mut NodeSlots, edit: &Edit) -> usize
     requires kept { ∥ IsStore rows.old ∥₁ }
     ensures kept { ∥ IsStore rows.new ∥₁ }

@@ -25,8 +25,8 @@ pub struct NodeState {
     pub features: Seq<FeatureState>,
 }
 
-/// The state of a node and of each node below it at some time. Resources come before objects, each in the order of their numbers, and each
-/// node once.
+/// The state of a node and of each node below it at some time. Resources come before objects. Both are in the order of their numbers, and
+/// each node comes once.
 #[derive(Debug, Drop)]
 pub struct Snapshot {
     nodes: Vec<NodeState>,

@@ -170,7 +170,7 @@ fn shown_values<L: LinkStore>(
     Ok(values)
 }
 
-/// The set flag of an unsettable feature; `None` for any other feature.
+/// The set flag of an unsettable feature, which is always off for a list; `None` for any other feature.
 fn flag_at<L: LinkStore>(model: &ModelRef<L>, end: End) -> Option<bool>
     ensures { result ≡ snapshots.flag_of (shape model.now.metamodel end.feature).is_unsettable ((reading model.now).flag end) }
 {

@@ -47,6 +47,7 @@ is_at v i vs = option_map_or (same_value v) (slice_get vs i) false
 abbrev pub ValuePlaces : Type 0
 ValuePlaces = Places Value
 
--- the view of a list and its table; the capacity is the smaller one of the two, since each insert needs capacity in both
+-- the view of a list and its table; the capacity is the smaller one of the capacities of the list and of the table, since each insert needs
+-- capacity in both
 abbrev pub places_in_both : ValuePlaces → HashCounts → ValuePlaces
 places_in_both p t = record { items = p.items; spare = min p.spare (spare t.counts) }

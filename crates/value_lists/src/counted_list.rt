@@ -21,7 +21,7 @@ pub(crate) struct CountedList {
     list: SlotList<Value>,
     hashes: HashCounts,
     labels: Labels,
-    /// Whether each value that is put in or moved gets a label between those of its neighbours.
+    /// Whether each value that is put in or moved gets a label between the labels of its neighbours.
     is_labelled: bool,
 }
 
@@ -130,7 +130,7 @@ impl CountedList {
     }
 
     /// An index at which the value is, guessed by the label of its hash; `None` if the value is at no guessed index. `find` calls this
-    /// function if its own guess is wrong. That guess assumes that the labels up to this label are evenly spread.
+    /// function if its own guess is wrong. The guess of `find` assumes that the labels from the first one up to `label` are evenly spread.
     #[cold]
     fn find_farther(&self, label: u64, value: &Value) -> Option<usize>
         ensures { IfSome result (λ i. is_at value.now i self.now.items ≡ true) }
@@ -238,8 +238,8 @@ impl CountedList {
         self.labels.take(index, self.list.len());
     }
 
-    /// If a removal at the index tests the guess there (`is_tried`), checks whether the value at the index is found by its label. If the
-    /// value is not found, all values get new labels, and `is_labelled` is set.
+    /// Called before the value at an index is taken out. If `is_tried` selects the index, checks whether the value is found by its label.
+    /// If the value is not found, all values get new labels, and `is_labelled` is set.
     fn try_label(&mut self, index: usize)
         ensures items { self.new.items ≡ self.old.items }
         ensures spare { self.new.spare ≡ self.old.spare }
@@ -287,7 +287,8 @@ impl CountedList {
         self.label_moved(to);
     }
 
-    /// Gives the value at an index, which was moved there, a label between those of its neighbours, if `is_labelled` is set.
+    /// If `is_labelled` is set, gives the value at an index a label between the labels of its neighbours. The value was moved to this
+    /// index.
     fn label_moved(&mut self, index: usize)
         ensures items { self.new.items ≡ self.old.items }
         ensures spare { self.new.spare ≡ self.old.spare }

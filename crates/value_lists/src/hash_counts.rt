@@ -68,7 +68,7 @@ impl HashCounts {
         self.counts.reserve(additional)
     }
 
-    /// Counts one more value of a hash, and makes the label of this value the label of the hash. Takes no memory.
+    /// Counts one more value with a hash, and makes the label of this value the label of the hash. Takes no memory.
     pub fn add(&mut self, hash: u64, label: u64)
         requires room { 0 < spare self.old.counts }
         requires fits { count_in self.old hash + 1 < 2 ^ 64 }
@@ -95,7 +95,7 @@ impl HashCounts {
         }
     }
 
-    /// Takes one value of a hash out of the count. Takes no memory.
+    /// Takes one value with a hash out of the count. Takes no memory.
     pub fn take(&mut self, hash: u64)
         ensures counts { (h : ℕ) → count_in self.new h ≡ count_in self.old h - (if nat_eq hash h then 1 else 0) }
         ensures spare { spare self.old.counts ≤ spare self.new.counts }

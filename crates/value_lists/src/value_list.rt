@@ -12,7 +12,7 @@ use std::alloc::{AllocError, Global};
 use std::marker::Model;
 use std::{mem, slice};
 
-/// A list of more values than this has its hashes counted, if it is looked up by value.
+/// If a list is looked up by value and has more values than this, its hashes are counted.
 const SHORT: usize = 64;
 
 /// A list has a table of its hashes if it is long and is looked up by value. The list is then in a `Box` together with its table, so that a
@@ -126,8 +126,8 @@ impl ValueList {
         }
     }
 
-    /// Reserves capacity for more values of a list. `is_asked` says whether the list is looked up by value. Fails only if memory is refused,
-    /// and then the values stay and no capacity is lost.
+    /// Reserves capacity for more values. `is_asked` says whether the list is looked up by value. Fails only if memory is refused, and then
+    /// the values stay and no capacity is lost.
     pub fn reserve(
         &mut self,
         alloc: Global,

@@ -24,7 +24,7 @@ parts_of base reference = option_or (if_parsed (parse_url None reference)) (refe
 abbrev pub is_web : Parts → Bool
 is_web u = bytes_eq u.scheme (codes "http") || bytes_eq u.scheme (codes "https")
 
--- `#`
+-- whether a byte is `#`
 abbrev pub is_mark : ℕ → Bool
 is_mark c = c == 35
 
@@ -36,7 +36,8 @@ web_text u = if is_web u then (if list_any is_mark (serialize u) then None else 
 abbrev pub own_text : List ℕ → Option (List ℕ)
 own_text u = option_and_then web_text (if_parsed (parse_url None u))
 
--- a URI is normalised: it is written as the crate `url` writes it, so joining the URI with any base gives the same URI
+-- the URI u is normalised: its scheme is http or https, it has no fragment, and it is written as the crate `url` writes it. So joining u
+-- with any base gives u
 abbrev pub IsWebUri : List ℕ → Type 0
 IsWebUri u = own_text u ≡ Some u
 

@@ -65,7 +65,8 @@ abbrev pub steps_of : List (List ℕ) → Option (List Step)
 steps_of [] = Some []
 steps_of (w ∷ ws) = option_and_then (λ s. option_map (λ ss. s ∷ ss) (steps_of ws)) (step_of w)
 
--- the path of a text's segments: an empty one before the first `/`, the root's segment, and the steps
+-- the path that the segments of a text write: an empty segment before the first `/`, the root's segment, and the steps; none if the text is
+-- no fragment
 abbrev pub path_of_segments : List (List ℕ) → Option Path
 path_of_segments ([] ∷ root ∷ steps) = option_and_then (λ i. option_map (new_path i) (steps_of steps)) (root_of root)
 path_of_segments _ = None
@@ -96,7 +97,7 @@ same_path p q = nat_eq p.root q.root && same_steps p.steps q.steps
 
 ---------------------------------------------------------------- what can be written
 
--- a step's name is a name, and its index has seven digits at most
+-- a step's name is formed as names must be, and its index has at most seven digits
 abbrev pub IsWritten : Step → Type 0
 IsWritten s = (is_name s.name ≡ true) × IfSome s.index (λ i. i < 10000000)
 
@@ -108,6 +109,6 @@ pub record IsWritable (p : Path) : Type 0 where
   pub root : p.root < 10000000
   pub steps : AreWritten p.steps
 
--- a text is written for a path that can be written; the root's segment is the root's index, or may be empty for root 0
+-- t is a text of the path p, and p can be written; the root's segment of t is the root's index, or may be empty for root 0
 abbrev pub Writes : List ℕ → Path → Type 0
 Writes t p = IsWritable p × ((t ≡ path_text false p) ⊎ ((t ≡ path_text true p) × (p.root ≡ 0)))

@@ -26,7 +26,7 @@ fn steps_of(alloc: Global, text: Option<&str>) -> Result<Option<Seq<Step>>, Allo
     Ok(Some(steps))
 }
 
-/// The path that a slash and then the text write; `None` if the slash and the text are no fragment.
+/// The path of the fragment that is a slash followed by `text`; `None` if the slash and the text are no fragment.
 fn path_behind(alloc: Global, text: &str) -> Result<Option<Path>, AllocError>
     ensures { IfOk result (λ path. path ≡ path_of_segments ([] ∷ slice_split is_slash text.now)) }
 {

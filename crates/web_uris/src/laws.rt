@@ -7,7 +7,8 @@ ghost use Rattle.web_uris.specs.Joined.{IsWebUri, joined_uri, web_text};
 ghost use Rattle.web_uris.specs.Paths.{Writes, parse};
 ghost use Rattle.web_uris.specs.declared.path.Path.{Path};
 
-/// A URI that is written as the crate `url` writes it is normalised: joining the URI with any base gives the same URI.
+/// A URI of http or https without a fragment is normalised if it is written as the crate `url` writes it: joining the URI with any base
+/// gives the same URI.
 pub fn web_uris_join_to_themselves()
     ensures { (base uri : List ℕ) → IsWebUri uri → joined_uri base uri ≡ Some uri }
 {}

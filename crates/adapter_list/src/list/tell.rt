@@ -44,9 +44,9 @@ impl<A: Adapter> AdapterList<A> {
     /// notifications, so this function is called before the change. Whether it succeeds or fails, no adapter is notified and no adapter
     /// loses capacity. So a round that fitted the adapters still fits them.
     ///
-    /// Refused with AdapterFull if an adapter can't count the notifications that it gets, or with Memory if memory is refused. The first
-    /// adapter in attach order that refuses decides the refusal. If the refusal is AdapterFull, each adapter before this one has the
-    /// capacity that it needs.
+    /// Refused with AdapterFull if an adapter can't count its notifications of the chain and a last notification from each of its targets,
+    /// or with Memory if memory is refused. Unless memory is refused to the list itself, the first adapter in attach order that refuses
+    /// decides the refusal. If the refusal is AdapterFull, each adapter before the full one has the capacity that it needs.
     pub fn reserve_all<L: LinkStore>(&mut self, store: &L, chain: Chain) -> Result<Round, Refused>
         requires legal { IsLegalSet (L.links store.now) }
         requires no_cycle { HasNoCycle (L.links store.now) }
@@ -64,9 +64,10 @@ impl<A: Adapter> AdapterList<A> {
 
     /// Reserves, for each adapter, capacity for the copies of a round that the adapter gets, and for a last notification from each of its
     /// targets. The round must be the round of a chain, as `round` makes it. Adapters are asked in attach order. If the indexes of the
-    /// copies do not rise from each copy to the next, the copies for each adapter are counted first, which takes memory too. Refused with
-    /// AdapterFull if an adapter can't count the notifications that it gets, or with Memory if memory is refused; the first adapter that
-    /// refuses decides the refusal.
+    /// copies do not rise from each copy to the next, the copies for each adapter are counted first, which takes memory too.
+    ///
+    /// Refused with AdapterFull if an adapter can't count its copies and a last notification from each of its targets, or with Memory if
+    /// memory is refused. Unless memory is refused to the list itself, the first adapter that refuses decides the refusal.
     pub fn reserve_round(&mut self, round: &Round) -> Result<(), Refused>
         requires round { (up : Above) × (chain : List Notice) × (round.now ≡ round_of up chain self.old.0) }
         ensures { (up : Above) (chain : List Notice) → round.now ≡ round_of up chain self.old.0 → IsReserved up chain self.old self.new (reserved_round round.now result) }
@@ -81,8 +82,8 @@ impl<A: Adapter> AdapterList<A> {
     /// Delivers a round that fits the adapters: notifies the adapter of each copy, in the order of the copies. Returns which adapter was
     /// notified of what: the notifications in the order of the chain, each with the adapters that got it, in attach order. Takes no memory.
     ///
-    /// A round fits the adapters for which it was reserved. A round names the adapters by number and by index in attach order, so it
-    /// need not fit after an adapter was attached or detached.
+    /// A round fits the adapters for which it was reserved. If an adapter is given back, the indexes of the adapters after it change, and
+    /// the round need not fit any more. If an adapter is notified or gets one more target, it may lack capacity for the round.
     #[inline(always)]
     pub fn deliver(&mut self, round: Round) -> Vec<(AdapterNo, Notice)>
         requires reserved { RoundFits self.old.0 self.old.1 round }
@@ -120,7 +121,7 @@ impl<A: Adapter> AdapterList<A> {
     }
 
     /// The round of a chain: a copy of each notification for each adapter that gets it. If successive notifications have the same notifier,
-    /// the adapters of this notifier are found once. If `hearers` has the adapters of a node, the adapters of this node are not looked for
+    /// the adapters of this notifier are found once. If `hearers` has the adapters of the first notifier already, they are not looked for
     /// again. Afterwards `hearers` has the adapters of the last notifier. Fails only if memory is refused.
     #[inline(always)]
     pub fn round<L: LinkStore>(

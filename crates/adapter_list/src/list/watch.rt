@@ -45,7 +45,7 @@ impl<A: Adapter> AdapterList<A> {
         Ok(true)
     }
 
-    /// Whether the adapter of a number has a node as a target. Only the adapters of that node are looked at. Takes no memory.
+    /// Whether the adapter with the number `no` has a node as a target. Only the adapters of that node are looked at. Takes no memory.
     pub fn is_target(&self, no: AdapterNo, node: Node) -> bool
         ensures { result ≡ is_target no node self.now.0 }
     {
@@ -124,7 +124,7 @@ impl<A: Adapter> AdapterList<A> {
         index
     }
 
-    /// Whether the adapter of a number is attached, and its index is before `ordinal`.
+    /// Whether the adapter with the number `no` is attached, and its index is before `ordinal`.
     fn is_before(&self, no: AdapterNo, ordinal: usize) -> bool
         ensures { result ≡ option_map_or (λ k. nat_lt k ordinal) (position (has_no no) self.now.0) false }
     {

@@ -39,7 +39,8 @@ fn after(
     Ok(Box::new(alloc, view)?)
 }
 
-/// Follows a library that is named and gets a book: takes one snapshot, and is then notified of every change.
+/// Takes a snapshot of a library, then names the library and adds a book to it. Returns the snapshot after the notifications of both
+/// changes were replayed on it.
 fn follow<L: LinkStore>(
     alloc: Global,
     repository: &mut Repository<L, Counter>,
@@ -57,7 +58,7 @@ fn follow<L: LinkStore>(
     Ok(view)
 }
 
-/// Whether the view of a library that is followed equals a new snapshot of the library.
+/// Whether the view that `follow` returns has the same state of the library as a new snapshot.
 fn session(alloc: Global, meta: Meta) -> Result<bool, Fail> {
     let mut repository = Box::new(alloc, Repository::<RowStore, Counter>::new(alloc, meta))?;
     repository.create(ClassNo(1))?;

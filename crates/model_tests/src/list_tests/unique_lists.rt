@@ -14,7 +14,8 @@ const FEATURE: FeatureNo = FeatureNo(3);
 /// hashes instead, and longer lengths.
 const LENGTHS: [u32; 5] = [10, 64, 65, 200, 10_000];
 
-/// The edit that inserts a value into the list, which is unique: in such a list values are looked up.
+/// The edit that inserts a value into the list. `is_unique` says that the list is looked up by value again and again, so the hashes of a
+/// long list are counted.
 fn insert(index: u32, value: Value) -> ValueEdit {
     ValueEdit::InsertValue {
         object: OBJECT,
@@ -63,7 +64,8 @@ fn filled(alloc: Global, count: u32) -> Result<Box<Values>, Fail> {
     Ok(values)
 }
 
-/// Fails unless the list has the number `at` exactly if `at` is at least `first` and below `before`.
+/// Looks for the number `at` in the list. Fails if the list lacks the number although it is in the range from `first` to below `before`, or
+/// has the number although it is outside of this range.
 fn check_number(values: &Values, at: u32, first: u32, before: u32) -> Result<(), Fail> {
     let has = values.has(OBJECT, FEATURE, &number(at));
     if has == Some(first <= at && at < before) {
@@ -86,7 +88,8 @@ fn check_edges(values: &Values, first: u32, before: u32) -> Result<(), Fail> {
     Ok(())
 }
 
-/// Fails unless the list has exactly the numbers from `first` on and below `before`. In a long list, not every number is looked for.
+/// Fails unless the list has all numbers of the range from `first` to below `before`, and no other numbers. In a long list, not every
+/// number is looked for.
 fn check(values: &Values, first: u32, before: u32) -> Result<(), Fail> {
     check_edges(values, first, before)?;
     for at in 0..before.saturating_add(20) {

@@ -79,7 +79,7 @@ fn fill<L: LinkStore>(
     Ok(())
 }
 
-/// Resolves all proxies, and returns the answer, and which adapter was notified of what. Fails unless both resources are as they were.
+/// Calls `resolve_all`, and returns its answer, and which adapter was notified of what. Fails unless both resources are as they were.
 fn resolved<L: LinkStore>(alloc: Global, repository: &mut Network<L>) -> Result<String, Fail> {
     let before = snapshots(alloc, repository, 2)?;
     let found = given(alloc, repository.resolve_all())?;
@@ -95,7 +95,7 @@ fn resolved_of<L: LinkStore>(alloc: Global, features: &str) -> Result<String, Fa
     resolved(alloc, &mut repository)
 }
 
-/// Fails unless no proxy is resolved, `left` proxies are left, and no adapter is notified.
+/// Calls `resolve_all`. Fails if a proxy is resolved, if an adapter is notified, or if the number of proxies that are left is not `left`.
 fn check_left<L: LinkStore>(alloc: Global, features: &str, left: u64) -> Result<(), Fail> {
     let found = resolved_of::<L>(alloc, features)?;
     let wanted = format!(in alloc; "Resolved {{ done: 0, left: {left} }}")?;

@@ -70,8 +70,8 @@ fn check_heard<L: LinkStore>(repository: &Network<L>) -> Result<(), Fail> {
     Ok(())
 }
 
-/// Loads the three documents, attaches the adapters, and resolves all proxies, twice. Checks the notifications of the first time, and
-/// returns the second answer.
+/// Loads the three documents, and attaches the adapters. Then resolves all proxies, checks the notifications, and resolves all proxies
+/// again. Returns the answer of the second resolve.
 fn resolved_twice<L: LinkStore>(
     alloc: Global,
     repository: &mut Network<L>,
@@ -121,8 +121,8 @@ fn check_untold<L: LinkStore>(repository: &Network<L>, room: u64) -> Result<(), 
     Err(Fail::new(format_args!("{told:?} with room for {room}")))
 }
 
-/// Attaches the two counters, resolves all proxies, and detaches the counters. Fails unless the resolve is refused for lack of capacity,
-/// nothing changes, and no adapter is notified of it.
+/// Attaches the two counters, calls `resolve_all`, and detaches the counters. Fails unless the call is refused for lack of capacity,
+/// nothing changes, and no adapter is notified.
 fn check_refused<L: LinkStore>(
     alloc: Global,
     repository: &mut Network<L>,

@@ -187,8 +187,8 @@ fn texts_of<L: LinkStore>(alloc: Global, items: u32, seed: u32) -> Result<Vec<Te
     saved(alloc, &repository)
 }
 
-/// Makes and loads the resources in two orders that are chosen by a seed. Resolves all proxies by one command, and checks what
-/// `check_at_once` checks.
+/// Makes the resources in one order, and loads them in a second order; a seed chooses both orders. Resolves all proxies by one command, and
+/// checks what `check_at_once` checks.
 fn check_order<L: LinkStore>(alloc: Global, texts: &[Text], seed: u32) -> Result<(), Fail> {
     let making = shuffled(alloc, RESOURCES, seed)?;
     let loading = shuffled(alloc, RESOURCES, !seed)?;

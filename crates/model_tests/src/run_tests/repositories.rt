@@ -20,7 +20,7 @@ fn commands<A: Adapter>(alloc: Global) -> Result<Vec<Command<A>>, AllocError> {
     Ok(commands)
 }
 
-/// The outcomes of these commands: no adapter is notified, and none is given back.
+/// The text that `outcomes` has to return. It names no adapter, since no adapter is notified and none is given back.
 const OUTCOMES: &str = "Object(ObjectNo(0))\nDone\nValue(Text(\"Emma\"))\n";
 
 /// The outcomes of `commands` in an empty repository.

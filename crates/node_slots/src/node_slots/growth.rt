@@ -83,8 +83,8 @@ impl NodeSlots {
         }
     }
 
-    /// Gives labels to the values of an end, if they are to get labels and there is memory. The labels are made when capacity is reserved.
-    /// After that, all capacity that is reserved for values of the end is taken back.
+    /// Gives labels to the values of an end, if they are to get labels and there is memory. A reservation of capacity makes the labels, so
+    /// the function reserves capacity. Then it takes back all capacity that is reserved for values of the end.
     fn label(&mut self, end: End)
         ensures { cells self.new ≡ cells self.old }
     {

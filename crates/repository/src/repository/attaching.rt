@@ -24,8 +24,9 @@ impl<L: LinkStore, A: Adapter> Repository<L, A> {
     /// Attaches an adapter to a node (EMF: Notifier.eAdapters().add). The node is the adapter's first target, and the adapter is last in
     /// attach order. A deep adapter is also notified of changes below the node.
     ///
-    /// Refused, the first that applies: `NoObject`, `NoResource`, `Limit` if there are 100,000 targets, `AdapterTaken` if the number is
-    /// attached, `AdapterFull` if the adapter can't count its last notification, `Memory`. A refused adapter is given back as it was.
+    /// Refused, the first that applies: `NoObject`, `NoResource`, `Limit` if there are 100,000 targets, `AdapterTaken` if an adapter with
+    /// this number is attached, `AdapterFull` if the adapter can't count its last notification, `Memory`. A refused adapter is given back
+    /// as it was.
     pub fn attach(
         &mut self,
         no: AdapterNo,
@@ -52,12 +53,13 @@ impl<L: LinkStore, A: Adapter> Repository<L, A> {
     }
 
     /// Gives an adapter one more target, flat or deep (EMF: Notifier.eAdapters().add of an adapter that is attached elsewhere). The adapter
-    /// gets a notification once, even if the change is at several of its targets or below them. If the node is a target of the adapter
-    /// already, the call returns false and nothing changes: a flat target stays flat, and a deep target stays deep.
+    /// gets each notification once, even if the notifier is below several deep targets of the adapter, or is a target itself and also below
+    /// a deep one. If the node is a target of the adapter already, the call returns false and nothing changes: a flat target stays flat,
+    /// and a deep target stays deep.
     ///
-    /// Refused, the first that applies: `NoObject`, `NoResource`, `Limit` if there are 100,000 targets, `NoAdapter` if the number is not
-    /// attached, `AdapterFull` if the adapter can't count a last notification from each target, `Memory`. If the node is a target of the
-    /// adapter already, only the first two refusals apply.
+    /// Refused, the first that applies: `NoObject`, `NoResource`, `Limit` if there are 100,000 targets, `NoAdapter` if no adapter with this
+    /// number is attached, `AdapterFull` if the adapter can't count a last notification from each of its targets and from the new one,
+    /// `Memory`. If the node is a target of the adapter already, only the first two refusals apply.
     pub fn watch(&mut self, no: AdapterNo, target: Node, deep: bool) -> Result<Reply<A>, Refused>
         ensures { Executed self.old (Watch no target deep) (change_outcome (changed_view A.heard result)) self.new }
     {
@@ -76,7 +78,7 @@ impl<L: LinkStore, A: Adapter> Repository<L, A> {
     /// back if it has no other target (EMF: Notifier.eAdapters().remove). If the node is no target of the adapter, returns false and
     /// notifies no adapter.
     ///
-    /// Refused, the first that applies: `NoObject`, `NoResource`, `NoAdapter` if the number is not attached, `Memory`.
+    /// Refused, the first that applies: `NoObject`, `NoResource`, `NoAdapter` if no adapter with this number is attached, `Memory`.
     pub fn unwatch(&mut self, no: AdapterNo, target: Node) -> Result<Reply<A>, Refused>
         ensures { Executed self.old (Unwatch no target) (change_outcome (changed_view A.heard result)) self.new }
     {
@@ -96,7 +98,7 @@ impl<L: LinkStore, A: Adapter> Repository<L, A> {
     /// Detaches an adapter from all its targets, in the order in which the adapter got the targets (EMF: Notifier.eAdapters().remove). The
     /// adapter is notified of REMOVING_ADAPTER from each target, and is given back.
     ///
-    /// Refused with `NoAdapter` if the number is not attached, or `Memory`.
+    /// Refused with `NoAdapter` if no adapter with this number is attached, or `Memory`.
     pub fn detach(&mut self, no: AdapterNo) -> Result<Reply<A>, Refused>
         ensures { Executed self.old (Detach no) (change_outcome (changed_view A.heard result)) self.new }
     {
@@ -129,7 +131,7 @@ impl<L: LinkStore, A: Adapter> Repository<L, A> {
         })
     }
 
-    /// How many notifications an adapter got. Takes no memory. Refused with `NoAdapter` if the number is not attached.
+    /// How many notifications an adapter got. Takes no memory. Refused with `NoAdapter` if no adapter with this number is attached.
     #[tactic(auto, using(crate::proofs::QuietLemmas::told_done))]
     pub fn adapter_told(&self, no: AdapterNo) -> Result<u64, Refused>
         ensures read { Executed self.now (commands.adapter_told no) (read_outcome answer.Count result) self.now }
@@ -141,7 +143,7 @@ impl<L: LinkStore, A: Adapter> Repository<L, A> {
         }
     }
 
-    /// How many notifications an adapter keeps. Takes no memory. Refused with `NoAdapter` if the number is not attached.
+    /// How many notifications an adapter keeps. Takes no memory. Refused with `NoAdapter` if no adapter with this number is attached.
     #[tactic(auto, using(crate::proofs::QuietLemmas::kept_done))]
     pub fn adapter_kept(&self, no: AdapterNo) -> Result<u64, Refused>
         ensures read { Executed self.now (commands.adapter_kept no) (read_outcome answer.Count result) self.now }

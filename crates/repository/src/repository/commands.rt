@@ -16,7 +16,7 @@ use links::LinkStore;
 use mm_types::{End, EndRead, NodeRead, ObjectNo, ObjectRead, Read, Refused, Tally};
 
 impl<L: LinkStore, A: Adapter> Repository<L, A> {
-    /// Does a command, as the call for the command does, and is refused as that call is.
+    /// Executes a command: does what the call for this command does, and is refused as that call is.
     pub fn execute(&mut self, command: Command<A>) -> Result<Reply<A>, Failure<A>>
         ensures { Executed self.old (command_view A.heard command) (outcome_view A.heard result) self.new }
     {

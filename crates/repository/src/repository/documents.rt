@@ -54,8 +54,9 @@ impl<L: LinkStore, A: Adapter> Repository<L, A> {
         }
     }
 
-    /// The fragment of an object, as `fragment` returns it. The fragments of up to 1,024 objects are remembered, until a change edits a
-    /// containing link. Refused as `fragment` is: with `NoObject`, `Dangling` or `Memory`.
+    /// The fragment of an object, as `fragment` returns it. The fragment is then remembered, if there is memory for it. At most 1,024
+    /// fragments are remembered: before one more is remembered, all are forgotten. They are also forgotten when a change edits a containing
+    /// link. Refused as `fragment` is: with `NoObject`, `Dangling` or `Memory`.
     pub fn remembered_fragment(&mut self, object: ObjectNo) -> Result<Text, Refused>
         ensures { Executed self.old (commands.fragment object) (read_outcome answer.Fragment result) self.new }
     {

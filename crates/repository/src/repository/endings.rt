@@ -34,8 +34,9 @@ impl<L: LinkStore, A: Adapter> Repository<L, A> {
         Ok(())
     }
 
-    /// Makes a change that is ready. First it takes the memory, and all capacity at adapters, that the change needs. Then it edits and
-    /// notifies. The memory for edits of values alone is taken while they are made, which is the last step that can be refused.
+    /// Makes a change that is ready: reserves memory for the edits and capacity at the adapters, makes the edits, and notifies the
+    /// adapters. If the change edits only values, the edits take memory while they are made, and can still be refused. After the edits are
+    /// made, nothing can be refused.
     #[inline(always)]
     pub(super) fn finish<E: Edits>(&mut self, prepared: Prepared<E>) -> Result<Reply<A>, Refused>
         requires ready { (text : List ℕ) × (change : Change) × IsReady self.old text change prepared.answer prepared.spots.items (E.edits_of_links prepared.edits) (E.edits_of_values prepared.edits) prepared.chain }

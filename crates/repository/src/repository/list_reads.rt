@@ -27,8 +27,8 @@ impl<L: LinkStore, A: Adapter> Repository<L, A> {
 
     /// The value at an index of a list (EMF: EList.get), borrowed from where it is kept. Takes no memory.
     ///
-    /// Refused, the first that applies: `NoObject`, `NoResource`, `NoFeature`, `NotMany` if the feature is single, `Index` if there is no
-    /// such value.
+    /// Refused, the first that applies: `NoObject`, `NoResource`, `NoFeature`, `NotMany` if the feature is single, `Index` if no value is
+    /// at the index.
     pub fn list_value(
         &self,
         node: Node,

@@ -41,8 +41,8 @@ impl<L: LinkStore, A: Adapter> Repository<L, A> {
     /// Takes the value at an index out of a list, and returns it (EMF: EList.remove). A link is cut at both ends. First the adapters at the
     /// opposite end are notified, of SET to null or of REMOVE, and then the adapters at the list, of REMOVE.
     ///
-    /// Refused, the first that applies: `NoObject`, `NoResource`, `NoFeature`, `NotMany`, `Index` if there is no such value, `AdapterFull`,
-    /// `Memory`.
+    /// Refused, the first that applies: `NoObject`, `NoResource`, `NoFeature`, `NotMany`, `Index` if no value is at the index,
+    /// `AdapterFull`, `Memory`.
     pub fn remove(
         &mut self,
         node: Node,

@@ -108,8 +108,8 @@ impl<L: LinkStore, A: Adapter> Repository<L, A> {
         Ok(holder_resource(model.store(), object))
     }
 
-    /// The objects that a node directly contains (EMF: EObject.eContents): for an object by feature in the order of all features of its
-    /// class, and then by position; for a resource its roots, by position.
+    /// The objects that a node directly contains (EMF: EObject.eContents). The contents of an object are in the order of all features of
+    /// its class, and then by position. The contents of a resource are its roots, by position.
     ///
     /// Refused, the first that applies: `NoObject`, `NoResource`, `Memory`.
     #[tactic(auto, using(crate::proofs::QuietLemmas::contents_done))]
@@ -125,7 +125,7 @@ impl<L: LinkStore, A: Adapter> Repository<L, A> {
     }
 
     /// The state of a node and of each node below it: the class, the values of each feature, and the set flag of each unsettable feature.
-    /// Takes time in proportion to the size of its result.
+    /// Takes time in proportion to the size of its result, apart from sorting the objects.
     ///
     /// Refused, the first that applies: `NoObject`, `NoResource`, `Memory`.
     #[tactic(auto, using(crate::proofs::QuietLemmas::snapshot_done))]

@@ -18,7 +18,7 @@ impl<L: LinkStore, A: Adapter> Repository<L, A> {
     /// first at the opposite end and then at the reference.
     ///
     /// Refused, the first that applies: `NoObject`, `NoFeature`, `WrongType` if the feature is an attribute or doesn't take the object at
-    /// the proxy's address, `Index` if there is no such value, `Duplicate` if the list has the object already, `NotProxy` if the value at
+    /// the proxy's address, `Index` if no value is at the index, `Duplicate` if the list has the object already, `NotProxy` if the value at
     /// the index is an object, `Unloaded` if no resource has the URI in the proxy's text, `Unresolved` if no object is at the proxy's
     /// address, `Unmatched` if the reference has an opposite and no proxy at the opposite end has the referring object at its address,
     /// `AdapterFull`, `Memory`.
@@ -36,9 +36,9 @@ impl<L: LinkStore, A: Adapter> Repository<L, A> {
 
     /// Resolves all proxies, one after another (EMF: EcoreUtil.resolveAll). They are ordered by the number of the referring object, then by
     /// feature in the order of all features, then by index. Each proxy is resolved as `resolve` does it, in the state as it is after the
-    /// earlier resolves, and is skipped if `resolve` would refuse it. Returns how many proxies were resolved (two at the ends of one link
-    /// count as one), and how many are left. The adapters are notified of RESOLVE for each proxy that is resolved, first at the opposite
-    /// end and then at the reference.
+    /// earlier resolves, and is skipped if `resolve` would refuse it for a reason other than `AdapterFull` and `Memory`. Returns how many
+    /// proxies were resolved (two at the ends of one link count as one), and how many are left. The adapters are notified of RESOLVE for
+    /// each proxy that is resolved, first at the opposite end and then at the reference.
     ///
     /// Refused, the first that applies: `AdapterFull`, `Memory`.
     pub fn resolve_all(&mut self) -> Result<Reply<A>, Refused>

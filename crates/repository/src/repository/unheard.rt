@@ -1,6 +1,7 @@
-//! Changes that notify no adapter. Most commands of a script are such changes, and a reply with lists of notified adapters takes longer to
-//! make than the change itself. Each public call here does the same as a call that returns a reply; the docstring of the call here names
-//! the other one.
+//! Calls that make no reply for the most frequent changes that notify no adapter: a new object, a set of an attribute, and a set or an
+//! addition that only puts one link. Most commands of a script are changes of these kinds, and a reply with lists of notified adapters
+//! takes longer to make than the change itself. Each public call here does the same as a call that always makes a reply, and its docstring
+//! names that call.
 ghost use Rattle.std.specs.Prelude.{◌≡◌, ◌&&◌, ◌||◌, [], None, false, true, MatchOption, is_some, ◌∷◌, OnOk, OnErr};
 ghost use Rattle.mm_types.specs.Shapes.{shape};
 ghost use Rattle.mm_values.specs.Room.{values_of};
@@ -49,8 +50,8 @@ impl<L: LinkStore, A: Adapter> Repository<L, A> {
         }
     }
 
-    /// Sets a single feature as `e_set` does. The outcome has a reply only if an adapter may be notified, or if a set of a reference does
-    /// anything other than putting one link.
+    /// Sets a single feature as `e_set` does. Gives `Replied` only if an adapter may be notified, or if a set of a reference is refused by
+    /// planning or does anything other than putting one link.
     #[inline(always)]
     pub fn set_brief(&mut self, node: Node, feature: FeatureNo, value: Value) -> Brief<A>
         ensures { Executed self.old (commands.set node feature value) (brief_outcome A.heard answer.Done result) self.new }
@@ -77,8 +78,9 @@ impl<L: LinkStore, A: Adapter> Repository<L, A> {
         }
     }
 
-    /// Adds a value to a list as `add` does. If the addition puts one link, notifies no adapter and displaces no other link, then the
-    /// outcome has no reply, and the list has changed.
+    /// Adds a value to a list as `add` does. An addition to a reference gives `Unheard` if the addition is refused before planning, or if
+    /// it puts one link, displaces no other link and notifies no adapter. Any other addition gives `Replied`. If `Unheard` has no refusal,
+    /// the list has changed.
     #[inline(always)]
     pub fn add_brief(
         &mut self,
@@ -151,9 +153,9 @@ impl<L: LinkStore, A: Adapter> Repository<L, A> {
         Ok(())
     }
 
-    /// Sets a reference as `e_set` does, if the set only puts one link and notifies no adapter, and returns the refusal if the set is
-    /// refused before planning. In any other case returns `None`: nothing was done, and planning has to find out what the set does or why
-    /// it is refused.
+    /// Sets a reference as `e_set` does, if the set only puts one link and notifies no adapter. If the set is refused before planning,
+    /// returns the refusal. In any other case returns `None`: nothing was done, and planning has to find out what the set does or why it is
+    /// refused.
     #[inline(always)]
     pub(super) fn set_lone_link(&mut self, end: End, value: &Value) -> Option<Result<(), Refused>>
         ensures { MatchOption result
@@ -171,9 +173,9 @@ impl<L: LinkStore, A: Adapter> Repository<L, A> {
         Some(self.edit(put))
     }
 
-    /// Adds to a reference as `add` does, if the addition only puts one link and notifies no adapter, and returns the refusal if the
-    /// addition is refused before planning. In any other case returns `None`: nothing was done, and planning has to find out what the
-    /// addition does or why it is refused.
+    /// Adds to a reference as `add` does, if the addition only puts one link and notifies no adapter. If the addition is refused before
+    /// planning, returns the refusal. In any other case returns `None`: nothing was done, and planning has to find out what the addition
+    /// does or why it is refused.
     #[inline(always)]
     pub(super) fn add_lone_link(
         &mut self,

@@ -37,7 +37,7 @@ impl Output {
         }
     }
 
-    /// Adds the old value of a notification; if its kind is REMOVING_ADAPTER, the adapter that is removed in place of the old value.
+    /// Adds the old value of a notification. If its kind is REMOVING_ADAPTER, adds the removed adapter instead.
     fn told_before(&mut self, meta: &Meta, notice: &Notice) -> Result<(), AllocError>
         ensures ok { OnOk result (self.new ≡ self.old ++ text_before notice.now.kind (told_value_text meta.now notice.now notice.now.old_value)) }
     {
@@ -74,8 +74,8 @@ impl Output {
     }
 
     /// Adds the line of a notification of an adapter, with its newline: `told A1 SET #0.pages 100 1 -1`. The words after `told` are the
-    /// adapter, the kind, the notifier (with the feature, if there is a feature), the old value, the new value, and the position. In
-    /// REMOVING_ADAPTER the adapter that is removed is in place of the old value.
+    /// adapter, the kind, the notifier (with the feature, if there is a feature), the old value, the new value, and the position. A
+    /// notification of the kind REMOVING_ADAPTER has the removed adapter in place of the old value.
     pub fn notified(
         &mut self,
         meta: &Meta,

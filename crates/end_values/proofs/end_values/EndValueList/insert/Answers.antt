@@ -4,6 +4,6 @@ use Rattle.end_values.specs.EndValueList.{end_values_of}
 use Rattle.end_values.specs.EndValues.{CanHave, EndValues}
 use Rattle.end_values.proofs.end_values.EndValueList.insert.Goals as goal
 
-pub insert_object-requires-clause-can : goal.insert_object-requires-clause-can
-insert_object-requires-clause-can c =
+pub into_object-requires : goal.into_object-requires
+into_object-requires c =
     subst (λ (b : Bool). CanHave b c.args.value) (sym (ap (λ (t : EndValues). t.mixed) c.self.view_is) ∙ ap (λ (l : Layout). (end_values_of l).mixed) c.in-Objects.is) c.requires.can

@@ -1,5 +1,0 @@
-use Rattle.end_values.proofs.EndValueLemmas.{only_objects}
-use Rattle.end_values.proofs.end_values.insert_object.Goals as goal
-
-pub unreachable-requires : goal.unreachable-requires
-unreachable-requires c = only_objects c.args.value c.requires.can c.in_default.not-Object
