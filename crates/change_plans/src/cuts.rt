@@ -7,6 +7,7 @@ use removal::LinkEnd;
 use std::alloc::AllocError;
 
 /// Adds the edits that cut links.
+#[inline(always)]
 pub(crate) fn push_cuts(link_ends: Vec<LinkEnd>, edits: &mut Vec<Edit>) -> Result<(), AllocError>
     ensures { OnOk result (edits.new.items ≡ edits.old.items ++ map e.cut_of link_ends.items) }
 {

@@ -1,5 +1,5 @@
 //! The plans of changes that edit only links. For a change that puts one link and edits nothing else, the plan is the link alone.
-ghost use Rattle.std.specs.Prelude.{◌≡◌, [], false, true, IfErr, IfOk, IfSome, None, Some, if◌then◌else◌};
+ghost use Rattle.std.specs.Prelude.{◌≡◌, ◌++◌, [], List, false, true, IfErr, IfOk, IfSome, None, Some, if◌then◌else◌};
 ghost use Rattle.mm_types.specs.Shapes.{shape};
 ghost use Rattle.mm_types.specs.declared.value.Value.TheVariants.{Object};
 ghost use Rattle.models.specs.Model.{reading};
@@ -7,6 +7,7 @@ ghost use Rattle.handshake.specs.Displaced.{displaces, is_plain_add};
 ghost use Rattle.change_plans.specs.LonePuts as lone;
 ghost use Rattle.change_plans.specs.Plans.{IsPlanOf, of_links};
 ghost use Rattle.handshake.specs.Changes.{edits_links_alone};
+ghost use Rattle.notice_chain.specs.declared.notice.Notice.{Notice};
 ghost use Rattle.handshake.specs.Refusals.{early_refusal, late_refusal};
 ghost use Rattle.handshake.specs.declared.act.Act.TheVariants.{Add, Set};
 ghost use Rattle.handshake.specs.declared.change.Change.TheVariants.{At};
@@ -20,25 +21,26 @@ use models::ModelRef;
 use notice_chain::Chain;
 use std::alloc::Global;
 
-/// The edits of links that a change makes, or the first refusal that planning finds. The notifications are made only if an adapter may have
-/// to get them. This is `plan` for an act at a reference, other than a resolve.
+/// The edits of links that a change makes, or the first refusal that planning finds. Adds the notifications to `chain`, unless no adapter
+/// may have to get them. This is `plan` for an act at a reference, other than a resolve.
 pub fn plan_links<L: LinkStore>(
     alloc: Global,
     model: &ModelRef<L>,
     change: &Change,
     is_heard: bool,
-) -> Result<(Plan, Chain), Refused>
+    chain: &mut Chain,
+) -> Result<Plan, Refused>
     requires asked { early_refusal (reading model.now) change.now ≡ None }
     requires links { edits_links_alone model.now.metamodel change.now ≡ true }
-    ensures planned { IfOk result (λ p. IsPlanOf is_heard model.now change.now (of_links p.0 p.1)) }
+    ensures planned { IfOk result (λ p. (ns : List Notice) × (chain.new ≡ chain.old ++ ns) × IsPlanOf is_heard model.now change.now (of_links p ns)) }
     ensures refused { IfErr result (λ r. late_refusal (reading model.now) change.now ≡ (if is_memory_refusal r then None else Some r)) }
 {
     model.lemma_is_legal();
     if let Some(refused) = planning::late_refusal(model, change, None) {
         return Err(refused);
     }
-    let (edits, chain) = links_and_notices(alloc, model, change, &None, None, is_heard)?;
-    Ok((edits, chain))
+    let edits = links_and_notices(alloc, model, change, &None, None, is_heard, chain)?;
+    Ok(edits)
 }
 
 /// The link that a set puts, if the plan puts this link and does nothing else: a reference without a value is set to an object, and the set

@@ -1,5 +1,5 @@
 //! The notifications of a load, and why a document can't be loaded into a resource.
-ghost use Rattle.std.specs.Prelude.{◌≡◌, ◌≤◌, length, map, IfOk};
+ghost use Rattle.std.specs.Prelude.{◌≡◌, ◌≤◌, ◌++◌, length, map, OnOk};
 ghost use Rattle.std.specs.List.{All, enumerate_from};
 ghost use Rattle.mm_types.specs.declared.limits.TheConstants.{LIST_VALUES};
 ghost use Rattle.models.specs.Model.{reading};
@@ -13,7 +13,7 @@ use mm_types::{End, ObjectNo, Refused, ResourceNo, Value, limits};
 use models::{ModelRef, contents_end};
 use notice_chain::{Chain, Notice, NoticeKind};
 use resource_docs::Doc;
-use std::alloc::{AllocError, Global};
+use std::alloc::AllocError;
 
 /// Why a document can't be loaded into a resource: `Limit` or `NotEmpty`. Takes no memory.
 pub(crate) fn load_refusal<L: LinkStore>(
@@ -33,23 +33,22 @@ pub(crate) fn load_refusal<L: LinkStore>(
     None
 }
 
-/// The notifications when an end without values gains the roots of a document, in the order of the roots. The first object of the document
-/// gets the number `next`.
+/// Adds to a chain the notifications when an end without values gains the roots of a document, in the order of the roots. The first object
+/// of the document gets the number `next`.
 pub(crate) fn root_notices(
-    alloc: Global,
     next: usize,
     end: End,
     roots: &[ObjectNo],
-) -> Result<Chain, AllocError>
+    chain: &mut Chain,
+) -> Result<(), AllocError>
     requires few { length roots.now ≤ LIST_VALUES }
     requires fits { All (IsNumbered next) roots.now }
-    ensures { IfOk result (λ c. c ≡ map (root_notice_of next end) (enumerate_from 0 roots.now)) }
+    ensures { OnOk result (chain.new ≡ chain.old ++ map (root_notice_of next end) (enumerate_from 0 roots.now)) }
 {
-    let mut chain = Chain::new(alloc);
     'roots: for (i, root) in roots.iter().enumerate() {
         chain.push(root_notice(next, end, i as u32, *root))?;
     }
-    Ok(chain)
+    Ok(())
 }
 
 /// The notification when an end gains a root of a document at a position. The end has the earlier roots of the document already.

@@ -1,5 +1,5 @@
 //! The plan of a change: its edits, and its notifications.
-ghost use Rattle.std.specs.Prelude.{◌≡◌, [], true, false, not, nat_le, nat_lt, None, is_some, IfOk, if◌then◌else◌};
+ghost use Rattle.std.specs.Prelude.{◌≡◌, ◌++◌, [], true, false, not, nat_le, nat_lt, None, is_some, IfOk, OnOk, if◌then◌else◌};
 ghost use Rattle.mm_types.specs.Conditions.{◌unless◌, ◌else_by◌};
 ghost use Rattle.mm_types.specs.declared.limits.TheConstants.{OBJECTS};
 ghost use Rattle.mm_types.specs.declared.refused.Refused.TheVariants.{Index, Limit};
@@ -134,12 +134,13 @@ fn edits_and_notices<L: LinkStore>(
     ensures chain { IfOk result (λ p. p.2 ≡ (if is_heard then t.chain (reading model.now) change else [])) }
 {
     model.lemma_is_legal();
-    let (edits, chain) = links_and_notices(alloc, model, &change, removal, target, is_heard)?;
+    let mut chain = Chain::new(alloc);
+    let edits = links_and_notices(alloc, model, &change, removal, target, is_heard, &mut chain)?;
     let values = value_edits(alloc, model, change, removal)?;
     Ok((edits, values, chain))
 }
 
-/// The edits of links that make a change, and the notifications of the change; no notifications if no adapter may have to get them.
+/// The edits of links that make a change. Adds to `chain` the notifications of the change, unless no adapter may have to get them.
 pub(crate) fn links_and_notices<L: LinkStore>(
     alloc: Global,
     model: &ModelRef<L>,
@@ -147,15 +148,17 @@ pub(crate) fn links_and_notices<L: LinkStore>(
     removal: &Option<Removal>,
     target: Option<ResolvedProxy>,
     is_heard: bool,
-) -> Result<(Plan, Chain), AllocError>
+    chain: &mut Chain,
+) -> Result<Plan, AllocError>
     requires { IsAllowed (reading model.now) change.now removal.now target }
-    ensures edits { IfOk result (λ p. p.0 ≡ e.link_edits (reading model.now) change.now) }
-    ensures chain { IfOk result (λ p. p.1 ≡ (if is_heard then t.chain (reading model.now) change.now else [])) }
+    ensures edits { IfOk result (λ p. p ≡ e.link_edits (reading model.now) change.now) }
+    ensures chain { OnOk result (chain.new ≡ chain.old ++ (if is_heard then t.chain (reading model.now) change.now else [])) }
 {
     let link_ends = cut_link_ends(alloc, model, change, removal, target)?;
-    let chain = heard_chain(alloc, model, change, removal, target, &link_ends, is_heard)?;
-    let edits = link_edits(alloc, model, link_ends, change, target)?;
-    Ok((edits, chain))
+    if is_heard {
+        add_notices(alloc, model, change, removal, target, &link_ends, chain)?;
+    }
+    link_edits(alloc, model, link_ends, change, target)
 }
 
 /// The first refusal that planning finds. Takes no memory.
@@ -177,6 +180,7 @@ pub(crate) fn late_refusal<L: LinkStore>(
 }
 
 /// The first refusal that planning finds for an act at an end. Takes no memory.
+#[inline(always)]
 fn act_late_refusal<L: LinkStore>(
     model: &ModelRef<L>,
     end: End,
@@ -339,31 +343,28 @@ fn set_refusal<L: LinkStore>(model: &ModelRef<L>, end: End, value: &Value) -> Op
     }
 }
 
-/// The notifications of a change that cuts the links in `link_ends`; none if no adapter may have to get them.
-pub(crate) fn heard_chain<L: LinkStore>(
+/// Adds to a chain the notifications of a change that cuts the links in `link_ends`.
+pub(crate) fn add_notices<L: LinkStore>(
     alloc: Global,
     model: &ModelRef<L>,
     change: &Change,
     removal: &Option<Removal>,
     target: Option<ResolvedProxy>,
     link_ends: &[LinkEnd],
-    is_heard: bool,
-) -> Result<Chain, AllocError>
+    chain: &mut Chain,
+) -> Result<(), AllocError>
     requires allowed { IsAllowed (reading model.now) change.now removal.now target }
     requires cut { link_ends.now ≡ d.cut_link_ends (reading model.now) change.now }
-    ensures { IfOk result (λ c. c ≡ (if is_heard then t.chain (reading model.now) change.now else [])) }
+    ensures { OnOk result (chain.new ≡ chain.old ++ t.chain (reading model.now) change.now) }
 {
-    if !is_heard {
-        return Ok(Chain::new(alloc));
-    }
     model.lemma_is_legal();
     if let Some(removal) = removal {
-        return lost_notices(alloc, model, removal);
+        return lost_notices(alloc, model, removal, chain);
     }
     if let Change::Load(resource, doc) = change {
         let roots = contents_end(model.meta(), *resource);
-        return root_notices(alloc, model.next(), roots, doc.roots.as_slice());
+        return root_notices(model.next(), roots, doc.roots.as_slice(), chain);
     }
     let feature_changes = feature_changes(alloc, model, change, link_ends, target)?;
-    notices(alloc, model, feature_changes)
+    notices(alloc, model, feature_changes, chain)
 }

@@ -1,11 +1,10 @@
 //! The plan that resolves all proxies.
-ghost use Rattle.std.specs.Prelude.{◌≡◌, ◌++◌, filter, flat_map, length, map, not, IfOk, OnOk};
+ghost use Rattle.std.specs.Prelude.{◌≡◌, ◌++◌, filter, flat_map, length, not, IfOk, OnOk};
 ghost use Rattle.models.specs.Model.{reading};
 ghost use Rattle.change_plans.specs.Joining as spec;
 ghost use Rattle.proxies.specs.Keys.{has, key_of};
 ghost use Rattle.proxies.specs.Leads.{leads as leads_of};
 ghost use Rattle.change_plans.specs.Plans.{IsPlanOf};
-ghost use Rattle.handshake.specs.FeatureChange.{notice_at};
 ghost use Rattle.handshake.specs.declared.change.Change.TheVariants.{ResolveAll};
 
 use crate::cuts::push_cuts;
@@ -49,11 +48,10 @@ fn planned<L: LinkStore>(
     model.lemma_is_legal();
     let joints = progress.joints.as_slice();
     let edits = edits(alloc, model, joints)?;
-    let chain = if is_heard {
-        joint_notices(alloc, model, joints)?
-    } else {
-        Chain::new(alloc)
-    };
+    let mut chain = Chain::new(alloc);
+    if is_heard {
+        notices(alloc, model, feature_changes(alloc, joints)?, &mut chain)?;
+    }
     Ok(Planned {
         finding: Finding::Counts(Resolved {
             done: joints.len(),
@@ -96,18 +94,6 @@ fn push_edits<L: LinkStore>(
     add_counterpart(alloc, model, Some(target), &mut link_ends)?;
     push_cuts(link_ends, edits)?;
     push_joining(model, end, site.index, Some(target), edits)
-}
-
-/// The notifications of proxies that are resolved, each computed in the model before the change.
-fn joint_notices<L: LinkStore>(
-    alloc: Global,
-    model: &ModelRef<L>,
-    joints: &[Joint],
-) -> Result<Chain, AllocError>
-    ensures { IfOk result (λ c. c ≡ map (notice_at (reading model.now)) (flat_map spec.told_by joints.now)) }
-{
-    let feature_changes = feature_changes(alloc, joints)?;
-    notices(alloc, model, feature_changes)
 }
 
 /// The feature changes of proxies that are resolved.

@@ -1,10 +1,11 @@
 //! The plans of changes that edit only values.
-ghost use Rattle.std.specs.Prelude.{◌≡◌, [], None, Some, IfErr, IfOk, OnOk, if◌then◌else◌, false, true};
+ghost use Rattle.std.specs.Prelude.{◌≡◌, ◌++◌, [], List, None, Some, IfErr, IfOk, OnOk, if◌then◌else◌, false, true};
 ghost use Rattle.mm_types.specs.Conditions.{◌else_by◌, is_memory_refusal};
 ghost use Rattle.mm_types.specs.Shapes.{shape};
 ghost use Rattle.models.specs.Model.{reading};
 ghost use Rattle.handshake.specs.Effects.{value_edits as value_edits_of};
 ghost use Rattle.handshake.specs.FeatureChanges.{chain};
+ghost use Rattle.notice_chain.specs.declared.notice.Notice.{Notice};
 ghost use Rattle.handshake.specs.Changes.{edits_values_alone};
 ghost use Rattle.change_plans.specs.Plans.{IsPlanOf, of_values};
 ghost use Rattle.handshake.specs.Refusals as refusals;
@@ -12,7 +13,7 @@ ghost use Rattle.handshake.specs.declared.act.Act.TheVariants.{Set};
 ghost use Rattle.handshake.specs.declared.change.Change.TheVariants.{At, Create};
 
 use crate::edits::{set_edits, value_edits};
-use crate::planning::{create_late_refusal, heard_chain, late_refusal, set_late_refusal};
+use crate::planning::{add_notices, create_late_refusal, late_refusal, set_late_refusal};
 use handshake::{Change, ChangeKind, FeatureChange, notice, set_early_refusal};
 use links::LinkStore;
 use mm_types::{ClassNo, End, Refused, Value};
@@ -21,26 +22,29 @@ use models::{ModelRef, class_refusal};
 use notice_chain::Chain;
 use std::alloc::{AllocError, Global};
 
-/// The edits that a change makes of objects and attribute values, or the first refusal that planning finds. The notifications are made only
-/// if an adapter may have to get them. This is `plan` for a change that makes an object or changes an attribute.
+/// The edits that a change makes of objects and attribute values, or the first refusal that planning finds. Adds the notifications to
+/// `chain`, unless no adapter may have to get them. This is `plan` for a change that makes an object or changes an attribute.
 pub fn plan_values<L: LinkStore>(
     alloc: Global,
     model: &ModelRef<L>,
     change: Change,
     is_heard: bool,
-) -> Result<(ValuePlan, Chain), Refused>
+    chain: &mut Chain,
+) -> Result<ValuePlan, Refused>
     requires asked { refusals.early_refusal (reading model.now) change ≡ None }
     requires values { edits_values_alone model.now.metamodel change ≡ true }
-    ensures planned { IfOk result (λ p. IsPlanOf is_heard model.now change (of_values p.0 p.1)) }
+    ensures planned { IfOk result (λ p. (ns : List Notice) × (chain.new ≡ chain.old ++ ns) × IsPlanOf is_heard model.now change (of_values p ns)) }
     ensures refused { IfErr result (λ r. refusals.late_refusal (reading model.now) change ≡ (if is_memory_refusal r then None else Some r)) }
 {
     model.lemma_is_legal();
     if let Some(refused) = late_refusal(model, &change, None) {
         return Err(refused);
     }
-    let chain = heard_chain(alloc, model, &change, &None, None, &[], is_heard)?;
+    if is_heard {
+        add_notices(alloc, model, &change, &None, None, &[], chain)?;
+    }
     let values = value_edits(alloc, model, change, &None)?;
-    Ok((values, chain))
+    Ok(values)
 }
 
 /// The edit that sets an attribute, and its notification. The set must not be refused. Fails only if memory is refused.

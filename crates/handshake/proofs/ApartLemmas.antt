@@ -533,6 +533,6 @@ chain-read s c one legal none unloaded early late =
 
 -- the notifications that are made are the chain
 pub made-chain : (s : Model) (c : Change) (cut : List LinkEnd) (ts : List FeatureChange) → resolves_all c ≡ false → IsLegal s → destroyed_by c ≡ None → loaded_by c ≡ None → early_refusal (reading s) c ≡ None → late_refusal (reading s) c ≡ None → cut ≡ cut_link_ends (reading s) c → ts ≡ feature_changes_with (reading s) c cut
-    → (heard : Bool) → heard ≡ true → map (notice_at (reading s)) ts ≡ (if heard then chain (reading s) c else [])
-made-chain s c cut ts one legal none unloaded early late is_cut made heard is =
-    ap (map (notice_at (reading s))) (made ∙ ap (feature_changes_with (reading s) c) is_cut) ∙ sym (chain-read s c one legal none unloaded early late) ∙ ap (λ (b : Bool). if b then chain (reading s) c else []) (sym is)
+    → map (notice_at (reading s)) ts ≡ chain (reading s) c
+made-chain s c cut ts one legal none unloaded early late is_cut made =
+    ap (map (notice_at (reading s))) (made ∙ ap (feature_changes_with (reading s) c) is_cut) ∙ sym (chain-read s c one legal none unloaded early late)

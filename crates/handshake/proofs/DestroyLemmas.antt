@@ -366,13 +366,12 @@ module _ (s : Model) (legal : IsLegal s) (o : ObjectNo) (live : is_live (reading
       ] refl
 
 -- if the object that a change destroys lives, the notifications of the losses are the chain of the change
-pub destroyed-heard : (s : Model) (c : Change) (q : Option ObjectNo) (o : ObjectNo) → IsLegal s → early_refusal (reading s) c ≡ None → q ≡ destroyed_by c → Some o ≡ q → (heard : Bool) → heard ≡ true
-    → map (lost_notice (reading s)) (losses (reading s) o) ≡ (if heard then chain (reading s) c else [])
-destroyed-heard s (Delete p) q o legal early is some heard on =
+pub lost-chain : (s : Model) (c : Change) (q : Option ObjectNo) (o : ObjectNo) → IsLegal s → early_refusal (reading s) c ≡ None → q ≡ destroyed_by c → Some o ≡ q
+    → map (lost_notice (reading s)) (losses (reading s) o) ≡ chain (reading s) c
+lost-chain s (Delete p) q o legal early is some =
     let same = same_Some o p (some ∙ is) in
-    ap (λ (x : ObjectNo). map (lost_notice (reading s)) (losses (reading s) x)) same
-    ∙ sym (destroyed-chain s legal p (delete-named (reading s) p early)) ∙ ap (λ (b : Bool). if b then chain (reading s) (Delete p) else []) (sym on)
-destroyed-heard s _ q o legal early is some heard on = absurd (none-some o (sym (some ∙ is)))
+    ap (λ (x : ObjectNo). map (lost_notice (reading s)) (losses (reading s) x)) same ∙ sym (destroyed-chain s legal p (delete-named (reading s) p early))
+lost-chain s _ q o legal early is some = absurd (none-some o (sym (some ∙ is)))
 
 pub nothing-destroyed : (c : Change) (q : Option Removal) → option_map (λ (x : Removal). x.object) q ≡ destroyed_by c → ((x : Removal) → q ≡ Some x → ⊥) → destroyed_by c ≡ None
 nothing-destroyed c None is none = sym is

@@ -109,12 +109,8 @@ module _ (s : Model) (k : ResourceNo) (doc : Doc) (legal : IsLegal s) (late : la
   roots-before : held_at (reading s) roots ≡ record { values = []; flag = false }
   roots-before = list-held s s.links roots reference roots-many ∙ ap (λ (vs : List Value). record { values = vs; flag = false }) (no-roots s k doc legal late)
 
-  load-chain : chain (reading s) (Load k doc) ≡ map (root_notice (length s.values.objects) roots) (enumerate_from 0 doc.roots)
+  pub load-chain : chain (reading s) (Load k doc) ≡ map (root_notice (length s.values.objects) roots) (enumerate_from 0 doc.roots)
   load-chain = change_notices-gains s.metamodel roots roots-many (length s.values.objects) (held_at (reading s)) 0 doc.roots (ap (λ (h : Held). length h.values) roots-before)
-
-  -- the notifications that are made are the chain
-  pub loaded-heard : (heard : Bool) → heard ≡ true → map (root_notice (length s.values.objects) roots) (enumerate_from 0 doc.roots) ≡ (if heard then chain (reading s) (Load k doc) else [])
-  loaded-heard heard on = sym load-chain ∙ ap (λ (b : Bool). if b then chain (reading s) (Load k doc) else []) (sym on)
 
 ---------------------------------------------------------------- the chain replays
 

@@ -18,19 +18,19 @@ use notice_chain::{Chain, NO_INDEX, Notice, NoticeKind};
 use removal::{Loss, Removal, losses};
 use std::alloc::{AllocError, Global};
 
-/// The notifications of feature changes. All are computed in the same model, the model before the change.
+/// Adds to a chain the notifications of feature changes. All are computed in the same model, the model before the change.
 pub fn notices<L: LinkStore>(
     alloc: Global,
     model: &ModelRef<L>,
     feature_changes: Vec<FeatureChange>,
-) -> Result<Chain, AllocError>
-    ensures { IfOk result (λ c. c ≡ map (notice_at (reading model.now)) feature_changes.items) }
+    chain: &mut Chain,
+) -> Result<(), AllocError>
+    ensures { OnOk result (chain.new ≡ chain.old ++ map (notice_at (reading model.now)) feature_changes.items) }
 {
-    let mut chain = Chain::new(alloc);
     for feature_change in feature_changes {
-        push_notice(alloc, model, feature_change, &mut chain)?;
+        push_notice(alloc, model, feature_change, chain)?;
     }
-    Ok(chain)
+    Ok(())
 }
 
 /// Adds the notification of a feature change.
@@ -46,30 +46,30 @@ fn push_notice<L: LinkStore>(
     Ok(())
 }
 
-/// The notifications of the values that ends of other nodes lose when an object and all objects below it are destroyed.
+/// Adds to a chain the notifications of the values that ends of other nodes lose when an object and all objects below it are destroyed.
 pub fn lost_notices<L: LinkStore>(
     alloc: Global,
     model: &ModelRef<L>,
     removal: &Removal,
-) -> Result<Chain, AllocError>
+    chain: &mut Chain,
+) -> Result<(), AllocError>
     requires removal { IsRemoval (reading model.now) removal.now }
-    ensures { IfOk result (λ c. c ≡ map (lost_notice_of (reading model.now)) (losses_of (reading model.now) removal.now.object)) }
+    ensures { OnOk result (chain.new ≡ chain.old ++ map (lost_notice_of (reading model.now)) (losses_of (reading model.now) removal.now.object)) }
 {
-    each_lost(alloc, model, losses(alloc, model, removal)?)
+    each_lost(model, losses(alloc, model, removal)?, chain)
 }
 
 fn each_lost<L: LinkStore>(
-    alloc: Global,
     model: &ModelRef<L>,
     losses: Vec<Loss>,
-) -> Result<Chain, AllocError>
-    ensures { IfOk result (λ c. c ≡ map (lost_notice_of (reading model.now)) losses.items) }
+    chain: &mut Chain,
+) -> Result<(), AllocError>
+    ensures { OnOk result (chain.new ≡ chain.old ++ map (lost_notice_of (reading model.now)) losses.items) }
 {
-    let mut chain = Chain::new(alloc);
     for loss in losses {
         chain.push(lost_notice(model, loss))?;
     }
-    Ok(chain)
+    Ok(())
 }
 
 /// The notification of a loss: SET to null at a single end, else REMOVE at the loss's position.

@@ -54,6 +54,7 @@ fn is_taken<L: LinkStore>(model: &ModelRef<L>, end: End) -> bool
 }
 
 /// The links that a new link from an end to an object displaces; each link is named once.
+#[inline(always)]
 pub(crate) fn yields<L: LinkStore>(
     alloc: Global,
     model: &ModelRef<L>,
@@ -76,6 +77,7 @@ pub(crate) fn yields<L: LinkStore>(
 }
 
 /// If an end is single and has a value, adds the link of this value, unless the list has that link already.
+#[inline(always)]
 fn add_held<L: LinkStore>(
     alloc: Global,
     model: &ModelRef<L>,
@@ -99,6 +101,7 @@ fn add_held<L: LinkStore>(
 }
 
 /// If a node is contained, adds the link that contains it, unless the list has that link already.
+#[inline(always)]
 fn add_holding<L: LinkStore>(
     model: &ModelRef<L>,
     node: Node,
@@ -120,6 +123,7 @@ fn add_holding<L: LinkStore>(
 }
 
 /// Adds a link to a list, unless the list has that link already.
+#[inline(always)]
 fn add<L: LinkStore>(
     model: &ModelRef<L>,
     link_end: LinkEnd,

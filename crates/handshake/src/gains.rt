@@ -13,6 +13,7 @@ use models::ModelRef;
 use proxies::opposite_end;
 
 /// Why an end can't gain a value: `Bound`, `Recursive` or `Limit`.
+#[inline(always)]
 pub fn gain_refusal<L: LinkStore>(model: &ModelRef<L>, end: End, value: &Value) -> Option<Refused>
     ensures { result ≡ refusals.gain_refusal (reading model.now) end value.now }
 {

@@ -56,6 +56,10 @@ use Rattle.handshake.proofs.KnownLemmas.{none-else_by, none-unless}
 use Rattle.change_plans.proofs.RefusalLemmas.{IsNot, late-not, late-refused, later-not, unless-not, where-not}
 use Rattle.std.proofs.lemmas.Bool.{and_parts}
 
+-- what holds of the notifications that are added to an empty chain holds of the chain
+pub of-added : (P : List Notice → Type 0) (old new : List Notice) → old ≡ [] → (ns : List Notice) × (new ≡ old ++ ns) × P ns → P new
+of-added P old new empty added = subst P (sym (added.1 ∙ ap (λ (xs : List Notice). xs ++ added.0) empty)) added.2
+
 -- that a change is well-formed, and not refused early
 pub record IsAsked (s : State) (text : List ℕ) (c : Change) : Type 0 where
   pub early : early_refusal (reads s) c ≡ None

@@ -28,13 +28,11 @@ use models::ModelRef;
 use notice_chain::Chain;
 use std::alloc::Global;
 
-/// A change that is prepared: its answer, its edits and its notifications, and the targets that are taken away with the objects that it
-/// destroys.
+/// A change that is prepared: its answer and its edits, and the targets that are taken away with the objects that it destroys.
 #[derive(Drop)]
 pub(crate) struct Prepared<E> {
     pub answer: Answer,
     pub edits: E,
-    pub chain: Chain,
     /// The targets that are taken away, adapter by adapter in attach order. The targets of one adapter have the order in which the adapter
     /// got them.
     pub spots: Vec<(AdapterNo, Node)>,
@@ -45,20 +43,22 @@ pub(crate) trait Planned: Edits {
     /// The changes whose edits are of this type.
     ghost covers: { Metamodel → ChangeView → Type 0 };
 
-    /// Prepares a change, or gives the refusal that planning finds. Notifications are made only if an adapter may have to get them.
+    /// Prepares a change, or gives the refusal that planning finds. Puts the notifications into `chain`, which the caller passes in empty.
+    /// Notifications are made only if an adapter may have to get them.
     fn prepare<L: LinkStore, A: Adapter>(
         alloc: Global,
         model: &ModelRef<L>,
         adapters: &AdapterList<A>,
         change: Change,
         is_heard: bool,
+        chain: &mut Chain,
     ) -> Result<Prepared<Self>, Refused>
         requires asked { early_refusal (reading model.now) change ≡ None }
         requires proper { (text : List ℕ) × IsProper (reading model.now) text change }
         requires covered { covers model.now.metamodel change }
         ensures answer { IfOk result (λ p. (rs : List Listed) (text : List ℕ) → IsProper (reading model.now) text change → p.answer ≡ answer_of (reading model.now) rs (command_of text change)) }
         ensures spots { IfOk result (λ p. p.spots.items ≡ going_with (reading model.now) adapters.now.0 change) }
-        ensures planned { IfOk result (λ p. IsPlanned is_heard model.now change (Self.edits_of_links p.edits) (Self.edits_of_values p.edits) p.chain) }
+        ensures planned { IfOk result (λ p. chain.old ≡ [] → IsPlanned is_heard model.now change (Self.edits_of_links p.edits) (Self.edits_of_values p.edits) chain.new) }
         ensures refused { IfErr result (λ r. IsPlanRefusal model.now change r) };
 }
 
@@ -73,13 +73,13 @@ impl Planned for ValuePlan {
         _adapters: &AdapterList<A>,
         change: Change,
         is_heard: bool,
+        chain: &mut Chain,
     ) -> Result<Prepared<Self>, Refused> {
         let answer = known_answer(alloc, model, &change)?;
-        let (edits, chain) = plan_values(alloc, model, change, is_heard)?;
+        let edits = plan_values(alloc, model, change, is_heard, chain)?;
         Ok(Prepared {
             answer,
             edits,
-            chain,
             spots: Vec::new(alloc),
         })
     }
@@ -96,13 +96,13 @@ impl Planned for Plan {
         _adapters: &AdapterList<A>,
         change: Change,
         is_heard: bool,
+        chain: &mut Chain,
     ) -> Result<Prepared<Self>, Refused> {
         let answer = known_answer(alloc, model, &change)?;
-        let (edits, chain) = plan_links(alloc, model, &change, is_heard)?;
+        let edits = plan_links(alloc, model, &change, is_heard, chain)?;
         Ok(Prepared {
             answer,
             edits,
-            chain,
             spots: Vec::new(alloc),
         })
     }
@@ -118,9 +118,11 @@ impl Planned for AllEdits {
         adapters: &AdapterList<A>,
         change: Change,
         is_heard: bool,
+        chain: &mut Chain,
     ) -> Result<Prepared<Self>, Refused> {
         let early = early_answer(alloc, model, &change)?;
         let planned = plan(alloc, model, change, is_heard)?;
+        *chain = planned.chain;
         let spots = spots_gone(alloc, adapters, &planned.finding)?;
         let answer = match early {
             Some(answer) => answer,
@@ -132,7 +134,6 @@ impl Planned for AllEdits {
                 links: planned.edits,
                 values: planned.values,
             },
-            chain: planned.chain,
             spots,
         })
     }

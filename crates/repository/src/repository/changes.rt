@@ -28,6 +28,7 @@ use handshake::{Act, Change, early_refusal};
 use links::{LinkStore, Plan};
 use mm_types::{ClassNo, End, FeatureNo, Node, ObjectNo, Refused, Value};
 use mm_values::ValuePlan;
+use notice_chain::Chain;
 
 impl<L: LinkStore, A: Adapter> Repository<L, A> {
     /// Makes an object of a class; each of its attributes has its default (EMF: EFactory.create). Notifies no adapter.
@@ -121,12 +122,18 @@ impl<L: LinkStore, A: Adapter> Repository<L, A> {
             return Brief::Unheard(Err(refused));
         }
         match plan_set(self.alloc, &model, end, value) {
-            Ok((edits, chain)) => Brief::Replied(self.finish(Prepared {
-                answer: Answer::Done,
-                edits,
-                chain,
-                spots: Vec::new(self.alloc),
-            })),
+            Ok((edits, chain)) => {
+                let answer = Answer::Done;
+                let spots = Vec::new(self.alloc);
+                Brief::Replied(self.finish(
+                    Prepared {
+                        answer,
+                        edits,
+                        spots,
+                    },
+                    chain,
+                ))
+            }
             Err(_) => Brief::Unheard(Err(Refused::Memory)),
         }
     }
@@ -165,25 +172,23 @@ impl<L: LinkStore, A: Adapter> Repository<L, A> {
         requires heard { is_heard ≡ false → IsUnheard (reads self.old).above (chain (reads self.old) change) self.old.adapters }
         ensures { (text : List ℕ) → IsProper (reads self.old) text change → Executed self.old (command_of text change) (change_outcome (changed_view A.heard result)) self.new }
     {
+        let mut chain = Chain::new(self.alloc);
         let model = self.model();
-        let Prepared {
-            answer,
-            edits,
-            chain,
-            spots,
-        } = match E::prepare(self.alloc, &model, &self.adapters, change, is_heard) {
+        let prepared = match E::prepare(
+            self.alloc,
+            &model,
+            &self.adapters,
+            change,
+            is_heard,
+            &mut chain,
+        ) {
             Ok(prepared) => prepared,
             Err(refused) => return Err(refused),
         };
-        if chain.is_empty() && spots.is_empty() {
-            let done = self.edit(edits);
-            return replied(self.alloc, done, answer);
+        if chain.is_empty() && prepared.spots.is_empty() {
+            let done = self.edit(prepared.edits);
+            return replied(self.alloc, done, prepared.answer);
         }
-        self.finish(Prepared {
-            answer,
-            edits,
-            chain,
-            spots,
-        })
+        self.finish(prepared, chain)
     }
 }

@@ -14,6 +14,7 @@ use adapter_list::Leaving;
 use adapters::Adapter;
 use links::LinkStore;
 use mm_types::{Refused, Seq};
+use notice_chain::Chain;
 
 impl<L: LinkStore, A: Adapter> Repository<L, A> {
     /// Makes the edits of a change that is ready, notifies no adapter, and takes no target away. Fails only if memory is refused.
@@ -35,17 +36,20 @@ impl<L: LinkStore, A: Adapter> Repository<L, A> {
     }
 
     /// Makes a change that is ready: reserves memory for the edits and capacity at the adapters, makes the edits, and notifies the
-    /// adapters. If the change edits only values, the edits take memory while they are made, and can still be refused. After the edits are
+    /// adapters of the notifications in `chain`. If the change edits only values, the edits take memory while they are made, and can still be refused. After the edits are
     /// made, nothing can be refused.
     #[inline(always)]
-    pub(super) fn finish<E: Edits>(&mut self, prepared: Prepared<E>) -> Result<Reply<A>, Refused>
-        requires ready { (text : List ℕ) × (change : Change) × IsReady self.old text change prepared.answer prepared.spots.items (E.edits_of_links prepared.edits) (E.edits_of_values prepared.edits) prepared.chain }
-        ensures { (text : List ℕ) (change : Change) → IsReady self.old text change prepared.answer prepared.spots.items (E.edits_of_links prepared.edits) (E.edits_of_values prepared.edits) prepared.chain → Executed self.old (command_of text change) (change_outcome (changed_view A.heard result)) self.new }
+    pub(super) fn finish<E: Edits>(
+        &mut self,
+        prepared: Prepared<E>,
+        chain: Chain,
+    ) -> Result<Reply<A>, Refused>
+        requires ready { (text : List ℕ) × (change : Change) × IsReady self.old text change prepared.answer prepared.spots.items (E.edits_of_links prepared.edits) (E.edits_of_values prepared.edits) chain }
+        ensures { (text : List ℕ) (change : Change) → IsReady self.old text change prepared.answer prepared.spots.items (E.edits_of_links prepared.edits) (E.edits_of_values prepared.edits) chain → Executed self.old (command_of text change) (change_outcome (changed_view A.heard result)) self.new }
     {
         let Prepared {
             answer,
             edits,
-            chain,
             spots,
         } = prepared;
         match edits.reserve(&mut self.store, &mut self.values) {

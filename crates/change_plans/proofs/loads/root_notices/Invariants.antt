@@ -5,4 +5,4 @@ use Rattle.change_plans.proofs.loads.root_notices.Given as goal
 
 -- what is made, and then what is left to make
 abbrev pub invariant-roots : goal.invariant-roots
-invariant-roots l = l.chain ++ map (root_notice l.next l.end) (enumerate_from l.i (drop l.i l.roots)) ≡ map (root_notice l.next l.end) (enumerate_from 0 l.roots)
+invariant-roots l = l.chain ++ map (root_notice l.next l.end) (enumerate_from l.i (drop l.i l.roots)) ≡ l.fn.chain ++ map (root_notice l.next l.end) (enumerate_from 0 l.roots)

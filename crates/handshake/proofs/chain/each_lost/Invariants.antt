@@ -8,4 +8,4 @@ abbrev pub invariant-loop-loss : goal.invariant-loop-loss
 invariant-loop-loss g l =
     (goal.iterator-loop-loss g).can_next l.loss-iterator ×
     (goal.iterator-loop-loss g).is_finite l.loss-iterator ×
-    (l.chain ++ map (lost_notice (reading l.model)) (into_iter_items l.loss-iterator) ≡ map (lost_notice (reading l.model)) l.fn.losses.items)
+    (l.chain ++ map (lost_notice (reading l.model)) (into_iter_items l.loss-iterator) ≡ l.fn.chain ++ map (lost_notice (reading l.model)) l.fn.losses.items)

@@ -8,4 +8,4 @@ abbrev pub invariant-loop-feature_change : goal.invariant-loop-feature_change
 invariant-loop-feature_change g l =
     (goal.iterator-loop-feature_change g).can_next l.feature_change-iterator ×
     (goal.iterator-loop-feature_change g).is_finite l.feature_change-iterator ×
-    (l.chain ++ map (notice_at (reading l.model)) (into_iter_items l.feature_change-iterator) ≡ map (notice_at (reading l.model)) l.fn.feature_changes.items)
+    (l.chain ++ map (notice_at (reading l.model)) (into_iter_items l.feature_change-iterator) ≡ l.fn.chain ++ map (notice_at (reading l.model)) l.fn.feature_changes.items)

@@ -36,4 +36,4 @@ returns-clause-answer g c = λ rs text proper.
     ]
 
 pub returns-clause-planned : goal.returns-clause-planned
-returns-clause-planned g c = (c.in_ok-planned.planned.finding, c.in_ok-planned.ensures)
+returns-clause-planned g c = λ _. (c.in_ok-planned.planned.finding, c.in_ok-planned.ensures)

@@ -2,7 +2,8 @@ use Rattle.std.proofs.Common.{◌∙◌}
 use Rattle.models.specs.Model.{reading}
 use Rattle.change_plans.specs.declared.planned.Finding.TheVariants as finding
 use Rattle.change_plans.proofs.ValueLemmas.{is-plain-link}
-use Rattle.repository.proofs.PlanLemmas.{passed_refusal, plan_refusal}
+use Rattle.change_plans.specs.Plans.{IsPlanOf, of_links}
+use Rattle.repository.proofs.PlanLemmas.{of-added, passed_refusal, plan_refusal}
 use Rattle.repository.proofs.ValueLemmas.{answered-early-links, none-goes}
 use Rattle.repository.proofs.prepared.PlanPlanned.prepare.Goals as goal
 
@@ -16,4 +17,4 @@ pub returns-clause-spots : goal.returns-clause-spots
 returns-clause-spots g c = c.new.ensures.items ∙ none-goes (reading c.args.model.now) c.args._adapters.now.0 c.args.change (is-plain-link (reading c.args.model.now) c.args.change c.requires.covered)
 
 pub returns-clause-planned : goal.returns-clause-planned
-returns-clause-planned g c = (finding.Nothing, c.in_ok-edits.ensures.planned)
+returns-clause-planned g c = λ empty. (finding.Nothing, of-added (λ ns. IsPlanOf c.args.is_heard c.args.model.now c.args.change (of_links _ ns)) _ _ empty c.in_ok-edits.ensures.planned)
