@@ -4,7 +4,7 @@ import time
 
 from support import LibraryTest
 
-from mmrepo import Refused
+from mmrepo import CallableFailed, Refused
 
 MANY = 100_000
 SECONDS = 10  # a bound for MANY objects on a busy machine; bench/python_client measures the time
@@ -105,3 +105,35 @@ class Batches(LibraryTest):
             self.repo.create('Book', name='Emma', pages='many')
         with self.refused(1, 'NO_OBJECT'):
             self.repo._session.value('get #2 name')
+
+    def test_create_keeps_what_it_was_given(self):
+        """If a feature of `create` is refused, objects that were put into the new object are not destroyed. They are in no container."""
+        library, book, person = self.made('Library', 'Book', 'Person')
+        library.books.append(book)
+        with self.refused(8, 'TYPE'):
+            self.repo.create('Library', books=[book], members=[person], name=3)
+        self.assertEqual(self.repo.objects(), [library, book, person])
+        self.assertEqual((book.eContainer(), person.eContainer(), list(library.books)), (None, None, []))
+
+    def test_create_leaves_links_cut(self):
+        """If a feature of `create` is refused, links that earlier features displaced stay cut, and the number is not given again."""
+        first, second = self.made('Book', 'Book')
+        first.next = second
+        with self.refused(5, 'NO_FEATURE'):
+            self.repo.create('Book', prev=first, title='Emma', next=second)
+        self.assertEqual((first.next, second.prev), (None, None))
+        self.assertEqual(self.repo.create('Book').number, 3)
+
+    def test_create_and_a_callable(self):
+        """If a callable fails on a feature of `create` and on what follows, the object is deleted, and the first error is raised."""
+        library, book = self.made('Library', 'Book')
+
+        def fails(notice):
+            raise ValueError(notice.kind.name)
+
+        self.repo.attach(fails, book)
+        self.repo.attach(fails, library)
+        with self.assertRaises(CallableFailed) as found:
+            self.repo.create('Library', books=[book])
+        self.assertEqual(str(found.exception.__cause__), 'SET')
+        self.assertEqual(self.repo.objects(), [library, book])

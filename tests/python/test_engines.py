@@ -2,14 +2,55 @@
 
 import json
 import os
+import shutil
+import subprocess
 import time
 from pathlib import Path
 from unittest import mock
 
-from support import CLIENT, ENGINE, LIBRARY, PROGRAM, ClientTest, LibraryTest
+from support import CLIENT, ENGINE, LIBRARY, PROGRAM, TOP, ClientTest, LibraryTest
 
-from mmrepo import MetamodelRefused, NotStarted, Refused, Repository
+from mmrepo import MetamodelRefused, NotStarted, Refused, Repository, RepositoryClosed
 
+# A fake library, to which memory is refused at the first call other than the line `new Book`.
+NO_MEMORY = """
+#include <mmrepo.h>
+#include <string.h>
+static uint32_t lost(mmrepo_session *session) {
+    const uint32_t status = session->is_open ? MMREPO_MEMORY : MMREPO_CLOSED;
+    session->is_open = false;
+    return status;
+}
+uint32_t mmrepo_open(mmrepo_session *session, const char *document, size_t size) {
+    (void)document, (void)size;
+    session->is_open = true;
+    return MMREPO_OK;
+}
+uint32_t mmrepo_line(mmrepo_session *session, const char *line, size_t size) {
+    const bool is_new = size == 8 && memcmp(line, "new Book", size) == 0;
+    return session->is_open && is_new ? MMREPO_OK : lost(session);
+}
+uint32_t mmrepo_list_length(mmrepo_session *session, bool is_resource, uint32_t number, const char *name, size_t size) {
+    (void)is_resource, (void)number, (void)name, (void)size;
+    return lost(session);
+}
+uint32_t mmrepo_list_value(mmrepo_session *session, bool is_resource, uint32_t number, const char *name, size_t size, uint32_t index) {
+    (void)is_resource, (void)number, (void)name, (void)size, (void)index;
+    return lost(session);
+}
+uint32_t mmrepo_load(mmrepo_session *session, uint32_t resource, const char *document, size_t size) {
+    (void)resource, (void)document, (void)size;
+    return lost(session);
+}
+size_t mmrepo_text(mmrepo_session *session, char *text, size_t size) {
+    (void)session;
+    memcpy(text, "#0\\n", size < 3 ? size : 3);
+    return 3;
+}
+void mmrepo_close(mmrepo_session *session) {
+    session->is_open = false;
+}
+"""
 VALUES = 10_000
 SECONDS = 5  # a bound for all indexes of a long list on a busy machine
 
@@ -108,6 +149,48 @@ class Refusals(ClientTest):
                 call()
         book.name = 'a\nb\x00ü\U0001f600'
         self.assertEqual(book.name, 'a\nb\x00ü\U0001f600')
+
+
+class NoMemory(ClientTest):
+    """Memory is refused to the library itself, which then closes its session."""
+
+    def library(self):
+        """Compiles the fake library, and returns its path."""
+        made = Path(self.room.name, 'fake.so')
+        compiler = shutil.which('cc') or shutil.which('gcc') or shutil.which('clang')
+        words = ['-shared', '-fPIC', '-Wall', '-Wextra', '-Werror', f'-I{TOP}/crates/mmrepo_c/include', self.file('fake.c', NO_MEMORY)]
+        subprocess.run([compiler, *words, '-o', made], check=True)
+        return made
+
+    def test_calls(self):
+        """The call to which memory is refused raises a MemoryError, and each later call a RepositoryClosed."""
+        if ENGINE == 'program':
+            return
+        library = self.library()
+        calls = {
+            'create': lambda repo, book: repo.create('Library'),
+            'get': lambda repo, book: book.pages,
+            'set': lambda repo, book: book.eSet('pages', 3),
+            'append': lambda repo, book: book.tags.append('a'),
+            'extend': lambda repo, book: book.tags.extend(['a', 'b']),
+            'length': lambda repo, book: len(book.tags),
+            'value': lambda repo, book: book.tags[0],
+            'load': lambda repo, book: repo._session.load('r0', '{}'),
+            'values': lambda repo, book: repo.create('Book', pages=3),
+            'objects': lambda repo, book: repo.objects(),
+        }
+        for name, call in calls.items():
+            with self.subTest(name):
+                repo = Repository(LIBRARY, None, library)
+                self.assertEqual(repo.engine, ENGINE)
+                book = repo.create('Book')
+                with self.assertRaises(MemoryError):
+                    call(repo, book)
+                for later in calls.values():
+                    with self.assertRaises(RepositoryClosed) as found:
+                        later(repo, book)
+                    self.assertIn('memory', str(found.exception))
+                repo.close()
 
 
 class Lists(LibraryTest):

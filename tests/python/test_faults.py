@@ -151,13 +151,15 @@ class Dying(ClientTest):
         return found.exception
 
     def test_object_of_a_batch_refused(self):
-        """If an object of a batch is refused memory, the other objects have their own numbers."""
+        """If an object of a batch is refused memory, the other objects have their own numbers, and no other command is sent."""
         repo = self.begun("for line, said in zip(lines(), ('#0', 'refused 28 MEMORY', '#1', '#2')): say(said + '\\n\\n')")
         batch = repo.batch()
         made = [batch.create(name) for name in ('Book', 'Person', 'Library')]
+        batch.set(made[0], 'pages', 3)
         with self.assertRaises(Refused) as found:
             batch.send()
         self.assertEqual((found.exception.name, found.exception.command), ('MEMORY', 'new Person'))
+        self.assertEqual(batch.answers, [])
         self.assertEqual([repr(made[0]), repr(made[2])], ['<Book #0>', '<Library #1>'])
         self.assertEqual(repr(repo.create('Folder')), '<Folder #2>')
         repo.close()
@@ -167,6 +169,12 @@ class Dying(ClientTest):
         error = self.assert_ended(repo, ProgramEnded, lambda: repo.create('Book'))
         self.assertEqual((error.status, error.said), (3, 'run stopped: MEMORY'))
         self.assertIn('new Book', str(error))
+
+    def test_dies_at_a_value(self):
+        """If the program dies at a value of `create`, the error says so."""
+        repo = self.begun('next(lines())\nsay("#0\\n\\n")\nnext(lines())\nsys.exit(3)')
+        error = self.assert_ended(repo, ProgramEnded, lambda: repo.create('Book', pages=3))
+        self.assertIn('set #0 pages 3', str(error))
 
     def test_has_died(self):
         repo = self.begun('sys.exit(0)')

@@ -9,6 +9,25 @@ from support import LIBRARY, PROGRAM, ClientTest
 
 from mmrepo import JournalRefused, ProgramError, Refused, Repository
 
+# Boxes, each of which may have a lid and parts.
+BOXES = """
+{"classes": [
+  {"name": "Box", "features": [
+    {"name": "name", "kind": "attribute", "type": "EString"},
+    {"name": "lid", "kind": "reference", "type": "Box", "containment": true},
+    {"name": "parts", "kind": "reference", "type": "Box", "upper": -1, "containment": true},
+    {"name": "near", "kind": "reference", "type": "Box", "upper": -1}
+  ]}
+]}
+"""
+EMPTY = '{"class":"Box","features":{}}'
+TEXTS = r'{"class":"Box","features":{"name":"{\"\\","near":["/1","/0/@lid"]}}'
+NESTED = '{"class":"Box","features":{"lid":%s,"parts":[%s,{"features":{"parts":[%s]},"class":"Box"}]}}' % (TEXTS, EMPTY, EMPTY)
+DOCUMENT = '{"format":2,\t"roots":[%s,%s]} ' % (NESTED, EMPTY)  # of six objects
+# The last value of a repeated key counts, so these are two objects.
+EMPTIED = '{"class":"Box","features":{"parts":[%s],"parts":[]}}' % EMPTY
+REPEATED = '{"roots":[%s],"format":[{}],"format":2,"roots":[%s,%s]}' % (NESTED, EMPTY, EMPTIED)
+
 
 class JournalTest(ClientTest):
     """Repositories that are opened one after another with the same journal."""
@@ -19,9 +38,9 @@ class JournalTest(ClientTest):
         self.addCleanup(room.cleanup)
         self.journal = Path(room.name) / 'journal'
 
-    def begun(self):
+    def begun(self, metamodel=LIBRARY):
         """Opens a repository with the journal."""
-        return Repository(LIBRARY, PROGRAM, journal=self.journal)
+        return Repository(metamodel, PROGRAM, journal=self.journal)
 
     def test_objects_come_back(self):
         """Objects are found by number and by address, and resources in order."""
@@ -45,6 +64,32 @@ class JournalTest(ClientTest):
             self.assertEqual(caught.exception.name, 'NO_OBJECT')
             self.assertEqual(repo.create('Book').number, 3)
             self.assertEqual(repo.resource('http://m.example/c')._word, 'r2')
+
+    def test_all_objects_come_back(self):
+        """`objects` has all live objects, whatever made them, and the objects that are made later too."""
+        boxes = self.file('boxes.json', BOXES)
+        with self.begun(boxes) as repo:
+            resources = [repo.resource(f'http://m.example/{name}') for name in 'abc']
+            self.assertEqual(resources[0].load(DOCUMENT), 6)
+            with repo.batch() as batch:
+                made = [batch.create('Box') for _ in range(3)]
+            self.assertEqual(resources[1].load(REPEATED), 2)
+            repo._session.raw_all(['  new   Box  ', 'new Nothing', 'bad', '  load   r9  {}'])
+            for it in (repo.object(1), made[0], repo.create('Box')):
+                it.delete()
+            live = [0, 2, 3, 4, 5, 7, 8, 9, 10, 11]
+            self.assertEqual([it.number for it in repo.objects()], live)
+        with self.begun(boxes) as repo:
+            self.assertEqual([it.number for it in repo.objects()], live)
+            self.assertEqual(repo.resources[2].load(DOCUMENT), 6)
+            self.assertEqual([it.number for it in repo.objects('Box')], [*live, *range(13, 19)])
+            self.assertEqual(repo.create('Box').number, 19)
+            for it in [it for it in repo.objects() if it.eContainer() is None]:
+                it.delete()
+        with self.begun(boxes) as repo:
+            self.assertEqual(repo.objects(), [])
+            self.assertEqual(repo.create('Box').number, 20)
+            self.assertEqual([it.number for it in repo.objects()], [20])
 
     def test_a_killed_program_loses_nothing(self):
         """What was answered before the program is killed is in the next repository."""

@@ -10,6 +10,7 @@ import subprocess
 import sys
 import threading
 import time
+from unittest import mock
 
 from support import CLIENT, LIBRARY, LibraryTest
 
@@ -201,6 +202,20 @@ class Interrupts(LibraryTest):
         timer.join()
         self.assertIn(len(resource.contents), (0, 30_000))
         self.assertEqual(self.repo.create('Book').eClass.name, 'Book')
+
+    def test_in_a_line(self):
+        """An object that a line makes while Ctrl-C is pressed is one of `objects`."""
+        engine = self.repo._session.engine
+        exchange_all = engine.exchange_all
+
+        def pressed(lines):
+            os.kill(os.getpid(), signal.SIGINT)
+            return exchange_all(lines)
+
+        with mock.patch.object(engine, 'exchange_all', pressed), self.assertRaises(KeyboardInterrupt):
+            self.is_inside = True
+            self.repo._session.raw('new Book')
+        self.assertEqual([it.number for it in self.repo.objects()], [0])
 
     def test_a_handler_of_ones_own(self):
         """A handler of the caller is called."""

@@ -22,11 +22,13 @@ class Batch:
     """Commands that are collected and then sent at once: by `send`, and at the end of a `with`. `batch` of a repository makes
     a Batch.
 
-    All commands are sent, even if one of them is refused. `answers` has the results in order: None for a change of a feature, a
-    truth value for `append`, the object for `create`, how many objects were destroyed for `delete`, and the Refused for a
-    command that was refused. When all commands are done, the first Refused is raised.
+    When the batch is sent, the objects are made first. Until then an object of `create` can be used only in the batch. If some
+    objects are refused, the other objects are made, no other command is sent, the first Refused is raised, and `answers` stays
+    as it was. If no object is refused, all other commands are sent, even after one that is refused. When they are done, the
+    first Refused is raised.
 
-    When the batch is sent, the objects are made first. Until then an object of `create` can be used only in the batch.
+    `answers` has the results in order: None for a change of a feature, a truth value for `append`, the object for `create`, how
+    many objects were destroyed for `delete`, and the Refused for a command that was refused.
     """
 
     def __init__(self, session: Session) -> None:
@@ -106,7 +108,8 @@ class Batch:
     def send(self) -> List[Any]:
         """Sends the collected commands, and returns their results. Further commands may be collected afterwards.
 
-        If objects are refused, the Refused of the first is raised, and no edit is sent; the other objects are made.
+        If objects are refused, the other objects are made, no other command is sent, and the first Refused is raised. If a
+        command other than `create` is refused, all commands are sent, and the first Refused is raised when they are done.
         """
         calls, is_collecting = self._calls, gc.isenabled()
         gc.disable()  # what is made here stays, and looking through it again and again takes as long as all else

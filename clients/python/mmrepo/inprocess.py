@@ -8,7 +8,7 @@ import subprocess
 from typing import Any, List, Optional, Sequence
 
 from .engines import CTYPES, EXTENSION, Engine
-from .errors import REFUSED, MetamodelRefused, NotStarted
+from .errors import REFUSED, MetamodelRefused, NotStarted, RepositoryClosed
 from .process import LONGEST_LINE, data_of, program_file
 from .values import text_word
 
@@ -17,11 +17,12 @@ try:
 except ImportError:
     _native = None
 
-OK, BLANK, LOST, TOO_LONG, MEMORY = 0, 20, 23, 31, 32  # some statuses of calls (mmrepo.h)
+OK, BLANK, LOST, CLOSED, TOO_LONG, MEMORY = 0, 20, 23, 30, 31, 32  # some statuses of calls (mmrepo.h)
 FAULTS = (
     '', 'SYNTAX', 'LAYOUT', 'LIMIT', 'NAME', 'DUPLICATE_NAME', 'NO_TYPE', 'CYCLE', 'BOUNDS', 'OPPOSITE', 'BOTH_CONTAIN', 'CONTAINER_BOUND',
     'DEFAULT',
 )
+NO_MEMORY = 'memory was refused to the library, which closed the session'
 ROOM = 65_536  # bytes of a buffer that is kept; a longer text is copied into a buffer of its own
 
 
@@ -115,8 +116,10 @@ class _Session:
             self._text(self._at, room, size)
             return room.raw.decode('utf-8')
         if status == MEMORY:
-            raise MemoryError
-        raise RuntimeError('the session is closed')
+            raise MemoryError  # this has closed the session
+        if status == CLOSED:
+            raise RepositoryClosed(NO_MEMORY)
+        raise RuntimeError(f'the library returned the status {status}')
 
     def close(self) -> None:
         """Closes the session, and frees its memory."""

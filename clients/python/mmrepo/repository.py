@@ -2,20 +2,20 @@
 
 from __future__ import annotations
 
-import json
 import os
-import re
+from contextlib import suppress
 from pathlib import Path
 from types import TracebackType
-from typing import Any, Dict, List, NamedTuple, Optional, Sequence, Type, Union
+from typing import Any, Dict, Iterable, List, NamedTuple, Optional, Sequence, Type, Union
 
 from .batches import Batch
 from .copying import copied
 from .engines import start
-from .errors import NotOpened
+from .errors import CallableFailed, NotOpened, RepositoryClosed
 from .folders import Folder, save_all
+from .journals import made_by
 from .loading import XMI_FILES, several
-from .metamodel import EClass, Metamodel
+from .metamodel import EClass, EReference, Metamodel
 from .notices import Hearer, View, depth
 from .objects import EObject
 from .resources import Resource
@@ -23,9 +23,6 @@ from .session import Session
 from .snapshots import Snapshot, snapshot_of
 from .uris import BASE
 from .values import name_word, text_word
-
-
-_RESOURCE = re.compile(rb' +resource +(".*") *\n')
 
 
 class Resolved(NamedTuple):
@@ -70,8 +67,8 @@ class Repository:
         )
         try:
             self._session = Session(engine, Metamodel(document))
-            for uri in [] if kept is None else _uris(kept):
-                self._session.found_resource(uri)
+            if kept is not None:
+                self._session.begin_with(made_by(kept, self.metamodel))
         except BaseException:
             engine.end('the metamodel was not read')
             raise
@@ -91,7 +88,9 @@ class Repository:
     def create(self, eclass: Union[str, EClass], /, **features: Any) -> EObject:
         """Makes an object of a class, with values of features: one value, or several values of a list.
 
-        Refused if there is no such class (NO_CLASS) or it is abstract (ABSTRACT). If a value is refused, the object is deleted.
+        Refused if there is no such class (NO_CLASS) or it is abstract (ABSTRACT). The values are given one after another. If one
+        of them raises an error, the object is deleted again. Objects that were put into it are then in no container, and links
+        that were cut for earlier values stay cut.
         """
         name = eclass.name if isinstance(eclass, EClass) else eclass
         known = self._session.metamodel.classes.get(name)
@@ -100,7 +99,8 @@ class Repository:
             try:
                 self._give(made, features)
             except BaseException:
-                made.delete()
+                with suppress(RepositoryClosed):  # then the error that is raised says why
+                    self._take_back(made, features)
                 raise
         return made
 
@@ -112,6 +112,18 @@ class Repository:
                 made.eGet(feature).extend(value)
             else:
                 made.eSet(name, value)
+
+    def _take_back(self, made: EObject, names: Iterable[str]) -> None:
+        """Deletes an object that got values of features. What was put into it is taken out first, and so is not destroyed.
+
+        Errors of callables are dropped: the views are notified while an earlier error waits to be raised.
+        """
+        for feature in map(made.eClass.findEStructuralFeature, names):
+            if isinstance(feature, EReference) and feature.containment:
+                with suppress(CallableFailed):
+                    made.eUnset(feature)
+        with suppress(CallableFailed):
+            made.delete()
 
     def batch(self) -> Batch:
         """Commands that are collected, and sent at once: `with repo.batch() as batch: batch.create("Book", pages=3)`."""
@@ -226,10 +238,3 @@ class Repository:
             self.close()
         else:
             self._session.end('the repository is closed')
-
-
-def _uris(journal: str) -> List[str]:
-    """The URIs of the resources that the lines of a journal make, in order."""
-    with open(journal, 'rb') as file:
-        found = [_RESOURCE.fullmatch(line) for line in file]
-    return [json.loads(made.group(1)) for made in found if made]

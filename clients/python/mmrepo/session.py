@@ -11,6 +11,7 @@ from .batches import Batch
 from .engines import Engine
 from .errors import BadLine, MmrepoError
 from .exchange import Exchange
+from .journals import Made
 from .metamodel import EClass, EReference, EStructuralFeature, Metamodel
 from .notices import Notice, View
 from .objects import EObject, Node, name_object, new_object
@@ -59,16 +60,15 @@ class Session(Exchange):
         self.check()
         self.busy = True
         try:
-            texts = self.engine.exchange_all(lines)
+            found = [text.split('\n')[:-1] for text in self.engine.exchange_all(lines)]
+            for line, answer in zip(lines, found):
+                self._count(line, answer[0] if answer else '')
         except BaseException:
             self._leave()
             raise
         self.busy = False
         if self.interrupted:
             self._hand_out()
-        found = [text.split('\n')[:-1] for text in texts]
-        for line, answer in zip(lines, found):
-            self._count(line, answer[0] if answer else '')
         return found
 
     def _outcome(self, line: str, answer: str) -> Any:
@@ -206,11 +206,11 @@ class Session(Exchange):
         """The resource that a command makes."""
         return self.ask(line, lambda answer: self._read_resource(answer, uri))
 
-    def found_resource(self, uri: str) -> None:
-        """Records the next resource that the program had at its start. Its number is how many there were before it."""
-        word = f'r{len(self._resources)}'
-        url = parse(uri, None)
-        self._resources[word] = Resource(self, word, uri if url is None else url.text())
+    def begin_with(self, made: Made) -> None:
+        """Records what the program had made at its start. The resources are numbered from 0, and so are the objects."""
+        for number, uri in enumerate(made.uris):
+            self._read_resource(f'r{number}', uri)
+        self._next = made.objects
 
     def _read_resource(self, answer: str, uri: str) -> Resource:
         if answer[:1] != 'r' or not is_number(answer[1:]) or answer in self._resources:

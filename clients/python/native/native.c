@@ -30,6 +30,7 @@ typedef struct {
 } Session;
 
 static PyObject *session_type;
+static PyObject *repository_closed;  /* the error mmrepo.errors.RepositoryClosed */
 
 /* Looks a function up; sets an error if the library lacks it. */
 static int find(Library *self, void **place, const char *name) {
@@ -129,8 +130,11 @@ static PyObject *answer(Session *self, uint32_t status) {
     case MMREPO_TOO_LONG:
         PyErr_SetString(PyExc_ValueError, "the line is too long");
         return NULL;
+    case MMREPO_CLOSED:
+        PyErr_SetString(repository_closed, "memory was refused to the library, which closed the session");
+        return NULL;
     default:
-        PyErr_SetString(PyExc_RuntimeError, "the session is closed");
+        PyErr_Format(PyExc_RuntimeError, "the library returned the status %u", (unsigned int)status);
         return NULL;
     }
 }
@@ -260,10 +264,17 @@ static PyType_Spec session_spec = {"mmrepo._native.Session", sizeof(Session), 0,
 static struct PyModuleDef module = {PyModuleDef_HEAD_INIT, "mmrepo._native", "The shared library of mmrepo.", -1, NULL, NULL, NULL, NULL, NULL};
 
 PyMODINIT_FUNC PyInit__native(void) {
+    PyObject *errors = PyImport_ImportModule("mmrepo.errors");
+    if (errors == NULL) {
+        return NULL;
+    }
+    repository_closed = PyObject_GetAttrString(errors, "RepositoryClosed");
+    Py_DECREF(errors);
     PyObject *made = PyModule_Create(&module);
     PyObject *library_type = PyType_FromSpec(&library_spec);
     session_type = PyType_FromSpec(&session_spec);
-    if (made == NULL || library_type == NULL || session_type == NULL || PyModule_AddObject(made, "Library", library_type) < 0) {
+    if (repository_closed == NULL || made == NULL || library_type == NULL || session_type == NULL ||
+        PyModule_AddObject(made, "Library", library_type) < 0) {
         Py_XDECREF(made);
         return NULL;
     }
