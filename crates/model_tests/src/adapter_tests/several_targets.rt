@@ -38,8 +38,8 @@ fn state<A: Adapter>(alloc: Global, repository: &RowRepository<A>) -> Result<Str
     format!(in alloc; "{told:?} {name:?}")
 }
 
-/// The refusal to name the second book, and the state after it. Then, line by line, the outcomes of three calls: name the second book again,
-/// take the first book from adapter 6, and destroy the second book.
+/// The refusal to name the second book, and the state after it. Then, line by line, the outcomes of three calls: name the second book
+/// again, take the first book from adapter 6, and destroy the second book.
 fn calls<A: Adapter>(alloc: Global, repository: &mut RowRepository<A>) -> Result<String, Fail> {
     let refused = made(name_book(alloc, repository, 1)?).err();
     let state = state(alloc, repository)?;
@@ -140,7 +140,8 @@ fn a_refused_target_leaves_the_others_as_they_are(rt: HostRuntime) -> Result<(),
     Ok(())
 }
 
-/// Why the first book is not named if two adapters have it as a target. If `has_both` is true, they have the second book as a target too.
+/// The refusal when the first book is to get a name while two adapters have the first book as a target; `None` if the book gets the name.
+/// If `has_both` is true, both adapters have the second book as a target too.
 fn refused_to_two<A: Adapter>(
     alloc: Global,
     has_both: bool,

@@ -48,10 +48,10 @@ impl<L: LinkStore, A: Adapter> Repository<L, A> {
     /// already.
     ///
     /// Refused, the first that applies: `NoObject` if the node or the value is an object that does not live, `NoResource`, `NoFeature`,
-    /// `NotSingle` if the feature is many-valued, `WrongType`, `TextLength` above 65,535 bytes, `Bound` if the opposite list has as many
-    /// values as its upper bound, `Recursive` if an object would contain itself, directly or not, `Limit` if the opposite list has
-    /// 1,000,000 values, `AdapterFull` if an adapter can't count its notifications of this change and a last notification from each of its
-    /// targets, `Memory`.
+    /// `NotSingle` if the feature is many-valued, `WrongType`, `TextLength` above 65,535 bytes, `Bound` if the opposite list has to gain a
+    /// value and has as many values as its upper bound, `Recursive` if an object would contain itself, directly or not, `Limit` if the
+    /// opposite list has to gain a value and has 1,000,000 values, `AdapterFull` if an adapter can't count its notifications of this change
+    /// and a last notification from each of its targets, `Memory`.
     pub fn e_set(
         &mut self,
         node: Node,

@@ -20,9 +20,9 @@ impl<L: LinkStore, A: Adapter> Repository<L, A> {
     ///
     /// Refused, the first that applies: `NoObject` if the node or the value is an object that does not live, `NoResource`, `NoFeature`,
     /// `NotMany` if the feature is single, `WrongType`, `TextLength` above 65,535 bytes, `Index` above the length, `Duplicate` if a unique
-    /// list already has the value that is added at an index, `Bound` if the list or the opposite list has as many values as its upper
-    /// bound, `Recursive` if an object would contain itself, directly or not, `Limit` if one of the two lists has 1,000,000 values,
-    /// `AdapterFull`, `Memory`.
+    /// list already has the value that is added at an index, `Bound` if the list or the opposite list has to gain a value and has as many
+    /// values as its upper bound, `Recursive` if an object would contain itself, directly or not, `Limit` if one of the two lists has to
+    /// gain a value and has 1,000,000 values, `AdapterFull`, `Memory`.
     pub fn add(
         &mut self,
         node: Node,
