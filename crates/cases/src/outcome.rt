@@ -67,8 +67,9 @@ fn counter(alloc: Global, told: u64) -> Result<Box<Counter>, AllocError> {
     Ok(Box::new(alloc, Counter::starting_at(told))?)
 }
 
-/// The outcome of a script over a store of links, with adapters of the same kinds as A1 to A8 of a script: the fault of its metamodel; or
-/// what the script prints, and then the fault that stopped the script, if a fault stopped it.
+/// The outcome of a script that runs over a store of the type `L`, with adapters of the same kinds as A1 to A8 of the program. If the
+/// metamodel has a fault, the outcome is this fault. Otherwise it is what the script prints, and then the fault that stopped the script, if
+/// a fault stopped it.
 pub(crate) fn script_outcome<L: LinkStore>(
     alloc: Global,
     metamodel: &[u8],

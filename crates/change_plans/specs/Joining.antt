@@ -96,8 +96,8 @@ edits_by r j =
 abbrev pub told_by : Joint → List FeatureChange
 told_by j = changes_of_resolve (end_of j.site) j.site.index j.target
 
--- the proxies js were resolved, and `ends` has the values of each end after that. Exactly the proxies at the locations in `gone` are gone;
--- an object is at a reference after that exactly if it was there before, or if `linked` has the key of the reference and the object
+-- the proxies js were resolved, and `ends` has the values of each end after that. Exactly the proxies at the locations in `gone` are gone.
+-- A reference now has an object as a value exactly if it had the object before, or if `linked` has the key of the reference and the object
 pub record IsKnown (r : Reading) (js : List Joint) (ends : End → List Value) (g : Progress) : Type 0 where
   pub joints : g.joints.items ≡ js
   pub gone : (p : ProxySite) → is_proxy_site (record r { values = ends }) p ≡ (is_proxy_site r p && not (has g.gone (key_of p)))

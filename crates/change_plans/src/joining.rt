@@ -101,8 +101,9 @@ impl Progress {
         }
     }
 
-    /// Whether the resolve of a proxy to its target is refused after the earlier proxies: the proxy is gone, the object at its address is
-    /// of a wrong type or is at the end already, or the proxy has no counterpart and needs one. Takes no memory.
+    /// Whether the proxy at `site` can't be resolved to `target` after the earlier proxies were resolved. There are four reasons: the proxy
+    /// is gone; the object at its address is of a wrong type; this object is a value of the end already; the reference has an opposite, and
+    /// the proxy has no counterpart. Takes no memory.
     fn is_refused<L: LinkStore>(
         &self,
         model: &ModelRef<L>,

@@ -43,8 +43,8 @@ pub fn plan_links<L: LinkStore>(
     Ok(edits)
 }
 
-/// The link that a set puts, if the plan puts this link and does nothing else: a reference without a value is set to an object, and the set
-/// is not refused and displaces no link. Takes no memory.
+/// The link that a set puts, if its plan does nothing but put this link; otherwise `None`. The plan does nothing else if a reference
+/// without a value is set to an object, and the set is not refused and displaces no link. Takes no memory.
 #[inline(always)]
 pub fn lone_set<L: LinkStore>(model: &ModelRef<L>, end: End, value: &Value) -> Option<NewLink>
     requires asked { early_refusal (reading model.now) (At end (Set value.now)) ≡ None }
@@ -55,8 +55,8 @@ pub fn lone_set<L: LinkStore>(model: &ModelRef<L>, end: End, value: &Value) -> O
     put_of_set(model, end, value)
 }
 
-/// The link that an addition puts, if the plan puts this link and does nothing else: an object is added to a reference whose list lacks the
-/// object, and the addition is not refused and displaces no link. Takes no memory.
+/// The link that an addition puts, if its plan does nothing but put this link; otherwise `None`. The plan does nothing else if an object is
+/// added to a reference whose list lacks the object, and the addition is not refused and displaces no link. Takes no memory.
 #[inline(always)]
 pub fn lone_add<L: LinkStore>(
     model: &ModelRef<L>,

@@ -5,7 +5,8 @@ ghost use Rattle.mmrepo_lib.specs.Steps.{Alike, IsSaved, empty_state, reads};
 use mmrepo_lib::{Adapter, LinkStore, Refused, Repository, ResourceNo, laws};
 
 /// Loads the only resource of a repository, as it is saved, into an empty repository over the same metamodel, and resolves its proxies.
-/// Then both have the same objects at the same addresses, if the first one has no proxy and no text of a reference is too long.
+/// Then both repositories have the same objects at the same addresses, if the first repository has no proxy and no text of a
+/// reference is too long.
 pub(crate) fn load_again<L: LinkStore, A: Adapter>(
     first: &Repository<L, A>,
     second: &mut Repository<L, A>,

@@ -23,9 +23,8 @@ pub struct Labels {
     last: u64,
 }
 
-/// The indexes among which a label is searched, from `low` up to but not including `high`. `below` is the label at `low - 1`, or the first
-/// label of the list if `low` is 0. `above` is the label at `high`, or the last label of the list if `high` is the length of the list.
-/// `steps` is how many steps the search has taken.
+/// The indexes among which a label is searched, from `low` up to but not including `high`. `below` and `above` are the labels at the
+/// borders of these indexes, and `steps` is how many steps the search has taken.
 #[derive(Clone, Copy)]
 struct Span {
     low: usize,

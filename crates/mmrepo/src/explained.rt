@@ -1,4 +1,5 @@
-//! What the program says in addition when it reports why it stops: with `--explain`, and about files also if standard error is a terminal.
+//! What the program adds to the report of why it stops. With `--explain` it adds an explanation of the fault. If standard error is a
+//! terminal, it adds a text about a file that can't be opened, read or written even without `--explain`.
 use crate::asked::Asked;
 use crate::stop::{JournalRefusal, Stop};
 use durable::JournalFault;

@@ -34,8 +34,8 @@ abbrev pub IsPlanned : Bool → Model → Change → List Edit → List ValueEdi
 IsPlanned is_heard m c es vs ns = (f : Finding) × IsPlanOf is_heard m c (record { finding = f; edits = es; values = vs; chain = ns })
 
 -- a change is ready: it can be refused only with `AdapterFull` or `Memory`; `text` is the text that it loads, if it is a load; a is its
--- answer, `going` has the targets that are taken away, es and vs are its edits of links and of values, and ns are its notifications, of
--- which some that no adapter gets may be left out
+-- answer, `going` has the targets that are taken away, es and vs are its edits of links and of values, and ns are its notifications;
+-- notifications that no adapter gets may be missing in ns
 pub record IsReady (s : State) (text : List ℕ) (c : Change) (a : Answer) (going : List Spot) (es : List Edit) (vs : List ValueEdit) (ns : List Notice) : Type 0 where
   pub asked : early_refusal (reads s) c ≡ None
   pub allowed : late_refusal (reads s) c ≡ None

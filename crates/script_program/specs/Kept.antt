@@ -174,7 +174,7 @@ pub record LeavesKept (m : Metamodel) (head file : List ℕ) (ls : List (List �
   pub leaves : LeavesJournaled m start ls left
 
 -- what a crash at any moment of a run leaves: the lines of the file, or the head alone if the file had no line; or else, if the input is
--- known, a journal of the model that the first lines of the input left
+-- known, a journal of the model that the first lines of the input left, however many these are
 abbrev pub LeavesKeptIn : Metamodel → List ℕ → List ℕ → Option (List ℕ) → List ℕ → Type 0
 LeavesKeptIn m head file input left = IsBegunOrNot head (recovered_lines file) left ⊎ IfSome input (λ bytes. LeavesKept m head file (lines bytes) left)
 

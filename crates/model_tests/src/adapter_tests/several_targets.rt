@@ -205,8 +205,8 @@ fn detached<A: Adapter>(
     }
 }
 
-/// What `detached` returns for an object that is no target of adapter 6, and then for each of its two targets; then how many adapters are
-/// left, and how many notifications adapter 6 got, if it is left.
+/// What `detached` returns for an object that is no target of adapter 6, and then for each of the two targets of adapter 6. Then how many
+/// adapters are still attached, and how many notifications adapter 6 got, if it is still attached.
 fn detached_in_turn<A: Adapter>(
     alloc: Global,
     first: A,

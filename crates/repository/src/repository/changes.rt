@@ -80,9 +80,9 @@ impl<L: LinkStore, A: Adapter> Repository<L, A> {
 
     /// Destroys an object and all objects below it, and takes each of them out of every end that has it as a value (EMF: EcoreUtil.delete,
     /// recursively). No other object ever gets the number of a destroyed object. If ends of other nodes lose values, the adapters at these
-    /// ends are notified: in the order of feature numbers, then of nodes, then of positions, and last at the end that contained the object.
-    /// Then each adapter loses its targets that were destroyed. The adapter is notified of REMOVING_ADAPTER from each of these targets, and
-    /// is given back if it has no other target. Returns how many objects were destroyed.
+    /// ends and the deep adapters above them are notified: in the order of feature numbers, then of nodes, then of positions, and last at
+    /// the end that contained the object. Then each adapter loses its targets that were destroyed. The adapter is notified of
+    /// REMOVING_ADAPTER from each of these targets, and is given back if it has no other target. Returns how many objects were destroyed.
     ///
     /// Refused, the first that applies: `NoObject`, `AdapterFull`, `Memory`.
     pub fn delete(&mut self, object: ObjectNo) -> Result<Reply<A>, Refused>

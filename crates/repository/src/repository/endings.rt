@@ -35,9 +35,9 @@ impl<L: LinkStore, A: Adapter> Repository<L, A> {
         Ok(())
     }
 
-    /// Makes a change that is ready: reserves memory for the edits and capacity at the adapters, makes the edits, and notifies the
-    /// adapters of the notifications in `chain`. If the change edits only values, the edits take memory while they are made, and can still be refused. After the edits are
-    /// made, nothing can be refused.
+    /// Makes a change that is ready: reserves memory for the edits and capacity at the adapters, makes the edits, and notifies the adapters
+    /// of the notifications in `chain`. If the change edits only values, the edits take memory while they are made, and can still be
+    /// refused. After the edits are made, nothing can be refused.
     #[inline(always)]
     pub(super) fn finish<E: Edits>(
         &mut self,

@@ -50,8 +50,8 @@ impl<L: LinkStore, A: Adapter> Repository<L, A> {
         }
     }
 
-    /// Sets a single feature as `e_set` does. Gives `Replied` only if an adapter may be notified, or if a set of a reference is refused by
-    /// planning or does anything other than putting one link.
+    /// Sets a single feature as `e_set` does. Gives `Replied` only in three cases: an adapter may be notified; the feature is a reference,
+    /// and planning refuses the set; the feature is a reference, and the set does anything other than putting one link.
     #[inline(always)]
     pub fn set_brief(&mut self, node: Node, feature: FeatureNo, value: Value) -> Brief<A>
         ensures { Executed self.old (commands.set node feature value) (brief_outcome A.heard answer.Done result) self.new }

@@ -1,5 +1,6 @@
-use Rattle.std.proofs.Common.{◌∙◌, sym}
+use Rattle.std.proofs.Common.{◌∙◌, [], refl, sym, if◌then◌else◌}
 use Rattle.models.specs.Model.{reading}
+use Rattle.handshake.specs.FeatureChanges.{chain}
 use Rattle.change_plans.proofs.RefusalLemmas.{late-refused}
 use Rattle.change_plans.proofs.ValueLemmas.{is-plain-link, links-planned, plain-allowed}
 use Rattle.change_plans.proofs.link_planning.plan_links.Goals as goal
@@ -15,4 +16,5 @@ links_and_notices-requires g c = plain-allowed (reading c.args.model.now) c.args
 
 pub returns-clause-planned : goal.returns-clause-planned
 returns-clause-planned g c =
-    links-planned c.args.is_heard c.args.model.now c.args.change.now _ _ c.requires.links c.lemma_is_legal.ensures c.requires.asked (sym c.late_refusal.ensures ∙ c.in_default.is) c.in_ok-edits.ensures.edits c.in_ok-edits.ensures.chain
+    let ns = if c.args.is_heard then chain (reading c.args.model.now) c.args.change.now else [] in
+    (ns, c.in_ok-edits.ensures.chain, links-planned c.args.is_heard c.args.model.now c.args.change.now _ ns c.requires.links c.lemma_is_legal.ensures c.requires.asked (sym c.late_refusal.ensures ∙ c.in_default.is) c.in_ok-edits.ensures.edits refl)

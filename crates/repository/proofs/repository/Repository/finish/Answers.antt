@@ -53,7 +53,7 @@ round-requires g c =
 pub reserve_round-requires : goal.reserve_round-requires
 reserve_round-requires g c =
     let s : State = state g.L.LinkStore.links c.self.inside in
-    record { round = ((reads s).above, c.args.prepared.chain, made-round _ _ c.args.prepared.chain c.self.inside.adapters.0 _ c.in-Ok-round.ensures.round c.reserve.ensures.links) }
+    record { round = ((reads s).above, c.args.chain, made-round _ _ c.args.chain c.self.inside.adapters.0 _ c.in-Ok-round.ensures.round c.reserve.ensures.links) }
 
 -- if memory or capacity is refused, the view has not changed
 pub returns-in-Err : goal.returns-in-Err
@@ -80,7 +80,7 @@ invariant_of-self-in-Err-with_room g c =
 pub returns-in-Err-reserve_round : goal.returns-in-Err-reserve_round
 returns-in-Err-reserve_round g c =
     let s : State = state g.L.LinkStore.links c.self.inside in
-    let reserved = c.in-Err-reserve_round.ensures (reads s).above c.args.prepared.chain (made-round _ _ c.args.prepared.chain c.self.inside.adapters.0 _ c.in-Ok-round.ensures.round c.reserve.ensures.links) in
+    let reserved = c.in-Err-reserve_round.ensures (reads s).above c.args.chain (made-round _ _ c.args.chain c.self.inside.adapters.0 _ c.in-Ok-round.ensures.round c.reserve.ensures.links) in
     λ text change given.
     let p = seen s _ text change _ _ _ _ _ c.self.view_is given in
     rw (← c.self.view_is, c.reserve.ensures.links, c.reserve.ensures.values, reserved.kept) (chain_err s text change _ c.in-Err-reserve_round.refused p.proper p.asked p.allowed p.tells reserved.reason)
@@ -88,13 +88,13 @@ returns-in-Err-reserve_round g c =
 pub invariant_of-self-in-Err-reserve_round : goal.invariant_of-self-in-Err-reserve_round
 invariant_of-self-in-Err-reserve_round g c =
     let s : State = state g.L.LinkStore.links c.self.inside in
-    let reserved = c.in-Err-reserve_round.ensures (reads s).above c.args.prepared.chain (made-round _ _ c.args.prepared.chain c.self.inside.adapters.0 _ c.in-Ok-round.ensures.round c.reserve.ensures.links) in
+    let reserved = c.in-Err-reserve_round.ensures (reads s).above c.args.chain (made-round _ _ c.args.chain c.self.inside.adapters.0 _ c.in-Ok-round.ensures.round c.reserve.ensures.links) in
     unchanged g.L.LinkStore.links g.L.LinkStore.kinds c.self.inside c.reserve.new.store c.reserve.new.values c.reserve_round.new.self c.self.inside.paths c.round.new.hearers c.reserve.ensures.links (c.reserve.ensures.kinds (kinds_of c.self.inside.meta) c.self.invariant.kinds_are) c.reserve.ensures.values reserved.kept c.self.invariant.paths (known-here _ _ c.self.inside.adapters.0 c.round.new.hearers c.reserve.ensures.links c.round.ensures.known) c.self.invariant
 
 pub returns-in-Err-apply : goal.returns-in-Err-apply
 returns-in-Err-apply g c =
     let s : State = state g.L.LinkStore.links c.self.inside in
-    let reserved = c.in-Ok-reserve_round.ensures (reads s).above c.args.prepared.chain (made-round _ _ c.args.prepared.chain c.self.inside.adapters.0 _ c.in-Ok-round.ensures.round c.reserve.ensures.links) in
+    let reserved = c.in-Ok-reserve_round.ensures (reads s).above c.args.chain (made-round _ _ c.args.chain c.self.inside.adapters.0 _ c.in-Ok-round.ensures.round c.reserve.ensures.links) in
     λ text change given. rw (← c.self.view_is, c.in-Err-apply.ensures.links_kept, c.in-Err-apply.ensures.values_kept, c.reserve.ensures.links, c.reserve.ensures.values, reserved.kept) (no-memory _ _ text change _ _ _ _ _ c.self.view_is given)
 
 pub invariant_of-self-in-Err-apply : goal.invariant_of-self-in-Err-apply
@@ -102,7 +102,7 @@ invariant_of-self-in-Err-apply g c =
     let s : State = state g.L.LinkStore.links c.self.inside in
     let p = seen s _ c.requires.ready.0 c.requires.ready.1 _ _ _ _ _ c.self.view_is c.requires.ready.2 in
     let m = c.self.inside.meta in
-    let reserved = c.in-Ok-reserve_round.ensures (reads s).above c.args.prepared.chain (made-round _ _ c.args.prepared.chain c.self.inside.adapters.0 _ c.in-Ok-round.ensures.round c.reserve.ensures.links) in
+    let reserved = c.in-Ok-reserve_round.ensures (reads s).above c.args.chain (made-round _ _ c.args.chain c.self.inside.adapters.0 _ c.in-Ok-round.ensures.round c.reserve.ensures.links) in
     let old = above (g.L.LinkStore.links c.self.inside.store) in
     unchanged g.L.LinkStore.links g.L.LinkStore.kinds c.self.inside c.apply.new.store c.apply.new.values c.reserve_round.new.self c.forget.new.paths c.forget_if.new.self
     (c.in-Err-apply.ensures.links_kept ∙ c.reserve.ensures.links) (c.apply.ensures.kinds (kinds_of m) (c.reserve.ensures.kinds (kinds_of c.self.inside.meta) c.self.invariant.kinds_are) p.of_kind) (c.in-Err-apply.ensures.values_kept ∙ c.reserve.ensures.values) reserved.kept
@@ -113,7 +113,7 @@ pub deliver_and_release-told-requires : goal.deliver_and_release-told-requires
 deliver_and_release-told-requires g c =
     let s : State = state g.L.LinkStore.links c.self.inside in
     record {
-      fits = (c.in-Ok-reserve_round.ensures (reads s).above c.args.prepared.chain (made-round _ _ c.args.prepared.chain c.self.inside.adapters.0 _ c.in-Ok-round.ensures.round c.reserve.ensures.links)).fits;
+      fits = (c.in-Ok-reserve_round.ensures (reads s).above c.args.chain (made-round _ _ c.args.chain c.self.inside.adapters.0 _ c.in-Ok-round.ensures.round c.reserve.ensures.links)).fits;
       room = subst (λ (n : ℕ). IfSome c.in-Ok-with_room.leaving (λ x. HasRoom n x.value)) c.told_len.ensures.len c.in-Ok-with_room.ensures.room;
     }
 
@@ -124,7 +124,7 @@ returns g c =
     let es = g.E.Edits.edits_of_links q.edits in
     let vs = g.E.Edits.edits_of_values q.edits in
     let up = (reads s).above in
-    let ns : List Notice = q.chain in
+    let ns : List Notice = c.args.chain in
     let is = made-round _ _ ns s.adapters _ c.in-Ok-round.ensures.round c.reserve.ensures.links in
     let reserved = c.in-Ok-reserve_round.ensures up ns is in
     λ text change given.
@@ -151,11 +151,11 @@ invariant_of-self-2 g c =
     let q = c.args.prepared in
     let es = g.E.Edits.edits_of_links q.edits in
     let vs = g.E.Edits.edits_of_values q.edits in
-    let p = seen s _ c.requires.ready.0 c.requires.ready.1 q.answer q.spots.items es vs q.chain c.self.view_is c.requires.ready.2 in
+    let p = seen s _ c.requires.ready.0 c.requires.ready.1 q.answer q.spots.items es vs c.args.chain c.self.view_is c.requires.ready.2 in
     let m = c.self.inside.meta in
     let text = c.requires.ready.0 in
     let change : Change = c.requires.ready.1 in
-    let reserved = c.in-Ok-reserve_round.ensures (reads s).above q.chain (made-round _ _ c.args.prepared.chain c.self.inside.adapters.0 _ c.in-Ok-round.ensures.round c.reserve.ensures.links) in
+    let reserved = c.in-Ok-reserve_round.ensures (reads s).above c.args.chain (made-round _ _ c.args.chain c.self.inside.adapters.0 _ c.in-Ok-round.ensures.round c.reserve.ensures.links) in
     let new = above (g.L.LinkStore.links c.apply.new.store) in
     let rs : List Listed = c.reserve_round.new.self.0 in
     let copies = c.in-Ok-round.round.copies in
@@ -163,9 +163,9 @@ invariant_of-self-2 g c =
     let valued = c.in-Ok-apply.ensures.values ∙ ap (λ (v : ValuesState). values_after_edits v vs) c.reserve.ensures.values in
     let legal = stepped-legal _ _ (command_of text change) _ (subst IsLegal c.self.view_is c.self.invariant.legal) (returns g c text change c.requires.ready.2) in
     let told = known-adapters_after_copies (above (g.L.LinkStore.links c.self.inside.store)) copies c.self.inside.adapters.0 c.round.new.hearers (known-here _ _ c.self.inside.adapters.0 c.round.new.hearers c.reserve.ensures.links c.round.ensures.known) in
-    let stays = known-after g.L.LinkStore.links g.L.LinkStore.kinds c.self.inside c.apply.new.store c.apply.new.values c.deliver_and_release-told.new.self c.forget.new.paths c.forget_if.new.self text change q.answer q.spots.items es vs q.chain p edited legal c.self.invariant
+    let stays = known-after g.L.LinkStore.links g.L.LinkStore.kinds c.self.inside c.apply.new.store c.apply.new.values c.deliver_and_release-told.new.self c.forget.new.paths c.forget_if.new.self text change q.answer q.spots.items es vs c.args.chain p edited legal c.self.invariant
     (adapters_after_copies copies c.self.inside.adapters.0) c.round.new.hearers told in
-    made g.L.LinkStore.links g.L.LinkStore.kinds c.self.inside c.apply.new.store c.apply.new.values c.deliver_and_release-told.new.self c.forget.new.paths c.forget_if.new.self text change q.answer q.spots.items es vs q.chain p edited legal c.self.invariant
+    made g.L.LinkStore.links g.L.LinkStore.kinds c.self.inside c.apply.new.store c.apply.new.values c.deliver_and_release-told.new.self c.forget.new.paths c.forget_if.new.self text change q.answer q.spots.items es vs c.args.chain p edited legal c.self.invariant
     (c.apply.ensures.kinds (kinds_of m) (c.reserve.ensures.kinds (kinds_of c.self.inside.meta) c.self.invariant.kinds_are) p.of_kind) valued c.forget.ensures.paths
     (c.forget_if.ensures new c.deliver_and_release-told.new.self.0 (λ stay. c.forget.ensures.hearers new c.deliver_and_release-told.new.self.0 (λ out.
     let nobody : spots_in c.in-Ok-with_room.leaving ≡ [] = none-go c.in-Ok-with_room.leaving (sym c.is_some.ensures ∙ stay) in

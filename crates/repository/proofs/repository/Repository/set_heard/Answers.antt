@@ -50,9 +50,9 @@ ready s x e v ss vs ns is early attribute none plan =
 pub finish-requires : goal.finish-requires
 finish-requires g c =
     let asked = subst (λ (m : Model). early_refusal (reading m) (At c.args.end (Set c.args.value)) ≡ None) c.model-model.ensures (none-else_by _ _ (sym c.attribute_refusal.ensures ∙ c.in_default.is)).0 in
-    record { ready = ([], At c.args.end (Set c.args.value), ready c.args.self.now c.model-model.result c.args.end c.args.value c.new.result.items c.in-Ok.edits c.in-Ok.chain c.model-model.ensures asked c.requires.attribute c.new.ensures.items c.in-Ok.ensures) }
+    record { ready = ([], At c.args.end (Set c.args.value), ready c.args.self.now c.model-model.result c.args.end c.args.value c.new-spots.result.items c.in-Ok.edits c.in-Ok.chain c.model-model.ensures asked c.requires.attribute c.new-spots.ensures.items c.in-Ok.ensures) }
 
 pub returns-in-Ok : goal.returns-in-Ok
 returns-in-Ok g c =
     let asked = subst (λ (m : Model). early_refusal (reading m) (At c.args.end (Set c.args.value)) ≡ None) c.model-model.ensures (none-else_by _ _ (sym c.attribute_refusal.ensures ∙ c.in_default.is)).0 in
-    c.finish-in-Ok.ensures [] (At c.args.end (Set c.args.value)) (ready c.args.self.now c.model-model.result c.args.end c.args.value c.new.result.items c.in-Ok.edits c.in-Ok.chain c.model-model.ensures asked c.requires.attribute c.new.ensures.items c.in-Ok.ensures)
+    c.finish.ensures [] (At c.args.end (Set c.args.value)) (ready c.args.self.now c.model-model.result c.args.end c.args.value c.new-spots.result.items c.in-Ok.edits c.in-Ok.chain c.model-model.ensures asked c.requires.attribute c.new-spots.ensures.items c.in-Ok.ensures)
